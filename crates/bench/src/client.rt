@@ -1,9 +1,9 @@
-//! How long the client takes to queue commands and to hear their replies, to be laid beside another
-//! client.
+//! Measures how long the client needs to queue commands and to read their replies, to be compared
+//! with another client.
 //!
-//! It sends and hears one pipeline and prints what it counted, the same on every
-//! run. With the argument `times` it does so 10,000 times, a million commands in all, and prints
-//! microseconds too; with `once` a single time in the same form.
+//! Without an argument it runs one pipeline and prints counts, which are the same in every run.
+//! With the argument `times` it runs 10,000 pipelines, a million commands in all, and also prints
+//! microseconds. With `once` it runs a single pipeline and prints the same form.
 
 use crate::{has, nanos};
 use anyhow::Result;
@@ -17,10 +17,10 @@ use std::alloc::Global;
 /// The commands of a pipeline.
 const PIPELINE: usize = 100;
 
-/// How many pipelines are timed.
+/// The number of pipelines that are timed.
 const ROUNDS: usize = 10_000;
 
-/// What both clients count.
+/// The counts of both clients.
 #[derive(Clone, Copy)]
 struct Tally {
     queued: u64,
@@ -28,14 +28,14 @@ struct Tally {
     content: u64,
 }
 
-/// The command `GET key:NNNNNNN`.
+/// Makes the command `GET key:NNNNNNN`.
 fn command(alloc: Global, number: usize) -> Result<Command> {
     let key = format!(in alloc; "key:{number:07}")?;
     let name = b"GET".to_vec(alloc)?;
     Ok(Command::new(vec![in alloc; name, key.into_bytes()]?)?)
 }
 
-/// The commands of a pipeline.
+/// Returns the commands of a pipeline.
 fn commands(alloc: Global) -> Result<Vec<Command>> {
     let mut all = Vec::new(alloc);
     for number in 0..PIPELINE {
@@ -44,7 +44,7 @@ fn commands(alloc: Global) -> Result<Vec<Command>> {
     Ok(all)
 }
 
-/// The replies to a pipeline, bulk strings of 16 bytes.
+/// Returns the replies to a pipeline, bulk strings of 16 bytes.
 fn replies(alloc: Global) -> Result<Vec<u8>> {
     let mut text = Vec::new(alloc);
     for _ in 0..PIPELINE {
@@ -53,7 +53,7 @@ fn replies(alloc: Global) -> Result<Vec<u8>> {
     Ok(text)
 }
 
-/// Queues the commands, and drops their texts as sent.
+/// Queues the commands, and drops their texts as if they were written.
 fn queue(client: &mut Client, commands: &[Command], tally: &mut Tally) -> Result<()> {
     for command in commands {
         client.send(command)?;
@@ -64,7 +64,7 @@ fn queue(client: &mut Client, commands: &[Command], tally: &mut Tally) -> Result
     Ok(())
 }
 
-/// Hears all replies of the text.
+/// Reads all replies of the text.
 fn hear(client: &mut Client, text: &[u8], tally: &mut Tally) -> Result<()> {
     let mut rest = text;
     for _ in 0..u64::MAX {
@@ -89,7 +89,7 @@ impl Tally {
     }
 }
 
-/// Sends `rounds` pipelines, and hears the replies to each. How many nanoseconds that took.
+/// Runs `rounds` pipelines with the replies to each. Returns the nanoseconds used.
 fn converse(
     rt: &HostRuntime,
     client: &mut Client,
@@ -106,7 +106,7 @@ fn converse(
     Ok(nanos(rt)?.saturating_sub(start))
 }
 
-/// Converses by a new client.
+/// Runs the pipelines with a new client.
 fn converse_anew(
     rt: &HostRuntime,
     commands: &[Command],
@@ -118,7 +118,7 @@ fn converse_anew(
     converse(rt, &mut client, commands, text, rounds, tally)
 }
 
-/// Runs it as the words ask.
+/// Runs the benchmark as the arguments request.
 pub(crate) fn bench(rt: &HostRuntime, words: &[String]) -> Result<()> {
     let rounds = if has(words, "times") { ROUNDS } else { 1 };
     let commands = commands(rt.alloc())?;

@@ -1,11 +1,11 @@
-//! How long framed streams take for GETs and their replies, beside `serve` and `ask` over memory.
+//! Measures framed streams with GETs and their replies, beside `serve` and `ask` over memory.
 //!
-//! A text of commands is read by a framed stream and each is answered null into a buffer, and
-//! `serve` answers the same text from an empty hub. Replies are read by a framed stream and
-//! their commands are encoded into a buffer, and `ask` sends the same commands in pipelines and
-//! hears the replies. Then a bulk string comes in pieces of one byte. What was counted is printed,
-//! the same on every run. With the argument `times` there are a million commands, and nanoseconds
-//! are printed too.
+//! A framed stream reads a text of commands and encodes a null reply to each into a buffer, and
+//! `serve` answers the same text from an empty hub. A framed stream reads replies and encodes their
+//! commands into a buffer, and `ask` sends the same commands in pipelines and reads the replies. At
+//! last a bulk string is received in pieces of one byte. Without an argument it prints counts,
+//! which are the same in every run. With the argument `times` there are a million commands, and it
+//! also prints nanoseconds.
 
 use crate::server::{Kind, command as text_of, new_hub};
 use crate::{end_line, has, nanos};
@@ -30,16 +30,16 @@ use resp_wire::{Asked, Request};
 use std::alloc::{AllocError, Global};
 use tokio_util::codec::{Decoder, Encoder, FramedRead};
 
-/// How many bytes a reader gives at once.
+/// The number of bytes that a reader returns at once.
 const PIECE: usize = 16_384;
 
-/// How many items of a stream are taken at once, and how many commands are in a pipeline of `ask`.
+/// The number of items of a stream that are read at once, and of commands in a pipeline of `ask`.
 const ITEMS: usize = 100;
 
 /// A reply, a bulk string of 16 bytes.
 const REPLY: &[u8] = b"$16\r\nxxxxxxxxxxxxxxxx\r\n";
 
-/// `count` times this text.
+/// Returns this text `count` times.
 fn repeated(alloc: Global, text: &[u8], count: usize) -> Result<Vec<u8>> {
     let mut all = Vec::new(alloc);
     for _ in 0..count {
@@ -48,7 +48,7 @@ fn repeated(alloc: Global, text: &[u8], count: usize) -> Result<Vec<u8>> {
     Ok(all)
 }
 
-/// The value that a client sends for `GET key:NNNNNNNNNNNN`.
+/// Returns the value that a client sends for `GET key:NNNNNNNNNNNN`.
 fn get(alloc: Global) -> Result<Value, AllocError> {
     let name = Value::Bulk(Content::new(b"GET".to_vec(alloc)?));
     let key = Value::Bulk(Content::new(b"key:000000000001".to_vec(alloc)?));
@@ -69,7 +69,7 @@ fn ready_of<F: Future>(rt: &HostRuntime, future: F) -> Result<Option<F::Output>>
     Ok(None)
 }
 
-/// What was encoded: a buffer that is emptied after each item, and what is counted.
+/// The encoded items: a buffer that is emptied after each item, and counts.
 #[derive(Drop)]
 struct Written<C> {
     codec: C,
@@ -98,7 +98,7 @@ impl<C: Encoder<Value, Error = CodecError> + Drop> Written<C> {
         Ok(written)
     }
 
-    /// How many there were, and how many bytes.
+    /// Returns the number of items and the number of bytes.
     fn counted(&self) -> (usize, usize) {
         (self.items, self.bytes)
     }
@@ -112,8 +112,8 @@ fn add_get(alloc: Global, written: Written<RespCodec>) -> Result<Written<RespCod
     }
 }
 
-/// Reads all commands of a text by a framed stream, and encodes null for each. How many there were,
-/// and how many bytes were written.
+/// Reads all commands of a text with a framed stream, and encodes a null for each. Returns the
+/// number of commands and the number of bytes written.
 fn answer_all(rt: &HostRuntime, text: &[u8]) -> Result<(usize, usize)> {
     let alloc = rt.alloc();
     let limits = Limits::standard();
@@ -131,8 +131,8 @@ fn answer_all(rt: &HostRuntime, text: &[u8]) -> Result<(usize, usize)> {
     }
 }
 
-/// Reads all replies of a text by a framed stream, and encodes a GET for each. How many there were,
-/// and how many bytes were written.
+/// Reads all replies of a text with a framed stream, and encodes a GET for each. Returns the number
+/// of replies and the number of bytes written.
 fn hear_all(rt: &HostRuntime, text: &[u8]) -> Result<(usize, usize)> {
     let alloc = rt.alloc();
     let limits = Limits::standard();
@@ -146,7 +146,7 @@ fn hear_all(rt: &HostRuntime, text: &[u8]) -> Result<(usize, usize)> {
     }
 }
 
-/// A line of what was counted, with the nanoseconds of one where it is timed.
+/// Prints a line of counts, with the nanoseconds of one item if it is timed.
 fn print_line(
     rt: &HostRuntime,
     timed: bool,
@@ -163,7 +163,7 @@ fn print_line(
     Ok(())
 }
 
-/// A server's end: a framed stream of commands, and `serve`.
+/// Measures a server's end: a framed stream of commands, and `serve`.
 fn bench_servers(rt: &HostRuntime, timed: bool, count: usize) -> Result<()> {
     let alloc = rt.alloc();
     let one = text_of(alloc, Kind::Get, 1)?;
@@ -183,7 +183,7 @@ fn bench_servers(rt: &HostRuntime, timed: bool, count: usize) -> Result<()> {
     print_line(rt, timed, "commands by serve", (count, written), taken)
 }
 
-/// A pipeline of GETs.
+/// Returns a pipeline of GETs.
 fn pipeline(alloc: Global) -> Result<Vec<Request>> {
     let mut requests = Vec::new(alloc);
     for _ in 0..ITEMS {
@@ -195,7 +195,8 @@ fn pipeline(alloc: Global) -> Result<Vec<Request>> {
     Ok(requests)
 }
 
-/// Asks `pipelines` times, and answers how many replies were heard and how many bytes were written.
+/// Calls `ask` with `pipelines` pipelines. Returns the number of replies received and the number of
+/// bytes written.
 fn ask_all(
     rt: &HostRuntime,
     requests: &[Request],
@@ -224,7 +225,7 @@ fn ask_all(
     Ok((heard, written))
 }
 
-/// A client's end: a framed stream of replies, and `ask`.
+/// Measures a client's end: a framed stream of replies, and `ask`.
 fn bench_clients(rt: &HostRuntime, timed: bool, count: usize) -> Result<()> {
     let alloc = rt.alloc();
     let text = repeated(alloc, REPLY, count)?;
@@ -240,7 +241,7 @@ fn bench_clients(rt: &HostRuntime, timed: bool, count: usize) -> Result<()> {
     print_line(rt, timed, "replies by ask", counted, taken)
 }
 
-/// Feeds a codec a text byte by byte, and answers how many values came.
+/// Feeds a text to a codec byte by byte, and returns the number of values.
 fn by_single_bytes(alloc: Global, text: &[u8]) -> Result<usize> {
     let mut codec = RespCodec::new(alloc, Version::Two, &Limits::standard());
     let mut buffer = BytesMut::new(alloc);
@@ -254,8 +255,8 @@ fn by_single_bytes(alloc: Global, text: &[u8]) -> Result<usize> {
     Ok(values)
 }
 
-/// A bulk string that comes in pieces of one byte. What a byte takes is to be the same for each
-/// length.
+/// Measures a bulk string that is received in pieces of one byte. The cost of a byte should be the
+/// same for each length.
 fn bench_bytes(rt: &HostRuntime, timed: bool, length: usize) -> Result<()> {
     let alloc = rt.alloc();
     let mut text = format!(in alloc; "${length}\r\n")?.into_bytes();
@@ -268,7 +269,7 @@ fn bench_bytes(rt: &HostRuntime, timed: bool, length: usize) -> Result<()> {
     end_line(rt, timed, taken, length as u128, "a byte")
 }
 
-/// Runs it as the words ask.
+/// Runs the benchmark as the arguments request.
 pub(crate) fn bench(rt: &HostRuntime, words: &[String]) -> Result<()> {
     let timed = has(words, "times");
     let count = if timed { 1_000_000 } else { 1_000 };

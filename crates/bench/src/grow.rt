@@ -1,21 +1,20 @@
-//! What a DEL and a session's close take where there are few keys and sessions, and where there are
-//! many.
+//! Measures the cost of a DEL and of closing a session, with few and with many keys and sessions.
 //!
-//! Half of the keys of a hub are deleted, far from one another, and half of its sessions closed,
-//! the first first. With no argument there are a hundred, and what came of them is printed, the
-//! same on every run. With `times` there are a thousand and more, and nanoseconds of one DEL and of
-//! one close are printed. With `idle` 65,536 sessions stay open, so that the most memory of the run
-//! says what an idle session takes.
+//! It deletes half of the keys of a hub, far from one another, and closes half of its sessions, the
+//! oldest first. Without an argument there are a hundred, and it prints counts, which are the same
+//! in every run. With `times` there are a thousand and more, and it prints the nanoseconds of one
+//! DEL and of one close. With `idle` 65,536 sessions stay open, and the peak memory of the run
+//! shows the cost of an idle session.
 
 use crate::server::{BenchHub, Kind, command, new_hub, send};
 use crate::{end_line, has, nanos};
 use anyhow::Result;
 use std::alloc::Global;
 
-/// How often a hub is made anew where it is timed; the least time is printed.
+/// The number of times a hub is made anew when it is timed. The least time is printed.
 const ROUNDS: u64 = 5;
 
-/// A session that has read a command, whose reply was sent.
+/// Opens a session that has read a command, and drops its reply.
 fn open_idle(hub: &mut BenchHub) -> Result<()> {
     let id = hub.open()?;
     hub.bytes(id, b"*1\r\n$4\r\nPING\r\n")?;
@@ -24,7 +23,7 @@ fn open_idle(hub: &mut BenchHub) -> Result<()> {
     Ok(())
 }
 
-/// Opens `sessions` sessions, which then are idle.
+/// Opens `sessions` sessions, which are then idle.
 fn open_all(hub: &mut BenchHub, sessions: u64) -> Result<()> {
     for _ in 0..sessions {
         open_idle(hub)?;
@@ -32,7 +31,7 @@ fn open_all(hub: &mut BenchHub, sessions: u64) -> Result<()> {
     Ok(())
 }
 
-/// Closes the first `count` sessions. How many nanoseconds that took.
+/// Closes the first `count` sessions. Returns the nanoseconds used.
 fn close_first(rt: &HostRuntime, hub: &mut BenchHub, count: u64) -> Result<u128> {
     let start = nanos(rt)?;
     for id in 0..count {
@@ -41,7 +40,7 @@ fn close_first(rt: &HostRuntime, hub: &mut BenchHub, count: u64) -> Result<u128>
     Ok(nanos(rt)?.saturating_sub(start))
 }
 
-/// `count` commands of this kind as one text, each of another key.
+/// Returns `count` commands of this kind as one text, each with another key.
 fn of_keys(alloc: Global, kind: Kind, keys: u64, count: u64) -> Result<Vec<u8>> {
     let mut text = Vec::new(alloc);
     for index in 0..count {
@@ -51,7 +50,7 @@ fn of_keys(alloc: Global, kind: Kind, keys: u64, count: u64) -> Result<Vec<u8>> 
     Ok(text)
 }
 
-/// Sets `keys` keys and deletes half of them. How many nanoseconds the deletes took.
+/// Sets `keys` keys and deletes half of them. Returns the nanoseconds that the deletes used.
 fn delete_half(rt: &HostRuntime, hub: &mut BenchHub, keys: u64) -> Result<u128> {
     hub.open()?;
     let set = of_keys(rt.alloc(), Kind::Set, keys, keys)?;
@@ -62,13 +61,13 @@ fn delete_half(rt: &HostRuntime, hub: &mut BenchHub, keys: u64) -> Result<u128> 
     Ok(nanos(rt)?.saturating_sub(start))
 }
 
-/// Opens `sessions` sessions and closes half of them. How many nanoseconds the closes took.
+/// Opens `sessions` sessions and closes half of them. Returns the nanoseconds that the closes used.
 fn close_half(rt: &HostRuntime, hub: &mut BenchHub, sessions: u64) -> Result<u128> {
     open_all(hub, sessions)?;
     close_first(rt, hub, sessions / 2)
 }
 
-/// The same with a hub of its own.
+/// Runs one of the two with a new hub.
 fn once(rt: &HostRuntime, closes: bool, count: u64) -> Result<u128> {
     let mut hub = new_hub(rt.alloc());
     if closes {
@@ -78,7 +77,7 @@ fn once(rt: &HostRuntime, closes: bool, count: u64) -> Result<u128> {
     }
 }
 
-/// Prints what came of it, and the least time of one where it is timed.
+/// Prints the counts, and the least time of one operation if it is timed.
 fn print(rt: &HostRuntime, closes: bool, count: u64, timed: bool) -> Result<()> {
     let mut least = once(rt, closes, count)?;
     if timed {
@@ -103,7 +102,7 @@ fn idle(rt: &HostRuntime) -> Result<()> {
     Ok(())
 }
 
-/// Runs it as the words ask.
+/// Runs the benchmark as the arguments request.
 pub(crate) fn bench(rt: &HostRuntime, words: &[String]) -> Result<()> {
     if has(words, "idle") {
         return idle(rt);

@@ -1,7 +1,7 @@
-//! How long the client, the server, the codecs and worlds take, to be compared with others.
+//! Benchmarks of the client, the server, the codecs and worlds, to be compared with others.
 //!
-//! The arguments name a part, `client`, `server`, `framed`, `worlds` or `grow`, and what it is to
-//! do. With no argument each part counts what it does with short texts, the same on every run.
+//! The arguments name a part, `client`, `server`, `framed`, `worlds` or `grow`, and its options.
+//! Without an argument each part counts its work on short texts, with the same output in every run.
 #![tactic(auto)]
 
 mod client;
@@ -14,17 +14,17 @@ use anyhow::Result;
 use std::env;
 use std::time::CpuClock;
 
-/// Whether one of the words is this name.
+/// Returns whether this name is among the arguments.
 fn has(words: &[String], name: &str) -> bool {
     words.iter().any(|word| word.as_str() == name)
 }
 
-/// How many nanoseconds of processor time this thread has had.
+/// Returns the nanoseconds of processor time that this thread has used.
 fn nanos(rt: &HostRuntime) -> Result<u128> {
     Ok(rt.thread_cpu_time()?.as_nanos())
 }
 
-/// Ends a line, and says before how many nanoseconds each of `count` took, where that is timed.
+/// Ends a line, with the nanoseconds of each of `count` operations before its end if it is timed.
 fn end_line(rt: &HostRuntime, timed: bool, nanos: u128, count: u128, each: &str) -> Result<()> {
     if timed {
         print!(rt; " {} ns {each}", nanos / count.max(1))?;
@@ -33,7 +33,7 @@ fn end_line(rt: &HostRuntime, timed: bool, nanos: u128, count: u128, each: &str)
     Ok(())
 }
 
-/// Runs the parts that the words name, or each where they name none.
+/// Runs the parts that the arguments name, or all parts if they name no part.
 fn bench(rt: &HostRuntime, words: &[String]) -> Result<()> {
     let names = ["client", "server", "framed", "worlds", "grow"];
     let all = !names.iter().any(|name| has(words, name));

@@ -1,9 +1,9 @@
-//! How many commands a session of a hub answers, to be laid beside another server.
+//! Measures how many commands a session of a hub answers, to be compared with another server.
 //!
-//! It is sent SET, GET and PING from memory, in pieces of 16,384 bytes, and its replies are dropped
-//! as sent. A hundred commands of each are sent, and what came of them is printed,
-//! the same on every run. With the argument `times` a million of each are sent, and microseconds
-//! are printed too; with `once` 10,000 of each.
+//! It sends SET, GET and PING from memory, in pieces of 16,384 bytes, and drops the replies.
+//! Without an argument it sends a hundred commands of each kind and prints counts, which are the
+//! same in every run. With the argument `times` it sends a million of each and also prints
+//! microseconds. With `once` it sends 10,000 of each.
 
 use crate::{has, nanos};
 use anyhow::Result;
@@ -12,18 +12,18 @@ use resp_value::limits::Limits;
 use std::alloc::{AllocError, Global};
 use std::hash::{BuildHasherDefault, FoldHasher};
 
-/// How many bytes a session is given at once.
+/// The number of bytes that a session receives at once.
 const PIECE: usize = 16_384;
 
-/// How many keys there are at most.
+/// The greatest number of keys.
 const KEYS: u64 = 100_000;
 
-/// The session that is sent all commands.
+/// The session that receives all commands.
 const SESSION: u64 = 1;
 
 pub(crate) type BenchHub = Hub<BuildHasherDefault<FoldHasher>>;
 
-/// What is sent.
+/// The kind of a command.
 #[derive(Clone, Copy, Debug)]
 pub(crate) enum Kind {
     Set,
@@ -32,19 +32,19 @@ pub(crate) enum Kind {
     Del,
 }
 
-/// What came of what was sent.
+/// Counts of the commands and replies.
 #[derive(Clone, Copy)]
 pub(crate) struct Tally {
     commands: u64,
     replied: u64,
 }
 
-/// A hub without a session.
+/// Makes a hub without a session.
 pub(crate) fn new_hub(alloc: Global) -> BenchHub {
     Hub::new(alloc, Limits::standard(), BuildHasherDefault::new())
 }
 
-/// A command of this kind, and of this key where it has one.
+/// Returns a command of this kind, with this key if the kind has a key.
 pub(crate) fn command(alloc: Global, kind: Kind, key: u64) -> Result<String, AllocError> {
     let set = "*3\r\n$3\r\nSET\r\n$16\r\nkey:";
     let value = "$16\r\nxxxxxxxxxxxxxxxx\r\n";
@@ -56,7 +56,8 @@ pub(crate) fn command(alloc: Global, kind: Kind, key: u64) -> Result<String, All
     }
 }
 
-/// `count` commands of a kind as one text, with keys that are drawn, the same on every run.
+/// Returns `count` commands of a kind as one text. The keys are pseudo-random, the same in every
+/// run.
 fn commands(alloc: Global, kind: Kind, count: u64) -> Result<Vec<u8>> {
     let mut drawn: u64 = 1;
     let mut text = Vec::new(alloc);
@@ -70,7 +71,7 @@ fn commands(alloc: Global, kind: Kind, count: u64) -> Result<Vec<u8>> {
     Ok(text)
 }
 
-/// Sends a piece, and drops what is replied to it.
+/// Sends a piece, and drops the replies.
 #[inline(always)]
 fn send_piece(hub: &mut BenchHub, piece: &[u8], tally: &mut Tally) -> Result<()> {
     let handled = hub.bytes(SESSION, piece)?;
@@ -81,7 +82,7 @@ fn send_piece(hub: &mut BenchHub, piece: &[u8], tally: &mut Tally) -> Result<()>
     Ok(())
 }
 
-/// Sends the text in pieces, and drops what is replied to each.
+/// Sends the text in pieces, and drops the replies to each.
 pub(crate) fn send(hub: &mut BenchHub, text: &[u8]) -> Result<Tally> {
     let mut tally = Tally {
         commands: 0,
@@ -93,14 +94,13 @@ pub(crate) fn send(hub: &mut BenchHub, text: &[u8]) -> Result<Tally> {
     Ok(tally)
 }
 
-/// Sends the text of commands that are measured, in a function of its own, by whose name what it
-/// takes is counted.
+/// Sends the text of commands that are measured. The profiler counts this function by its name.
 #[inline(never)]
 pub(crate) fn answer_text(hub: &mut BenchHub, text: &[u8]) -> Result<Tally> {
     send(hub, text)
 }
 
-/// Sends a SET of each key that may be drawn.
+/// Sends a SET of each key that may be used.
 fn fill(alloc: Global, hub: &mut BenchHub, count: u64) -> Result<()> {
     hub.open()?;
     for key in 0..count.min(KEYS) {
@@ -110,7 +110,7 @@ fn fill(alloc: Global, hub: &mut BenchHub, count: u64) -> Result<()> {
     Ok(())
 }
 
-/// How many commands of each kind the words ask for.
+/// Returns how many commands of each kind the arguments request.
 fn asked_for(words: &[String]) -> u64 {
     if has(words, "times") {
         1_000_000
@@ -121,7 +121,7 @@ fn asked_for(words: &[String]) -> u64 {
     }
 }
 
-/// Sends all commands of a text, and prints what came of them.
+/// Sends all commands of a text, and prints the counts.
 fn run(rt: &HostRuntime, hub: &mut BenchHub, timed: bool, kind: Kind, text: &[u8]) -> Result<()> {
     let start = nanos(rt)?;
     let tally = answer_text(hub, text)?;
@@ -145,7 +145,7 @@ fn run_all(rt: &HostRuntime, hub: &mut BenchHub, count: u64, timed: bool) -> Res
     Ok(())
 }
 
-/// Runs it for each kind of command, as the words ask.
+/// Runs the benchmark for each kind of command, as the arguments request.
 pub(crate) fn bench(rt: &HostRuntime, words: &[String]) -> Result<()> {
     let mut hub = new_hub(rt.alloc());
     run_all(rt, &mut hub, asked_for(words), has(words, "times"))

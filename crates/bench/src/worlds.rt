@@ -1,8 +1,9 @@
-//! What a command costs in a world of few clients and in one of many.
+//! Measures the cost of a command in a world of few clients and in a world of many.
 //!
-//! Each client in turn asks a PING, which comes to its session, and hears the reply. With no
-//! argument there are a hundred clients, and what came of them is printed, the same on every run.
-//! With `times` there are a thousand and 16,000, and nanoseconds of one command are printed too.
+//! Each client in turn sends a PING, which reaches its session, and receives the reply. Without an
+//! argument there are a hundred clients, and it prints counts, which are the same in every run.
+//! With `times` there are a thousand and 16,000 clients, and it also prints the nanoseconds of one
+//! command.
 
 use crate::{end_line, has, nanos};
 use anyhow::Result;
@@ -12,7 +13,7 @@ use resp_wire::{Event, MemoryLink, World};
 use std::alloc::Global;
 use std::hash::{BuildHasherDefault, FoldHasher};
 
-/// How many commands each client asks.
+/// The number of commands of each client.
 const ROUNDS: usize = 10;
 
 type BenchWorld = World<MemoryLink, BuildHasherDefault<FoldHasher>>;
@@ -22,7 +23,7 @@ fn ping(alloc: Global) -> Result<Command> {
     Ok(Command::new(vec![in alloc; name]?)?)
 }
 
-/// One client asks, and hears the reply.
+/// One client sends a command and receives the reply.
 fn converse(alloc: Global, world: &mut BenchWorld, client: usize) -> Result<()> {
     world.step(&Event::Send(client, ping(alloc)?))?;
     world.step(&Event::ToServer(client, u64::MAX))?;
@@ -30,7 +31,7 @@ fn converse(alloc: Global, world: &mut BenchWorld, client: usize) -> Result<()> 
     Ok(())
 }
 
-/// Each client in turn, `ROUNDS` times. How many nanoseconds that took.
+/// Runs each client in turn, `ROUNDS` times. Returns the nanoseconds used.
 fn converse_all(rt: &HostRuntime, world: &mut BenchWorld, clients: usize) -> Result<u128> {
     let start = nanos(rt)?;
     for _ in 0..ROUNDS {
@@ -50,7 +51,7 @@ fn run(rt: &HostRuntime, clients: usize, timed: bool) -> Result<()> {
     end_line(rt, timed, nanos, commands as u128, "each")
 }
 
-/// Runs it as the words ask.
+/// Runs the benchmark as the arguments request.
 pub(crate) fn bench(rt: &HostRuntime, words: &[String]) -> Result<()> {
     if !has(words, "times") {
         return run(rt, 100, false);

@@ -1,7 +1,7 @@
-//! How long the encoder takes a value, beside the time to copy the same text.
+//! Measures how long the encoder needs for a value, beside the time to copy the same text.
 //!
-//! It encodes few values and prints the length of each text, the same on every run. With the
-//! argument `times` it encodes a million of each and prints nanoseconds.
+//! Without an argument it encodes few values and prints the length of each text, the same in every
+//! run. With the argument `times` it encodes a million of each and prints nanoseconds.
 
 use crate::texts::{ARRAY_10, BULK_16, BULK_1024, INTEGER, MAP, SIMPLE, Text};
 use crate::{has, nanos};
@@ -15,13 +15,13 @@ use resp_value::value::Value;
 use resp_value::version::Version;
 use std::alloc::Global;
 
-/// How many texts the buffer has room for.
+/// The number of texts for which the buffer has room.
 const BATCH: usize = 100;
 
-/// How many batches make a million values.
+/// The number of batches in a million values.
 const ROUNDS: usize = 10_000;
 
-/// Nanoseconds over a million values that are a hundredth of a nanosecond a value.
+/// Nanoseconds for a million values that make a hundredth of a nanosecond for one value.
 const NANOS_IN_HUNDREDTHS: u128 = 10_000;
 
 fn encode_all(value: &Value, rounds: usize, out: &mut BytesMut) -> Result<()> {
@@ -45,7 +45,7 @@ fn copy_all(text: &[u8], rounds: usize, out: &mut BytesMut) -> Result<()> {
     Ok(())
 }
 
-/// Prints a line of times: nanoseconds a value, those to copy its text, and their ratio.
+/// Prints a line of times: the nanoseconds for one value, those to copy its text, and their ratio.
 fn measure(
     rt: &HostRuntime,
     name: &str,
@@ -77,7 +77,7 @@ fn print_times(rt: &HostRuntime, name: &str, encoded: u128, copied: u128) -> Res
     Ok(())
 }
 
-/// Prints the length of the text of a value and that of a batch of them.
+/// Prints the length of a value's text and of a batch of such texts.
 fn count(
     rt: &HostRuntime,
     name: &str,
@@ -90,7 +90,7 @@ fn count(
     Ok(())
 }
 
-/// The value that a text spells.
+/// Returns the value encoded in a text.
 fn value(alloc: Global, text: &[u8]) -> Result<Value> {
     let mut decoder = Decoder::new(alloc, Version::Three, &Limits::standard());
     let fed = decoder.feed(text);
@@ -113,7 +113,7 @@ fn run(rt: &HostRuntime, timed: bool, text: &Text) -> Result<()> {
     }
 }
 
-/// Runs it for each kind of value, as the words ask.
+/// Runs the benchmark for each kind of value, as the arguments request.
 pub(crate) fn bench(rt: &HostRuntime, words: &[String]) -> Result<()> {
     let timed = has(words, "times");
     for text in [SIMPLE, INTEGER, BULK_16, BULK_1024, ARRAY_10, MAP] {

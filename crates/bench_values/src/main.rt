@@ -1,8 +1,8 @@
-//! How long the encoder, the scanner and the decoder take a value, to be compared with others.
+//! Benchmarks of the encoder, the scanner and the decoder, to be compared with others.
 //!
-//! It is a program of its own, since what a call takes depends on what else a program holds. The
-//! arguments name a part, `encode` or `scan`, and what it is to do. With no argument
-//! each counts what it does with short texts, the same on every run.
+//! It is a separate program, because the speed of a call depends on the rest of the program. The
+//! arguments name a part, `encode` or `scan`, and its options. Without an argument each part counts
+//! its work on short texts, with the same output in every run.
 #![tactic(auto)]
 
 mod encode;
@@ -13,17 +13,17 @@ use anyhow::Result;
 use std::env;
 use std::time::CpuClock;
 
-/// Whether one of the words is this name.
+/// Returns whether this name is among the arguments.
 fn has(words: &[String], name: &str) -> bool {
     words.iter().any(|word| word.as_str() == name)
 }
 
-/// How many nanoseconds of processor time this thread has had.
+/// Returns the nanoseconds of processor time that this thread has used.
 fn nanos(rt: &HostRuntime) -> Result<u128> {
     Ok(rt.thread_cpu_time()?.as_nanos())
 }
 
-/// Runs the part that the words name, or both where they name none.
+/// Runs the part that the arguments name, or both parts if they name no part.
 fn main(rt: HostRuntime) -> Result<()> {
     let words: Vec<String> = env::args(&rt)?.collect(rt.alloc())?;
     let words = words.as_slice();

@@ -1,11 +1,12 @@
-//! How long the scanner and the decoder take a text, to be laid beside another reader of it.
+//! Measures how long the scanner and the decoder need for a text, to be compared with another
+//! reader of the text.
 //!
-//! It reads short texts in pieces of several sizes, by steps, by the loop and by
-//! the decoder, and prints what it counted, the same on every run. With the argument `times` it
-//! reads longer ones in pieces of two sizes, 32 MiB in all for each, and prints microseconds too;
-//! with `once` it reads these a single time. It then takes the scanner's loop, or with the argument
-//! `steps` or `trees` the steps or the decoder. With `peak` it decodes one array of a million bulk
-//! strings and nothing else.
+//! Without an argument it reads short texts in pieces of several sizes, with steps, with the loop
+//! and with the decoder, and prints counts, which are the same in every run. With the argument
+//! `times` it reads longer texts in pieces of two sizes, 32 MiB in all for each, and also prints
+//! microseconds. With `once` it reads these texts a single time. It then uses the scanner's loop,
+//! or with the argument `steps` or `trees` the steps or the decoder. With `peak` it only decodes
+//! one array of a million bulk strings.
 
 mod tally;
 mod trees;
@@ -22,25 +23,25 @@ use resp_value::limits::Limits;
 use resp_value::version::Version;
 use std::alloc::Global;
 
-/// The size of the pieces of a text that is measured for its memory.
+/// The size of the pieces of a text whose memory is measured.
 const PIECE: usize = 16_384;
 
-/// What is done with each text.
+/// The way in which each text is read.
 #[derive(Clone, Copy)]
 struct Task {
-    /// The calls by which it is read.
+    /// The calls with which it is read.
     calls: &'static [Call],
     /// The sizes of the pieces.
     sizes: &'static [usize],
     /// The least length of the text.
     least: usize,
-    /// How often it is read.
+    /// The number of times it is read.
     rounds: usize,
-    /// Whether microseconds are printed, and not events.
+    /// Whether microseconds are printed instead of events.
     timed: bool,
 }
 
-/// A text that is read by a call in pieces of a size, so often.
+/// A text that is read with a call in pieces of a size, a number of times.
 #[derive(Clone, Copy)]
 struct Reading<'a> {
     call: Call,
@@ -49,7 +50,7 @@ struct Reading<'a> {
     rounds: usize,
 }
 
-/// It is read in pieces of several sizes by each call, and counted.
+/// Reads in pieces of several sizes with each call, and counts.
 const COUNT: Task = Task {
     calls: &[Call::Step, Call::Scan, Call::Decode],
     sizes: &[1, 7, 1_000, 4_096, 16_384],
@@ -58,8 +59,8 @@ const COUNT: Task = Task {
     timed: false,
 };
 
-/// It is read by the loop and timed: a text which a processor's cache holds, as it holds what was
-/// just received, 32 MiB in all.
+/// Reads with the loop and measures the time, 32 MiB in all. The text fits a processor's cache, as
+/// bytes do that were just received.
 const MEASURE: Task = Task {
     calls: &[Call::Scan],
     sizes: &[4_096, 16_384],
@@ -68,7 +69,7 @@ const MEASURE: Task = Task {
     timed: true,
 };
 
-/// A scanner and a decoder, of which a call takes one.
+/// A scanner and a decoder, of which a call uses one.
 #[derive(Drop)]
 struct Readers {
     scanner: Scanner,
@@ -94,7 +95,7 @@ impl Readers {
         Ok(())
     }
 
-    /// Reads a text as often as asked, and answers how many nanoseconds that took.
+    /// Reads a text the requested number of times, and returns the nanoseconds used.
     fn read_rounds(
         &mut self,
         rt: &HostRuntime,
@@ -117,8 +118,8 @@ impl Readers {
     }
 }
 
-/// Prints a line of what is counted of a text, and with it the events or microseconds of this
-/// thread's processor time.
+/// Prints a line of the counts of a text, with the events or the microseconds of this thread's
+/// processor time.
 fn print_read(rt: &HostRuntime, name: &str, timed: bool, reading: &Reading<'_>) -> Result<()> {
     let mut tally = Tally::new();
     let nanos = read_anew(rt, reading, &mut tally)?;
@@ -131,13 +132,13 @@ fn print_read(rt: &HostRuntime, name: &str, timed: bool, reading: &Reading<'_>) 
     Ok(())
 }
 
-/// Reads a text by new readers, and answers how many nanoseconds that took.
+/// Reads a text with new readers, and returns the nanoseconds used.
 fn read_anew(rt: &HostRuntime, reading: &Reading<'_>, tally: &mut Tally) -> Result<u128> {
     let mut readers = Readers::new(rt.alloc());
     readers.read_rounds(rt, reading, tally)
 }
 
-/// Prints what both readers count of a text.
+/// Prints the counts that both readers have of a text.
 fn print_counts(rt: &HostRuntime, name: &str, size: usize, tally: &Tally) -> Result<()> {
     let (replies, values) = (tally.replies, tally.values);
     let (content, sum) = (tally.content, tally.sum);
@@ -147,7 +148,7 @@ fn print_counts(rt: &HostRuntime, name: &str, size: usize, tally: &Tally) -> Res
     Ok(())
 }
 
-/// Reads a text that is made of this one, in pieces of each size.
+/// Reads a text made by repeating this text, in pieces of each size.
 fn run(rt: &HostRuntime, task: &Task, text: &Text) -> Result<()> {
     let bytes = text.repeated(rt.alloc(), task.least)?;
     for size in task.sizes {
@@ -177,7 +178,7 @@ fn decode_million(rt: &HostRuntime) -> Result<()> {
     Ok(())
 }
 
-/// Decodes an array of a million members, of which this piece has a thousand.
+/// Decodes an array of a million members. This piece has a thousand of them.
 fn decode_array(alloc: Global, piece: &[u8], tally: &mut Tally) -> Result<(), Fault> {
     let mut decoder = Decoder::new(alloc, Version::Three, &Limits::standard());
     feed_array(&mut decoder, piece, tally)
@@ -191,7 +192,7 @@ fn feed_array(decoder: &mut Decoder, piece: &[u8], tally: &mut Tally) -> Result<
     Ok(())
 }
 
-/// What the words ask to be done with each text.
+/// Returns the way in which each text is read, for these arguments.
 fn asked_for(words: &[String]) -> Task {
     let mut task = MEASURE;
     if has(words, "once") {
@@ -207,7 +208,7 @@ fn asked_for(words: &[String]) -> Task {
     task
 }
 
-/// Runs it for each text, as the words ask.
+/// Runs the benchmark for each text, as the arguments request.
 pub(crate) fn bench(rt: &HostRuntime, words: &[String]) -> Result<()> {
     if has(words, "peak") {
         return decode_million(rt);

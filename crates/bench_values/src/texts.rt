@@ -1,8 +1,8 @@
-//! The texts that are read and written: each spells one value.
+//! The texts that are read and written. Each is the encoding of one value.
 
 use std::alloc::{AllocError, Global};
 
-/// A text: its head, a part that stands there `count` times, and its end.
+/// A text: its head, a part that is repeated `count` times, and its end.
 #[derive(Clone, Copy)]
 pub(crate) struct Text {
     pub(crate) name: &'static str,
@@ -87,7 +87,7 @@ pub(crate) const MAP: Text = Text {
 };
 
 impl Text {
-    /// The bytes of the text.
+    /// Returns the bytes of the text.
     pub(crate) fn bytes(&self, alloc: Global) -> Result<Vec<u8>, AllocError> {
         let mut all = Vec::new(alloc);
         self.add_to(&mut all)?;
@@ -102,7 +102,7 @@ impl Text {
         all.extend_from_slice(self.end)
     }
 
-    /// The text over and over, until there are at least `least` bytes.
+    /// Repeats the text until there are at least `least` bytes.
     pub(crate) fn repeated(&self, alloc: Global, least: usize) -> Result<Vec<u8>, AllocError> {
         let mut all = Vec::new(alloc);
         for _ in 0..least {

@@ -1,7 +1,6 @@
-//! Tests of values, limits, causes and devices, of what a value asks of a session, of the encoder,
-//! and of how long the parts live that a scanner lends: over public calls, where rows can't say
-//! them. They stand in a crate of their own, so that the libraries are proved once, and not a
-//! second time with them.
+//! Tests of values, limits, causes, devices, the request that a value makes, the encoder, and the
+//! lifetimes of the parts that a scanner returns. They use public calls and test what rows cannot
+//! express. They are in a crate of their own, which keeps the libraries from being proved twice.
 #![tactic(auto)]
 
 #[cfg(test)]

@@ -1,4 +1,4 @@
-//! What no contract says: that the calls succeed, and what a few of them give.
+//! Tests that no contract covers: the calls succeed, and a few of them have their expected results.
 
 use std::fmt::Debug;
 use std::process::Abort;
@@ -21,8 +21,8 @@ mod value;
 mod words;
 mod written;
 
-/// Asserts that two values are equal. The tests call it in place of `assert_eq!`, which is proved
-/// anew wherever it stands.
+/// Asserts that two values are equal. The tests call it instead of `assert_eq!`, which would be
+/// proved anew at each place.
 fn check_equal<T: PartialEq + Debug + Drop>(rt: &impl Abort, said: T, wanted: T) {
     assert_eq!(rt; said, wanted);
 }

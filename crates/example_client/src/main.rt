@@ -1,5 +1,5 @@
 //! Queues HELLO 3 and two commands, and prints their text. Then reads the replies from standard
-//! input in pieces of 16 bytes, and prints each with its command's number.
+//! input in pieces of 16 bytes, and prints each reply with the number of its command.
 #![tactic(auto)]
 
 use anyhow::Result;
@@ -8,10 +8,10 @@ use resp_value::{Command, Limits, Version};
 use std::alloc::Global;
 use std::io::Read;
 
-/// How many bytes one read asks for.
+/// The size of one read, in bytes.
 const PIECE: usize = 16;
 
-/// A command of a name and a key.
+/// Makes a command of a name and a key.
 fn command(alloc: Global, name: &[u8], key: &[u8]) -> Result<Command> {
     let words = vec![in alloc; name.to_vec(alloc)?, key.to_vec(alloc)?]?;
     Ok(Command::new(words)?)
@@ -29,7 +29,7 @@ fn main(rt: HostRuntime) -> Result<()> {
     print_replies(&rt, &mut client)
 }
 
-/// Prints what is heard of standard input, up to its end.
+/// Prints the replies and pushes of standard input, up to its end.
 fn print_replies(rt: &HostRuntime, client: &mut Client) -> Result<()> {
     let mut input = rt.stdin();
     let mut piece = [0; PIECE];
@@ -43,7 +43,8 @@ fn print_replies(rt: &HostRuntime, client: &mut Client) -> Result<()> {
     Ok(())
 }
 
-/// Prints what is heard in a piece. What the piece leaves unfinished, the client keeps.
+/// Prints the replies and pushes of a piece. The client keeps the part of a reply that the piece
+/// does not finish.
 fn print_heard(rt: &HostRuntime, client: &mut Client, piece: &[u8]) -> Result<()> {
     let mut rest = piece;
     for _ in 0..u64::MAX {

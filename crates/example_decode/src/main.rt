@@ -6,10 +6,11 @@ use resp_decode::Decoder;
 use resp_value::{Limits, Value, Version};
 use std::io::Read;
 
-/// How many bytes one read asks for.
+/// The size of one read, in bytes.
 const PIECE: usize = 16;
 
-/// Prints the values that end in a piece. What the piece leaves unfinished, the decoder keeps.
+/// Prints the values that end in a piece. The decoder keeps the part of a value that the piece does
+/// not finish.
 fn print_values(rt: &impl Print, decoder: &mut Decoder, piece: &[u8]) -> Result<()> {
     let mut rest = piece;
     while !rest.is_empty() {
@@ -22,7 +23,7 @@ fn print_values(rt: &impl Print, decoder: &mut Decoder, piece: &[u8]) -> Result<
     Ok(())
 }
 
-/// Prints a bulk string's text, an array's length, and any other value as it is.
+/// Prints the text of a bulk string, the length of an array, and any other value with `Debug`.
 fn print_value(rt: &impl Print, value: &Value) -> Result<()> {
     match value {
         Value::Bulk(content) => println!(rt; "\"{}\"", content.list().escape_ascii())?,

@@ -1,4 +1,4 @@
-//! Writes a reply of three members in RESP3.
+//! Encodes a reply of three members in RESP3.
 #![tactic(auto)]
 
 use anyhow::Result;

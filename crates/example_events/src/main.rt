@@ -6,10 +6,11 @@ use resp_scan::{Event, Scanner};
 use resp_value::{Limits, Version};
 use std::io::Read;
 
-/// How many bytes one read asks for.
+/// The size of one read, in bytes.
 const PIECE: usize = 16;
 
-/// Prints the events that stand in a piece. What the piece leaves unfinished, the scanner keeps.
+/// Prints the events of a piece. The scanner keeps the state of a value that the piece does not
+/// finish.
 fn print_events(rt: &impl Print, scanner: &mut Scanner, piece: &[u8]) -> Result<()> {
     let mut rest = piece;
     for _ in 0..u64::MAX {

@@ -1,4 +1,4 @@
-//! One pipeline, asked of a server and checked.
+//! Sends one pipeline to a server and checks the replies.
 
 use anyhow::{Result, bail};
 use resp_client::Client;
@@ -12,16 +12,16 @@ use resp_wire::{Asked, Request};
 use std::alloc::Global;
 use std::net::TcpStream;
 
-/// How many commands the pipeline has.
+/// The number of commands of the pipeline.
 const COMMANDS: usize = 10_000;
 
-/// The index of HELLO 3 among them; the next one turns tracking on.
+/// The index of HELLO 3 in the pipeline. The command after it turns tracking on.
 const HELLO: usize = 5_000;
 
-/// How many commands after it and after each push a key is read and then written, for a push.
+/// After HELLO a key is read and then written once in this many commands. The write causes a push.
 const TRACKED: usize = 100;
 
-/// How many reads and writes are allowed.
+/// The greatest number of reads and writes.
 const TURNS: u64 = 1_000_000;
 
 fn command(alloc: Global, words: &[&[u8]]) -> Result<Request> {
@@ -32,7 +32,7 @@ fn command(alloc: Global, words: &[&[u8]]) -> Result<Request> {
     Ok(Request::Command(Command::new(owned)?))
 }
 
-/// Whether this command reads, or the one after it writes, a key that is tracked.
+/// Returns whether this command reads the tracked key. The command after it writes the key.
 fn is_tracked(index: usize) -> bool {
     index > HELLO && index % TRACKED == 2
 }
@@ -41,7 +41,7 @@ fn is_written(index: usize) -> bool {
     index > HELLO && index % TRACKED == 3
 }
 
-/// The command of this index: what isn't said otherwise is to be echoed, the index itself.
+/// Returns the command of this index. Apart from the special commands it is an ECHO of the index.
 fn request(alloc: Global, index: usize) -> Result<Request> {
     if index == HELLO {
         return Ok(Request::Hello(Some(Version::Three)));
@@ -59,7 +59,7 @@ fn request(alloc: Global, index: usize) -> Result<Request> {
     command(alloc, &[b"ECHO", text.as_bytes()])
 }
 
-/// Whether the reply is one to the command of this index.
+/// Returns whether the reply belongs to the command of this index.
 fn is_reply(alloc: Global, index: usize, reply: &Value) -> Result<bool> {
     if index == HELLO {
         return Ok(matches!(reply, Value::Map(_)));
@@ -74,7 +74,7 @@ fn is_reply(alloc: Global, index: usize, reply: &Value) -> Result<bool> {
     Ok(matches!(reply, Value::Bulk(content) if content.list() == text.as_bytes()))
 }
 
-/// The commands of the pipeline.
+/// Returns the commands of the pipeline.
 fn requests(alloc: Global) -> Result<Vec<Request>> {
     let mut requests = Vec::new(alloc);
     for index in 0..COMMANDS {
@@ -83,7 +83,7 @@ fn requests(alloc: Global) -> Result<Vec<Request>> {
     Ok(requests)
 }
 
-/// Asks the server on this port, and answers how many replies and pushes came.
+/// Sends the pipeline to the server on this port, and returns the number of replies and of pushes.
 pub(crate) fn ask_server(net: &HostRuntime, alloc: Global, port: u16) -> Result<(usize, usize)> {
     let requests = requests(alloc)?;
     let stream = TcpStream::connect(net, ("127.0.0.1", port))?;
@@ -101,7 +101,7 @@ pub(crate) fn ask_server(net: &HostRuntime, alloc: Global, port: u16) -> Result<
     check(alloc, &heard)
 }
 
-/// How many replies and pushes came, where each command has its reply.
+/// Returns the number of replies and of pushes, if each command has its reply.
 fn check(alloc: Global, heard: &Asked) -> Result<(usize, usize)> {
     let count = heard.replies.len();
     if count != COMMANDS {

@@ -1,9 +1,9 @@
 //! Talks to Redis over TCP.
 //!
-//! `ask PORT` asks a server on this machine 10,000 commands in one pipeline, with HELLO 3 in its
-//! midst and pushes after it, and says how many replies and pushes came. It fails where a reply is
-//! another command's. `serve PORT` is a server for clients on this machine, until it is stopped.
-//! Without words it says how it is called.
+//! `ask PORT` sends 10,000 commands in one pipeline to a server on this machine, with HELLO 3 in
+//! the middle and pushes after it, and prints the number of replies and of pushes. It fails if a
+//! reply belongs to another command. `serve PORT` is a server for clients on this machine, until it
+//! is stopped. Without arguments the program prints its usage.
 #![tactic(auto)]
 
 mod asking;
@@ -13,7 +13,7 @@ use anyhow::Result;
 use std::env;
 use std::hash::RandomState;
 
-/// What the words of the command line ask for.
+/// The task that the command line names.
 enum Task {
     Usage,
     Ask(u16),

@@ -1,4 +1,4 @@
-//! A server of our own, of one connection after another.
+//! A server that serves one connection after another.
 
 use anyhow::Result;
 use resp_server::Hub;
@@ -9,11 +9,11 @@ use std::alloc::Global;
 use std::hash::RandomState;
 use std::net::TcpListener;
 
-/// How many reads and writes are allowed for a connection.
+/// The greatest number of reads and writes for a connection.
 const TURNS: u64 = 4_000_000_000;
 
-/// Serves each connection to this port, the next one once the last has ended. A client that goes
-/// away in the midst of its commands ends its own connection alone.
+/// Serves each connection to this port, one after another. A client that disconnects in the middle
+/// of a command ends only its own connection.
 pub(crate) fn serve_clients(
     net: &HostRuntime,
     alloc: Global,

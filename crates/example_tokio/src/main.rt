@@ -1,9 +1,9 @@
-//! Reads values by a framed stream of tokio_util, and prints them; then writes one by a framed
-//! sink. At last a client sends a pipeline of commands, and a server answers them.
+//! Reads values with a framed stream of tokio_util and prints them, and writes a value with a
+//! framed sink. Then a client sends a pipeline of commands, and a server answers them.
 //!
-//! The reader and the writer are memory here. With the handles `Wait` and `Threads`, which this
-//! repository doesn't allow itself, a program runs the same futures over sockets by a runtime of
-//! tokio, with `block_on` in place of `now_or_never`.
+//! The reader and the writer are in memory here. With the handles `Wait` and `Threads`, which this
+//! repository does not use, a program runs the same futures over sockets with a runtime of tokio,
+//! and with `block_on` in place of `now_or_never`.
 #![tactic(auto)]
 
 mod pipeline;
@@ -22,7 +22,7 @@ fn main(rt: HostRuntime) -> Result<()> {
     pipeline::run(&rt, &limits)
 }
 
-/// Prints the values of a stream, and the fault of what follows them.
+/// Prints the values of a stream, and the fault after them.
 fn read_values(rt: &HostRuntime, limits: &Limits) -> Result<()> {
     let alloc = rt.alloc();
     let input = b"+OK\r\n:7\r\n$3\r\nabc\r\n*1\r\n".as_slice();
@@ -45,7 +45,7 @@ fn print_item(rt: &HostRuntime, item: Result<Value, CodecError>) -> Result<()> {
     Ok(())
 }
 
-/// Writes a value and flushes it, and prints what the writer was given.
+/// Writes and flushes a value, and prints the bytes written.
 fn write_value(rt: &HostRuntime, limits: &Limits) -> Result<()> {
     let alloc = rt.alloc();
     let codec = RespCodec::new(alloc, Version::Three, limits);

@@ -24,7 +24,7 @@ pub(crate) fn run(rt: &HostRuntime, limits: &Limits) -> Result<()> {
     print_replies(rt, limits, replies.as_slice())
 }
 
-/// The array of bulk strings that is sent for a command.
+/// Returns the array of bulk strings that is sent for a command.
 fn command(alloc: Global, words: &[&[u8]]) -> Result<Value, AllocError> {
     let mut members = Vec::new(alloc);
     for word in words {
@@ -33,7 +33,7 @@ fn command(alloc: Global, words: &[&[u8]]) -> Result<Value, AllocError> {
     Ok(Value::Array(Members::new(members)))
 }
 
-/// What the client writes: all commands, one after another.
+/// Returns the bytes that the client writes: all commands, one after another.
 fn send_commands(rt: &HostRuntime, limits: &Limits) -> Result<Vec<u8>> {
     let alloc = rt.alloc();
     let codec = RespCodec::new(alloc, Version::Two, limits);
@@ -48,7 +48,8 @@ fn send_commands(rt: &HostRuntime, limits: &Limits) -> Result<Vec<u8>> {
     Ok(sink.into_parts().io)
 }
 
-/// What the server writes for what came. HELLO moves the version of the replies from its own on.
+/// Returns the bytes that the server writes for this input. HELLO changes the version of the
+/// replies, beginning with its own reply.
 fn serve(rt: &HostRuntime, limits: &Limits, input: &[u8]) -> Result<Vec<u8>> {
     let alloc = rt.alloc();
     let mut server = Server::new(alloc);
@@ -70,8 +71,8 @@ fn serve(rt: &HostRuntime, limits: &Limits, input: &[u8]) -> Result<Vec<u8>> {
     Ok(sink.into_parts().io)
 }
 
-/// Prints the replies that the client reads. It reads version 3, in which a server may spell all
-/// that this one answers in version 2 as well.
+/// Prints the replies that the client reads. It reads version 3, in which all replies of version 2
+/// are valid too.
 fn print_replies(rt: &HostRuntime, limits: &Limits, input: &[u8]) -> Result<()> {
     let alloc = rt.alloc();
     println!(rt; "{}", input.escape_ascii())?;

@@ -1,14 +1,15 @@
-//! A small server of PING, ECHO, GET, SET, DEL and HELLO, over what a codec of commands reads.
+//! A small server of PING, ECHO, GET, SET, DEL and HELLO, over the requests that a codec of
+//! commands reads.
 //!
-//! It shows how replies are made. `resp_server` has these commands with all that Redis says of
-//! them.
+//! It shows how replies are made. `resp_server` is a server of these commands with Redis's error
+//! replies.
 
 use resp_session::words::{Asked, Words};
 use resp_value::{Content, Line, Members, PairList, Value, Version};
 use std::alloc::{AllocError, Global};
 use std::collections::BTreeMap;
 
-/// The keys and values of one client, and the version in which it is answered.
+/// The keys and values of one client, and the version of its replies.
 #[derive(Drop)]
 pub(crate) struct Server {
     values: BTreeMap<Vec<u8>, Vec<u8>>,
@@ -23,12 +24,12 @@ impl Server {
         }
     }
 
-    /// The version of the reply that was made last, and of those to come.
+    /// Returns the version of the last reply, and of the replies after it.
     pub(crate) fn version(&self) -> Version {
         self.version
     }
 
-    /// The reply to what a value asked. An empty array has none.
+    /// Returns the reply to a request. An empty array has no reply.
     pub(crate) fn answer(
         &mut self,
         alloc: Global,
@@ -50,7 +51,7 @@ impl Server {
         }
     }
 
-    /// A command of a name and one argument.
+    /// Runs a command of a name and one argument.
     fn run_with(&mut self, alloc: Global, name: &[u8], word: &[u8]) -> Result<Value, AllocError> {
         if is_name(name, b"ECHO") {
             bulk(alloc, word)
@@ -86,8 +87,8 @@ impl Server {
         })
     }
 
-    /// Answers in this version from this reply on. Version 2 has no maps, so the pair is an array
-    /// there.
+    /// Changes the version from this reply on, and returns the reply. Version 2 has no maps, so the
+    /// pair is an array there.
     fn hello(&mut self, alloc: Global, version: &[u8]) -> Result<Value, AllocError> {
         let proto = bulk(alloc, b"proto")?;
         match version {
@@ -106,12 +107,12 @@ impl Server {
     }
 }
 
-/// Whether a word is this name, in upper or lower case.
+/// Returns whether a word is this name, in upper, lower or mixed case.
 fn is_name(word: &[u8], name: &[u8]) -> bool {
     word.eq_ignore_ascii_case(name)
 }
 
-/// A command of its name alone.
+/// Runs a command without arguments.
 fn run_alone(alloc: Global, name: &[u8]) -> Result<Value, AllocError> {
     if is_name(name, b"PING") {
         line(alloc, b"PONG")
@@ -128,7 +129,7 @@ fn bulk(alloc: Global, bytes: &[u8]) -> Result<Value, AllocError> {
     Ok(Value::Bulk(Content::new(bytes.to_vec(alloc)?)))
 }
 
-/// A simple string, or null where the text is no line.
+/// Returns a simple string, or null if the text contains CR or LF.
 fn line(alloc: Global, text: &[u8]) -> Result<Value, AllocError> {
     Ok(match Line::new(text.to_vec(alloc)?) {
         Ok(line) => Value::Simple(line),
@@ -136,7 +137,7 @@ fn line(alloc: Global, text: &[u8]) -> Result<Value, AllocError> {
     })
 }
 
-/// An error, or null where the text is no line.
+/// Returns a simple error, or null if the text contains CR or LF.
 fn error(alloc: Global, text: &[u8]) -> Result<Value, AllocError> {
     Ok(match Line::new(text.to_vec(alloc)?) {
         Ok(line) => Value::Error(line),

@@ -1,4 +1,4 @@
-//! Parts on the decoder.
+//! Parts that test the decoder.
 
 use crate::encoding::{SAMPLE, is_written_so};
 use crate::outcome::{Outcome, answers};
@@ -10,12 +10,12 @@ use resp_value::value::Value;
 use resp_value::version::Version;
 use std::alloc::Global;
 
-/// The value that ends with a piece.
+/// Returns the value that ends with a piece.
 fn feed(decoder: &mut Decoder, piece: &[u8]) -> Result<Option<Value>, Fault> {
     Ok(decoder.feed(piece)?.value)
 }
 
-/// Whether this is answered for good, and nothing is held.
+/// Returns whether this fault is final and nothing is held.
 fn is_final(decoder: &mut Decoder, fault: Fault) -> bool {
     answers(feed(decoder, b":7\r\n"), fault)
         && decoder.finish() == Err(fault)
@@ -23,13 +23,13 @@ fn is_final(decoder: &mut Decoder, fault: Fault) -> bool {
         && decoder.weight() == 0
 }
 
-/// The fault is OutOfMemory, within the `given` bytes, and is answered for good.
+/// Checks that the fault is `OutOfMemory`, lies within the `given` bytes, and is final.
 fn refused(decoder: &mut Decoder, fault: Fault, given: usize) -> Outcome {
     let is_refusal = fault.cause == Cause::OutOfMemory && fault.at <= given as u64;
     Outcome::refused(is_refusal && is_final(decoder, fault))
 }
 
-/// The value that ends with a piece, where the decoder then holds no more than it took.
+/// Returns the value that ends with a piece, if the decoder holds no more than it has read.
 fn feed_piece(decoder: &mut Decoder, piece: &[u8], given: usize) -> Result<Option<Value>, Outcome> {
     match feed(decoder, piece) {
         Ok(value) if decoder.weight() <= decoder.taken() => Ok(value),
@@ -38,7 +38,7 @@ fn feed_piece(decoder: &mut Decoder, piece: &[u8], given: usize) -> Result<Optio
     }
 }
 
-/// The value that ends with the last of the pieces of `size` bytes.
+/// Returns the value that ends with the last of the pieces of `size` bytes.
 fn feed_all(decoder: &mut Decoder, text: &[u8], size: usize) -> Result<Option<Value>, Outcome> {
     let mut given: usize = 0;
     let mut last = None;
@@ -49,7 +49,7 @@ fn feed_all(decoder: &mut Decoder, text: &[u8], size: usize) -> Result<Option<Va
     Ok(last)
 }
 
-/// The text is one value, in pieces of `size` bytes, and this is its canonical text.
+/// Checks that the text, in pieces of `size` bytes, is one value with this canonical text.
 fn of_pieces(alloc: Global, text: &[u8], size: usize, canonical: &[u8]) -> Outcome {
     let mut decoder = Decoder::new(alloc, Version::Three, &Limits::standard());
     match feed_all(&mut decoder, text, size) {
@@ -73,7 +73,7 @@ pub(crate) fn of_streamed_forms(alloc: Global) -> Outcome {
     of_pieces(alloc, text, 2, canonical)
 }
 
-/// Whether a piece is taken, and the value goes on.
+/// Returns whether a piece is read and the value continues.
 fn goes_on(decoder: &mut Decoder, piece: &[u8]) -> bool {
     match feed(decoder, piece) {
         Ok(None) => true,
@@ -81,7 +81,8 @@ fn goes_on(decoder: &mut Decoder, piece: &[u8]) -> bool {
     }
 }
 
-/// Whether these bytes, one by one, end a value and no earlier one, which takes no memory.
+/// Returns whether these bytes, one by one, end a value, and no earlier value, without an
+/// allocation.
 fn reads(decoder: &mut Decoder, text: &[u8], value: &Value) -> bool {
     for byte in text {
         if !goes_on(decoder, &[*byte]) {
@@ -94,7 +95,8 @@ fn reads(decoder: &mut Decoder, text: &[u8], value: &Value) -> bool {
     }
 }
 
-/// Truth values, integers and nulls of one line take no memory: no refusal may reach them.
+/// Booleans, integers and nulls of one line do not allocate, so no failed allocation can affect
+/// them.
 pub(crate) fn of_scalars(alloc: Global) -> Outcome {
     let mut decoder = Decoder::new(alloc, Version::Three, &Limits::standard());
     let is_truth = reads(&mut decoder, b"#t\r", &Value::Bool(true));
@@ -103,13 +105,14 @@ pub(crate) fn of_scalars(alloc: Global) -> Outcome {
     Outcome::of(is_truth && is_number && is_null)
 }
 
-/// Whether the head is taken, and the value goes on.
+/// Returns whether the head is read and the value continues.
 fn takes_head(alloc: Global, limits: &Limits, head: &[u8]) -> bool {
     let mut decoder = Decoder::new(alloc, Version::Three, limits);
     goes_on(&mut decoder, head) && decoder.taken() == head.len() as u64
 }
 
-/// A number in a head takes no memory for what hasn't come: no refusal may reach them.
+/// The number in a head allocates nothing for members that have not been received, so no
+/// failed allocation can affect it.
 pub(crate) fn of_heads(alloc: Global) -> Outcome {
     let Ok(great) = Limits::new(128, 536_870_912, 1_099_511_627_776) else {
         return Outcome::Wrong;
@@ -119,7 +122,7 @@ pub(crate) fn of_heads(alloc: Global) -> Outcome {
     )
 }
 
-/// The values that a text of version 3 spells.
+/// Returns the values encoded in a text of version 3.
 pub(crate) fn values(alloc: Global, text: &[u8]) -> Result<Vec<Value>, AllFault> {
     decode_all(alloc, Version::Three, &Limits::standard(), text)
 }

@@ -1,4 +1,4 @@
-//! Parts on values and on the encoder.
+//! Parts that test values and the encoder.
 
 use crate::decoding::values;
 use crate::given::{command, words};
@@ -17,14 +17,14 @@ pub(crate) const SAMPLE: &[u8] =
     b"*7\r\n|1\r\n+ttl\r\n:3600\r\n$5\r\nhello\r\n%1\r\n+k\r\n~2\r\n#t\r\n_\r\n\
     (-120\r\n=8\r\ntxt:text\r\n!3\r\nERR\r\n-bad\r\n+OK\r\n";
 
-/// What a buffer holds before something is appended.
+/// The bytes of a buffer before something is appended.
 const BEFORE: &[u8] = b"+before\r\n";
 
 fn standing(alloc: Global) -> Result<BytesMut, AllocError> {
     BytesMut::copy_from_slice(alloc, BEFORE)
 }
 
-/// What came of appending this text to what stood in a buffer: the text or nothing.
+/// Returns the outcome of appending this text to a buffer: the whole text, or nothing.
 fn appended(answer: Result<(), EncodeError>, out: &BytesMut, text: &[u8]) -> Outcome {
     match answer {
         Ok(()) => Outcome::of(out.as_slice().strip_prefix(BEFORE) == Some(text)),
@@ -33,7 +33,7 @@ fn appended(answer: Result<(), EncodeError>, out: &BytesMut, text: &[u8]) -> Out
     }
 }
 
-/// Whether this is the canonical text of the value in version 3.
+/// Returns whether this is the canonical text of the value in version 3.
 pub(crate) fn is_written_so(alloc: Global, value: &Value, text: &[u8]) -> Outcome {
     let Ok(mut out) = standing(alloc) else {
         return Outcome::OutOfMemory;

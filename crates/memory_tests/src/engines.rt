@@ -1,4 +1,4 @@
-//! Parts on the two ends of a connection.
+//! Parts that test the two ends of a connection.
 
 use crate::given::command;
 use crate::outcome::Outcome;
@@ -19,7 +19,7 @@ const TWO_PINGS: &[u8] = b"*1\r\n$4\r\nPING\r\n*1\r\n$4\r\nPING\r\n";
 /// SET, 27 bytes, and GET.
 const SET_GET: &[u8] = b"*3\r\n$3\r\nSET\r\n$1\r\na\r\n$1\r\n1\r\n*2\r\n$3\r\nGET\r\n$1\r\na\r\n";
 
-/// Whether the numbers of the replies are the first ones.
+/// Returns whether the replies have the first numbers, in order.
 fn are_first(heard: &Asked) -> bool {
     let mut count: u64 = 0;
     for (number, _) in &heard.replies {
@@ -32,7 +32,7 @@ fn are_first(heard: &Asked) -> bool {
     true
 }
 
-/// Whether whole requests wait and none was written, or all were.
+/// Returns whether whole requests wait and nothing was written, or everything was written.
 fn are_whole(waiting: &[u8], written: &[u8]) -> bool {
     if waiting.is_empty() {
         written.is_empty() || written == TWO_PINGS
@@ -41,7 +41,7 @@ fn are_whole(waiting: &[u8], written: &[u8]) -> bool {
     }
 }
 
-/// Asks two PINGs.
+/// Sends two PINGs and reads their replies.
 fn ask_all(
     client: &mut Client,
     requests: &[Request],
@@ -52,8 +52,8 @@ fn ask_all(
     ask(&mut reader, writer, client, requests, heard, 100)
 }
 
-/// When out of memory, whole requests wait or all were written, and the first replies are
-/// heard.
+/// When out of memory, whole requests wait or everything was written, and the first replies were
+/// added.
 fn asks(
     client: &mut Client,
     requests: &[Request],
@@ -69,7 +69,7 @@ fn asks(
     }
 }
 
-/// This many PINGs.
+/// Returns this many PINGs.
 fn pings(alloc: Global, count: usize) -> Result<Vec<Request>, AllocError> {
     let mut requests = Vec::new(alloc);
     for _ in 0..count {
@@ -98,7 +98,7 @@ fn serve_all(hub: &mut TestHub, id: u64, writer: &mut MemorySink) -> Result<Serv
     serve(&mut reader, writer, hub, id, 100)
 }
 
-/// Whether nothing waits to be sent and the session is closing.
+/// Returns whether nothing waits to be written and the session is closing.
 fn is_ended(hub: &TestHub, id: u64) -> bool {
     hub.out(id) == Ok(b"".as_slice()) && hub.is_closing(id) == Ok(true)
 }
@@ -107,8 +107,8 @@ fn is_set(hub: &TestHub) -> bool {
     hub.get(b"a") == Some(b"1".as_slice())
 }
 
-/// When out of memory, the commands before are run and their replies written, nothing of the
-/// refused one is done, and the session is closing.
+/// When out of memory, the commands before were run and their replies were written, nothing of the
+/// failed command was done, and the session is closing.
 fn serves(hub: &mut TestHub, id: u64, writer: &mut MemorySink) -> Outcome {
     let answer = serve_all(hub, id, writer);
     let is_set = is_set(hub);

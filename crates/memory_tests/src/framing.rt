@@ -1,4 +1,4 @@
-//! Parts on the codecs for framed streams.
+//! Parts that test the codecs for framed streams.
 
 use crate::decoding::values;
 use crate::encoding::{SAMPLE, is_written_so};
@@ -14,13 +14,13 @@ use resp_value::version::Version;
 use std::alloc::Global;
 use tokio_util::codec::{Decoder, Encoder};
 
-/// What a buffer holds before a frame is appended.
+/// The bytes of a buffer before a frame is appended.
 const BEFORE: &[u8] = b"+a\r\n";
 
-/// How many bytes of a text come at once.
+/// The number of bytes of a text that are received at once.
 const PIECE: usize = 16;
 
-/// Whether it is a refusal of a growth, after which the buffer is empty.
+/// Returns whether it is the error of a failed allocation, and the buffer is empty.
 fn is_refusal(error: &CodecError, buffer: &BytesMut) -> bool {
     match error {
         CodecError::Fault(fault) => fault.cause == Cause::OutOfMemory && buffer.is_empty(),
@@ -28,7 +28,7 @@ fn is_refusal(error: &CodecError, buffer: &BytesMut) -> bool {
     }
 }
 
-/// Whether the codec of values answers so again, whatever comes.
+/// Returns whether the codec of values returns the same error again, whatever it receives.
 fn stays_refused(codec: &mut RespCodec, buffer: &mut BytesMut) -> bool {
     match codec.decode(buffer) {
         Ok(_) => false,
@@ -36,7 +36,7 @@ fn stays_refused(codec: &mut RespCodec, buffer: &mut BytesMut) -> bool {
     }
 }
 
-/// The value that ends with the last piece of a text, where each piece is added to the buffer.
+/// Returns the value that ends with the last piece of a text. Each piece is added to the buffer.
 fn read(
     codec: &mut RespCodec,
     text: &[u8],
@@ -67,7 +67,7 @@ pub(crate) fn of_values_in(alloc: Global) -> Outcome {
     }
 }
 
-/// Whether it is a command of these two words.
+/// Returns whether it is a command of these two words.
 fn is_get(asked: &Asked) -> bool {
     match asked {
         Asked::Command(words) => {
@@ -91,7 +91,7 @@ pub(crate) fn of_commands_in(alloc: Global) -> Outcome {
     }
 }
 
-/// What came of appending a value's frame to what stood in a buffer.
+/// Returns the outcome of appending the frame of a value to a buffer.
 fn is_framed(alloc: Global, value: Value, text: &[u8]) -> Outcome {
     let Ok(mut out) = BytesMut::copy_from_slice(alloc, BEFORE) else {
         return Outcome::OutOfMemory;

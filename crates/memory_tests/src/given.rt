@@ -1,9 +1,9 @@
-//! What is given to several parts.
+//! Arguments that several parts use.
 
 use resp_value::command::Command;
 use std::alloc::{AllocError, Global};
 
-/// Texts as words.
+/// Makes words of these texts.
 pub(crate) fn words(alloc: Global, texts: &[&[u8]]) -> Result<Vec<Vec<u8>>, AllocError> {
     let mut words = Vec::new(alloc);
     for text in texts {
@@ -12,7 +12,7 @@ pub(crate) fn words(alloc: Global, texts: &[&[u8]]) -> Result<Vec<Vec<u8>>, Allo
     Ok(words)
 }
 
-/// A command of these words.
+/// Makes a command of these words.
 pub(crate) fn command(alloc: Global, texts: &[&[u8]]) -> Result<Command, AllocError> {
     Command::new(words(alloc, texts)?).map_err(|_| AllocError)
 }

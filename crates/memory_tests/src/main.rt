@@ -1,8 +1,8 @@
-//! Makes each call that takes memory once, so that a test can refuse each allocation in turn.
+//! Makes each call that allocates once, which lets a test fail each allocation in turn.
 //!
-//! It makes as many allocations before as standard input has bytes. Of each part it then prints the
-//! name, and `whole`, or `out of memory` where that was refused in it and all stands that has to
-//! stand after a refusal, or else `wrong`.
+//! Before the parts it makes as many allocations as standard input has bytes. For each part it then
+//! prints the name and `whole`; or `out of memory` if an allocation failed in the part and the
+//! state is as promised after that; or `wrong`.
 #![tactic(auto)]
 
 mod decoding;
@@ -20,7 +20,7 @@ use outcome::Outcome;
 use std::alloc::{AllocError, Global};
 use std::io::Read;
 
-/// The number of bytes that stand in the input.
+/// Returns the number of bytes of the input.
 fn count_input(input: &mut impl Read) -> Result<usize> {
     let mut count: usize = 0;
     let mut piece = [0; 64];
@@ -48,7 +48,7 @@ fn allocate_byte(alloc: Global) -> Result<(), AllocError> {
     Ok(())
 }
 
-/// A part's name, and what came of it.
+/// The name of a part with its outcome.
 type Part = (&'static str, Outcome);
 
 fn print(rt: &impl Print, parts: &[Part]) -> Result<()> {
@@ -59,7 +59,7 @@ fn print(rt: &impl Print, parts: &[Part]) -> Result<()> {
     Ok(())
 }
 
-/// Each part, in the order in which they are made.
+/// Runs each part, and returns their outcomes in order.
 fn parts(alloc: Global) -> [Part; 30] {
     [
         ("decode a piece", decoding::of_one_piece(alloc)),

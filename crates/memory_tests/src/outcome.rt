@@ -1,4 +1,4 @@
-//! What came of a part.
+//! The outcome of a part.
 
 use resp_scan::event::Fault;
 
@@ -22,7 +22,7 @@ impl Outcome {
         matches!(self, Outcome::Whole)
     }
 
-    /// Whole where this holds, and wrong where it doesn't.
+    /// Returns `Whole` if this holds, and `Wrong` if it does not.
     pub(crate) fn of(holds: bool) -> Outcome {
         if holds {
             Outcome::Whole
@@ -31,7 +31,8 @@ impl Outcome {
         }
     }
 
-    /// Out of memory where this stands after the refusal, and wrong where it doesn't.
+    /// Returns `OutOfMemory` if the state after the failed allocation is as promised, and `Wrong`
+    /// if it is not.
     pub(crate) fn refused(stands: bool) -> Outcome {
         if stands {
             Outcome::OutOfMemory
@@ -41,7 +42,7 @@ impl Outcome {
     }
 }
 
-/// Whether a call answers this fault.
+/// Returns whether a call returned this fault.
 pub(crate) fn answers<T: Drop>(answer: Result<T, Fault>, fault: Fault) -> bool {
     match answer {
         Ok(_) => false,

@@ -1,4 +1,4 @@
-//! Parts on the client.
+//! Parts that test the client.
 
 use crate::encoding::is_written_so;
 use crate::given::command;
@@ -24,7 +24,7 @@ fn new_client(alloc: Global) -> Client {
     Client::new(alloc, &Limits::standard())
 }
 
-/// Asks a command, or HELLO where there is none.
+/// Queues a command, or HELLO if there is no command.
 fn send(client: &mut Client, command: Option<&Command>) -> Result<u64, SendError> {
     match command {
         Some(command) => client.send(command),
@@ -32,18 +32,18 @@ fn send(client: &mut Client, command: Option<&Command>) -> Result<u64, SendError
     }
 }
 
-/// Whether these bytes and `waiting` commands wait.
+/// Returns whether these bytes and `waiting` commands wait.
 fn waits(client: &Client, out: &[u8], waiting: u64) -> bool {
     client.out() == out && client.waiting() == waiting
 }
 
-/// Whether what is asked next has number 1, and is what waits.
+/// Returns whether the next command has number 1 and is the only one that waits.
 fn is_first(client: &mut Client, command: Option<&Command>, text: &[u8]) -> bool {
     send(client, command) == Ok(1) && waits(client, text, 1)
 }
 
-/// Where a command is refused nothing is queued, and the client goes on: the next one has the
-/// number that this one would have had.
+/// If an allocation fails, no command is queued and the client continues: the next command has the
+/// number that this command would have had.
 fn sends(client: &mut Client, command: Option<&Command>, text: &[u8]) -> Outcome {
     match send(client, command) {
         Ok(number) => Outcome::of(number == 1 && waits(client, text, 1)),
@@ -67,12 +67,12 @@ pub(crate) fn of_hello(alloc: Global) -> Outcome {
     sends(&mut client, None, HELLO)
 }
 
-/// What is heard of a piece.
+/// Returns the reply or push that ends with a piece.
 fn hear(client: &mut Client, piece: &[u8]) -> Result<What, Fault> {
     Ok(client.feed(piece)?.what)
 }
 
-/// A fault is OutOfMemory, is answered for good, and leaves what waits to be sent.
+/// Checks that a fault is `OutOfMemory` and final, and that the waiting bytes are unchanged.
 fn refused(client: &mut Client, fault: Fault) -> Outcome {
     let is_final = answers(hear(client, b":7\r\n"), fault);
     Outcome::refused(is_final && fault.cause == Cause::OutOfMemory && client.out() == HELLO)
@@ -85,7 +85,7 @@ fn is_news(items: &Members) -> bool {
     }
 }
 
-/// What came of a push: it has to be news, and then the reply to HELLO is heard.
+/// Returns the outcome of a push: it has to be the news, and then the reply to HELLO is received.
 fn hears(alloc: Global, client: &mut Client) -> Outcome {
     match hear(client, PUSH) {
         Ok(What::Push(items)) => {
@@ -100,7 +100,7 @@ fn hears(alloc: Global, client: &mut Client) -> Outcome {
     }
 }
 
-/// HELLO's reply came whole, and was heard so.
+/// The reply to HELLO was received whole.
 fn hears_reply(alloc: Global, client: &mut Client) -> Outcome {
     match hear(client, REPLY) {
         Ok(What::Reply { number: 1, value }) => greeted(alloc, client.version(), &value),
@@ -124,8 +124,8 @@ pub(crate) fn of_feed(alloc: Global) -> Outcome {
     }
 }
 
-/// What came of one more push, where these were shown by now and this many before. Where a push is
-/// refused, those before it are shown and no other.
+/// Returns the outcome of one more push, given the pushes stored by now and the number stored
+/// before. If an allocation fails, exactly the pushes before it are stored.
 fn shown(
     client: &mut Client,
     answer: Result<Heard, Fault>,
@@ -149,7 +149,7 @@ fn shown(
     }
 }
 
-/// What came of six pushes that are shown to a sink, up to the first that is refused.
+/// Returns the outcome of six pushes that are passed to a sink, up to the first that fails.
 fn shows(client: &mut Client, list: Box<PushList>) -> Outcome {
     let mut sink: Box<dyn PushSink> = list;
     let mut outcome = Outcome::Whole;
@@ -174,7 +174,7 @@ pub(crate) fn of_feed_with(alloc: Global) -> Outcome {
     }
 }
 
-/// Whether a piece is taken, and the reply goes on.
+/// Returns whether a piece is read and the reply continues.
 fn goes_on(client: &mut Client, piece: &[u8]) -> bool {
     match hear(client, piece) {
         Ok(What::More) => true,
@@ -182,7 +182,7 @@ fn goes_on(client: &mut Client, piece: &[u8]) -> bool {
     }
 }
 
-/// A reply of one line takes no memory: no refusal may reach it.
+/// A reply of one line does not allocate, so no failed allocation can affect it.
 fn hears_integer(client: &mut Client) -> bool {
     if !goes_on(client, b":") || !goes_on(client, b"7") || !goes_on(client, b"\r") {
         return false;

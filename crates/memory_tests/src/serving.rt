@@ -1,4 +1,4 @@
-//! Parts on the server.
+//! Parts that test the server.
 
 use crate::decoding::values;
 use crate::outcome::Outcome;
@@ -11,16 +11,16 @@ use std::hash::{BuildHasherDefault, FoldHasher};
 
 type TestHub = Hub<BuildHasherDefault<FoldHasher>>;
 
-/// What stands of session 1 and of the store.
+/// The expected state of session 1 and of the store.
 #[derive(Clone, Copy)]
 struct Standing<'a> {
     out: &'a [u8],
     version: Version,
-    /// Keys of one byte, each with its value of one byte, in order.
+    /// Keys of one byte, each with a value of one byte, in order.
     store: &'a [u8],
 }
 
-/// What stands in version 2.
+/// Returns the expected state in version 2.
 fn in_two<'a>(out: &'a [u8], store: &'a [u8]) -> Standing<'a> {
     Standing {
         out,
@@ -33,12 +33,12 @@ fn new_hub(alloc: Global) -> TestHub {
     Hub::new(alloc, Limits::standard(), BuildHasherDefault::new())
 }
 
-/// How many commands of a piece to session 1 were run.
+/// Returns the number of commands of a piece to session 1 that were run.
 fn run(hub: &mut TestHub, piece: &[u8]) -> Result<u64, HubError> {
     Ok(hub.bytes(1, piece)?.commands)
 }
 
-/// Opens session 1 and sends it these bytes. Whether that was done.
+/// Opens session 1 and sends it these bytes. Returns whether that succeeded.
 fn opens(hub: &mut TestHub, piece: &[u8]) -> bool {
     hub.open() == Ok(1) && run(hub, piece).is_ok()
 }
@@ -64,12 +64,13 @@ fn stands(hub: &TestHub, standing: Standing<'_>, closing: bool) -> bool {
         && holds(hub, standing.store)
 }
 
-/// A session that is closing runs no command, and all stands as it did.
+/// Checks that a closing session runs no command and keeps its state.
 fn stays_closing(hub: &mut TestHub, standing: Standing<'_>) -> bool {
     run(hub, b"*1\r\n$4\r\nPING\r\n") == Ok(0) && stands(hub, standing, true)
 }
 
-/// What came of a piece, where this is what stands after none of its commands, one, and so on.
+/// Returns the outcome of a piece. `after` has the expected states after none of its commands,
+/// after one, and so on.
 fn runs(hub: &mut TestHub, piece: &[u8], after: &[Standing<'_>]) -> Outcome {
     let (count, is_refused) = match run(hub, piece) {
         Ok(commands) => (commands, false),
@@ -85,7 +86,7 @@ fn runs(hub: &mut TestHub, piece: &[u8], after: &[Standing<'_>]) -> Outcome {
     Outcome::of(count.saturating_add(1) == after.len() as u64 && stands(hub, *standing, false))
 }
 
-/// What came of a piece that is sent after another.
+/// Returns the outcome of a piece that is sent after another piece.
 fn of_piece(alloc: Global, before: &[u8], piece: &[u8], after: &[Standing<'_>]) -> Outcome {
     let mut hub = new_hub(alloc);
     if opens(&mut hub, before) {
@@ -95,7 +96,7 @@ fn of_piece(alloc: Global, before: &[u8], piece: &[u8], after: &[Standing<'_>]) 
     }
 }
 
-/// A refused session is not there, and its id is not used up.
+/// A session whose allocation failed does not exist, and its id is not used up.
 fn is_opened(hub: &mut TestHub) -> Outcome {
     match hub.open() {
         Ok(id) => Outcome::of(id == 1 && stands(hub, in_two(b"", b""), false)),
@@ -141,15 +142,15 @@ pub(crate) fn of_del(alloc: Global) -> Outcome {
     of_piece(alloc, SET_A, piece, &[none, one])
 }
 
-/// Asks for version 3.
+/// Requests version 3.
 const HELLO: &[u8] = b"*2\r\n$5\r\nHELLO\r\n$1\r\n3\r\n";
 
-/// What is replied to that.
+/// The reply to HELLO.
 const GREETING: &[u8] = b"%7\r\n$6\r\nserver\r\n$9\r\nresp_loop\r\n$7\r\nversion\r\n$5\r\n1.0.0\r\n\
     $5\r\nproto\r\n:3\r\n$2\r\nid\r\n:1\r\n$4\r\nmode\r\n$10\r\nstandalone\r\n\
     $4\r\nrole\r\n$6\r\nmaster\r\n$7\r\nmodules\r\n*0\r\n";
 
-/// What stands after that.
+/// Returns the expected state after HELLO.
 fn greeted() -> Standing<'static> {
     Standing {
         out: GREETING,
@@ -182,7 +183,7 @@ pub(crate) fn of_protocol_error(alloc: Global) -> Outcome {
     }
 }
 
-/// How many bytes wait to be sent.
+/// Returns the number of bytes that wait to be written.
 fn waiting(hub: &TestHub) -> usize {
     hub.out(1).map_or(0, |out| out.len())
 }
@@ -195,7 +196,7 @@ fn is_pushed(hub: &mut TestHub, items: &[Value]) -> Outcome {
     }
 }
 
-/// A bulk string of 600 bytes, which is more than what a buffer keeps spare.
+/// Returns a bulk string of 600 bytes, more than the spare room of a buffer.
 fn long_items(alloc: Global) -> Option<Vec<Value>> {
     let mut text = [b'x'; 608];
     text[..6].copy_from_slice(b"$600\r\n");

@@ -1,4 +1,4 @@
-//! The part on worlds.
+//! The part that tests worlds.
 
 use crate::given::command;
 use crate::outcome::Outcome;
@@ -14,7 +14,8 @@ type TestWorld = World<MemoryLink, BuildHasherDefault<FoldHasher>>;
 /// More bytes than wait.
 const ALL: u64 = 1_000_000;
 
-/// A key is read before it is set, and then all bytes come back.
+/// Returns events in which a key is read before it is set, and then all replies reach their
+/// clients.
 fn events(alloc: Global) -> Result<Vec<Event>, AllocError> {
     let mut events = Vec::new(alloc);
     events.push(Event::Send(1, command(alloc, &[b"SET", b"a", b"1"])?))?;
@@ -31,7 +32,7 @@ fn has_one_key(world: &TestWorld) -> bool {
     entries.next().is_some() && entries.next().is_none()
 }
 
-/// One reply each, and one key.
+/// Checks that there is one reply each, and one key.
 fn stands(world: &TestWorld) -> bool {
     world.clients() == 2
         && world.order() == [2, 1].as_slice()
@@ -40,7 +41,7 @@ fn stands(world: &TestWorld) -> bool {
         && has_one_key(world)
 }
 
-/// A world that stopped when out of memory stops so at each later event.
+/// Checks that a world that stopped when out of memory stops in the same way at each later event.
 fn stays_stopped(world: &mut TestWorld) -> bool {
     let later = world.step(&Event::ToServer(1, ALL));
     later

@@ -1,5 +1,5 @@
-//! Tests of the calls of resp_tool and resp_script: what no case of
-//! tests/cases can show, devices in memory that give and take few bytes, or fail.
+//! Tests of the calls of resp_tool and resp_script over devices in memory that move few bytes or
+//! fail, which no case of tests/cases can show.
 #![tactic(auto)]
 
 #[cfg(test)]

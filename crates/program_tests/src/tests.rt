@@ -9,8 +9,8 @@ mod scripts;
 mod statuses;
 mod streams;
 
-/// Asserts that two values are equal. The tests call it in place of `assert_eq!`, which is proved
-/// anew wherever it stands.
+/// Asserts that two values are equal. The tests call it instead of `assert_eq!`, which would be
+/// proved anew at each place.
 fn check_equal<T: PartialEq + Debug + Drop>(rt: &impl Abort, said: T, wanted: T) {
     assert_eq!(rt; said, wanted);
 }

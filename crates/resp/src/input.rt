@@ -1,27 +1,29 @@
-//! The script in the input, and of one that is too long no more than counts.
+//! Reads the script of `loop` from the input. If a script is too long, only the part that decides
+//! the error is kept.
 
 use resp_script::script::MOST_BYTES;
 use resp_tool::tool_error::ToolError;
 use resp_value::device::Source;
 use std::alloc::Global;
 
-/// The most reads of the input, as for a stream.
+/// The greatest number of reads of the input, the same as for a stream.
 const MOST_READS: u64 = 4_000_000_000;
 
 /// The first word of the line that names the number of clients.
 const CLIENTS: &[u8] = b"clients";
 
-/// Looks for a line with the first word `clients`, in pieces of any size.
+/// A search for a line with the first word `clients`, in pieces of any size.
 #[derive(Drop)]
 struct Search {
-    /// How many bytes of the word the line has so far; none where it begins with another.
+    /// The number of bytes of the word that the line has so far, or `None` if the line begins with
+    /// another word.
     matched: Option<usize>,
-    /// Whether such a line has come.
+    /// Whether such a line was found.
     is_found: bool,
 }
 
 impl Search {
-    /// Takes the bytes of a piece.
+    /// Searches a piece.
     fn look_in(&mut self, piece: &[u8]) {
         for byte in piece {
             let is_end = *byte == b' ' || *byte == b'\n';
@@ -36,16 +38,19 @@ impl Search {
         }
     }
 
-    /// Whether the line is the word so far.
+    /// Returns whether the line so far is the word.
     fn is_at_word(&self) -> bool {
         self.matched == Some(CLIENTS.len())
     }
 }
 
-/// The bytes of the input. Of a script that is too long they are the first, and a line that names
-/// clients where the input has one: its first bad line is the same, and is among these.
+/// Returns the bytes of the input. If a script is too long, returns its first bytes, with a line
+/// that names clients if the input has such a line. This is enough to report the same first bad
+/// line as the whole script.
 ///
-/// Refuses where a read fails, where the reads are used up, and when out of memory.
+/// # Errors
+///
+/// A failed read, too many reads, or an allocation that fails.
 pub fn read_input<R: Source>(alloc: Global, reader: &mut R) -> Result<Vec<u8>, ToolError> {
     let mut bytes = Vec::new(alloc);
     let mut search = Search {
@@ -65,7 +70,7 @@ pub fn read_input<R: Source>(alloc: Global, reader: &mut R) -> Result<Vec<u8>, T
         let is_long = bytes.len() > MOST_BYTES;
         if count == 0 || is_long && search.is_found {
             if is_long {
-                // The last line is cut, and is bad whatever it says.
+                // The last line is cut, and it is a bad line whatever it contains.
                 bytes.extend_from_slice(b".\n")?;
                 if search.is_found || search.is_at_word() {
                     bytes.extend_from_slice(CLIENTS)?;

@@ -1,4 +1,4 @@
-//! `serve` and `tap`: what the program does for clients that come to an address.
+//! The commands `serve` and `tap`, which listen on an address for clients.
 
 use resp_serve::{Server, Window};
 use resp_tool::command_line::{refuse_file, stop};
@@ -14,12 +14,12 @@ use std::io;
 use std::io::ErrorKind;
 use std::net::SocketAddr;
 
-/// Why clients can't be listened for any longer.
+/// Why the program stops listening for clients.
 #[derive(Drop)]
 enum ListenError {
-    /// The address can't be listened on, or a connection to it failed.
+    /// Listening on the address, or a connection to it, failed.
     Address(io::Error),
-    /// Another device, or memory, failed.
+    /// Another device or an allocation failed.
     Tool(ToolError),
 }
 
@@ -35,7 +35,7 @@ impl From<ToolError> for ListenError {
     }
 }
 
-/// Serves clients where the words say, and answers the status where it can't be gone on with that.
+/// Serves clients at the address in the words. Returns the status if that fails.
 pub fn run_serve<W: LiveSink, F: Sink>(
     rt: &HostRuntime,
     serving: &Serving<'_>,
@@ -67,8 +67,7 @@ fn serve<W: LiveSink>(
     Ok(server.run()?)
 }
 
-/// Stands between clients and a server where the words say, and answers the status where it can't
-/// be gone on with that.
+/// Runs the tap between clients and the server in the words. Returns the status if that fails.
 pub fn run_tap<W: LiveSink, F: Sink>(
     rt: &HostRuntime,
     tapping: &Tapping<'_>,
@@ -81,7 +80,7 @@ pub fn run_tap<W: LiveSink, F: Sink>(
     }
 }
 
-/// Stands between clients and a server until that fails.
+/// Runs the tap between clients and a server until that fails.
 fn tap<W: LiveSink>(
     rt: &HostRuntime,
     tapping: &Tapping<'_>,
@@ -104,7 +103,7 @@ fn tap<W: LiveSink>(
     }
 }
 
-/// Tells the address that is listened on.
+/// Prints the address on which the program listens.
 fn write_listening<W: Sink>(
     alloc: Global,
     address: SocketAddr,
@@ -119,7 +118,7 @@ fn write_listening<W: Sink>(
     }
 }
 
-/// Says why clients can't be listened for at this address, and answers the status.
+/// Reports why the program cannot listen on this address, and returns the status.
 fn refuse<F: Sink>(
     alloc: Global,
     address: &str,

@@ -1,5 +1,6 @@
-//! The program `resp`: shows, checks and rewrites streams of the Redis wire protocol, plays scripts
-//! of clients of one server, serves clients, and prints what passes between clients and a server.
+//! The program `resp`. It shows, checks and rewrites streams of the Redis wire protocol, plays
+//! scripts of several clients of one server, serves clients, and prints what passes between clients
+//! and a server.
 #![tactic(auto)]
 
 mod input;
@@ -32,13 +33,14 @@ use std::io::{Read, Write};
 use std::net::{Net, TcpListener, TcpStream};
 use std::process::ExitCode;
 
-/// The status of a failed device, and of OutOfMemory.
+/// The exit status after a failed device or when out of memory.
 const DEVICE_FAILED: u8 = 3;
 
-/// The most bytes that are said of what is wrong.
+/// The greatest number of bytes of error messages.
 const MOST_FAULTS: usize = 16_384;
 
-/// Runs the program and exits with its status, or says that it is out of memory and exits with 3.
+/// Runs the program and exits with its status. When out of memory it reports that and exits with
+/// status 3.
 fn main(rt: HostRuntime) -> ExitCode {
     match run(&rt) {
         Ok(status) => ExitCode::from(status),
@@ -49,8 +51,8 @@ fn main(rt: HostRuntime) -> ExitCode {
     }
 }
 
-/// Runs the program's words, and answers the status. What is wrong is said after what was shown,
-/// and nothing where what reads the output has closed it.
+/// Runs the command line and returns the status. Error messages are printed after the output, and
+/// not printed if the reader of the output has closed it.
 fn run(rt: &HostRuntime) -> Result<u8, AllocError> {
     let alloc = rt.alloc();
     let mut faults = MemorySink::new(alloc, MOST_FAULTS, MOST_FAULTS)?;
@@ -70,7 +72,7 @@ fn run(rt: &HostRuntime) -> Result<u8, AllocError> {
     if is_closed.get() {
         return Ok(DEVICE_FAILED);
     }
-    // Where a device failed before, that has been said.
+    // If a device failed before, that was already reported.
     if !is_written && status != DEVICE_FAILED {
         let _ = rt.stderr().write_all(b"write failed\n");
         return Ok(DEVICE_FAILED);
@@ -79,7 +81,7 @@ fn run(rt: &HostRuntime) -> Result<u8, AllocError> {
     Ok(status)
 }
 
-/// Does what the words say, and answers the status.
+/// Runs the command line and returns the status.
 fn run_words<W: LiveSink, F: Sink>(
     rt: &HostRuntime,
     words: &[String],
@@ -107,8 +109,7 @@ fn run_words<W: LiveSink, F: Sink>(
     }
 }
 
-/// Does what the options say with the file that they name, or with standard input, and answers the
-/// status.
+/// Runs the command on the file named in the options, or on standard input, and returns the status.
 fn run_task<W: LiveSink, F: Sink>(
     rt: &HostRuntime,
     options: &Options<'_>,
@@ -130,8 +131,8 @@ fn run_task<W: LiveSink, F: Sink>(
     }
 }
 
-/// Does what the options say with a stream, and answers the status. What was refused is explained
-/// after its line where they ask for that.
+/// Runs the command on a stream and returns the status. If the options request it, prints an
+/// explanation after the line of a fault.
 fn run_stream<R: Read + Drop, W: LiveSink, F: Sink>(
     alloc: Global,
     options: &Options<'_>,
@@ -156,8 +157,8 @@ fn run_stream<R: Read + Drop, W: LiveSink, F: Sink>(
     }
 }
 
-/// Plays the script in the input over TCP, and answers the status. Why a line is bad is said after
-/// it where that is asked for.
+/// Plays the script in the input over TCP and returns the status. If requested, prints after the
+/// line of a bad line why it is bad.
 fn run_loop<R: Source, W: Sink, F: Sink>(
     net: &impl Net<Listener = TcpListener, Stream = TcpStream>,
     alloc: Global,

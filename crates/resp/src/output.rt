@@ -1,10 +1,10 @@
-//! Standard output, and whether what reads it has closed it.
+//! Standard output, and whether its reader has closed it.
 
 use std::cell::Cell;
 use std::io;
 use std::io::{ErrorKind, Write};
 
-/// A writer that tells, after a failed write, whether the other end was closed.
+/// A writer that records, after a failed write, whether the reader of the output has closed it.
 #[derive(Drop)]
 pub struct Output<'a, W> {
     inner: W,
@@ -12,7 +12,8 @@ pub struct Output<'a, W> {
 }
 
 impl<'a, W> Output<'a, W> {
-    /// A writer over `inner`, that sets `is_closed` where the other end was closed.
+    /// Makes a writer over `inner`. It sets `is_closed` when the reader of the output has closed
+    /// it.
     pub fn new(inner: W, is_closed: &'a Cell<bool>) -> Self {
         Output { inner, is_closed }
     }

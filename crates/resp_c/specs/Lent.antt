@@ -1,4 +1,4 @@
--- Memory of the caller after a write through the scanner's loan.
+-- Memory of the caller after a write through the borrowed scanner.
 use Rattle.std.specs.Prelude.{Some}
 use Rattle.resp_scan.specs.Machine.Tokens.{Place}
 use Rattle.resp_c.specs.declared.memory.RespScanner.{RespScanner}

@@ -1,4 +1,4 @@
--- What C is told, in the scanner's words.
+-- The events that C receives, in the scanner's terms.
 pub mod Told
 pub mod Scans
 pub mod Steps
@@ -7,7 +7,7 @@ pub mod Versions
 -- The memory of the caller.
 pub mod Memory
 pub mod Lent
--- What is written.
+-- The texts that are written.
 pub mod Writes
--- Which reply an event belongs to.
+-- The reply that an event belongs to.
 pub mod Pairs

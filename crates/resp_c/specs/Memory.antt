@@ -1,4 +1,4 @@
--- What memory of the caller holds: room for a scanner, or the scanner that lies there.
+-- The contents of memory of the caller: room for a scanner, or a scanner.
 use base.Fml.{Fml}
 use base.Fraction.{full_share}
 use base.Stored.{Coded}

@@ -1,4 +1,4 @@
--- Which reply an event belongs to, whether it refuses its command, and what waits, as C keeps it.
+-- The reply that an event belongs to, whether the reply is an error, and the waiting commands, as C stores them.
 use Rattle.std.specs.Prelude.{◌≡◌, ◌⊎◌, ℕ, zero, suc, ◌+◌, ◌-◌, Bool, true, false, List, [], ◌∷◌, ◌++◌, Option, None, Some, cond, eqb}
 use Rattle.resp_value.specs.Data.{Kind, Attr}
 use Rattle.resp_value.specs.Trees.{Tree, IsTree}
@@ -10,13 +10,13 @@ use Rattle.resp_session.specs.Reading.{Waiting, is_refusal}
 use Rattle.resp_c.specs.Versions.{IsVersion, version_of}
 use Rattle.resp_c.specs.declared.pairing.RespPairing.{RespPairing}
 
--- what events have shown of a value: how many aggregates are open within the outermost that is no attribute, with it;
--- and whether the last value that stands in attributes alone, or in none, is an error
+-- the state of a value after some events: how many aggregates are open, counted from the outermost aggregate that is
+-- not an attribute; and whether the last value that is inside attributes alone, or inside nothing, is an error
 pub record ValueLook : Type 0 where
   pub nested : ℕ
   pub refuses : Bool
 
--- a value within other aggregates than attributes shows nothing
+-- a value inside aggregates other than attributes changes nothing
 abbrev pub where_seen : ℕ → Bool → Bool → Bool
 where_seen zero before now = now
 where_seen (suc n) before now = before
@@ -63,43 +63,43 @@ abbrev pub after_events : ValueLook → List Event → ValueLook
 after_events look [] = look
 after_events look (event ∷ events) = after_events (look_after_event look event) events
 
--- where a value begins
+-- the state at the beginning of a value
 abbrev pub new_look : ValueLook
 new_look = record { nested = 0; refuses = false }
 
--- what the events of a value have shown at its end is whether it refuses its command
+-- the events of a value show at its end whether it is an error reply
 abbrev pub TheEventsShowARefusal : Type 0
 TheEventsShowARefusal = (tree : Tree) → IsTree tree →
     after_events new_look (without_places (events 0 tree)) ≡ record { nested = 0; refuses = is_refusal (value tree) }
 
--- this number of commands that ask for no version
+-- this many commands that request no version
 abbrev pub nones : ℕ → List (Option Version)
 nones zero = []
 nones (suc n) = None ∷ nones n
 
--- what a command asks that was queued with this number
+-- the version requested by a command that was queued with this number
 abbrev pub ask_of : ℕ → Option Version
 ask_of zero = None
 ask_of (suc n) = Some (version_of (suc n))
 
--- the HELLO of this version and this number of commands after it, or nothing where it is 0
+-- the HELLO of this version and this many commands after it, or nothing if the version is 0
 abbrev pub hello_asks : ℕ → ℕ → List (Option Version)
 hello_asks zero beyond = []
 hello_asks (suc n) beyond = Some (version_of (suc n)) ∷ nones beyond
 
--- what waits
+-- the commands that wait
 abbrev pub waiting_of : RespPairing → Waiting
 waiting_of p = record { version = version_of p.version; asks = nones p.before ++ hello_asks p.hello p.beyond }
 
--- what the events so far have shown of the value
+-- the state after the events of the value so far
 abbrev pub look_of : RespPairing → ValueLook
 look_of p = record { nested = p.nested; refuses = eqb p.refuses 1 }
 
--- what is asked: no version, or one
+-- a number that requests no version, or a version
 abbrev pub IsAsk : ℕ → Type 0
 IsAsk hello = (hello ≡ 0) ⊎ IsVersion hello
 
--- another command waits
+-- one more command waits
 abbrev pub with_ask_queued : Option Version → Waiting → Waiting
 with_ask_queued ask w = record { version = w.version; asks = w.asks ++ ask ∷ [] }
 
@@ -111,7 +111,7 @@ number_of_reply p = cond (eqb p.first 62) 0 (p.answered + 1)
 abbrev pub count_of_reply : RespPairing → ℕ
 count_of_reply p = cond (eqb p.first 62) 0 1
 
--- what C is told of an event shows this
+-- the effect of an event as C receives it
 abbrev pub nested_by : ℕ → ℕ → ℕ → ℕ
 nested_by nested kind form = cond (eqb kind 7) (cond (eqb nested 0) (cond (eqb form 3) 0 1) (nested + 1))
     (cond (eqb kind 8) (nested - 1) nested)

@@ -1,4 +1,4 @@
--- What a call that tells many events promises of the piece, in words of texts and trees.
+-- The contract of a call that stores many events, in terms of texts and trees.
 use Rattle.std.specs.Prelude.{◌≡◌, ◌⊎◌, ℕ, ◌+◌, List, [], ◌∷◌, ◌++◌, drop, take, Option, Some}
 use Rattle.std.specs.List.{AllByRecursion}
 use Rattle.resp_value.specs.Rules.{Keeps, Rules, WithinTotal}
@@ -18,14 +18,14 @@ use Rattle.resp_scan.specs.Slots.{IsTextOfPiece}
 use Rattle.resp_c.specs.Told.{Tells, TellsWhole}
 use Rattle.resp_c.specs.declared.event.RespEvent.{RespEvent}
 
--- What the events in the array stand for.
+-- The events that the entries of the array represent.
 
--- the events that an event stands for, the end of a value too
+-- the events of an event, with the end of a value
 abbrev pub all_events_of : Event → Events
 all_events_of event.Done = e.Done ∷ []
 all_events_of x = events_of x
 
--- an event other than a whole text; a part is one of this piece
+-- an event other than a whole text; a part is a part of this piece
 pub record StandsForEvent (piece : List ℕ) (out : RespEvent) (told : Events) : Type 0 where
   pub event : Event
   pub tells : Tells out (Some event)
@@ -45,14 +45,14 @@ abbrev pub used_by : List RespEvent → ℕ
 used_by [] = 0
 used_by (out ∷ outs) = out.used + used_by outs
 
--- Events stand for these, one after another, each in the rest of the piece after the one before.
+-- The entries represent these events, one after another, each in the rest of the piece after the entry before it.
 abbrev pub StandFor : List ℕ → List RespEvent → Events → Type 0
 StandFor piece [] told = told ≡ []
 StandFor piece (out ∷ outs) told = (first : Events) × (rest : Events) ×
     (StandsForEvent piece out first ⊎ StandsForText piece out first) ×
     StandFor (drop out.used piece) outs rest × (told ≡ first ++ rest)
 
--- What was read.
+-- The bytes that were read.
 
 -- the texts of trees, one after another
 abbrev pub texts_of_trees : List Tree → List ℕ
@@ -68,8 +68,8 @@ events_of_trees (tree ∷ trees) = without_places (events 0 tree) ++ e.Done ∷ 
 abbrev pub IsTreeWithin : Rules → Tree → Type 0
 IsTreeWithin r tree = IsTree tree × Keeps r WithinTotal tree
 
--- The text is those of trees within the rules and then a front, and the events are theirs, each with its end, and then
--- those given of the front.
+-- The text consists of the texts of trees within the rules and then a front. The events are those of the trees, each
+-- with its end, and then those given of the front.
 pub record ReadsTo (r : Rules) (written : List ℕ) (told : Events) (Ends : List ℕ → Events → Type 0) : Type 0 where
   pub trees : List Tree
   pub front : List ℕ
@@ -79,14 +79,14 @@ pub record ReadsTo (r : Rules) (written : List ℕ) (told : Events) (Ends : List
   pub told_of : told ≡ events_of_trees trees ++ given
   pub ends : Ends front given
 
--- all that has come of a value is viable, it hasn't ended, and all events that are due were given
+-- the bytes of a value so far are viable, it has not ended, and all events of these bytes were given
 pub record IsUsedUp (s : Place) (front : List ℕ) (given : Events) : Type 0 where
   pub viable : IsViable (rules_of s) WithinTotal front
   pub no_value : HasNoValue front
   pub all_due : AreDue front given
   pub reads : HasRead s front given
 
--- A scanner that was this one has taken this number of bytes of the piece, and these events were told of them.
+-- A scanner in this state has read this number of bytes of the piece, and these are their events.
 pub record Scans (old : Place) (piece : List ℕ) (outs : List RespEvent) (used : ℕ) (Ends : List ℕ → Events → Type 0) :
     Type 0 where
   pub told : Events
@@ -94,7 +94,7 @@ pub record Scans (old : Place) (piece : List ℕ) (outs : List RespEvent) (used 
   pub reads : WhereRead old (λ front given.
       ReadsTo (rules_of old) (front ++ take used piece) (given ++ told) Ends)
 
--- The same of scanners that lie in memory, where the ends may speak of both.
+-- The same for scanners in memory. The condition on the end may concern both.
 pub record ScansInMemory (before after : Option Place) (piece : List ℕ) (outs : List RespEvent) (used : ℕ)
     (Ends : Place → Place → List ℕ → Events → Type 0) : Type 0 where
   pub old : Place

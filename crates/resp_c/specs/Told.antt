@@ -1,4 +1,4 @@
--- What C is told of a step.
+-- The result of a step, as C receives it.
 use Rattle.std.specs.Prelude.{◌≡◌, ℕ, ℤ, pos, Bool, true, false, List, [], ◌∷◌, length, Option, Some, None}
 use Rattle.resp_scan.specs.declared.event.TextKind.{TextKind}
 use Rattle.resp_scan.specs.declared.event.TextKind.TheVariants as text
@@ -8,12 +8,12 @@ use Rattle.resp_scan.specs.declared.event.Event.{Event}
 use Rattle.resp_scan.specs.declared.event.Event.TheVariants as event
 use Rattle.resp_c.specs.declared.event.RespEvent.{RespEvent}
 
--- the number of a truth value, and of a big number's sign
+-- the number of a boolean, and of a big number's sign
 abbrev pub truth_number : Bool → ℤ
 truth_number false = pos 0
 truth_number true = pos 1
 
--- the form of each kind of text, from RESP_TEXT_SIMPLE to RESP_TEXT_BIG
+-- the number of each kind of text, from RESP_TEXT_SIMPLE to RESP_TEXT_BIG
 abbrev pub text_form : TextKind → ℕ
 text_form text.Simple = 0
 text_form text.Error = 1
@@ -23,7 +23,7 @@ text_form text.BulkError = 4
 text_form (text.Verbatim format) = 5
 text_form (text.Big negative) = 6
 
--- the form of each kind of aggregate, from RESP_ARRAY to RESP_PUSH
+-- the number of each kind of aggregate, from RESP_ARRAY to RESP_PUSH
 abbrev pub kind_form : OpenKind → ℕ
 kind_form kind.Array = 0
 kind_form kind.Set = 1
@@ -31,7 +31,7 @@ kind_form kind.Map = 2
 kind_form kind.Attr = 3
 kind_form kind.Push = 4
 
--- what a text has beside its kind: the format of a verbatim string, the sign of a big number
+-- the data of a text besides its kind: the format of a verbatim string, the sign of a big number
 abbrev pub TellsMore : RespEvent → TextKind → Type 0
 TellsMore out (text.Verbatim format) = out.format ≡ format
 TellsMore out (text.Big negative) = out.number ≡ truth_number negative
@@ -42,7 +42,7 @@ abbrev pub members_number : Option ℕ → ℕ
 members_number None = 18446744073709551615
 members_number (Some members) = members
 
--- the kind of the event, and what it carries
+-- the kind of the event, and its data
 abbrev pub Tells : RespEvent → Option Event → Type 0
 Tells out None = out.kind ≡ 0
 Tells out (Some event.Null) = out.kind ≡ 1
@@ -57,7 +57,7 @@ Tells out (Some (event.Open kind members)) =
 Tells out (Some event.Close) = out.kind ≡ 8
 Tells out (Some event.Done) = out.kind ≡ 9
 
--- a text told with its end
+-- a text together with its end
 pub record TellsWhole (out : RespEvent) (kind : TextKind) (bytes : List ℕ) : Type 0 where
   pub kind_is : out.kind ≡ 10
   pub form_is : out.form ≡ text_form kind

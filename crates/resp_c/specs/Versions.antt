@@ -1,4 +1,4 @@
--- Versions as C gives them.
+-- Versions, as C passes them.
 use Rattle.std.specs.Prelude.{◌≡◌, ◌⊎◌, ℕ, cond, eqb}
 use Rattle.resp_value.specs.declared.version.Version.{Version}
 use Rattle.resp_value.specs.declared.version.Version.TheVariants as version

@@ -1,4 +1,4 @@
--- What the calls that write promise.
+-- The contracts of the functions that write.
 use Rattle.std.specs.Prelude.{◌≡◌, ℕ, ◌<◌, ◌≤◌, List, [], ◌∷◌, ◌++◌, length, drop, cond, eqb}
 use Rattle.resp_value.specs.Bytes.{crlf}
 use Rattle.resp_value.specs.Canonical.{canonical_text, canonical_trees}
@@ -14,8 +14,9 @@ use Rattle.resp_value.specs.declared.kind.OpenKind.TheVariants as kind
 use Rattle.resp_value.specs.declared.version.Version.{Version}
 use Rattle.resp_value.specs.declared.version.Version.TheVariants.{Two}
 
--- Where the answer is 0 the text stands at the front of the room, and after it is what was there. Else the answer is
--- 65, the room is shorter than the text, and nothing was written. The size of the text is told either way.
+-- If the result is 0, the text is at the beginning of the buffer, and the bytes after it are unchanged. Otherwise the
+-- result is 65, the buffer is shorter than the text, and nothing was written. The size of the text is set in both
+-- cases.
 pub record Writes (old new text : List ℕ) (size answer : ℕ) : Type 0 where
   pub size_told : size ≡ length text
   pub written : answer ≡ 0 → new ≡ text ++ drop (length text) old
@@ -24,12 +25,12 @@ pub record Writes (old new text : List ℕ) (size answer : ℕ) : Type 0 where
   pub nothing_written : (answer ≡ 0 → ⊥) → new ≡ old
   pub cause : (answer ≡ 0 → ⊥) → answer ≡ 65
 
--- nothing was written, and no size told
+-- nothing was written, and the size was not set
 pub record WritesNothing (old new : List ℕ) (size size' : ℕ) : Type 0 where
   pub same_room : new ≡ old
   pub same_size : size' ≡ size
 
--- the text stands between the front of the room and this place, and after it is what was there
+-- the text is in the buffer before this place, and the bytes after it are unchanged
 pub record StandsInRoom (old text new : List ℕ) (at : ℕ) : Type 0 where
   pub place : at ≡ length text
   pub filled : new ≡ text ++ drop (length text) old
@@ -47,7 +48,7 @@ aggregate_of n = cond (eqb n 0) kind.Array
 abbrev pub head_text : Kind → ℕ → List ℕ
 head_text k n = (kind_byte k ∷ decimal n) ++ crlf []
 
--- the number of the refusal of what is over a limit
+-- the error number of exceeding a limit
 abbrev pub limit_number : Limit → ℕ
 limit_number Depth = 6
 limit_number Length = 7
@@ -59,12 +60,13 @@ abbrev pub bulk_texts : List (List ℕ) → List ℕ
 bulk_texts [] = []
 bulk_texts (word ∷ words) = canonical_text Two (scalar (d.Bulk word)) ++ bulk_texts words
 
--- the head of an aggregate and then the texts of its members are its text
+-- the head of an aggregate and then the texts of its members are together its text
 abbrev pub AHeadAndItsMembersAreTheText : Type 0
 AHeadAndItsMembersAreTheText = (version : Version) (k : Kind) (xs : Data) →
     head_text k (items_of k (count xs)) ++ texts (canonical_trees version xs) ≡ canonical_text version (aggregate k xs)
 
--- the head of an array of as many members as a command has words, and then each word as a bulk string, are its text
+-- the head of an array with as many members as a command has words, and then each word as a bulk string, are together
+-- its text
 abbrev pub AHeadAndItsWordsAreTheCommand : Type 0
 AHeadAndItsWordsAreTheCommand = (words : List (List ℕ)) →
     head_text d.Array (length words) ++ bulk_texts words ≡ canonical_text Two (command_of words)

@@ -15,7 +15,7 @@ use crate::limits::{RespLimits, checked};
 use resp_encode::words_size;
 use resp_value::cause::{Cause, Limit};
 
-/// The number of the refusal of what is over this limit.
+/// Returns the error number of exceeding this limit.
 fn limit_number(limit: Limit) -> u32
     ensures { result ≡ limit_number limit }
 {
@@ -27,9 +27,11 @@ fn limit_number(limit: Limit) -> u32
     }
 }
 
-/// Tells the bytes of the text of a command, by the lengths of its words. Answers 0; or 63 for a
-/// limit outside its range; or the number of the first limit that a command of such words breaks: 7
-/// for length, 13 for items and 8 for total. A refusal leaves `size`.
+/// Sets `size` to the number of bytes of a command's text, computed from the lengths of its words.
+///
+/// Returns 0, or 63 for a limit outside its range, or the number of the first limit that a command
+/// of such words exceeds: 7 for length, 13 for items and 8 for total. After an error `size` is
+/// unchanged.
 #[unsafe(no_mangle)]
 pub extern "C" fn resp_command_size(limits: &RespLimits, lengths: &[usize], size: &mut usize) -> u32
     ensures size { (words : List (List ℕ)) → HaveLengths words lengths.now → result ≡ 0 →

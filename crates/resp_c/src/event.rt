@@ -1,4 +1,4 @@
-//! Events as C sees them.
+//! Events, as C receives them.
 
 ghost use Rattle.std.specs.Prelude.{◌≡◌, [], ◌∷◌, Some, length};
 ghost use Rattle.resp_c.specs.Told.{Tells, TellsMore, TellsWhole, kind_form, text_form, truth_number};
@@ -7,35 +7,37 @@ use resp_scan::event::{Event, TextKind};
 use resp_scan::slot::Slot;
 use resp_value::kind::OpenKind;
 
-/// What a step did.
+/// The result of a step.
 #[repr(C)]
 #[derive(Clone, Copy)]
 pub struct RespEvent {
-    /// What the event is: `RESP_MORE` where there is none, or `RESP_NULL` to `RESP_WHOLE`.
+    /// The kind of event: `RESP_MORE` if there is no event, otherwise `RESP_NULL` to `RESP_WHOLE`.
     pub kind: u32,
-    /// Of a text, a whole one too, `RESP_TEXT_SIMPLE` to `RESP_TEXT_BIG`, and of an open `RESP_ARRAY`
-    /// to `RESP_PUSH`.
+    /// The kind of a text, `RESP_TEXT_SIMPLE` to `RESP_TEXT_BIG`, also of a whole text. The kind of
+    /// an aggregate that opens, `RESP_ARRAY` to `RESP_PUSH`.
     pub form: u32,
-    /// An integer. 1 for true, and for a big number below zero; else 0.
+    /// An integer. Or 1 for true and for a big number below zero, and 0 for false and for another
+    /// big number.
     pub number: i64,
-    /// The members of an open, or its pairs in a map or an attribute; `RESP_STREAMED` where it is
-    /// streamed.
+    /// The number of members of an aggregate that opens, or of its pairs if it is a map or an
+    /// attribute. `RESP_STREAMED` if it is streamed.
     pub members: u64,
-    /// The number of bytes taken from the front of the piece.
+    /// The number of bytes of the piece that were used.
     pub used: usize,
-    /// The length of a part, or of a whole text. A part's bytes end where the bytes taken end;
-    /// where none was taken, the part is `digit`. CR LF stand after those of a whole text.
+    /// The length of a part or of a whole text. The bytes of a part are the last of the bytes used,
+    /// and if no byte was used, the part is `digit`. The bytes of a whole text have CR LF after
+    /// them.
     pub part: usize,
     /// The format of a verbatim string.
     pub format: [u8; 3],
-    /// The digit of a part at no byte.
+    /// The digit of a part for which no byte was used.
     pub digit: u8,
 }
 
-/// The members of a streamed aggregate.
+/// The number of members of a streamed aggregate.
 const STREAMED: u64 = u64::MAX;
 
-/// Tells a text that begins, but for the number of its bytes.
+/// Stores a text that begins, apart from the number of its bytes.
 #[inline(always)]
 fn tell_text(event: &mut RespEvent, kind: TextKind)
     ensures used { event.new.used ≡ event.old.used }
@@ -52,7 +54,7 @@ fn tell_text(event: &mut RespEvent, kind: TextKind)
     }
 }
 
-/// The form of a kind of text.
+/// Returns the number of a kind of text.
 #[inline(always)]
 fn text_form(kind: TextKind) -> u32
     ensures { result ≡ text_form kind }
@@ -68,7 +70,7 @@ fn text_form(kind: TextKind) -> u32
     }
 }
 
-/// The form of a kind of aggregate.
+/// Returns the number of a kind of aggregate.
 fn kind_form(kind: OpenKind) -> u32
     ensures { result ≡ kind_form kind }
 {
@@ -81,14 +83,14 @@ fn kind_form(kind: OpenKind) -> u32
     }
 }
 
-/// The number of a truth value, and of a big number's sign.
+/// Returns the number of a boolean, or of the sign of a big number.
 fn truth_number(truth: bool) -> i64
     ensures { result ≡ truth_number truth }
 {
     if truth { 1 } else { 0 }
 }
 
-/// Tells a part.
+/// Stores a part.
 #[inline(always)]
 fn tell_part(event: &mut RespEvent, bytes: &[u8])
     ensures used { event.new.used ≡ event.old.used }
@@ -104,7 +106,7 @@ fn tell_part(event: &mut RespEvent, bytes: &[u8])
     };
 }
 
-/// Tells an event. What it doesn't name is left, the number of its bytes too.
+/// Stores an event. Fields that it does not need are unchanged, including the number of its bytes.
 #[inline(always)]
 pub(crate) fn tell(event: &mut RespEvent, told: Event<'_>)
     ensures used { event.new.used ≡ event.old.used }

@@ -1,4 +1,4 @@
-//! The scanner that lies in memory of the caller, lent.
+//! Borrows the scanner in memory of the caller.
 
 ghost use Rattle.std.specs.Prelude.{◌≡◌, Some};
 ghost use Rattle.std.specs.Borrow.{sem};
@@ -12,7 +12,7 @@ use crate::memory::RespScanner;
 use resp_scan::scanner::Scanner;
 
 impl RespScanner {
-    /// The scanner. When the borrow ends, it is as it was left.
+    /// Returns the scanner. When the borrow ends, its changes are in the memory.
     pub(crate) fn scanner(&mut self) -> &mut Scanner
         requires { (held : Place) × (self.old.scanner ≡ Some held) }
         ensures* writes_back { sem 𝓛 (follows the_row scanner_row self.entry.ghost_name

@@ -1,14 +1,15 @@
-//! The scanner, the writer and the pairing for C: a static library whose functions
-//! `include/resp.h` declares.
+//! The scanner, the writer and the pairing for C: a static library whose functions are declared in
+//! `include/resp.h`.
 //!
-//! Each function of the scanner states again what the scanner's own promises; those that write say
-//! which canonical text stands in the caller's room; and those that pair keep what a client waits
-//! for, in the words of `resp_session`. No function takes memory from a heap.
+//! The contracts of the scanner's functions restate those of the Rust scanner. The contracts of the
+//! writing functions state which canonical text is in the caller's buffer. The contracts of the
+//! pairing functions state which commands wait, in the terms of `resp_session`. No function
+//! allocates from a heap.
 //!
-//! What the caller owes, and nothing checks: the memory of a scanner has
-//! [`scanner::resp_scanner_size`] bytes at the alignment [`scanner::resp_scanner_align`] and stays
-//! where it is, [`scanner::resp_scanner_init`] was called before each other call and answered 0,
-//! one call runs at a time, and a pointer is to what its type says.
+//! The caller has to keep these rules, which nothing checks. The memory of a scanner has
+//! [`scanner::resp_scanner_size`] bytes at the alignment [`scanner::resp_scanner_align`] and is not
+//! moved. [`scanner::resp_scanner_init`] was called before each other call and returned 0. Only one
+//! call runs on a scanner at a time. Each pointer points to what its type says.
 #![tactic(auto)]
 
 pub mod command;

@@ -1,4 +1,4 @@
-//! Limits as C gives them.
+//! Limits, as C passes them.
 
 ghost use Rattle.std.specs.Prelude.{◌≡◌, ◌↔◌, true, false, IsOk, IfOk};
 ghost use Rattle.resp_value.specs.Bounds.{AreBounds};
@@ -6,27 +6,27 @@ ghost use Rattle.resp_c.specs.Limits.{bounds_of};
 
 use resp_value::limits::{BadLimits, Limits};
 
-/// Limits of what is read, as [`Limits`] has them.
+/// The limits of the values that are read, as in [`Limits`].
 #[repr(C)]
 #[derive(Clone, Copy)]
 pub struct RespLimits {
-    /// The most aggregates inside one another, 4 to 128.
+    /// The greatest number of aggregates nested inside one another, 4 to 128.
     pub depth: u64,
-    /// The most bytes of one content, 64 to 1,073,741,824.
+    /// The greatest number of bytes of one content, 64 to 1,073,741,824.
     pub length: u64,
-    /// The most bytes of one value as spelled, 256 to 1,099,511,627,776.
+    /// The greatest number of bytes of one encoded value, 256 to 1,099,511,627,776.
     pub total: u64,
-    /// The most members of one array, set or push, or pairs of one map or attribute, 16 to
-    /// 1,099,511,627,776.
+    /// The greatest number of members of one array, set or push, or of pairs of one map or
+    /// attribute, 16 to 1,099,511,627,776.
     pub items: u64,
-    /// Whether streamed strings and aggregates are read.
+    /// Whether streamed strings and aggregates are allowed.
     pub streamed: bool,
-    /// Whether doubles are read, in version 3.
+    /// Whether doubles are allowed, in version 3.
     pub doubles: bool,
 }
 
-/// The standard limits: depth 32, contents of 536,870,912 bytes, values of 1,073,741,824 bytes,
-/// 1,099,511,627,776 items, with streamed forms and without doubles.
+/// Sets the standard limits: depth 32, contents of 536,870,912 bytes, values of 1,073,741,824
+/// bytes, 1,099,511,627,776 items, with streamed forms and without doubles.
 #[unsafe(no_mangle)]
 pub extern "C" fn resp_limits_standard(limits: &mut RespLimits)
     ensures standard { bounds_of limits.new ≡ record {
@@ -49,7 +49,7 @@ pub extern "C" fn resp_limits_standard(limits: &mut RespLimits)
     };
 }
 
-/// The same limits as the crates have them. Refuses exactly where one is outside its range.
+/// Converts the limits. Fails if and only if a limit is outside its range.
 pub(crate) fn checked(limits: &RespLimits) -> Result<Limits, BadLimits>
     ensures ok { IsOk result ↔ AreBounds (bounds_of limits.now) }
     ensures kept { IfOk result (λ checked. checked ≡ bounds_of limits.now) }

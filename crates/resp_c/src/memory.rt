@@ -7,7 +7,7 @@ ghost use Rattle.resp_c.specs.Memory.{coded_scanner, holds};
 use resp_scan::scanner::Scanner;
 use std::marker::Model;
 
-/// Memory of the caller, in which a scanner may lie.
+/// Memory of the caller that may hold a scanner.
 #[repr(C)]
 pub struct RespScanner {
     pub(crate) memory: *mut u8,
@@ -19,7 +19,7 @@ impl Model for RespScanner {
 }
 
 impl RespScanner {
-    /// Puts a scanner there, over one that may lie there.
+    /// Puts a scanner into the memory, over an earlier one if there is one.
     pub(crate) fn fill(&mut self, scanner: Scanner)
         ensures { self.new.scanner ≡ Some scanner }
     {

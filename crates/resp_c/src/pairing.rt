@@ -1,7 +1,9 @@
-//! Which command a reply answers, and in which version it is read: a client without its values.
+//! Matches replies to commands, and finds the version in which a reply is read. It is a client
+//! without values.
 //!
-//! What waits stands in numbers of the caller's: the commands before a HELLO that asks for a
-//! version, that version, and the commands after it. One such HELLO waits at most.
+//! The state is a few numbers in memory of the caller: the number of commands that wait before a
+//! HELLO with a version, that version, and the number of commands that wait after the HELLO. At
+//! most one such HELLO waits.
 
 ghost use Rattle.std.specs.Prelude.{◌≡◌, ◌↔◌, ◌⊎◌, ℕ, ◌+◌, ◌-◌, ◌<◌, ◌≤◌, ◌^◌, false, List, [], ◌∷◌, length, min, eqb, Some};
 ghost use Rattle.resp_value.specs.Data.{Datum};
@@ -20,32 +22,34 @@ use crate::event::RespEvent;
 use crate::scanner::BAD_VERSION;
 use resp_value::cause::Cause;
 
-/// The number of the refusal of a HELLO while another one waits.
+/// The error number of a HELLO while another HELLO waits.
 const HELLO_WAITS: u32 = 67;
 
-/// What waits for replies, and what has come of the value that is being read.
+/// The commands that wait for replies, and the state of the value that is being read.
 #[repr(C)]
 #[derive(Clone, Copy)]
 pub struct RespPairing {
     /// The version, 2 or 3.
     pub version: u32,
-    /// The version that the HELLO asks for that waits, or 0 where none waits.
+    /// The version that the waiting HELLO requests, or 0 if no HELLO waits.
     pub hello: u32,
-    /// The commands that wait before the HELLO, or all that wait where there is none.
+    /// The number of commands that wait before the HELLO, or of all waiting commands if no HELLO
+    /// waits.
     pub before: u64,
-    /// The commands that wait after the HELLO.
+    /// The number of commands that wait after the HELLO.
     pub beyond: u64,
-    /// The replies that came whole.
+    /// The number of complete replies.
     pub answered: u64,
-    /// The open aggregates from the outermost on that is no attribute.
+    /// The number of open aggregates, counted from the outermost aggregate that is not an
+    /// attribute.
     pub nested: u64,
-    /// 1 where the last value outside of those is an error, else 0.
+    /// 1 if the last value outside of these aggregates is an error, otherwise 0.
     pub refuses: u32,
     /// The first byte of the value.
     pub first: u32,
 }
 
-/// Begins: nothing waits, and the version is 2.
+/// Starts a pairing: no command waits, and the version is 2.
 #[unsafe(no_mangle)]
 pub extern "C" fn resp_pairing_init(pairing: &mut RespPairing)
     ensures waiting { waiting_of pairing.new ≡ record { version = Two; asks = [] } }
@@ -63,7 +67,8 @@ pub extern "C" fn resp_pairing_init(pairing: &mut RespPairing)
     };
 }
 
-/// How many commands wait from the HELLO on, up to the greatest number that there is.
+/// Returns the number of commands that wait from the HELLO on, at most the greatest number of the
+/// type.
 fn from_hello(pairing: &RespPairing) -> u64
     ensures { result ≡
         min (length (hello_asks pairing.now.hello pairing.now.beyond)) (2 ^ 64 - 1) }
@@ -74,17 +79,19 @@ fn from_hello(pairing: &RespPairing) -> u64
     pairing.beyond.saturating_add(1)
 }
 
-/// How many commands wait, up to the greatest number that there is.
+/// Returns the number of commands that wait, at most the greatest number of the type.
 fn waits(pairing: &RespPairing) -> u64
     ensures { result ≡ min (length (waiting_of pairing.now).asks) (2 ^ 64 - 1) }
 {
     pairing.before.saturating_add(from_hello(pairing))
 }
 
-/// Queues a command, after its text was sent or before: 0 for one that asks for no version, and the
-/// version for a HELLO that does. Tells its number, which is that of its reply, from 1 on. Refuses,
-/// and changes nothing: 64 another version, 67 a HELLO while one waits, 24 where the numbers are
-/// used up.
+/// Queues a command. Call it before or after its text is sent. `hello` is 0 for a command that
+/// requests no version, and the version for a HELLO that does. Sets `number` to the number of its
+/// reply, counted from 1.
+///
+/// Returns 0, or the number of an error, and then changes nothing: 64 for another version, 67 for a
+/// HELLO while a HELLO waits, 24 if all numbers have been used.
 #[unsafe(no_mangle)]
 pub extern "C" fn resp_pairing_queue(pairing: &mut RespPairing, hello: u32, number: &mut u64) -> u32
     ensures queued { result ≡ 0 → waiting_of pairing.new ≡
@@ -124,8 +131,11 @@ pub extern "C" fn resp_pairing_queue(pairing: &mut RespPairing, hello: u32, numb
     0
 }
 
-/// The first byte of a value, before it is read: tells the version in which the value is read.
-/// Refuses by 20, Unasked, a value that is no push where no command waits, and changes nothing.
+/// Receives the first byte of a value before it is read, and sets `version` to the version in which
+/// the value is read.
+///
+/// Returns 0, or 20 (`Unasked`) for a value that is not a push while no command waits, and then
+/// changes nothing.
 #[unsafe(no_mangle)]
 pub extern "C" fn resp_pairing_first(pairing: &mut RespPairing, byte: u8, version: &mut u32) -> u32
     ensures unasked { (beyond : List ℕ) →
@@ -155,7 +165,7 @@ pub extern "C" fn resp_pairing_first(pairing: &mut RespPairing, byte: u8, versio
     0
 }
 
-/// The open aggregates after an event.
+/// Returns the number of open aggregates after an event.
 fn nested_after(nested: u64, event: &RespEvent) -> u64
     ensures { nested < 2 ^ 64 - 1 → result ≡ nested_by nested event.now.kind event.now.form }
 {
@@ -172,7 +182,7 @@ fn nested_after(nested: u64, event: &RespEvent) -> u64
     }
 }
 
-/// Whether the last value outside of them is an error, after an event.
+/// Returns 1 if the last value outside of the open aggregates is an error, after an event.
 fn refuses_after(nested: u64, refuses: u32, event: &RespEvent) -> u32
     ensures { eqb result 1 ≡
         refuses_by nested (eqb refuses 1) event.now.kind event.now.form }
@@ -194,7 +204,7 @@ fn refuses_after(nested: u64, refuses: u32, event: &RespEvent) -> u32
     }
 }
 
-/// What a reply leaves waiting.
+/// Removes the command that a reply belongs to.
 fn answer(pairing: &mut RespPairing)
     ensures waiting { (x : Datum) → is_push x ≡ false → is_refusal x ≡ eqb pairing.old.refuses 1 →
         waiting_of pairing.new ≡ waiting_after (waiting_of pairing.old) x }
@@ -217,9 +227,10 @@ fn answer(pairing: &mut RespPairing)
     }
 }
 
-/// Takes an event of the value whose first byte came, and tells the number of the reply that it
-/// belongs to, or 0 for a push. With `RESP_DONE` the reply answers the first command that waits,
-/// and the version is the one that a HELLO asked for, unless the reply is an error.
+/// Receives an event of the value whose first byte was received, and sets `number` to the number of
+/// the reply that it belongs to, or to 0 for a push. At `RESP_DONE` the reply belongs to the first
+/// command that waits. If that command is a HELLO with a version, this becomes the version, unless
+/// the reply is an error.
 #[unsafe(no_mangle)]
 pub extern "C" fn resp_pairing_take(pairing: &mut RespPairing, event: &RespEvent, number: &mut u64)
     ensures number { pairing.old.answered < 2 ^ 63 →

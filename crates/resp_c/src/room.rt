@@ -1,4 +1,4 @@
-//! Texts at the front of room of the caller.
+//! Writes texts to the beginning of the caller's buffer.
 
 ghost use Rattle.std.specs.Prelude.{◌≡◌, ◌+◌, ◌≤◌, ◌++◌, ◌∷◌, ℕ, List, [], length};
 ghost use Rattle.resp_value.specs.Bytes.{crlf};
@@ -7,10 +7,10 @@ ghost use Rattle.resp_c.specs.Writes.{StandsInRoom, Writes};
 
 use itoa::Buffer;
 
-/// The number of the refusal of room that doesn't hold a text.
+/// The error number of a buffer that is shorter than a text.
 const NO_ROOM: u32 = 65;
 
-/// Puts these bytes into the room from `at` on, and answers the place after them.
+/// Copies these bytes into the buffer from index `at` on, and returns the index after them.
 #[inline(always)]
 fn put(room: &mut [u8], at: usize, bytes: &[u8]) -> usize
     requires { at + length bytes.now ≤ length room.old }
@@ -23,7 +23,7 @@ fn put(room: &mut [u8], at: usize, bytes: &[u8]) -> usize
     end
 }
 
-/// Writes a front, a text, CR and LF.
+/// Writes a prefix, a text, CR and LF.
 #[inline(always)]
 pub(crate) fn write_line(room: &mut [u8], front: &[u8], text: &[u8], size: &mut usize) -> u32
     requires { length front.now ≤ 8 }
@@ -40,7 +40,7 @@ pub(crate) fn write_line(room: &mut [u8], front: &[u8], text: &[u8], size: &mut 
     0
 }
 
-/// Writes a front, a number, CR and LF.
+/// Writes a prefix, a number, CR and LF.
 pub(crate) fn write_number(room: &mut [u8], front: &[u8], number: u64, size: &mut usize) -> u32
     requires { length front.now ≤ 8 }
     ensures { Writes room.old room.new (front.now ++ (decimal number ++ crlf [])) size.new
@@ -51,7 +51,7 @@ pub(crate) fn write_number(room: &mut [u8], front: &[u8], number: u64, size: &mu
     write_line(room, front, digits, size)
 }
 
-/// Writes a string whose head says `counted`: the head, a prefix, the bytes, CR and LF.
+/// Writes a string whose head has the length `counted`: the head, a prefix, the bytes, CR and LF.
 pub(crate) fn write_string(
     room: &mut [u8],
     byte: u8,

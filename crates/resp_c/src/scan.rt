@@ -1,4 +1,4 @@
-//! Many events by one call.
+//! Many events in one call.
 
 ghost use Rattle.std.specs.Prelude.{◌<◌, ◌≡◌, ◌≤◌, drop, length, take};
 ghost use Rattle.resp_c.specs.Scans.{IsUsedUp, Scans, ScansInMemory, used_by};
@@ -12,17 +12,18 @@ use crate::event::RespEvent;
 use crate::memory::RespScanner;
 use resp_scan::scanner::Scanner;
 
-/// What a call over a piece did.
+/// The result of a call over a piece.
 #[repr(C)]
 #[derive(Clone, Copy)]
 pub struct RespScanned {
-    /// The number of events that were told.
+    /// The number of events that were stored.
     pub count: usize,
-    /// The number of bytes taken from the front of the piece.
+    /// The number of bytes of the piece that were used.
     pub used: usize,
 }
 
-/// The events told, the bytes used, and 0 or the number of the cause of a refusal.
+/// The number of events stored, the number of bytes used, and 0 or the number of the cause of a
+/// fault.
 #[derive(Clone, Copy)]
 struct Scan {
     count: usize,
@@ -30,7 +31,8 @@ struct Scan {
     cause: u32,
 }
 
-/// Tells the events of the piece, until the array is full, the piece used up or a byte refused.
+/// Stores the events of the piece, until the array is full, the piece is used up or a byte is
+/// rejected.
 fn tell_events(scanner: &mut Scanner, piece: &[u8], events: &mut [RespEvent]) -> Scan
     ensures full { result.cause ≡ 0 → result.count ≡ length events.old →
         (result.used ≡ used_by (take result.count events.new)) × Scans scanner.old piece.now
@@ -70,7 +72,7 @@ fn tell_events(scanner: &mut Scanner, piece: &[u8], events: &mut [RespEvent]) ->
     told(count, piece.len() - rest.len(), 0)
 }
 
-/// So many events were told, of so many bytes.
+/// Returns this result.
 #[inline(always)]
 fn told(count: usize, used: usize, cause: u32) -> Scan
     ensures { result ≡ record { count = count; used = used; cause = cause } }
@@ -78,7 +80,7 @@ fn told(count: usize, used: usize, cause: u32) -> Scan
     Scan { count, used, cause }
 }
 
-/// The bytes from this index on.
+/// Returns the bytes from this index on.
 #[inline(always)]
 fn beyond(piece: &[u8], from: usize) -> &[u8]
     requires { from ≤ length piece.now }
@@ -87,11 +89,13 @@ fn beyond(piece: &[u8], from: usize) -> &[u8]
     &piece[from..]
 }
 
-/// Tells the events of the piece, as [`crate::scanner::resp_scanner_step`] one after another, and a
-/// text that lies whole in the piece by one event. Ends where the array is full, the piece is used
-/// up or a byte is refused, and answers 0, or the number of the cause. The events before a refusal
-/// are told. `scanned` has how many were told, and the bytes used: those of the events, or the
-/// piece's where it is used up.
+/// Stores the events of the piece, as repeated calls of [`crate::scanner::resp_scanner_step`] do,
+/// and stores a text that lies completely in the piece as one event. Ends when the array is full,
+/// the piece is used up or a byte is rejected.
+///
+/// Returns 0, or the number of the cause of a fault. The events before the rejected byte are
+/// stored. `scanned` has the number of events stored and the number of bytes used: those of the
+/// events, or the whole piece if it is used up.
 #[unsafe(no_mangle)]
 pub extern "C" fn resp_scanner_scan(
     scanner: &mut RespScanner,
@@ -101,19 +105,20 @@ pub extern "C" fn resp_scanner_scan(
 ) -> u32
     requires { IsHeld scanner.old.scanner }
 
-    // The array is full: these are the events of the bytes used, values ended among them.
+    // The array is full: it has the events of the bytes used, and values may have ended among them.
     ensures full { result ≡ 0 → scanned.new.count ≡ length events.old →
         (scanned.new.used ≡ used_by (take scanned.new.count events.new)) ×
         ScansInMemory scanner.old.scanner scanner.new.scanner piece.now
         (take scanned.new.count events.new) scanned.new.used (λ old new. HasRead new) }
 
-    // The piece is used up, and all events that are due were told.
+    // The piece is used up, and all events of the bytes read were stored.
     ensures used_up { result ≡ 0 → scanned.new.count < length events.old →
         (scanned.new.used ≡ length piece.now) ×
         ScansInMemory scanner.old.scanner scanner.new.scanner piece.now
         (take scanned.new.count events.new) scanned.new.used (λ old new. IsUsedUp new) }
 
-    // The refused byte is the first after which nothing can follow; the events before it are told.
+    // The byte is the first that cannot follow the bytes before it, and the events before it were
+    // stored.
     ensures refused { (result ≡ 0 → ⊥) → (fault : Fault) × (result ≡ number_of fault.cause) ×
         (scanned.new.used ≡ used_by (take scanned.new.count events.new)) ×
         ScansInMemory scanner.old.scanner scanner.new.scanner piece.now

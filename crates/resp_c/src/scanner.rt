@@ -1,4 +1,4 @@
-//! The scanner, as C calls it.
+//! The functions of the scanner for C.
 
 ghost use Rattle.std.specs.Prelude.{◌≡◌, ◌↔◌, ◌≤◌, ◌+◌, ◌⊎◌, [], length, Option, Some, IfSome, Result, Ok, Err};
 ghost use Rattle.resp_c.specs.Limits.{bounds_of};
@@ -24,22 +24,22 @@ use resp_value::cause::Cause;
 use resp_value::version::Version;
 use std::mem::{align_of, size_of};
 
-/// The number of the refusal of a version that isn't 2 or 3.
+/// The error number of a version other than 2 and 3.
 pub(crate) const BAD_VERSION: u32 = 64;
 
-/// The number of bytes of a scanner's memory.
+/// Returns the number of bytes of a scanner's memory.
 #[unsafe(no_mangle)]
 pub extern "C" fn resp_scanner_size() -> usize {
     size_of::<Scanner>()
 }
 
-/// The alignment of a scanner's memory.
+/// Returns the alignment of a scanner's memory.
 #[unsafe(no_mangle)]
 pub extern "C" fn resp_scanner_align() -> usize {
     align_of::<Scanner>()
 }
 
-/// The version of this number, 2 or 3.
+/// Returns the version of this number, 2 or 3.
 pub(crate) fn version(number: u32) -> Option<Version>
     ensures some { IfSome result (λ version. (version ≡ version_of number) × IsVersion number) }
     ensures none { result ≡ None → IsVersion number → ⊥ }
@@ -51,9 +51,11 @@ pub(crate) fn version(number: u32) -> Option<Version>
     }
 }
 
-/// Puts a scanner of version 2 or 3 within these limits into the memory, between two values. It
-/// may be called again. Answers 0, or what it refuses: 64 another version, 63 a limit outside its
-/// range; the memory then holds what it held.
+/// Makes a scanner of version 2 or 3 with these limits in the memory, before the first value. It
+/// may be called again.
+///
+/// Returns 0, or the number of an error: 64 for another version, 63 for a limit outside its range.
+/// After an error the memory is unchanged.
 #[unsafe(no_mangle)]
 pub extern "C" fn resp_scanner_init(
     scanner: &mut RespScanner,
@@ -79,10 +81,11 @@ pub extern "C" fn resp_scanner_init(
     }
 }
 
-/// Takes bytes of the piece until an event is there or the piece ends, as [`Scanner::step`]. An
-/// event may be owed at bytes that were taken before, and comes then by a step that uses no byte.
-/// Answers 0, or the number of the cause of a refusal, and then leaves `event`;
-/// [`resp_scanner_taken`] is then the place of the refused byte in its value.
+/// Reads bytes of the piece up to the next event, or up to the end of the piece, as
+/// [`Scanner::step`] does. A step may return an event without reading a byte.
+///
+/// Returns 0, or the number of the cause of a fault. After a fault `event` is unchanged, and
+/// [`resp_scanner_taken`] is the place of the rejected byte in its value.
 #[unsafe(no_mangle)]
 pub extern "C" fn resp_scanner_step(
     scanner: &mut RespScanner,
@@ -111,8 +114,8 @@ pub extern "C" fn resp_scanner_step(
     }
 }
 
-/// The end of the input. Answers 0, or what it is refused for: 9, Truncated, inside a value, and
-/// the fault that stands after a refused byte.
+/// Checks that the input may end here. Returns 0, or 9 (`Truncated`) inside a value, or the number
+/// of the earlier fault after a byte was rejected.
 #[unsafe(no_mangle)]
 pub extern "C" fn resp_scanner_finish(scanner: &mut RespScanner) -> u32
     requires { IsHeld scanner.old.scanner }
@@ -130,9 +133,11 @@ pub extern "C" fn resp_scanner_finish(scanner: &mut RespScanner) -> u32
     }
 }
 
-/// Reads this version from the next value on. Answers 0, or what it refuses, and then changes
-/// nothing: 62, Busy, from a value's first byte until its `RESP_DONE` was given, and after a fault;
-/// 64 a version that isn't 2 or 3.
+/// Changes the version, from the next value on.
+///
+/// Returns 0, or the number of an error, and then changes nothing: 62 (`Busy`) from the first byte
+/// of a value until its `RESP_DONE` was given, and after a fault; 64 for a version other than 2 and
+/// 3.
 #[unsafe(no_mangle)]
 pub extern "C" fn resp_scanner_set_version(scanner: &mut RespScanner, version: u32) -> u32
     requires { IsHeld scanner.old.scanner }
@@ -155,7 +160,7 @@ pub extern "C" fn resp_scanner_set_version(scanner: &mut RespScanner, version: u
     }
 }
 
-/// The number of aggregates whose open was given and whose close wasn't.
+/// Returns the number of open aggregates: those whose open was given and whose close was not.
 #[unsafe(no_mangle)]
 pub extern "C" fn resp_scanner_depth(scanner: &mut RespScanner) -> usize
     requires { IsHeld scanner.old.scanner }
@@ -166,8 +171,8 @@ pub extern "C" fn resp_scanner_depth(scanner: &mut RespScanner) -> usize
     scanner.scanner().depth()
 }
 
-/// The number of bytes taken of the value, 0 between values. A refused byte isn't among them, so
-/// that after a refusal it is the place of that byte.
+/// Returns the number of bytes of the current value that were read, 0 between values. A rejected
+/// byte does not count. So after a fault the number is the place of the rejected byte.
 #[unsafe(no_mangle)]
 pub extern "C" fn resp_scanner_taken(scanner: &mut RespScanner) -> u64
     requires { IsHeld scanner.old.scanner }
@@ -180,9 +185,9 @@ pub extern "C" fn resp_scanner_taken(scanner: &mut RespScanner) -> u64
     scanner.scanner().taken()
 }
 
-/// The least number of bytes that complete the value, whatever the limit of total: 3 between
-/// values, and 0 where all its bytes have come and only events are owed. It says nothing after a
-/// fault.
+/// Returns the least number of bytes that complete the current value, ignoring the limit of total:
+/// 3 between values, and 0 if all bytes were read and only events are left. The number has no
+/// meaning after a fault.
 #[unsafe(no_mangle)]
 pub extern "C" fn resp_scanner_needed(scanner: &mut RespScanner) -> u64
     requires { IsHeld scanner.old.scanner }

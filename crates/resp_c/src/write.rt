@@ -1,8 +1,9 @@
-//! The canonical texts of values without members, and the heads of those with members, into room of
-//! the caller.
+//! Writes the canonical texts of values without members, and the heads of values with members, into
+//! a buffer of the caller.
 //!
-//! Each call answers 0 and tells the text's size; or 65 where the room is shorter than the text,
-//! whose size it tells then too; or why there is no such text. A refusal leaves the room as it was.
+//! Each function returns 0 and sets `size` to the number of bytes of the text. It returns 65 if the
+//! buffer is shorter than the text, and sets `size` then too. It returns another number if there is
+//! no such text. After an error the buffer is unchanged.
 
 ghost use Rattle.std.specs.Prelude.{◌≡◌, ◌↔◌, ◌<◌, ◌≤◌, ◌++◌, [], All, IsTrue, IfSome, length};
 ghost use Rattle.resp_value.specs.Bytes.{IsLine, crlf};
@@ -21,10 +22,10 @@ use resp_value::cause::Cause;
 use resp_value::kind::OpenKind;
 use resp_value::version::Version;
 
-/// The number of the refusal of a kind of aggregate that there isn't.
+/// The error number of an unknown kind of aggregate.
 const BAD_KIND: u32 = 66;
 
-/// The kind of aggregate of this number, `RESP_ARRAY` to `RESP_PUSH`.
+/// Returns the kind of aggregate of this number, `RESP_ARRAY` to `RESP_PUSH`.
 fn kind(number: u32) -> Option<OpenKind>
     ensures some { IfSome result (λ kind. (kind ≡ aggregate_of number) × IsAggregate number) }
     ensures none { result ≡ None → IsAggregate number → ⊥ }
@@ -39,8 +40,8 @@ fn kind(number: u32) -> Option<OpenKind>
     }
 }
 
-/// Writes the head of an aggregate: its members' number, or its pairs' in a map or an attribute.
-/// The texts of its members follow it.
+/// Writes the head of an aggregate with the number of its members, or of its pairs if it is a map
+/// or an attribute. The texts of its members follow it.
 #[unsafe(no_mangle)]
 pub extern "C" fn resp_write_head(room: &mut [u8], kind: u32, members: u64, size: &mut usize) -> u32
     ensures head { IsAggregate kind → Writes room.old room.new
@@ -63,7 +64,7 @@ pub extern "C" fn resp_write_bulk(room: &mut [u8], bytes: &[u8], size: &mut usiz
     write_string(room, b'$', bytes.len() as u64, b"", bytes, size)
 }
 
-/// Writes a bulk error, which version 2 hasn't.
+/// Writes a bulk error, which version 2 does not have.
 #[unsafe(no_mangle)]
 pub extern "C" fn resp_write_bulk_error(room: &mut [u8], bytes: &[u8], size: &mut usize) -> u32
     ensures { (version : Version) → Writes room.old room.new
@@ -72,7 +73,7 @@ pub extern "C" fn resp_write_bulk_error(room: &mut [u8], bytes: &[u8], size: &mu
     write_string(room, b'!', bytes.len() as u64, b"", bytes, size)
 }
 
-/// Writes a verbatim string of a format of three bytes, which version 2 hasn't.
+/// Writes a verbatim string with a format of three bytes. Version 2 does not have verbatim strings.
 #[unsafe(no_mangle)]
 pub extern "C" fn resp_write_verbatim(
     room: &mut [u8],
@@ -102,7 +103,7 @@ pub extern "C" fn resp_write_int(room: &mut [u8], number: i64, size: &mut usize)
     }
 }
 
-/// Writes Null as version 2 or 3 has it. Refuses by 64 another version.
+/// Writes a null in the form of version 2 or 3. Returns 64 for another version.
 #[unsafe(no_mangle)]
 pub extern "C" fn resp_write_null(room: &mut [u8], version: u32, size: &mut usize) -> u32
     ensures null { IsVersion version → Writes room.old room.new
@@ -117,7 +118,7 @@ pub extern "C" fn resp_write_null(room: &mut [u8], version: u32, size: &mut usiz
     }
 }
 
-/// Writes a truth value, which version 2 hasn't.
+/// Writes a boolean, which version 2 does not have.
 #[unsafe(no_mangle)]
 pub extern "C" fn resp_write_bool(room: &mut [u8], truth: bool, size: &mut usize) -> u32
     ensures { (version : Version) → Writes room.old room.new
@@ -130,14 +131,14 @@ pub extern "C" fn resp_write_bool(room: &mut [u8], truth: bool, size: &mut usize
     }
 }
 
-/// Whether none of the bytes is CR or LF.
+/// Returns whether the bytes contain neither CR nor LF.
 fn is_line(bytes: &[u8]) -> bool
     ensures { IsTrue result ↔ IsLine bytes.now }
 {
     bytes.iter().all(|byte| *byte != b'\r' && *byte != b'\n')
 }
 
-/// Writes a line. Refuses by the number of BadLine a text with CR or LF.
+/// Writes a line. Returns the number of `BadLine` if the text contains CR or LF.
 fn write_plain(room: &mut [u8], front: &[u8], text: &[u8], size: &mut usize) -> u32
     requires { length front.now ≤ 8 }
     ensures line { IsLine text.now → Writes room.old room.new
@@ -151,7 +152,7 @@ fn write_plain(room: &mut [u8], front: &[u8], text: &[u8], size: &mut usize) -> 
     write_line(room, front, text, size)
 }
 
-/// Writes a simple string. Refuses by 60 a text with CR or LF.
+/// Writes a simple string. Returns 60 if the text contains CR or LF.
 #[unsafe(no_mangle)]
 pub extern "C" fn resp_write_simple(room: &mut [u8], text: &[u8], size: &mut usize) -> u32
     ensures simple { IsLine text.now → (version : Version) → Writes room.old room.new
@@ -162,7 +163,7 @@ pub extern "C" fn resp_write_simple(room: &mut [u8], text: &[u8], size: &mut usi
     write_plain(room, b"+", text, size)
 }
 
-/// Writes an error. Refuses by 60 a text with CR or LF.
+/// Writes a simple error. Returns 60 if the text contains CR or LF.
 #[unsafe(no_mangle)]
 pub extern "C" fn resp_write_error(room: &mut [u8], text: &[u8], size: &mut usize) -> u32
     ensures error { IsLine text.now → (version : Version) → Writes room.old room.new
@@ -173,8 +174,8 @@ pub extern "C" fn resp_write_error(room: &mut [u8], text: &[u8], size: &mut usiz
     write_plain(room, b"-", text, size)
 }
 
-/// Writes the text of a double, which version 2 hasn't. Refuses by 60 a text with CR or LF, and
-/// looks no further.
+/// Writes a double, given as its text. Version 2 does not have doubles. Returns 60 if the text
+/// contains CR or LF. Checks nothing else of the text.
 #[unsafe(no_mangle)]
 pub extern "C" fn resp_write_double(room: &mut [u8], text: &[u8], size: &mut usize) -> u32
     ensures double { IsLine text.now → (version : Version) → Writes room.old room.new
@@ -185,15 +186,15 @@ pub extern "C" fn resp_write_double(room: &mut [u8], text: &[u8], size: &mut usi
     write_plain(room, b",", text, size)
 }
 
-/// Whether the text is one or more decimal digits.
+/// Returns whether the text is one or more decimal digits.
 fn are_digits(text: &[u8]) -> bool
     ensures { IsTrue result ↔ ((0 < length text.now) × All IsDigit text.now) }
 {
     !text.is_empty() && text.iter().all(|byte| byte.is_ascii_digit())
 }
 
-/// Whether a big number keeps these digits so: one or more, without a leading zero, and no sign at
-/// a zero.
+/// Returns whether these are the sign and digits of a big number: one or more digits, no leading
+/// zero, and no sign at a zero.
 fn is_kept(negative: bool, digits: &[u8]) -> bool
     ensures { IsTrue result ↔ IsKept negative digits.now }
 {
@@ -209,8 +210,9 @@ fn is_kept(negative: bool, digits: &[u8]) -> bool
     digits.len() == 1
 }
 
-/// Writes a big number, which version 2 hasn't, by its sign and its digits. Refuses by 61 what a
-/// big number doesn't keep: other bytes than digits or none, a leading zero, and a negative zero.
+/// Writes a big number, given as its sign and its digits. Version 2 does not have big numbers.
+/// Returns 61 if the digits are empty or contain another byte than a digit, if they have a leading
+/// zero, or if they are a negative zero.
 #[unsafe(no_mangle)]
 pub extern "C" fn resp_write_big(
     room: &mut [u8],

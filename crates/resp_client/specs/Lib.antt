@@ -1,8 +1,8 @@
--- What a caller reads of the client.
+-- The definitions that callers of the client read.
 pub mod Clients
 pub mod Standing
 pub mod Hearing
 pub mod Sending
 pub mod PushLists
--- What the steps of a feed promise one another, which no public clause names.
+-- The internal contracts of the steps of a feed, which no public contract names.
 pub mod Steps

@@ -1,4 +1,4 @@
--- Where a client stands, by what it has: some front of a value was taken, or a fault is final.
+-- The states of a client: it has read some front of a value, or it has a final fault.
 use Rattle.std.specs.Prelude.{◌≡◌, ◌⊎◌, ◌≤◌, ℕ, Option, None, Some, List, []}
 use Rattle.resp_value.specs.Bounds.{Bounds}
 use Rattle.resp_value.specs.Causes.{number_of}
@@ -8,7 +8,7 @@ use Rattle.resp_decode.specs.Decoding.{HasTaken, rules_of}
 use Rattle.resp_decode.specs.declared.decoder.Decoder.{Decoder}
 use Rattle.resp_session.specs.Reading.{IsUnasked, Waiting, reading_rules}
 
--- the decoder has taken the bytes of this front, under the rules by which the value is read, and they were asked for
+-- the decoder has read the bytes of this front, under the rules for reading the value, and the value was requested
 pub record TakesFront (limits : Bounds) (w : Waiting) (d : Decoder) (fault : Option Fault) (front : List ℕ) :
     Type 0 where
   pub taken : HasTaken d front
@@ -17,15 +17,15 @@ pub record TakesFront (limits : Bounds) (w : Waiting) (d : Decoder) (fault : Opt
   pub asked : IsUnasked w front → ⊥
   pub no_fault : fault ≡ None
 
--- a cause of bytes that come, or of memory that was out: by its number it is Unasked or stands before it
+-- a cause of bytes received or of memory: its number is at most that of `Unasked`
 abbrev pub IsOfBytes : Cause → Type 0
 IsOfBytes cause = number_of cause ≤ 20
 
--- this fault stands, of bytes that came, at a byte within the limits
+-- there is this fault, of bytes received, at a byte within the limits
 abbrev pub StandsAtFault : Bounds → Option Fault → Fault → Type 0
 StandsAtFault limits stands fault = (stands ≡ Some fault) × (fault.at ≤ limits.total) × IsOfBytes fault.cause
 
--- some front was taken, or a fault stands
+-- some front was read, or there is a fault
 abbrev pub TakesOrStands : Bounds → Waiting → Decoder → Option Fault → Type 0
 TakesOrStands limits w d stands =
     ((front : List ℕ) × TakesFront limits w d stands front) ⊎ ((fault : Fault) × StandsAtFault limits stands fault)

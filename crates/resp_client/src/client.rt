@@ -1,4 +1,4 @@
-//! The client, and what it shows.
+//! The client and its state.
 
 ghost use Rattle.std.specs.Prelude.{◌≡◌, ◌↔◌, ◌+◌, ◌≤◌, ◌^◌, [], None, Some, length};
 ghost use Rattle.resp_client.specs.Standing.{TakesOrStands};
@@ -11,26 +11,26 @@ use resp_value::version::Version;
 use std::alloc::Global;
 use std::collections::VecDeque;
 
-/// One end of a connection: it queues commands (Redis serialization protocol specification,
-/// "Sending commands to a Redis server"), each with a number, and gives each reply the number of
-/// its command. Numbers are 1, 2, 3 and on.
+/// The client's end of a connection. It queues commands (Redis serialization protocol
+/// specification, "Sending commands to a Redis server") and matches each reply to its command.
+/// Commands are numbered 1, 2, 3 and so on.
 ///
-/// It begins in version 2, and takes the version that a HELLO asks when its reply comes and is no
-/// error.
+/// The client begins in version 2. When the reply to a HELLO with a version arrives and is not an
+/// error, the client switches to that version.
 #[derive(Drop)]
 pub struct Client {
     pub(crate) limits: Limits,
     pub(crate) version: Version,
-    /// For each command that waits the version that it asks, if it is a HELLO with one.
+    /// For each command that waits, the version that it requests if it is a HELLO with a version.
     pub(crate) asks: VecDeque<Option<Version>>,
-    /// How many commands have a reply.
+    /// The number of commands that have a reply.
     pub(crate) answered: u64,
     pub(crate) out: BytesMut,
     pub(crate) decoder: Decoder,
-    /// The fault that stands.
+    /// The fault, if there was one.
     pub(crate) fault: Option<Fault>,
     ghost in_range: { answered + length asks.items ≤ 2 ^ 63 },
-    /// It has taken some front of a value, or a fault stands.
+    /// The bytes read are a prefix of a value, or there was a fault.
     pub ghost reading: { ∥ TakesOrStands limits (record { version = version; asks = asks.items })
         decoder fault ∥₁ },
 }
@@ -40,8 +40,8 @@ impl Client {
     ghost use Rattle.resp_client.specs.Hearing.{HasFault, HasTaken, HasTakenSome, KeepsReading, WhereTaken};
     ghost use Rattle.resp_scan.specs.declared.event.Fault.{Fault};
 
-    /// A client in version 2, with nothing queued, which sends and reads within these limits. Takes
-    /// no memory.
+    /// Makes a client in version 2 with an empty queue, which writes and reads within these limits.
+    /// Does not allocate.
     pub fn new(alloc: Global, limits: &Limits) -> Client
         ensures nothing_sent { state_of result ≡ new_state limits.now }
         ensures nothing_taken { HasTaken result [] }
@@ -57,15 +57,30 @@ impl Client {
         }
     }
 
-    /// Lends the texts of the commands that were queued, without what was dropped of them.
+    /// Returns the bytes to be written: the texts of the queued commands that have not been removed
+    /// by [`Client::sent`].
     pub fn out(&self) -> &[u8]
         ensures { result.now ≡ (state_of self.now).out }
     {
         self.out.as_slice()
     }
 
-    /// Drops `count` bytes, no more than it has, from the front of [`Client::out`]: those that were
-    /// sent. Copies nothing.
+    /// Removes the first `count` bytes of [`Client::out`] after they were written. `count` is at
+    /// most the length of [`Client::out`]. Does not copy the other bytes.
+    ///
+    /// # Examples
+    ///
+    /// From [samples](../../samples/src/pipelining.rt):
+    ///
+    /// ```rust
+    /// client.send(&Command::new(vec![in alloc; b"PING".to_vec(alloc)?]?)?)?;
+    /// // The socket accepted only the first four bytes.
+    /// let written = client.out().len().min(4);
+    /// client.sent(written);
+    /// println!(rt; "{}", client.out().escape_ascii())?;
+    /// ```
+    ///
+    /// This prints `$4\r\nPING\r\n`.
     pub fn sent(&mut self, count: usize)
         requires { count ≤ length (state_of self.old).out }
         ensures dropped { state_of self.new ≡ without_front count (state_of self.old) }
@@ -74,30 +89,30 @@ impl Client {
         self.out.advance(count);
     }
 
-    /// How many of the commands that were queued have no reply.
+    /// Returns the number of queued commands that have no reply yet.
     pub fn waiting(&self) -> u64
         ensures { result ≡ length (state_of self.now).waiting.asks }
     {
         self.asks.len() as u64
     }
 
-    /// How many of the commands that were queued have a reply.
+    /// Returns the number of queued commands that have a reply.
     pub fn answered(&self) -> u64
         ensures { result ≡ (state_of self.now).answered }
     {
         self.answered
     }
 
-    /// Its version: 2 until the reply to a HELLO with a version comes and is no error, and then
-    /// that one.
+    /// Returns the client's version: 2 until a HELLO with a version has a reply that is not an
+    /// error, and then the version of that HELLO.
     pub fn version(&self) -> Version
         ensures { result ≡ (state_of self.now).waiting.version }
     {
         self.version
     }
 
-    /// The number of bytes taken of the reply or the push that comes, 0 between two. A refused byte
-    /// isn't among them, and after a fault they are those before its place.
+    /// Returns the number of bytes read of the current reply or push, 0 between two. A rejected
+    /// byte does not count. After a fault it is the number of bytes before the fault.
     pub fn taken(&self) -> u64
         ensures length_of_front { WhereTaken self.now (λ front. result ≡ length front) }
         ensures at_a_fault { (fault : Fault) → HasFault self.now fault → result ≡ fault.at }
@@ -109,7 +124,7 @@ impl Client {
         }
     }
 
-    /// The fault that stands, if one does, which every later [`Client::feed`] answers.
+    /// Returns the fault, if there was one. Every later [`Client::feed`] returns it.
     pub fn fault(&self) -> Option<Fault>
         ensures the_fault { (fault : Fault) → HasFault self.now fault ↔ (result ≡ Some fault) }
         ensures none_while_reading { WhereTaken self.now (λ front. result ≡ None) }

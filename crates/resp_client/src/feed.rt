@@ -1,4 +1,4 @@
-//! What is heard of the bytes that come.
+//! Reading replies and pushes from the bytes received.
 
 ghost use Rattle.std.specs.Prelude.{◌≡◌, ◌≢◌, ◌↔◌, ◌<◌, ◌≤◌, ◌++◌, [], length, take, Err, None, IsTrue, OnOk, OnErr, IfOk, IfErr};
 ghost use Rattle.resp_value.specs.Values.{datum_of};
@@ -20,7 +20,7 @@ use resp_value::laws as grammar;
 use resp_value::value::Value;
 use resp_value::version::Version;
 
-/// The greater of two versions.
+/// Returns the greater of two versions.
 fn greater_version(version: Version, other: Version) -> Version
     ensures { result ≡ greater_version version other }
 {
@@ -30,7 +30,7 @@ fn greater_version(version: Version, other: Version) -> Version
     }
 }
 
-/// Whether a reply refuses its command.
+/// Returns whether a reply is an error.
 fn is_refusal(value: &Value) -> bool
     ensures { result ≡ is_refusal (datum_of value.now) }
 {
@@ -41,15 +41,23 @@ fn is_refusal(value: &Value) -> bool
 }
 
 impl Client {
-    /// Takes bytes of the piece until a reply or a push is whole or the piece ends. A value is read
-    /// in the greater of the client's version and the one that the first waiting command asks, and
-    /// that is fixed at its first byte. A reply answers the first waiting command, and a push none.
+    /// Reads bytes of the piece up to the end of a reply or a push, or up to the end of the piece.
+    /// Call it again with the bytes that are left.
     ///
-    /// Refuses by Unasked the first byte of a value that is no push while no command waits, each
-    /// other byte as the decoder does, and by OutOfMemory where no memory is found for what came.
-    /// Every later call answers the same, and what was queued stays.
+    /// A reply belongs to the first command that waits, and a push belongs to no command. A value
+    /// is read in the client's version, or in the version that the first waiting command requests
+    /// if that is greater. The choice is made at the first byte of the value.
     ///
-    /// What is heard in a piece, in [example_client](../../example_client/src/main.rt):
+    /// # Errors
+    ///
+    /// A [`Fault`] with the cause `Unasked` at the first byte of a value that is not a push, if no
+    /// command waits. At any other byte the faults are those of the decoder, with `OutOfMemory` if
+    /// an allocation fails. Every later call returns the same fault, and the queued commands stay
+    /// queued.
+    ///
+    /// # Examples
+    ///
+    /// The replies and pushes of a piece, from [example_client](../../example_client/src/main.rt):
     ///
     /// ```rust
     /// let heard = client.feed(rest)?;
@@ -91,10 +99,24 @@ impl Client {
         Ok(Heard { used, what })
     }
 
-    /// As [`Client::feed`], but a push is shown to the sink, and then [`What::Shown`] is answered.
+    /// As [`Client::feed`], but passes each push to the sink and returns [`What::Shown`] for it.
     ///
-    /// Refuses as that does, and by OutOfMemory where the sink does, whose push is lost. Then the
-    /// sink was shown nothing.
+    /// # Errors
+    ///
+    /// Those of [`Client::feed`], and `OutOfMemory` if the sink returns an error. Then the sink has
+    /// stored nothing, and the push is lost.
+    ///
+    /// # Examples
+    ///
+    /// From [samples](../../samples/src/pipelining.rt):
+    ///
+    /// ```rust
+    /// let mut sink: Box<dyn PushSink> = Box::new(alloc, PushList::new(alloc))?;
+    /// let heard = client.feed_with(b">1\r\n+tick\r\n", &mut sink)?;
+    /// println!(rt; "{:?}, {} stored", heard.what, sink.shown().len())?;
+    /// ```
+    ///
+    /// This prints `Shown, 1 stored`.
     pub fn feed_with(&mut self, piece: &[u8], sink: &mut Box<dyn PushSink>) -> Result<Heard, Fault>
         ensures heard { WhereTaken self.old (λ front. IfOk result (λ heard.
             HearsAndShows self.old self.new (pushes sink.old) (pushes sink.new) front piece.now
@@ -133,8 +155,7 @@ impl Client {
         })
     }
 
-    /// Takes bytes until a value is whole, in the version in which it is read. A fault stands from
-    /// then on.
+    /// Reads bytes up to the end of a value, in the version chosen for the value. A fault is kept.
     fn take(&mut self, piece: &[u8]) -> Result<Fed, Fault>
         requires { self.old.fault ≡ None }
         ensures value_whole { WhereTaken self.old (λ front. IfValue result (λ used value.
@@ -157,7 +178,8 @@ impl Client {
         }
         let fed = self.decoder.feed(piece);
         if let Err(fault) = &fed {
-            // What was taken before it is within the limits, as the decoder says of it here.
+            // The contract of the decoder's `taken` states here that the bytes read before are
+            // within the limits.
             let _taken = self.decoder.taken();
             self.fault = Some(*fault);
             return fed;
@@ -165,7 +187,7 @@ impl Client {
         fed
     }
 
-    /// Fixes the version of a value whose first byte comes, or refuses that byte.
+    /// Chooses the version of a value at its first byte, or rejects that byte.
     fn begin(&mut self, piece: &[u8]) -> Result<(), Fault>
         ensures begun { WhereTaken self.old (λ front. OnOk result
             (HasBegun self.new front piece.now)) }
@@ -186,12 +208,12 @@ impl Client {
             });
         }
         let version = self.reading_version();
-        // Nothing is taken of a value, so the decoder takes the version.
+        // The decoder has read no byte of a value, so it accepts the version.
         let _changed = self.decoder.set_version(version);
         Ok(())
     }
 
-    /// Whether a value that begins so is asked for by no command, and is no push.
+    /// Returns whether a value that begins with this piece is not a push while no command waits.
     fn is_unasked(&self, piece: &[u8]) -> bool
         ensures { IsTrue result ↔ IsUnasked (state_of self.now).waiting piece.now }
     {
@@ -201,7 +223,7 @@ impl Client {
         }
     }
 
-    /// The version of a value that begins now.
+    /// Returns the version in which a value is read that begins now.
     fn reading_version(&self) -> Version
         ensures { result ≡ reading_version (state_of self.now).waiting.version
             (state_of self.now).waiting.asks }
@@ -212,7 +234,8 @@ impl Client {
         }
     }
 
-    /// Tells a value that was read: a push, or the reply to the first command that waits.
+    /// Returns the result for a value that was read: a push, or the reply to the first command that
+    /// waits.
     fn hear(&mut self, value: Value) -> What
         requires { ∥ HasTaken self.old [] ∥₁ }
         ensures known { Knows (state_of self.old) (state_of self.new) (datum_of value) result }
@@ -228,7 +251,7 @@ impl Client {
         }
     }
 
-    /// Answers the first command that waits, and gives its number.
+    /// Records the reply to the first command that waits, and returns the command's number.
     fn answer(&mut self, value: &Value) -> u64
         requires { ∥ HasTaken self.old [] ∥₁ }
         ensures answered { (state_of self.old).waiting.asks ≢ [] →

@@ -1,17 +1,17 @@
-//! What a client heard.
+//! The result of feeding a piece to a client.
 
 use resp_value::value::{Members, Value};
 
-/// What a client heard in a piece.
+/// The result of feeding a piece to a client.
 #[derive(Debug, PartialEq, Eq, Drop)]
 pub struct Heard {
-    /// The number of bytes taken from the front of the piece; the whole piece at [`What::More`].
+    /// The number of bytes of the piece that were used. This is the whole piece at [`What::More`].
     pub used: usize,
-    /// What ends with them.
+    /// The reply or push that ends with these bytes.
     pub what: What,
 }
 
-/// What ended with the bytes that were taken.
+/// The reply or push that has ended, if any.
 #[derive(Debug, PartialEq, Eq, Drop)]
 pub enum What {
     /// The reply to a command.
@@ -21,10 +21,10 @@ pub enum What {
         /// The reply.
         value: Value,
     },
-    /// The members of a push, which answers no command.
+    /// The members of a push. It belongs to no command.
     Push(Members),
-    /// A push, which was shown to the sink of [`crate::Client::feed_with`].
+    /// A push that was passed to the sink of [`crate::Client::feed_with`].
     Shown,
-    /// Nothing: the piece is used up, and more bytes have to come.
+    /// No reply and no push: the piece is used up, and more bytes are needed.
     More,
 }

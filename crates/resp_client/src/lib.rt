@@ -1,7 +1,8 @@
 //! A pipelining client of RESP2 and RESP3.
 //!
-//! A [`client::Client`] queues commands and says which reply is whose. It does no input and no
-//! output: a caller sends [`client::Client::out`] and feeds what comes back, in pieces of any size.
+//! A [`client::Client`] queues commands and matches each reply to its command. It does no input and
+//! output itself: the caller writes [`client::Client::out`] and feeds the bytes received, in pieces
+//! of any size.
 #![tactic(auto)]
 
 pub mod client;

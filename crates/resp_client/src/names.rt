@@ -1,4 +1,4 @@
-//! The names of commands that a client doesn't send.
+//! The names of the commands that a client does not send.
 
 ghost use Rattle.std.specs.Prelude.{◌≡◌, map};
 ghost use Rattle.std.specs.Char.{to_ascii_lowercase};
@@ -7,7 +7,8 @@ ghost use Rattle.resp_value.specs.Words.{texts_of};
 ghost use Rattle.resp_session.specs.Operations.{is_name};
 ghost use Rattle.resp_session.specs.Requests.{is_reply_word, is_unsent, unsent_names};
 
-/// Whether a word is this name, which is in lower case, whatever the word's case.
+/// Returns whether a word is this name in upper, lower or mixed case. The name is given in lower
+/// case.
 fn is_name(word: &[u8], name: &[u8]) -> bool
     requires { map to_ascii_lowercase name.now ≡ name.now }
     ensures { result ≡ is_name name.now word.now }
@@ -15,7 +16,7 @@ fn is_name(word: &[u8], name: &[u8]) -> bool
     word.eq_ignore_ascii_case(name)
 }
 
-/// Whether a command of this name is answered by no reply or by many, or changes the version.
+/// Returns whether a command of this name does not have exactly one reply, or changes the version.
 fn is_unsent_name(name: &[u8]) -> bool
     ensures { result ≡ list_any (λ unsent. is_name unsent name.now) unsent_names }
 {
@@ -32,7 +33,7 @@ fn is_unsent_name(name: &[u8]) -> bool
         || is_name(name, b"reset")
 }
 
-/// Whether the first of these words is REPLY.
+/// Returns whether the first of these words is REPLY.
 fn is_reply_word(words: &[Vec<u8>]) -> bool
     ensures { result ≡ is_reply_word (texts_of words.now) }
 {
@@ -42,7 +43,7 @@ fn is_reply_word(words: &[Vec<u8>]) -> bool
     }
 }
 
-/// Whether a client doesn't send these words.
+/// Returns whether a client does not send a command of these words.
 pub(crate) fn is_unsent(words: &[Vec<u8>]) -> bool
     ensures { result ≡ is_unsent (texts_of words.now) }
 {

@@ -1,4 +1,4 @@
-//! Commands that are queued.
+//! Queueing commands.
 
 ghost use Rattle.std.specs.Prelude.{◌≡◌, ◌⊎◌, ◌+◌, ◌<◌, ◌≤◌, ◌^◌, length, take, OnOk, OnErr, IfOk, IfErr, IsErrOf};
 ghost use Rattle.resp_value.specs.Commands.{words_of};
@@ -15,10 +15,10 @@ use resp_value::laws as grammar;
 use resp_value::limits::Limits;
 use resp_value::version::Version;
 
-/// The most commands that a client queues.
+/// The greatest number of commands that a client queues.
 const MOST_COMMANDS: u64 = 9_223_372_036_854_775_808;
 
-/// Why the encoder refuses words.
+/// Returns the client's error for an error of the encoder.
 fn send_error(error: EncodeError) -> SendError
     ensures { result ≡ send_error error }
 {
@@ -28,7 +28,7 @@ fn send_error(error: EncodeError) -> SendError
     }
 }
 
-/// The text of HELLO, with the version that it asks.
+/// Returns the text of HELLO with the requested version.
 fn hello_text(asked: Option<Version>) -> &'static [u8]
     ensures { result.now ≡ request_text (Hello asked) }
 {
@@ -39,7 +39,7 @@ fn hello_text(asked: Option<Version>) -> &'static [u8]
     }
 }
 
-/// HELLO is within any limits.
+/// States that HELLO is within any limits.
 fn hello_fits(limits: &Limits, asked: Option<Version>)
     ensures { FitsRequest limits.now (Hello asked) }
 {
@@ -51,19 +51,23 @@ impl Client {
     ghost use Rattle.resp_client.specs.Hearing.{KeepsReading};
     ghost use Rattle.resp_client.specs.Sending.{AnswersRequest};
 
-    /// Queues the text of a command, and answers the number that its reply will have.
+    /// Queues a command and returns the number that its reply will have.
     ///
-    /// Refuses by the first of BadCommand, TooLarge and TooMany that there is, and else when out of
-    /// memory, as [`SendError`] says. Then nothing is changed.
+    /// # Errors
     ///
-    /// A pipeline, in [example_client](../../example_client/src/main.rt):
+    /// The first of `BadCommand`, `TooLarge`, `TooMany` and `OutOfMemory` that applies, as
+    /// [`SendError`] describes. Then nothing is changed.
+    ///
+    /// # Examples
+    ///
+    /// A pipeline, from [example_client](../../example_client/src/main.rt):
     ///
     /// ```rust
     /// let mut client = Client::new(alloc, &Limits::standard());
     /// client.hello(Some(Version::Three))?;
     /// client.send(&command(alloc, b"INCR", b"a")?)?;
     /// client.send(&command(alloc, b"GET", b"b")?)?;
-    /// // client.out() is what is to be written.
+    /// // Write client.out() to the server.
     /// let length = client.out().len();
     /// client.sent(length);
     /// ```
@@ -93,11 +97,27 @@ impl Client {
         self.wait_for(None, length)
     }
 
-    /// Queues HELLO with the version that is asked, if one is, and answers the number that its
-    /// reply will have. With the reply the client takes that version, unless it is an error.
+    /// Queues HELLO, with the requested version if there is one, and returns the number that its
+    /// reply will have. The client switches to this version when the reply arrives, unless the
+    /// reply is an error.
     ///
-    /// Refuses by TooMany where as many commands were queued as can be, and else when out of
-    /// memory. Then nothing is changed.
+    /// # Errors
+    ///
+    /// `TooMany` if no command number is left, otherwise `OutOfMemory` if an allocation fails. Then
+    /// nothing is changed.
+    ///
+    /// # Examples
+    ///
+    /// From [samples](../../samples/src/pipelining.rt):
+    ///
+    /// ```rust
+    /// let mut client = Client::new(alloc, &Limits::standard());
+    /// client.hello(Some(Version::Three))?;
+    /// client.feed(b"%1\r\n+proto\r\n:3\r\n")?;
+    /// println!(rt; "{:?}", client.version())?;
+    /// ```
+    ///
+    /// This prints `Three`.
     pub fn hello(&mut self, asked: Option<Version>) -> Result<u64, SendError>
         ensures answer { AnswersRequest (state_of self.old) (Hello asked) result }
         ensures queued { OnOk result (state_of self.new ≡
@@ -116,11 +136,27 @@ impl Client {
         self.wait_for(asked, length)
     }
 
-    /// Waits for the reply to a command whose text goes another way, HELLO with the version that it
-    /// asks or any other that one reply answers, and answers the number that its reply will have.
+    /// Expects the reply to a command that is sent in another way than through [`Client::out`], and
+    /// returns the number that its reply will have. The command may be HELLO, with the version that
+    /// it requests, or any other command with exactly one reply.
     ///
-    /// Refuses by TooMany where as many commands were queued as can be, and else when out of
-    /// memory. Then nothing is changed.
+    /// # Errors
+    ///
+    /// `TooMany` if no command number is left, otherwise `OutOfMemory` if an allocation fails. Then
+    /// nothing is changed.
+    ///
+    /// # Examples
+    ///
+    /// From [samples](../../samples/src/pipelining.rt):
+    ///
+    /// ```rust
+    /// let mut client = Client::new(alloc, &Limits::standard());
+    /// let number = client.expect(None)?;
+    /// println!(rt; "{number}, {} bytes to write", client.out().len())?;
+    /// println!(rt; "{:?}", client.feed(b":8\r\n")?.what)?;
+    /// ```
+    ///
+    /// This prints `1, 0 bytes to write` and `Reply { number: 1, value: Int(8) }`.
     pub fn expect(&mut self, asked: Option<Version>) -> Result<u64, SendError>
         ensures number { IfOk result (λ number. number ≡ queued (state_of self.old) + 1) }
         ensures waits { OnOk result (state_of self.new ≡ with_ask asked (state_of self.old)) }
@@ -139,15 +175,15 @@ impl Client {
         self.wait_for(asked, length)
     }
 
-    /// How many commands were queued.
+    /// Returns the number of commands that were queued.
     fn queued(&self) -> u64
         ensures { result ≡ queued (state_of self.now) }
     {
         self.answered + self.asks.len() as u64
     }
 
-    /// Waits for the reply to a command whose text begins after `length` bytes of the queue, or
-    /// takes the text away.
+    /// Records the command whose text begins after `length` bytes of the queue. If that fails,
+    /// removes the text from the queue.
     fn wait_for(&mut self, asked: Option<Version>, length: usize) -> Result<u64, SendError>
         requires { queued (state_of self.old) < 2 ^ 63 }
         ensures waits { OnOk result (state_of self.new ≡ with_ask asked (state_of self.old)) }
@@ -159,7 +195,7 @@ impl Client {
         ensures same_reading { KeepsReading self.old self.new }
     {
         grammar::later_type_bytes_want_version_three();
-        // What was taken is viable, as the decoder says of it here.
+        // The contract of the decoder's `taken` states here that the bytes read are viable.
         let _taken = self.decoder.taken();
         if self.asks.push_back(asked).is_err() {
             self.out.truncate(length);

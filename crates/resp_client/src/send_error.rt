@@ -1,21 +1,33 @@
-//! Why a command isn't queued.
+//! Errors of queueing a command.
 
 use thiserror::Error;
 
-/// Why a command isn't queued. Where there are several reasons, the first in this order is named.
+/// Why a command is not queued. If several errors apply, it is the first in this order.
+///
+/// # Examples
+///
+/// From [samples](../../samples/src/pipelining.rt):
+///
+/// ```rust
+/// let words = vec![in alloc; b"SUBSCRIBE".to_vec(alloc)?, b"news".to_vec(alloc)?]?;
+/// println!(rt; "{:?}", client.send(&Command::new(words)?))?;
+/// ```
+///
+/// This prints `Err(BadCommand)`.
 #[derive(Clone, Copy, Debug, PartialEq, Eq, Error)]
 pub enum SendError {
-    /// It isn't answered by one reply, or changes the version: HELLO, SUBSCRIBE and its kin,
-    /// MONITOR, SYNC, PSYNC, RESET and CLIENT REPLY, in any ASCII case.
+    /// The command does not have exactly one reply, or it changes the version: HELLO, SUBSCRIBE,
+    /// PSUBSCRIBE, SSUBSCRIBE, UNSUBSCRIBE, PUNSUBSCRIBE, SUNSUBSCRIBE, MONITOR, SYNC, PSYNC, RESET
+    /// and CLIENT REPLY, in upper, lower or mixed case.
     #[error("the client doesn't send this command")]
     BadCommand,
-    /// It is over the client's limit of length, items or total.
+    /// The command exceeds the client's limit of length, items or total.
     #[error("the command is over a limit")]
     TooLarge,
-    /// 9,223,372,036,854,775,808 commands were queued.
+    /// The client has queued 9,223,372,036,854,775,808 commands, the greatest number.
     #[error("no number is left for the command")]
     TooMany,
-    /// A growth was refused.
+    /// An allocation failed.
     #[error("out of memory")]
     OutOfMemory,
 }

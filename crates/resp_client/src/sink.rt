@@ -1,4 +1,4 @@
-//! Where a client shows its pushes.
+//! Receivers of a client's pushes.
 
 ghost use Rattle.std.specs.Prelude.{◌≡◌, [], ◌∷◌, ◌++◌, List, OnOk, OnErr};
 ghost use Rattle.resp_value.specs.declared.value.Members.{Members};
@@ -7,23 +7,26 @@ use resp_value::value::Members;
 use std::alloc::Global;
 use thiserror::Error;
 
-/// A growth was refused.
+/// The error of a sink whose allocation failed.
 #[derive(Clone, Copy, Debug, PartialEq, Eq, Error)]
 #[error("out of memory")]
 pub struct OutOfMemory;
 
-/// What pushes are shown to. It is known by the pushes that it was shown.
+/// A receiver of pushes.
 pub trait PushSink: Drop {
-    /// The pushes that it was shown, in order.
+    /// The pushes that it has stored, in order.
     ghost pushes: { Self → List Members };
 
-    /// Takes the members of a push. Refuses when out of memory alone, and then was shown nothing
-    /// more.
+    /// Stores the members of a push.
+    ///
+    /// # Errors
+    ///
+    /// `OutOfMemory` if an allocation fails. Then the push is not stored.
     fn show(&mut self, items: Members) -> Result<(), OutOfMemory>
         ensures appended { OnOk result (pushes self.new ≡ pushes self.old ++ items ∷ []) }
         ensures unchanged { OnErr result (pushes self.new ≡ pushes self.old) };
 
-    /// Lends the members of each push that it was shown, in order.
+    /// Returns the members of each push that it has stored, in order.
     fn shown(&self) -> &[Members]
         ensures { result.now ≡ pushes self.now };
 }
@@ -37,7 +40,7 @@ pub struct PushList {
 impl PushList {
     ghost use Rattle.resp_client.specs.PushLists.{list_shown};
 
-    /// A list that was shown nothing. Takes no memory.
+    /// Makes an empty list. Does not allocate.
     pub fn new(alloc: Global) -> PushList
         ensures { list_shown result ≡ [] }
     {
@@ -64,7 +67,7 @@ impl PushSink for PushList {
     }
 }
 
-/// Shows a push to a sink that the caller made.
+/// Passes a push to the caller's sink.
 pub(crate) fn show_to(sink: &mut Box<dyn PushSink>, items: Members) -> Result<(), OutOfMemory>
     ensures appended { OnOk result (pushes sink.new ≡ pushes sink.old ++ items ∷ []) }
     ensures unchanged { OnErr result (pushes sink.new ≡ pushes sink.old) }

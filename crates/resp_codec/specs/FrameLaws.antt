@@ -1,4 +1,4 @@
--- What comes next, when more bytes follow or some were taken before.
+-- The next item if more bytes follow, or if some bytes were read before.
 use Rattle.std.proofs.Common.{◌≡◌, inl, inr, ℕ, List, ◌++◌, length, take, refl, sym, ap, subst, ◌∙◌, append_assoc, take_at}
 use Rattle.std.proofs.Math.Logic.{∥∥₁_elim}
 use Rattle.resp_value.specs.Data.{Datum}
@@ -10,14 +10,14 @@ use Rattle.resp_decode.specs.Standing.{TakesOrStands}
 use Rattle.resp_decode.specs.declared.decoder.Decoder.{Decoder}
 use Rattle.resp_codec.specs.Frames.{ValueEnds, IsBegun, IsReading, RefusesBuffer}
 
--- no front was taken where a fault stands
+-- no front was read if there is a fault
 pub taken_is_reading : (d : Decoder) (front : List ℕ) → HasTaken d front → IsReading d
 taken_is_reading d front w fault stands =
     let inside = subst (λ token. StandsAfterAt (rules_of d) token d.scanner.frames front w.given) stands.0.0
     w.reads.stands in
     inside.took
 
--- a decoder at which no fault stands has taken some front, by which nothing is shown
+-- a decoder without a fault has read some front, which its value does not show
 pub some_front : (d : Decoder) → IsReading d → WhereTaken d (λ front. ⊥) → ⊥
 some_front d reading none = ∥∥₁_elim d.reading (λ a b. absurd a) of
   where
@@ -25,7 +25,7 @@ some_front d reading none = ∥∥₁_elim d.reading (λ a b. absurd a) of
     of (inl (front, w)) = none front w
     of (inr (fault, stands)) = reading fault stands
 
--- a buffer in which a value ends isn't one in which none does
+-- a value cannot both end in a buffer and not end in it
 pub not_both : (d : Decoder) (buffer : List ℕ) (x : Datum) (after : Decoder) (left : List ℕ) → IsBegun d buffer →
     ValueEnds d buffer x after left → ⊥
 not_both d buffer x after left b v = some_front d b.reading (λ front taken.

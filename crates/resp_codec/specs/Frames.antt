@@ -1,4 +1,4 @@
--- What comes next out of the bytes of a buffer, after those that a decoder has taken of a value.
+-- The next item of the bytes of a buffer, after the bytes that a decoder has read of a value.
 use Rattle.std.specs.Prelude.{◌≡◌, ◌⊎◌, ℕ, List, [], ◌++◌, length}
 use Rattle.resp_value.specs.Data.{Datum}
 use Rattle.resp_value.specs.Rules.{WithinTotal}
@@ -9,11 +9,12 @@ use Rattle.resp_scan.specs.declared.event.Fault.{Fault}
 use Rattle.resp_decode.specs.Decoding.{HasFault, HasTaken, LacksMemory, RefusesByte, WhereTaken, rules_of}
 use Rattle.resp_decode.specs.declared.decoder.Decoder.{Decoder}
 
--- no fault stands, so that some front was taken
+-- there is no fault, so some front was read
 abbrev pub IsReading : Decoder → Type 0
 IsReading d = (fault : Fault) → HasFault d fault → ⊥
 
--- a value ends in the buffer: with the bytes used, what was taken is a spelling of it, and nothing is taken of the next
+-- a value ends in the buffer: the bytes read before and the bytes used are together a spelling of it, and no byte of
+-- the next value was read
 pub record ValueEnds (d : Decoder) (buffer : List ℕ) (x : Datum) (after : Decoder) (left : List ℕ) : Type 0 where
   pub reading : IsReading d
   pub used : List ℕ
@@ -21,25 +22,26 @@ pub record ValueEnds (d : Decoder) (buffer : List ℕ) (x : Datum) (after : Deco
   pub spelling : WhereTaken d (λ front. IsSpelling (rules_of d) x (front ++ used))
   pub takes : WhereTaken d (λ front. HasTaken after [])
 
--- no value ends in the buffer, and some value within the rules goes on so
+-- no value ends in the buffer, and the bytes are viable within the rules
 pub record IsBegun (d : Decoder) (buffer : List ℕ) : Type 0 where
   pub reading : IsReading d
   pub no_value : WhereTaken d (λ front. HasNoValue (front ++ buffer))
   pub viable : WhereTaken d (λ front. IsViable (rules_of d) WithinTotal (front ++ buffer))
 
--- the whole buffer is taken
+-- the whole buffer was read
 pub record TakesAll (d : Decoder) (buffer : List ℕ) (after : Decoder) (left : List ℕ) : Type 0 where
   pub none_left : left ≡ []
   pub takes : WhereTaken d (λ front. HasTaken after (front ++ buffer))
 
--- no value ends in the buffer, which is taken
+-- no value ends in the buffer, which was read
 pub record TakesPart (d : Decoder) (buffer : List ℕ) (after : Decoder) (left : List ℕ) : Type 0 where
   pub reading : IsReading d
   pub takes_all : TakesAll d buffer after left
   pub begun : IsBegun after left
 
--- Within the first bytes of the buffer a byte is refused, the first after which nothing can follow, or no memory was
--- found. A fault that stands is answered again. It stands from then on, and what is left is an end of the buffer.
+-- A byte within the first bytes of the buffer is rejected, the first that cannot follow the bytes before it, or an
+-- allocation failed. An earlier fault is returned again. There is a fault from then on, and the bytes left are the last
+-- bytes of the buffer.
 pub record RefusesBuffer (d : Decoder) (buffer : List ℕ) (fault : Fault) (after : Decoder) (left : List ℕ) :
     Type 0 where
   pub seen : List ℕ

@@ -1,9 +1,9 @@
--- What comes next out of a decoder and a buffer, and what a codec gives by it.
+-- The next item of a decoder and a buffer, and of a codec.
 pub mod Frames
 pub mod Next
 pub mod Values
 pub mod Commands
--- What a stream of values is, and what a framed reader gives of it.
+-- The values of a stream, and the items of a framed reader.
 pub mod Streams
 pub mod FramedReaders
 -- The proofs of the laws that a codec has to keep.

@@ -1,4 +1,4 @@
--- What a codec gives next, whose items stand for the values that its decoder reads.
+-- The next item of a codec, which represents the values that its decoder reads.
 use Rattle.std.specs.Prelude.{◌≡◌, Some, None, Ok, Err}
 use Rattle.resp_value.specs.Data.{Datum}
 use Rattle.resp_scan.specs.declared.event.Fault.{Fault}
@@ -9,19 +9,20 @@ use Rattle.resp_codec.specs.Frames.{EndsBetween, EndsInsideValue, ValueEnds, IsB
 use Rattle.resp_codec.specs.declared.error.CodecError.{CodecError}
 use Rattle.resp_codec.specs.declared.error.CodecError.TheVariants as error
 
--- how a codec C reads items T: by this decoder, keeping the rest of it, and each item stands for these values
+-- how a codec C reads items T: with this decoder, while the rest of the codec is unchanged, and each item represents
+-- these values
 pub record ItemReading (C T S : Type 0) : Type 1 where
   pub decoder : C → Decoder
   pub rest : C → S
   pub Is : T → Datum → Type 0
 
--- what isn't of the value that is being read is as it was
+-- the state that does not concern the current value is unchanged
 pub record IsSame {C T S : Type 0} (r : ItemReading C T S) (c t : C) : Type 0 where
   pub rest : r.rest t ≡ r.rest c
   pub rules : rules_of (r.decoder t) ≡ rules_of (r.decoder c)
 
--- What comes next: the item of the value that ends in the buffer; the error of a fault; at the end of the input nothing
--- between two values, and the error of Truncated inside one.
+-- The next item: the item of the value that ends in the buffer; the error of a fault; and at the end of the input no
+-- item between two values, and the error `Truncated` inside a value.
 abbrev pub gives_by : {C T S : Type 0} → ItemReading C T S → Gives C T CodecError
 gives_by r c buffer (decoded (Ok item) t left) =
     (x : Datum) × r.Is item x × ValueEnds (r.decoder c) buffer x (r.decoder t) left × IsSame r c t

@@ -1,4 +1,4 @@
--- A codec that reads by a decoder keeps the laws of `Decoder`.
+-- A codec that reads with a decoder keeps the laws of `Decoder`.
 use Rattle.std.proofs.Common.{Some, None, Ok, Err}
 use Rattle.tokio_util.specs.Codec.Next.{IsStable, PartialHasNoFrame, EndIsPartial}
 use Rattle.resp_codec.specs.FrameLaws.{not_both, refusal_before, value_before}

@@ -1,4 +1,4 @@
-//! Commands in, and replies out.
+//! A codec for a server: it reads commands and writes replies.
 
 ghost use Rattle.std.specs.Prelude.{◌≡◌, [], IfOk, IfNone};
 ghost use Rattle.resp_value.specs.Rules.{rules_under};
@@ -20,7 +20,28 @@ use resp_value::version::Version;
 use std::alloc::Global;
 use tokio_util::codec;
 
-/// Reads what clients ask, always in version 2, and writes replies in the version of the session.
+/// Reads the requests of clients, always in version 2, and writes replies in the version of the
+/// session.
+///
+/// # Examples
+///
+/// From [samples](../../samples/src/framing.rt):
+///
+/// ```rust
+/// let mut codec = CommandCodec::new(alloc, &Limits::standard());
+/// let mut buffer = BytesMut::new(alloc);
+/// buffer.extend_from_slice(b"*1\r\n$4\r\nPING\r\n")?;
+/// if let Some(Asked::Command(words)) = codec.decode(&mut buffer)? {
+///     println!(rt; "{}", words.word(0).escape_ascii())?;
+/// }
+/// let mut out = BytesMut::new(alloc);
+/// codec.encode(Value::Null, &mut out)?;
+/// codec.set_version(Version::Three);
+/// codec.encode(Value::Null, &mut out)?;
+/// println!(rt; "{}", out.escape_ascii())?;
+/// ```
+///
+/// This prints `PING` and `$-1\r\n_\r\n`.
 #[derive(Drop)]
 pub struct CommandCodec {
     decoder: Decoder,
@@ -29,7 +50,8 @@ pub struct CommandCodec {
 }
 
 impl CommandCodec {
-    /// A codec within these limits, between two commands, which writes version 2. Takes no memory.
+    /// Makes a codec with these limits, before the first command. It writes version 2 at first.
+    /// Does not allocate.
     pub fn new(alloc: Global, limits: &Limits) -> CommandCodec
         ensures nothing_taken { HasTaken result [] }
         ensures reads { reads_by result ≡ rules_under Two limits.now }
@@ -42,7 +64,8 @@ impl CommandCodec {
         }
     }
 
-    /// Writes this version from the next reply on, as after a HELLO that asked for it.
+    /// Changes the version of the replies, from the next reply on. Call it after a HELLO that
+    /// requests the version.
     pub fn set_version(&mut self, version: Version)
         ensures writes { writes_by self.new ≡ rules_under version (writes_by self.old).limits }
         ensures reads_as_before { ReadsLike self.old self.new }
@@ -64,10 +87,13 @@ impl codec::Decoder for CommandCodec {
 
     ghost end_is_partial = { laws.end_is_partial reading_commands };
 
-    /// What the value asks that ends in the buffer. Without one it takes all bytes, and reads on
-    /// from there.
+    /// Returns the request of the value that ends in the buffer. If no value ends in the buffer,
+    /// removes all bytes, and continues after them in the next call.
     ///
-    /// Refuses as [`Decoder::feed`] does, clears the buffer, and every later call answers the same.
+    /// # Errors
+    ///
+    /// Those of [`Decoder::feed`]. The buffer is cleared, and every later call returns the same
+    /// error.
     fn decode(&mut self, src: &mut BytesMut) -> Result<Option<Asked>, CodecError>
         ensures next { Decodes gives_commands self.old src.old.items result self.new src.new.items }
         ensures all_taken { IfOk result (λ next. IfNone next (src.new.items ≡ [])) }
@@ -78,7 +104,7 @@ impl codec::Decoder for CommandCodec {
         }
     }
 
-    /// The same, and Truncated where the input ends inside a value.
+    /// As `decode`, and fails with `Truncated` if the input ends inside a value.
     fn decode_eof(&mut self, src: &mut BytesMut) -> Result<Option<Asked>, CodecError> {
         match self.decode(src)? {
             Some(asked) => Ok(Some(asked)),
@@ -97,8 +123,11 @@ impl codec::Encoder<Value> for CommandCodec {
 
     ghost refuses = { refuses_replies };
 
-    /// Appends the canonical text of the reply, whole or not at all, and refuses as [`encode`]
-    /// does.
+    /// Appends the canonical text of the reply, or leaves the buffer unchanged.
+    ///
+    /// # Errors
+    ///
+    /// Those of [`encode`].
     fn encode(&mut self, item: Value, dst: &mut BytesMut) -> Result<(), CodecError> {
         encode(self.version, &self.limits, &item, dst)?;
         Ok(())

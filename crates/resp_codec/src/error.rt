@@ -1,21 +1,21 @@
-//! Why a stream of frames or a sink of them failed.
+//! The errors of a framed stream or sink.
 
 use resp_encode::EncodeError;
 use resp_scan::event::Fault;
 use std::io;
 use thiserror::Error;
 
-/// Why a frame isn't read or isn't written.
+/// Why a frame was not read or not written.
 #[derive(Clone, Copy, Debug, Error)]
 pub enum CodecError {
-    /// The bytes that were read are refused, with the cause and the number of bytes of the value
-    /// before it. Nothing is read after it.
+    /// A byte is not valid. The fault has the cause and the number of bytes of the value before
+    /// that byte. Nothing is read after it.
     #[error("{0}")]
     Fault(Fault),
-    /// The value isn't encoded. The buffer and the codec are as they were.
+    /// The value cannot be encoded. The buffer and the codec are unchanged.
     #[error("{0}")]
     Refused(EncodeError),
-    /// The reader or the writer failed, or no memory was found for the buffer over it.
+    /// The reader or the writer failed, or an allocation for its buffer failed.
     #[error("{0}")]
     Io(io::Error),
 }

@@ -1,5 +1,5 @@
-//! Laws of the streams of values and commands, each the contract of a function whose body is empty
-//! or calls other laws.
+//! Laws of the streams of values and commands. Each law is the contract of a function whose body is
+//! empty or calls other laws.
 
 ghost use Rattle.std.specs.Prelude.{[], List, Result};
 ghost use Rattle.resp_session.specs.declared.words.Asked.{Asked};
@@ -18,20 +18,20 @@ ghost use Rattle.resp_codec.specs.declared.value_codec.RespCodec.{RespCodec};
 use resp_value::laws as grammar;
 use tokio::io::AsyncRead;
 
-/// The items that a codec of values finds in an input are the values that the input spells, in
-/// order, up to its end or the error of its first fault.
+/// The items that a codec of values finds in an input are the values encoded in the input, in
+/// order, up to its end or up to the error of its first fault.
 pub fn a_stream_is_its_values()
     ensures { AStreamIsItsValues }
 {}
 
-/// The items that a codec of commands finds in an input are what the values ask that the input
-/// spells, in order, up to its end or the error of its first fault.
+/// The items that a codec of commands finds in an input are the requests of the values encoded in
+/// the input, in order, up to its end or up to the error of its first fault.
 pub fn a_stream_is_its_commands()
     ensures { AStreamIsItsCommands }
 {}
 
-/// Over any reader that gives nothing after its end: the items that a framed reader of values gave,
-/// where it has ended without an error, are the values that all bytes of its reader spell, in order.
+/// If a framed reader of values has ended without an error, its items are the values encoded in all
+/// bytes of its reader, in order. This holds for any reader that returns nothing after its end.
 pub fn a_framed_reader_gives_its_values<R: AsyncRead>()
     ensures { EndIsFinal R.reads R.is_at_end → (framed : FramedRead R RespCodec)
         (items : List (Result Value CodecError)) → HasNoByte framed → HasTaken framed.decoder [] →
@@ -39,7 +39,9 @@ pub fn a_framed_reader_gives_its_values<R: AsyncRead>()
         AreItsValues R.reads R.is_at_end Holds (rules_of framed.decoder) framed.inner items }
 {}
 
-/// The same of a framed reader of commands, whose items are what the values ask.
+/// If a framed reader of commands has ended without an error, its items are the requests of the
+/// values encoded in all bytes of its reader, in order. This holds for any reader that returns
+/// nothing after its end.
 pub fn a_framed_reader_gives_its_commands<R: AsyncRead>()
     ensures { EndIsFinal R.reads R.is_at_end → (framed : FramedRead R CommandCodec)
         (items : List (Result Asked CodecError)) → HasNoByte framed →
@@ -48,8 +50,8 @@ pub fn a_framed_reader_gives_its_commands<R: AsyncRead>()
         AreItsValues R.reads R.is_at_end Asks (reads_by framed.decoder) framed.inner items }
 {}
 
-/// What is read by the same rules where the frame of a value begins is that value, whatever
-/// follows, and exactly its frame is taken; or no memory is found for it.
+/// A reader with the same rules that reads the frame of a value returns that value, whatever bytes
+/// follow, and uses exactly the bytes of the frame. It fails only when out of memory.
 pub fn what_is_written_comes_back()
     ensures { WhatIsWrittenComesBack }
 {

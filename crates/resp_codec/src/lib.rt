@@ -1,9 +1,9 @@
-//! Frames for tokio: codecs of values and of commands, for `Framed`, `FramedRead` and `FramedWrite`
-//! of `tokio_util`.
+//! Codecs of values and commands for the framed streams of tokio: `Framed`, `FramedRead` and
+//! `FramedWrite` of `tokio_util`.
 //!
-//! A [`RespCodec`] reads and writes values. A [`CommandCodec`] is for a server, and reads commands
-//! and writes replies. Each byte is read once: what has come of a value is kept in the codec, and
-//! not in the buffer.
+//! A [`RespCodec`] reads and writes values. A [`CommandCodec`] is for a server: it reads commands
+//! and writes replies. Each byte is read once, because the codec keeps the part of a value that it
+//! has read, and the buffer does not.
 #![tactic(auto)]
 
 mod command_codec;

@@ -1,4 +1,4 @@
-//! Values out of a buffer.
+//! Reading values from a buffer.
 
 ghost use Rattle.std.specs.Prelude.{◌≡◌, IfOk, IfErr, IfSome, IfNone};
 ghost use Rattle.resp_value.specs.Values.{datum_of};
@@ -10,7 +10,8 @@ use resp_decode::Decoder;
 use resp_scan::event::Fault;
 use resp_value::value::Value;
 
-/// The value that ends in the buffer, whose bytes it takes. Else it takes all bytes.
+/// Returns the value that ends in the buffer, and removes its bytes. If no value ends in the
+/// buffer, removes all bytes and returns `None`.
 pub(crate) fn next_value(decoder: &mut Decoder, src: &mut BytesMut) -> Result<Option<Value>, Fault>
     ensures value { IfOk result (λ next. IfSome next (λ value.
         ValueEnds decoder.old src.old.items (datum_of value) decoder.new src.new.items)) }
@@ -28,7 +29,7 @@ pub(crate) fn next_value(decoder: &mut Decoder, src: &mut BytesMut) -> Result<Op
         }
     };
     src.advance(fed.used);
-    // What was taken is viable, as the decoder says of it here.
+    // The contract of the decoder's `taken` states here that the bytes read are viable.
     let _taken = decoder.taken();
     Ok(fed.value)
 }

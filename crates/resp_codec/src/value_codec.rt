@@ -1,4 +1,4 @@
-//! Values both ways.
+//! A codec of values in both directions.
 
 ghost use Rattle.std.specs.Prelude.{◌≡◌, ◌↔◌, [], IsOk, OnOk, OnErr, IfOk, IfNone};
 ghost use Rattle.resp_value.specs.Rules.{rules_under};
@@ -16,14 +16,29 @@ use resp_value::version::Version;
 use std::alloc::Global;
 use tokio_util::codec;
 
-/// Reads and writes values in a version and within limits. A client writes commands as arrays of
-/// bulk strings by it, and reads the replies.
+/// Reads and writes values in one version and within the same limits. A client writes commands with
+/// it, as arrays of bulk strings, and reads the replies.
+///
+/// # Examples
+///
+/// From [samples](../../samples/src/framing.rt):
+///
+/// ```rust
+/// let mut codec = RespCodec::new(alloc, Version::Two, &Limits::standard());
+/// let mut buffer = BytesMut::new(alloc);
+/// buffer.extend_from_slice(b"+OK\r\n$5\r\nhel")?;
+/// println!(rt; "{}", codec.decode(&mut buffer)?.is_some())?;
+/// println!(rt; "{} {}", codec.decode(&mut buffer)?.is_some(), buffer.len())?;
+/// println!(rt; "{}", codec.decode_eof(&mut buffer).is_err())?;
+/// ```
+///
+/// This prints `true`, `false 0` and `true`.
 #[derive(Drop)]
 pub struct RespCodec {
     decoder: Decoder,
     version: Version,
     limits: Limits,
-    /// It reads and writes by the same version and limits.
+    /// It reads and writes with the same version and limits.
     ghost same_rules: { decoding.rules_of decoder ≡ rules_under version limits },
 }
 
@@ -31,7 +46,7 @@ impl RespCodec {
     ghost use Rattle.resp_scan.specs.declared.event.Fault.{Fault};
     ghost use Rattle.resp_codec.specs.Values.{HasFault, HasTaken, WhereTaken, rules_of};
 
-    /// A codec of this version within these limits, between two values. Takes no memory.
+    /// Makes a codec of this version with these limits, before the first value. Does not allocate.
     pub fn new(alloc: Global, version: Version, limits: &Limits) -> RespCodec
         ensures nothing_taken { HasTaken result [] }
         ensures rules { rules_of result ≡ rules_under version limits.now }
@@ -43,10 +58,12 @@ impl RespCodec {
         }
     }
 
-    /// Reads and writes this version from the next value on.
+    /// Changes the version of reading and writing, from the next value on.
     ///
-    /// Refuses, and changes nothing, from a value's first byte until the value was given, and after
-    /// a fault.
+    /// # Errors
+    ///
+    /// `Busy` from the first byte of a value until the value was returned, and after a fault. Then
+    /// nothing is changed.
     pub fn set_version(&mut self, version: Version) -> Result<(), Busy>
         ensures only_between_values { WhereTaken self.old (λ front. IsOk result ↔ (front ≡ [])) }
         ensures nothing_taken { WhereTaken self.old (λ front. OnOk result (HasTaken self.new [])) }
@@ -78,10 +95,13 @@ impl codec::Decoder for RespCodec {
 
     ghost end_is_partial = { laws.end_is_partial reading_values };
 
-    /// The value that ends in the buffer, as [`Decoder::feed`] gives it. Without one it takes all
-    /// bytes, and reads on from there.
+    /// Returns the value that ends in the buffer, as [`Decoder::feed`] does. If no value ends in
+    /// the buffer, removes all bytes, and continues after them in the next call.
     ///
-    /// Refuses as that does, clears the buffer, and every later call answers the same.
+    /// # Errors
+    ///
+    /// Those of [`Decoder::feed`]. The buffer is cleared, and every later call returns the same
+    /// error.
     fn decode(&mut self, src: &mut BytesMut) -> Result<Option<Value>, CodecError>
         ensures next { Decodes gives_values self.old src.old.items result self.new src.new.items }
         ensures all_taken { IfOk result (λ next. IfNone next (src.new.items ≡ [])) }
@@ -90,7 +110,7 @@ impl codec::Decoder for RespCodec {
         Ok(value)
     }
 
-    /// The same, and Truncated where the input ends inside a value.
+    /// As `decode`, and fails with `Truncated` if the input ends inside a value.
     fn decode_eof(&mut self, src: &mut BytesMut) -> Result<Option<Value>, CodecError> {
         match self.decode(src)? {
             Some(value) => Ok(Some(value)),
@@ -111,8 +131,11 @@ impl codec::Encoder<Value> for RespCodec {
 
     ghost refuses = { refuses_values };
 
-    /// Appends the canonical text of the value, whole or not at all, and refuses as [`encode`]
-    /// does.
+    /// Appends the canonical text of the value, or leaves the buffer unchanged.
+    ///
+    /// # Errors
+    ///
+    /// Those of [`encode`].
     fn encode(&mut self, item: Value, dst: &mut BytesMut) -> Result<(), CodecError> {
         encode(self.version, &self.limits, &item, dst)?;
         Ok(())

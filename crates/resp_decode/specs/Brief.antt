@@ -1,11 +1,11 @@
--- Values without content and members, which take no memory.
+-- Values without content and members, which need no memory.
 use Rattle.std.specs.Prelude.{◌≡◌, ◌⊎◌, ℕ, List, [], ◌∷◌}
 use Rattle.std.specs.Str.{byte}
 use Rattle.resp_fronts.specs.Events.{Event}
 use Rattle.resp_fronts.specs.Events as e
 use Rattle.resp_scan.specs.Reading.{BeginDue, Events}
 
--- a null, a truth value or an integer, or the end of the value
+-- a null, a boolean or an integer, or the end of the value
 abbrev pub IsBriefEvent : Event → Type 0
 IsBriefEvent e.Null = Unit {0}
 IsBriefEvent (e.Bool truth) = Unit {0}
@@ -17,20 +17,20 @@ IsBriefEvent (e.Open kind members) = ⊥
 IsBriefEvent e.Close = ⊥
 IsBriefEvent e.Done = Unit {0}
 
--- none of the events is of a text or an aggregate
+-- no event is of a text or an aggregate
 abbrev pub AreBrief : List Event → Type 0
 AreBrief [] = Unit {0}
 AreBrief (x ∷ es) = IsBriefEvent x × AreBrief es
 
--- some of the events is of a text or an aggregate, which want memory
+-- some event is of a text or an aggregate, which need memory
 abbrev pub WantMemory : List Event → Type 0
 WantMemory es = AreBrief es → ⊥
 
--- of the first events that these bytes bring some want memory
+-- some of the first events of these bytes need memory
 abbrev pub BringMemoryWants : List ℕ → Type 0
 BringMemoryWants front = (given : Events) × BeginDue front given × WantMemory given
 
--- the type byte of an integer, a truth value or a null of one line
+-- the type byte of an integer, a boolean or a null of one line
 abbrev pub IsBriefByte : ℕ → Type 0
 IsBriefByte first = (first ≡ byte ":") ⊎ (first ≡ byte "#") ⊎ (first ≡ byte "_")
 

@@ -1,4 +1,4 @@
--- What a decoder promises, in words of texts and values.
+-- The contracts of a decoder, in terms of texts and values.
 use Rattle.std.specs.Prelude.{◌≡◌, ℕ, ◌≤◌, List, [], ◌++◌, length, take, None, Some, Result, IfOk}
 use Rattle.resp_value.specs.Rules.{Rules, Rule, WithinTotal}
 use Rattle.resp_value.specs.Spellings.{FaultOf, IsSpelling, IsViable}
@@ -16,50 +16,50 @@ use Rattle.resp_decode.specs.Weights.{weight_of}
 use Rattle.resp_decode.specs.declared.decoder.Decoder.{Decoder}
 use Rattle.resp_decode.specs.declared.fed.Fed.{Fed}
 
--- the version and the limits that a decoder reads by
+-- the version and the limits of a decoder
 abbrev pub rules_of : Decoder → Rules
 rules_of d = kinds.rules_of d.scanner
 
--- What a decoder has taken of a value: the bytes of this front. How a decoder stands to them is opaque to callers:
--- `new` establishes this relation, and `feed` keeps it until a fault.
+-- The bytes that a decoder has read of a value are this front. The definition is opaque to callers: `new` establishes
+-- this relation, and `feed` keeps it until a fault.
 abbrev pub HasTaken : Decoder → List ℕ → Type 0
 HasTaken d front = TakesFront d.scanner d.held front
 
--- this holds of every front that the decoder has taken
+-- this holds of every front that the decoder has read
 abbrev pub WhereTaken : Decoder → (List ℕ → Type 0) → Type 0
 WhereTaken d P = (front : List ℕ) → HasTaken d front → P front
 
--- a fault is answered for good, and nothing is held after it
+-- every call returns this fault, and nothing is held
 abbrev pub HasFault : Decoder → Fault → Type 0
 HasFault d fault = StandsAtFault d.scanner d.held fault
 
--- the weight of what the events that are due of this front build
+-- the weight of the partial value that the events of this front build
 abbrev pub WeighsWhatIsDue : ℕ → List ℕ → Type 0
 WeighsWhatIsDue weight front = (given : Events) × AreDue front given × (weight ≡ weight_of (built_from given))
 
--- where a value ends after this many bytes of the piece
+-- if a value ends after this many bytes of the piece
 abbrev pub IfValue : Result Fed Fault → (ℕ → Value → Type 0) → Type 0
 IfValue result P = IfOk result (λ fed. (value : Value) → fed.value ≡ Some value → P fed.used value)
 
--- where no value ends in the piece
+-- if no value ends in the piece
 abbrev pub IfNoValue : Result Fed Fault → (ℕ → Type 0) → Type 0
 IfNoValue result P = IfOk result (λ fed. fed.value ≡ None → P fed.used)
 
--- the text is a spelling of the value within the rules, and nothing is taken of the next
+-- the text is a spelling of the value within the rules, and no byte of the next value was read
 pub record GivesValue (r : Rules) (d : Decoder) (written : List ℕ) (value : Value) : Type 0 where
   pub spelling : IsSpelling r (datum_of value) written
   pub takes : HasTaken d []
 
--- the piece is used up: no front of the text is a spelling, in any version and under any limits, some value within the
--- rules goes on so, and the text is taken
+-- the piece is used up: the text does not begin with a spelling in any version or under any limits, it is viable within
+-- the rules, and it was read
 pub record TakesPiece (r : Rules) (d : Decoder) (written piece : List ℕ) (used : ℕ) : Type 0 where
   pub whole_piece : used ≡ length piece
   pub no_value : HasNoValue written
   pub viable : IsViable r WithinTotal written
   pub takes : HasTaken d written
 
--- a byte of the piece is refused: there the text stops being viable, for the rule of the fault's cause, and no front of
--- the text is a spelling within the rules
+-- a byte of the piece is rejected: there the text stops being viable, because of the rule of the fault's cause, and the
+-- text does not begin with a spelling within the rules
 pub record RefusesByte (r : Rules) (front piece : List ℕ) (fault : Fault) : Type 0 where
   pub rule : Rule
   pub names : fault.cause ≡ cause_of rule
@@ -67,8 +67,8 @@ pub record RefusesByte (r : Rules) (front piece : List ℕ) (fault : Fault) : Ty
   pub in_piece : length front ≤ fault.at
   pub no_value : HasNoSpelling r (front ++ piece)
 
--- no memory was found, after viable bytes that bring an event that wants some, and so not in an integer, a truth value
--- or a null of one line
+-- an allocation failed, after viable bytes with an event that needs memory; so this never happens in an integer, a
+-- boolean or a null of one line
 pub record LacksMemory (r : Rules) (front piece : List ℕ) (fault : Fault) : Type 0 where
   pub names : fault.cause ≡ cause.OutOfMemory
   pub in_piece : length front ≤ fault.at

@@ -1,4 +1,4 @@
--- The events that may come of what is built, of any tree.
+-- The events that may come next, of any tree.
 use Rattle.std.specs.Prelude.{◌≡◌, ℕ, ◌+◌, Option, None, Some, List, [], ◌∷◌, length}
 use Rattle.resp_value.specs.Bytes.{IsLine}
 use Rattle.resp_value.specs.Numbers.{IsKept, zero_if_none}
@@ -8,7 +8,7 @@ use Rattle.resp_fronts.specs.Events as e
 use Rattle.resp_decode.specs.Builds.{Group, Text, Construction, with_event}
 use Rattle.resp_decode.specs.Weights.{format_weight}
 
--- a whole text of this kind
+-- a complete text of this kind
 abbrev pub IsContentOf : TextKind → List ℕ → Type 0
 IsContentOf e.Simple s = IsLine s
 IsContentOf e.Error s = IsLine s
@@ -18,13 +18,14 @@ IsContentOf e.BulkError s = Unit {0}
 IsContentOf (e.Verbatim format) s = length format ≡ 3
 IsContentOf (e.Big negative) s = IsKept negative (zero_if_none s)
 
--- a text of this kind is its content and nothing else
+-- a text of this kind consists of its content alone
 abbrev pub IsContentAlone : TextKind → Type 0
 IsContentAlone (e.Verbatim format) = ⊥
 IsContentAlone (e.Big negative) = ⊥
 IsContentAlone _ = Unit {0}
 
--- an aggregate of this kind has this many members: whole pairs in a map, and one more after them in an attribute
+-- the number of members that an aggregate of this kind may have: whole pairs in a map, and one more after them in an
+-- attribute
 abbrev pub IsMemberCount : Kind → ℕ → Type 0
 IsMemberCount Array n = Unit {0}
 IsMemberCount Set n = Unit {0}
@@ -44,7 +45,7 @@ abbrev pub MayClose : List Group → Type 0
 MayClose [] = ⊥
 MayClose (g ∷ gs) = IsMemberCount g.kind (length g.members)
 
--- what an event adds to the weight
+-- the weight that an event adds
 abbrev pub end_weight : TextKind → List ℕ → ℕ
 end_weight e.Simple s = 3
 end_weight e.Error s = 3
@@ -70,12 +71,12 @@ event_weight (e.Open kind members) b = 3
 event_weight e.Close b = 0
 event_weight e.Done b = 0
 
--- what events add to it, one after another
+-- the weight that events add, one after another
 abbrev pub events_weight : List Event → Construction → ℕ
 events_weight [] b = 0
 events_weight (event ∷ es) b = event_weight event b + events_weight es (with_event event b)
 
--- a value may begin: none is whole, and no text is being read
+-- a value may begin: no value is complete, and no text is being read
 abbrev pub MayBegin : Construction → Type 0
 MayBegin b = (b.text ≡ None) × (b.whole ≡ None)
 
@@ -91,7 +92,7 @@ MayCome (e.Open kind members) b = MayBegin b
 MayCome e.Close b = MayBegin b × MayClose b.groups
 MayCome e.Done b = Unit {0}
 
--- these events may come, one after another
+-- these events may come next, one after another
 abbrev pub MayAllCome : List Event → Construction → Type 0
 MayAllCome [] b = Unit {0}
 MayAllCome (event ∷ es) b = MayCome event b × MayAllCome es (with_event event b)

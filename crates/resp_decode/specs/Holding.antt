@@ -1,4 +1,4 @@
--- What a decoder holds of a value, apart from memory.
+-- The data of a decoder's state.
 use Rattle.std.specs.Prelude.{Option, None, Some, List, [], ◌∷◌, ◌++◌, map, reverse}
 use Rattle.resp_value.specs.Data.{Datum, in_turn}
 use Rattle.resp_value.specs.Data as d
@@ -18,7 +18,7 @@ abbrev pub maybe_datum : Option Value → Option Datum
 maybe_datum None = None
 maybe_datum (Some x) = Some (datum_of x)
 
--- a key that waits for its value
+-- a key whose value has not been read
 abbrev pub key_data : Option Value → List Datum
 key_data None = []
 key_data (Some key) = datum_of key ∷ []

@@ -1,4 +1,4 @@
--- What is read of a whole input.
+-- Reading a complete input.
 use Rattle.std.specs.Prelude.{◌≡◌, ◌⊎◌, ℕ, ◌+◌, ◌<◌, ◌≤◌, List, [], ◌++◌, length, take, map}
 use Rattle.resp_value.specs.Data.{Datum}
 use Rattle.resp_value.specs.Rules.{Rules, WithinTotal}
@@ -12,7 +12,7 @@ use Rattle.resp_decode.specs.Decoding.{HasTaken, LacksMemory, RefusesByte, rules
 use Rattle.resp_decode.specs.declared.all.AllFault.{AllFault}
 use Rattle.resp_decode.specs.declared.decoder.Decoder.{Decoder}
 
--- the input ends inside a value that some bytes have begun
+-- the input ends inside a value of which some bytes were read
 pub record EndsInside (r : Rules) (rest : List ℕ) (fault : Fault) : Type 0 where
   pub names : fault.cause ≡ cause.Truncated
   pub place : fault.at ≡ length rest
@@ -20,19 +20,19 @@ pub record EndsInside (r : Rules) (rest : List ℕ) (fault : Fault) : Type 0 whe
   pub viable : IsViable r WithinTotal rest
   pub no_value : HasNoValue rest
 
--- no memory was found to keep the value that the rest begins, which has come whole
+-- the allocation failed that stores the value at the beginning of the rest, which is complete
 pub record LacksRoom (r : Rules) (rest : List ℕ) (fault : Fault) : Type 0 where
   pub names : fault.cause ≡ cause.OutOfMemory
   pub within : fault.at ≤ length rest
   pub value : Datum
   pub spelling : IsSpelling r value (take fault.at rest)
 
--- a byte of the rest is refused, or it ends inside a value, or no memory was found for its value
+-- a byte of the rest is rejected, or the rest ends inside a value, or an allocation failed
 abbrev pub RefusesRest : Rules → List ℕ → Fault → Type 0
 RefusesRest r rest fault =
     RefusesByte r [] rest fault ⊎ EndsInside r rest fault ⊎ LacksMemory r [] rest fault ⊎ LacksRoom r rest fault
 
--- the input is spellings of some values, and a rest that is refused as the value after them
+-- the input consists of spellings of some values, and a rest with a fault in the value after them
 pub record RefusesInput (r : Rules) (bytes : List ℕ) (refusal : AllFault) : Type 0 where
   pub values : List Datum
   pub front : List ℕ
@@ -42,7 +42,7 @@ pub record RefusesInput (r : Rules) (bytes : List ℕ) (refusal : AllFault) : Ty
   pub number : refusal.value ≡ length values + 1
   pub refused : RefusesRest r rest refusal.fault
 
--- the bytes before the rest are spellings of these values, and the decoder stands between two
+-- the bytes before the rest are spellings of these values, and the decoder is between two values
 pub record IsReadUpTo (r : Rules) (bytes : List ℕ) (d : Decoder) (values : List Value) (rest : List ℕ) : Type 0 where
   pub front : List ℕ
   pub spelled : AreSpellings r (map datum_of values) front

@@ -1,4 +1,4 @@
--- What the events of values tell, as laws.
+-- Laws of the events of values.
 use Rattle.std.specs.Prelude.{◌≡◌, ◌≤◌, ℕ, List, [], ◌∷◌, length}
 use Rattle.resp_value.specs.Trees.{Tree}
 use Rattle.resp_value.specs.TreeValues.{value}
@@ -18,22 +18,22 @@ abbrev pub EqualEventsGiveEqualValues : Type 0
 EqualEventsGiveEqualValues = (one other : Tree) →
     without_places (events 0 one) ≡ without_places (events 0 other) → value one ≡ value other
 
--- where a tree's text begins is seen in the places of its events alone
+-- if a tree's text begins elsewhere, only the places of its events change
 abbrev pub EventsAreTheSameElsewhere : Type 0
 EventsAreTheSameElsewhere = (from elsewhere : ℕ) (tree : Tree) →
     without_places (events from tree) ≡ without_places (events elsewhere tree)
 
--- what is held of the events given of a viable front weighs no more than its bytes
+-- the state after the events of a viable front weighs no more than the front has bytes
 abbrev pub WhatIsBuiltIsNoHeavier : Type 0
 WhatIsBuiltIsNoHeavier = (r : Rules) (front : List ℕ) (given : Events) → IsViable r WithinTotal front →
     BeginDue front given → weight_of (built_from given) ≤ length front
 
--- a text that spells a value is read as that value alone
+-- a spelling of a value is read as this value alone
 abbrev pub ASpellingIsReadAsItsValue : Type 0
 ASpellingIsReadAsItsValue = (r : Rules) (x : Datum) (text : List ℕ) (values : List Datum) → IsSpelling r x text →
     AreSpellings r values text → values ≡ x ∷ []
 
--- a text that spells a value is refused when out of memory alone
+-- reading a spelling of a value fails only when out of memory
 abbrev pub ASpellingIsRefusedForMemoryAlone : Type 0
 ASpellingIsRefusedForMemoryAlone = (r : Rules) (x : Datum) (text : List ℕ) (refusal : AllFault) → IsSpelling r x text →
     RefusesInput r text refusal → refusal.fault.cause ≡ cause.OutOfMemory

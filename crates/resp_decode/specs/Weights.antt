@@ -1,4 +1,5 @@
--- How much is held of a value: three for each finished node and each open aggregate, and one for each byte of content.
+-- The weight of a partial value: three for each finished node and each open aggregate, and one for each byte of
+-- content.
 use Rattle.std.specs.Prelude.{ℕ, ◌+◌, Option, None, Some, List, [], ◌∷◌, length}
 use Rattle.resp_value.specs.Data.{Kind, Scalar, Datum, Data, scalar, aggregate, none, more}
 use Rattle.resp_value.specs.Data as d
@@ -6,7 +7,7 @@ use Rattle.resp_fronts.specs.Events.{Event, TextKind}
 use Rattle.resp_fronts.specs.Events as e
 use Rattle.resp_decode.specs.Builds.{Group, Text, Construction}
 
--- the bytes of a scalar's content, the format of a verbatim string and the digits of a big number among them
+-- the number of content bytes of a scalar, including the format of a verbatim string and the digits of a big number
 abbrev pub content_size : Scalar → ℕ
 content_size d.Null = 0
 content_size (d.Bool b) = 0
@@ -39,7 +40,7 @@ abbrev pub weight_of_groups : List Group → ℕ
 weight_of_groups [] = 0
 weight_of_groups (g ∷ gs) = weight_of_all g.members + 3 + weight_of_groups gs
 
--- the bytes that a text's format has
+-- the number of bytes of a text's format
 abbrev pub format_weight : TextKind → ℕ
 format_weight (e.Verbatim format) = length format
 format_weight _ = 0
@@ -53,6 +54,6 @@ abbrev pub weight_of_whole : Option Datum → ℕ
 weight_of_whole None = 0
 weight_of_whole (Some x) = weight x
 
--- the weight of what is built
+-- the weight of a partial value
 abbrev pub weight_of : Construction → ℕ
 weight_of b = weight_of_groups b.groups + weight_of_text b.text + weight_of_whole b.whole

@@ -1,4 +1,4 @@
-//! All values of a whole input.
+//! All values of a complete input.
 
 ghost use Rattle.std.specs.Prelude.{◌≡◌, map, IfOk, IfErr};
 ghost use Rattle.resp_decode.specs.Inputs.{RefusesInput};
@@ -15,31 +15,50 @@ use resp_value::version::Version;
 use std::alloc::Global;
 use thiserror::Error;
 
-/// The refusal of an input.
+/// The error of [`decode_all`].
 #[derive(Clone, Copy, Debug, PartialEq, Eq, Error)]
 #[error("value {value}: {fault}")]
 pub struct AllFault {
-    /// The number of the value that is refused, from 1.
+    /// The number of the value with the fault, from 1.
     pub value: u64,
-    /// Why it is refused.
+    /// The fault.
     pub fault: Fault,
 }
 
-/// The values of a whole input, in order.
+/// Decodes a complete input and returns its values, in order.
 ///
-/// Refuses an input that isn't whole values: by the fault of the first bytes after the values, or
-/// by Truncated where it ends inside one. Refuses also where no memory is found.
+/// # Errors
+///
+/// An [`AllFault`] if the input is not a sequence of complete values. It has the fault of the first
+/// value that is not valid, or `Truncated` if the input ends inside a value. Its cause is
+/// `OutOfMemory` if an allocation fails.
+///
+/// # Examples
+///
+/// From [samples](../../samples/src/decoding.rt):
+///
+/// ```rust
+/// let limits = Limits::standard();
+/// let values = decode_all(alloc, Version::Two, &limits, b"+OK\r\n:7\r\n")?;
+/// println!(rt; "{}", values.len())?;
+/// if let Err(error) = decode_all(alloc, Version::Two, &limits, b"+OK\r\n:7x") {
+///     println!(rt; "{error}")?;
+/// }
+/// ```
+///
+/// This prints `2` and `value 2: Syntax at byte 2 of the value`.
 pub fn decode_all(
     alloc: Global,
     version: Version,
     limits: &Limits,
     bytes: &[u8],
 ) -> Result<Vec<Value>, AllFault>
-    // The input is spellings of these values, and nothing is left.
+    // The input consists of the encodings of these values and nothing else.
     ensures whole_input { IfOk result (λ values.
         AreSpellings (rules_under version limits.now) (map datum_of values.items) bytes.now) }
 
-    // The input is spellings of the values before the refused one, and a rest that is refused.
+    // The input consists of the encodings of the values before the fault, and a rest that has the
+    // fault.
     ensures refusal { IfErr result (RefusesInput (rules_under version limits.now) bytes.now) }
 {
     let mut decoder = Decoder::new(alloc, version, limits);
@@ -72,7 +91,7 @@ pub fn decode_all(
     Ok(values)
 }
 
-/// A fault after `bytes` bytes of a value.
+/// Returns a fault after `bytes` bytes of a value.
 fn fault_at(cause: Cause, bytes: usize) -> Fault
     ensures { result ≡ record { cause = cause; at = bytes } }
 {

@@ -14,13 +14,13 @@ use resp_value::limits::Limits;
 use resp_value::version::Version;
 use std::alloc::Global;
 
-/// Reads values one after another, in pieces of any size. It holds no more than the value that is
-/// being read, and its memory grows with the bytes that came.
+/// Reads values one after another, from pieces of any size. It holds only the value that is being
+/// read, and its memory grows with the bytes received.
 #[derive(Drop)]
 pub struct Decoder {
     scanner: Scanner,
     held: Held,
-    /// It has taken some front of a value, or a fault stands.
+    /// The bytes read are a prefix of a value, or there was a fault.
     pub ghost reading: { ∥ TakesOrStands scanner held ∥₁ },
 }
 
@@ -31,7 +31,24 @@ impl Decoder {
     ghost use Rattle.resp_value.specs.Rules.{WithinTotal, rules_under};
     ghost use Rattle.resp_value.specs.Spellings.{IsViable};
 
-    /// A decoder of this version within these limits, between two values. Takes no memory.
+    /// Makes a decoder of this version with these limits, before the first value. Does not
+    /// allocate.
+    ///
+    /// # Examples
+    ///
+    /// The default limits do not allow doubles. From [samples](../../samples/src/decoding.rt):
+    ///
+    /// ```rust
+    /// let mut decoder = Decoder::new(alloc, Version::Three, &Limits::standard());
+    /// if let Err(fault) = decoder.feed(b",3.14\r\n") {
+    ///     println!(rt; "{fault}")?;
+    /// }
+    /// let limits = Limits::standard().with_doubles(true);
+    /// let mut decoder = Decoder::new(alloc, Version::Three, &limits);
+    /// println!(rt; "{}", decoder.feed(b",3.14\r\n")?.value.is_some())?;
+    /// ```
+    ///
+    /// This prints `Double at byte 0 of the value` and `true`.
     pub fn new(alloc: Global, version: Version, limits: &Limits) -> Decoder
         ensures nothing_taken { HasTaken result [] }
         ensures rules { rules_of result ≡ rules_under version limits.now }
@@ -42,13 +59,18 @@ impl Decoder {
         }
     }
 
-    /// Takes bytes of the piece until a value is whole or the piece ends.
+    /// Reads bytes of the piece up to the end of a value, or up to the end of the piece. Call it
+    /// again with the bytes that are left.
     ///
-    /// Refuses the first byte after which nothing can follow, by the first cause that holds in the
-    /// order of [`Scanner::step`], and by OutOfMemory where no memory is found for what came. Every
-    /// later call answers the same.
+    /// # Errors
     ///
-    /// Each value of a piece, in [example_decode](../../example_decode/src/main.rt):
+    /// A [`Fault`] at the first byte that no value within the limits could contain there, with the
+    /// cause that [`Scanner::step`] would report, or with the cause `OutOfMemory` if an allocation
+    /// fails. After a fault the decoder holds nothing, and every later call returns the same fault.
+    ///
+    /// # Examples
+    ///
+    /// Each value of a piece, from [example_decode](../../example_decode/src/main.rt):
     ///
     /// ```rust
     /// while !rest.is_empty() {
@@ -59,23 +81,34 @@ impl Decoder {
     ///     }
     /// }
     /// ```
+    ///
+    /// A value that comes in two pieces, from [samples](../../samples/src/decoding.rt):
+    ///
+    /// ```rust
+    /// let mut decoder = Decoder::new(alloc, Version::Two, &Limits::standard());
+    /// let first = decoder.feed(b"*2\r\n:1\r\n")?;
+    /// let second = decoder.feed(b":2\r\n")?;
+    /// println!(rt; "{} {}", first.value.is_some(), second.value.is_some())?;
+    /// ```
+    ///
+    /// This prints `false true`.
     pub fn feed(&mut self, piece: &[u8]) -> Result<Fed, Fault>
-        // The bytes are a spelling of the value, and the next value may begin.
+        // A value has ended: the bytes are its encoding, and the next value may begin.
         ensures value_whole { WhereTaken self.old (λ front. IfValue result (λ used.
             GivesValue (rules_of self.old) self.new (front ++ take used piece.now))) }
 
-        // No value has ended in the piece, which was taken.
+        // No value has ended in the piece, and the whole piece was read.
         ensures used_up { WhereTaken self.old (λ front. IfNoValue result
             (TakesPiece (rules_of self.old) self.new (front ++ piece.now) piece.now)) }
 
-        // The refused byte is the first after which nothing can follow, and the fault names why, or
-        // there was no memory.
+        // A fault: the byte is the first that cannot follow the bytes before it and the fault has
+        // its cause, or an allocation failed.
         ensures refusal { WhereTaken self.old (λ front. IfErr result (λ fault.
             RefusesByte (rules_of self.old) front piece.now fault ⊎
             LacksMemory (rules_of self.old) front piece.now fault)) }
 
-        // Whatever was taken before, of a piece with a byte at least one is used, and all of one in
-        // which no value ends.
+        // A call with a piece that is not empty uses at least one byte, and uses the whole piece if
+        // no value ends in it.
         ensures uses_bytes { IfOk result (λ fed. 0 < length piece.now → 0 < fed.used) }
         ensures whole_piece { IfOk result (λ fed.
             fed.value ≡ None → fed.used ≡ length piece.now) }
@@ -87,7 +120,7 @@ impl Decoder {
         let scanned = match self.scanner.scan(piece, &mut self.held) {
             Ok(scanned) => scanned,
             Err(stop) => {
-                // After a fault nothing is held.
+                // After a fault the decoder holds nothing.
                 self.held.clear();
                 return Err(fault_of(stop));
             }
@@ -100,8 +133,26 @@ impl Decoder {
         Ok(Fed { used, value })
     }
 
-    /// The end of the input. Refuses it by Truncated inside a value, with the number of its bytes
-    /// that were taken, and by the fault that stands.
+    /// Checks that the input may end here.
+    ///
+    /// # Errors
+    ///
+    /// - `Truncated` inside a value, at the number of its bytes that were read.
+    /// - The earlier fault, after a fault.
+    ///
+    /// # Examples
+    ///
+    /// From [samples](../../samples/src/decoding.rt):
+    ///
+    /// ```rust
+    /// let mut decoder = Decoder::new(alloc, Version::Two, &Limits::standard());
+    /// let fed = decoder.feed(b"+OK\r\n$3\r\n")?;
+    /// println!(rt; "{} {:?}", fed.used, decoder.finish())?;
+    /// let fed = decoder.feed(b"$3\r\n")?;
+    /// println!(rt; "{} {:?}", fed.used, decoder.finish())?;
+    /// ```
+    ///
+    /// This prints `5 Ok(())` and `4 Err(Fault { cause: Truncated, at: 4 })`.
     pub fn finish(&self) -> Result<(), Fault>
         ensures only_between_values { WhereTaken self.now (λ front. IsOk result ↔ (front ≡ [])) }
         ensures truncated_inside_a_value { WhereTaken self.now (λ front.
@@ -111,10 +162,12 @@ impl Decoder {
         self.scanner.finish()
     }
 
-    /// Reads this version from the next value on.
+    /// Changes the version, from the next value on.
     ///
-    /// Refuses, and changes nothing, from a value's first byte until the value was given, and after
-    /// a fault.
+    /// # Errors
+    ///
+    /// `Busy` from the first byte of a value until the value was returned, and after a fault. Then
+    /// nothing is changed.
     pub fn set_version(&mut self, version: Version) -> Result<(), Busy>
         ensures only_between_values { WhereTaken self.old (λ front. IsOk result ↔ (front ≡ [])) }
         ensures nothing_taken { WhereTaken self.old (λ front. OnOk result (HasTaken self.new [])) }
@@ -126,7 +179,8 @@ impl Decoder {
         self.scanner.set_version(version)
     }
 
-    /// The number of bytes taken of the value, 0 between values. A refused byte isn't among them.
+    /// Returns the number of bytes of the current value that were read, 0 between values. A
+    /// rejected byte does not count.
     pub fn taken(&self) -> u64
         ensures length_of_front { WhereTaken self.now (λ front. result ≡ length front) }
         ensures viable { WhereTaken self.now (IsViable (rules_of self.now) WithinTotal) }
@@ -137,20 +191,21 @@ impl Decoder {
         self.scanner.taken()
     }
 
-    /// How much is held of the value: three for each finished node and each open aggregate, and one
-    /// for each byte of content. It is never more than the bytes taken, and 0 after a fault.
+    /// Returns a measure of the memory held for the current value: three for each finished node and
+    /// each open aggregate, and one for each byte of content. It is never more than the number of
+    /// bytes read, and it is 0 after a fault.
     pub fn weight(&self) -> u64
         ensures weight_of_front { WhereTaken self.now (WeighsWhatIsDue result) }
         ensures at_most_taken { WhereTaken self.now (λ front. result ≤ length front) }
         ensures nothing_after_a_fault { (fault : Fault) → HasFault self.now fault → result ≡ 0 }
     {
-        // What was taken is viable, as the scanner says of it here.
+        // The contract of the scanner's `taken` states here that the bytes read are viable.
         let _taken = self.scanner.taken();
         self.held.weight()
     }
 }
 
-/// The fault that stands after the scanner's answer.
+/// Returns the fault for the scanner's error.
 #[inline]
 fn fault_of(stop: ScanError) -> Fault
     ensures { result ≡ fault_of stop }

@@ -1,13 +1,13 @@
-//! What a piece gave.
+//! The result of feeding a piece to a decoder.
 
 use resp_value::value::Value;
 
-/// What a piece gave.
+/// The result of feeding a piece to a decoder.
 #[derive(Debug, PartialEq, Eq, Drop)]
 pub struct Fed {
-    /// The number of bytes taken from the front of the piece; the whole piece where there is no
+    /// The number of bytes of the piece that were used. This is the whole piece if there is no
     /// value.
     pub used: usize,
-    /// The value that ends with them.
+    /// The value that ends with these bytes, if a value ends.
     pub value: Option<Value>,
 }

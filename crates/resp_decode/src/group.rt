@@ -1,4 +1,4 @@
-//! Open aggregates, and their finished members.
+//! Open aggregates with their finished members.
 
 ghost use Rattle.std.specs.Prelude.{◌≡◌, ◌≤◌, [], ◌∷◌, ◌++◌, length, IsSome, OnOk, IfOk, IfSome};
 ghost use Rattle.resp_value.specs.Data.{aggregate, data_of_list};
@@ -9,7 +9,7 @@ use resp_value::kind::OpenKind;
 use resp_value::value::{Members, PairList, Value};
 use std::alloc::{AllocError, Global};
 
-/// Appends an item. Its place is made first, so that the item is moved only there.
+/// Appends an item. The room for it is made first, so the item is moved only once.
 #[inline(always)]
 fn append<T: Drop>(list: &mut Vec<T>, item: T) -> Result<(), AllocError>
     ensures { OnOk result (list.new.items ≡ list.old.items ++ item ∷ []) }
@@ -19,11 +19,11 @@ fn append<T: Drop>(list: &mut Vec<T>, item: T) -> Result<(), AllocError>
     Ok(())
 }
 
-/// Keys and values that come in turn.
+/// Alternating keys and values.
 #[derive(Drop)]
 pub(crate) struct Pairs {
     whole: Vec<(Value, Value)>,
-    /// A key whose value hasn't come.
+    /// A key whose value has not been read.
     key: Option<Value>,
 }
 
@@ -32,7 +32,7 @@ impl Pairs {
     ghost use Rattle.resp_decode.specs.Holding.{pairs_data};
     ghost use Rattle.resp_decode.specs.Fits.{IsMemberCount};
 
-    /// No member, and room for `pairs` pairs.
+    /// Makes an empty list with room for `pairs` pairs.
     #[inline]
     fn with_room(alloc: Global, pairs: usize) -> Result<Pairs, AllocError>
         ensures { IfOk result (λ made. pairs_data made ≡ []) }
@@ -41,7 +41,7 @@ impl Pairs {
         Ok(Pairs { whole, key: None })
     }
 
-    /// Adds a key, or the value of the key that waits.
+    /// Adds a key, or adds the value of the pending key.
     #[inline(never)]
     fn add(&mut self, value: Value) -> Result<(), AllocError>
         ensures { OnOk result (pairs_data self.new ≡ pairs_data self.old ++ datum_of value ∷ []) }
@@ -53,7 +53,7 @@ impl Pairs {
         Ok(())
     }
 
-    /// Adds the value of the key that waits.
+    /// Adds the value of the pending key.
     #[inline(always)]
     fn end_pair(&mut self, value: Value) -> Result<(), AllocError>
         ensures { IsSome self.old.key →
@@ -66,7 +66,7 @@ impl Pairs {
         Ok(())
     }
 
-    /// The map of whole pairs.
+    /// Returns the map of the pairs.
     #[inline]
     fn into_map(self) -> Value
         ensures { IsMemberCount d.Map (length (pairs_data self)) →
@@ -75,7 +75,8 @@ impl Pairs {
         Value::Map(PairList::new(self.whole))
     }
 
-    /// The attribute, whose last member stands alone: the value that it annotates.
+    /// Returns the attribute of the pairs. The last member, which has no partner, is the value that
+    /// it annotates.
     #[inline]
     fn into_attr(self, alloc: Global) -> Option<Value>
         ensures { IfSome result (λ value.
@@ -106,7 +107,7 @@ impl Group {
     ghost use Rattle.resp_decode.specs.Holding.{group_of};
     ghost use Rattle.resp_decode.specs.Fits.{IsMemberCount};
 
-    /// An aggregate without members, and room for `room` members or pairs.
+    /// Makes an aggregate without members, with room for `room` members or pairs.
     #[inline]
     pub(crate) fn with_room(alloc: Global, kind: OpenKind, room: usize) -> Result<Group, AllocError>
         requires few_at_most { room ≤ 16 }
@@ -137,8 +138,8 @@ impl Group {
         }
     }
 
-    /// The value that has these members; none where there is no memory, or where no member is left
-    /// that an attribute annotates.
+    /// Returns the value that has these members. Returns `None` if an allocation fails, or if an
+    /// attribute has no value to annotate.
     #[inline]
     pub(crate) fn into_value(self, alloc: Global) -> Option<Value>
         ensures { IsMemberCount (group_of self).kind (length (group_of self).members) →

@@ -1,5 +1,5 @@
-//! What has come of a value: the open aggregates with their finished members, and the text that is
-//! being read.
+//! The part of a value that was read: the open aggregates with their finished members, and the text
+//! that is being read.
 
 ghost use Rattle.std.specs.Prelude.{◌≡◌, ◌≤◌, ◌+◌, ◌-◌, ◌^◌, [], ◌∷◌, true, false, None, min, OnOk, OnErr};
 ghost use Rattle.resp_fronts.specs.Events as e;
@@ -17,17 +17,17 @@ use resp_value::kind::OpenKind;
 use resp_value::value::Value;
 use std::alloc::{AllocError, Global};
 
-/// No more members than these are reserved by the number in a head.
+/// The greatest number of members that are reserved because of the number in a head.
 const MOST_RESERVED: u64 = 16;
 
-/// What a decoder holds of a value.
+/// The parts of a value that a decoder holds.
 #[derive(Drop)]
 pub(crate) struct Held {
     alloc: Global,
     /// The open aggregates, the innermost last.
     groups: Vec<Group>,
     text: Option<Text>,
-    /// The value at the top, once it is whole.
+    /// The outermost value, once it is complete.
     whole: Option<Value>,
     weight: u64,
 }
@@ -37,7 +37,7 @@ impl Held {
     ghost use Rattle.resp_decode.specs.Hearing.{TakesInWhereFit};
     ghost use Rattle.resp_decode.specs.Holding.{construction_of, maybe_datum};
 
-    /// Nothing. Takes no memory.
+    /// Makes an empty state. Does not allocate.
     pub(crate) fn new(alloc: Global) -> Held
         ensures holds { construction_of result ≡ nothing }
         ensures weighs { result.weight ≡ 0 }
@@ -51,7 +51,7 @@ impl Held {
         }
     }
 
-    /// The weight of what is held.
+    /// Returns the weight of the parts held.
     #[inline]
     pub(crate) fn weight(&self) -> u64
         ensures { result ≡ self.now.weight }
@@ -59,7 +59,7 @@ impl Held {
         self.weight
     }
 
-    /// Lets go of all that is held.
+    /// Drops all parts held.
     #[cold]
     pub(crate) fn clear(&mut self)
         ensures weighs { self.new.weight ≡ 0 }
@@ -68,7 +68,7 @@ impl Held {
         *self = Held::new(self.alloc);
     }
 
-    /// Takes out the value at the top, once it is whole. Nothing else is held then.
+    /// Takes out the outermost value if it is complete. Nothing else is held then.
     #[inline]
     pub(crate) fn take_whole(&mut self) -> Option<Value>
         ensures taken { maybe_datum result ≡ (construction_of self.old).whole }
@@ -80,8 +80,8 @@ impl Held {
         self.whole.take()
     }
 
-    /// Puts a finished value where it belongs: it is a member of the innermost aggregate, or the
-    /// whole value. Only a member wants memory.
+    /// Adds a finished value, as a member of the innermost aggregate or as the outermost value.
+    /// Only a member needs memory.
     #[inline(always)]
     fn put(&mut self, value: Value) -> Result<(), AllocError>
         ensures holds { OnOk result (construction_of self.new ≡
@@ -96,7 +96,7 @@ impl Held {
         Ok(())
     }
 
-    /// Adds to the weight, which no value that a scanner tells makes too great.
+    /// Adds to the weight. No value that a scanner reads makes it too great.
     #[inline]
     fn add_weight(&mut self, more: u64)
         ensures { self.new ≡ record self.old {
@@ -106,7 +106,7 @@ impl Held {
         self.weight = self.weight.saturating_add(more);
     }
 
-    /// Takes in a scalar with `content` bytes of content.
+    /// Adds a scalar with `content` bytes of content.
     #[inline(always)]
     fn put_scalar(&mut self, value: Value, content: usize) -> bool
         ensures holds { result ≡ true → construction_of self.new ≡
@@ -118,7 +118,7 @@ impl Held {
         self.put(value).is_ok()
     }
 
-    /// Begins a text of this kind, without content. Takes no memory.
+    /// Begins a text of this kind, without content. Does not allocate.
     #[inline]
     fn begin_text(&mut self, kind: TextKind)
         ensures { TakesInWhereFit self.old self.new (e.Text (text_kind_of kind) ∷ []) true }
@@ -127,7 +127,8 @@ impl Held {
         self.text = Some(Text::new(self.alloc, kind));
     }
 
-    /// Adds a part to the text that is being read. False where none is, or there is no memory.
+    /// Adds a part to the text that is being read. Returns false if no text is being read or an
+    /// allocation fails.
     #[inline]
     fn extend_text(&mut self, part: &[u8]) -> bool
         ensures { TakesInWhereFit self.old self.new (content_events part.now) result }
@@ -139,8 +140,8 @@ impl Held {
         }
     }
 
-    /// Ends the text and puts its value where it belongs. False where no text is being read, where
-    /// its content isn't of its kind, and where there is no memory.
+    /// Ends the text and adds its value. Returns false if no text is being read, if its content
+    /// does not fit its kind, or if an allocation fails.
     #[inline]
     fn end_text(&mut self) -> bool
         ensures { TakesInWhereFit self.old self.new (e.TextEnd ∷ []) result }
@@ -155,7 +156,7 @@ impl Held {
         }
     }
 
-    /// Opens an aggregate, with room for its first members. False where there is no memory.
+    /// Opens an aggregate, with room for its first members. Returns false if an allocation fails.
     #[inline]
     fn open_group(&mut self, kind: OpenKind, count: Option<u64>) -> bool
         ensures { TakesInWhereFit self.old self.new (e.Open (kind_of kind) count ∷ []) result }
@@ -167,8 +168,8 @@ impl Held {
         }
     }
 
-    /// Closes the innermost aggregate and puts its value where it belongs. False where none is
-    /// open, where an attribute annotates nothing, and where there is no memory.
+    /// Closes the innermost aggregate and adds its value. Returns false if no aggregate is open, if
+    /// an attribute annotates nothing, or if an allocation fails.
     #[inline]
     fn close_group(&mut self) -> bool
         ensures { TakesInWhereFit self.old self.new (e.Close ∷ []) result }
@@ -182,7 +183,7 @@ impl Held {
         }
     }
 
-    /// Takes in a text that has come whole.
+    /// Adds a complete text.
     #[inline]
     fn take_text(&mut self, kind: TextKind, bytes: &[u8]) -> bool
         requires { IsTextOf kind bytes.now }
@@ -194,7 +195,7 @@ impl Held {
         }
     }
 
-    /// Takes in a text that is its content alone.
+    /// Adds a complete text that consists of its content alone.
     #[inline(always)]
     fn take_content(&mut self, kind: TextKind, bytes: &[u8]) -> bool
         requires content_alone { IsContentAlone (text_kind_of kind) }
@@ -207,7 +208,7 @@ impl Held {
         }
     }
 
-    /// Takes in a text as its beginning, one part and its end.
+    /// Adds a complete text as its beginning, one part and its end.
     fn take_parts(&mut self, kind: TextKind, bytes: &[u8]) -> bool
         ensures { TakesInWhereFit self.old self.new (whole_text_events kind bytes.now) result }
     {
@@ -273,7 +274,8 @@ impl Listener for Held {
     }
 }
 
-/// How many members or pairs are reserved: a number in a head is never believed beyond a few.
+/// Returns the number of members or pairs to reserve, which is limited whatever the number in the
+/// head is.
 #[inline]
 fn reserved(count: Option<u64>) -> usize
     ensures { result ≤ 16 }

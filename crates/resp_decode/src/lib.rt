@@ -1,7 +1,9 @@
-//! Values of RESP2 and RESP3 from bytes that come in pieces of any size.
+//! An incremental decoder of RESP2 and RESP3, which reads bytes in pieces of any size and returns
+//! values.
 //!
-//! A [`decoder::Decoder`] builds one value after another of what a scanner tells it. It refuses a
-//! byte exactly where the scanner does, and holds no more than the value that is being read.
+//! A [`decoder::Decoder`] builds one value after another from the events of a scanner. It rejects
+//! the same byte with the same error as the scanner, and it holds no more than the value that is
+//! being read.
 #![tactic(auto)]
 
 pub mod all;

@@ -16,10 +16,10 @@ use resp_value::line::Line;
 use resp_value::value::Value;
 use std::alloc::{AllocError, Global};
 
-/// The most bytes of a block that the C library, once it is freed, keeps at hand for the next one.
+/// The most bytes of a freed block that the C library keeps for a quick reuse.
 const AT_HAND: usize = 1_032;
 
-/// A text whose end hasn't come.
+/// A text whose end has not been read.
 #[derive(Drop)]
 pub(crate) struct Text {
     kind: TextKind,
@@ -29,7 +29,7 @@ pub(crate) struct Text {
 impl Text {
     ghost use Rattle.resp_decode.specs.Holding.{text_held};
 
-    /// A text without content. Takes no memory.
+    /// Makes a text without content. Does not allocate.
     #[inline]
     pub(crate) fn new(alloc: Global, kind: TextKind) -> Text
         ensures { text_held result ≡ record { kind = text_kind_of kind; content = [] } }
@@ -40,9 +40,9 @@ impl Text {
         }
     }
 
-    /// Appends these bytes of the content. Small content that has no room moves to a block of its
-    /// own, of four times the bytes that came, since the C library grows none from those that it
-    /// keeps at hand.
+    /// Appends these bytes of the content. If small content has no room left, it moves to a new
+    /// block of four times the bytes received, because the C library cannot grow a small block in
+    /// place.
     #[inline]
     pub(crate) fn extend(&mut self, alloc: Global, part: &[u8]) -> Result<(), AllocError>
         ensures { OnOk result (text_held self.new ≡ record (text_held self.old) {
@@ -63,7 +63,8 @@ impl Text {
         Ok(())
     }
 
-    /// What its end adds to the weight: a node, and the digit of a big zero.
+    /// Returns the weight that the end of the text adds: a node, and the digit of a zero big
+    /// number.
     #[inline]
     pub(crate) fn end_weight(&self) -> u64
         ensures { result ≡ end_weight (text_held self.now).kind (text_held self.now).content }
@@ -74,8 +75,8 @@ impl Text {
         }
     }
 
-    /// The value of the whole text; none where there is no memory, or where the content is none of
-    /// this kind of text, which no scanner tells.
+    /// Returns the value of the complete text. Returns `None` if an allocation fails or if the
+    /// content does not fit the kind of text, which never happens with a scanner's events.
     #[inline]
     pub(crate) fn into_value(self) -> Option<Value>
         ensures { IfSome result (λ value.
@@ -109,7 +110,8 @@ impl Text {
     }
 }
 
-/// The value of a whole text that is its content alone. A line isn't searched again.
+/// Returns the value of a complete text that consists of its content alone. It does not search a
+/// line for CR and LF again.
 #[inline(always)]
 pub(crate) fn content_value(kind: TextKind, bytes: Vec<u8>) -> Value
     requires content_alone { IsContentAlone (text_kind_of kind) }
@@ -125,7 +127,7 @@ pub(crate) fn content_value(kind: TextKind, bytes: Vec<u8>) -> Value
     }
 }
 
-/// The number of bytes in a text's format.
+/// Returns the number of bytes in the format of a text.
 #[inline]
 pub(crate) fn format_weight(kind: TextKind) -> u64
     ensures { result ≡ format_weight (text_kind_of kind) }
@@ -136,7 +138,7 @@ pub(crate) fn format_weight(kind: TextKind) -> u64
     }
 }
 
-/// The digits, or a lone `0` where there are none.
+/// Returns the digits, or a single `0` if there are no digits.
 #[inline]
 fn zero_if_none(mut digits: Vec<u8>) -> Result<Vec<u8>, AllocError>
     ensures { IfOk result (λ kept. kept.items ≡ zero_if_none digits.items) }

@@ -1,4 +1,4 @@
--- What the calls that encode promise.
+-- The contracts of the functions that encode.
 use Rattle.std.specs.Prelude.{◌≡◌, ◌≢◌, ℕ, ◌+◌, ◌<◌, ◌≤◌, List, ◌++◌, length, take, Option, Result, OnOk, OnErr, IfErr, IsErrOf}
 use Rattle.bytes.specs.Filled.{Filled}
 use Rattle.resp_value.specs.Data.{Datum}
@@ -10,38 +10,38 @@ use Rattle.resp_encode.specs.Refusals.{IsFirstFault}
 use Rattle.resp_encode.specs.declared.error.EncodeError.{EncodeError}
 use Rattle.resp_encode.specs.declared.error.EncodeError.TheVariants.{OutOfMemory}
 
--- the value is taken where it has no fault and refused for its first one, OutOfMemory aside
+-- the value is accepted if it has no fault, and rejected with its first fault otherwise, apart from `OutOfMemory`
 pub record IsVerdict {T : Type 0} (rules : Rules) (x : Datum) (result : Result T EncodeError) : Type 0 where
-  -- what is taken fits the version and the limits
+  -- a value that is accepted fits the version and the limits
   pub fits : OnOk result (Fits rules x)
   -- its canonical text is a spelling of it under the rules
   pub spelling : OnOk result (IsSpelling rules x (canonical_text rules.version x))
-  -- a refusal names a fault that the value has, and it has no earlier one
+  -- an error names a fault that the value has, and the value has no earlier fault
   pub first_fault : IfErr result (IsFirstFault rules x)
-  -- a value that has a fault is always refused for the first one
+  -- a value that has a fault is always rejected with its first fault
   pub every_fault : (error : EncodeError) → error ≢ OutOfMemory → IsFirstFault rules x error → IsErrOf result error
 
--- the text is appended to a buffer, whole or not at all
+-- the text is appended to a buffer, or the buffer is unchanged
 pub record AppendsWhole (old new : Filled) (text : List ℕ) (result : Result (Unit {0}) EncodeError) : Type 0 where
-  -- after a success the text stands after the bytes that were there
+  -- after success the text follows the earlier bytes of the buffer
   pub appended : OnOk result (new.items ≡ old.items ++ text)
-  -- after a refusal the buffer has the bytes that it had
+  -- after an error the buffer has its earlier bytes
   pub unchanged : OnErr result (new.items ≡ old.items)
-  -- out of memory only where the spare room did not hold the text
+  -- out of memory only if the spare room does not hold the text
   pub memory : IsErrOf result OutOfMemory → old.spare < length text
-  -- the text takes no more of the spare room than its length
+  -- the text uses at most its length of the spare room
   pub spare_left : OnOk result (old.spare ≤ new.spare + length text)
-  -- a refusal takes none of the spare room
+  -- an error uses no spare room
   pub spare_kept : OnErr result (old.spare ≤ new.spare)
 
--- a text was written whole to a device that held and counted what is given here, and this is its length
+-- a text of this length was written completely to a device with these bytes and failures before and after
 pub record WritesWhole (held held' : Option (List ℕ)) (failures failures' : ℕ) (text : List ℕ) (written : ℕ) : Type 0
   where
     pub full_length : written ≡ length text
     pub appended : Appends held held' text
     pub none_failed : failures' ≡ failures
 
--- one write failed when this many bytes were written, which are a beginning of the text and not the whole
+-- one write failed when this many bytes were written, which are the first bytes of the text but not all of it
 pub record WritesPart (held held' : Option (List ℕ)) (failures failures' : ℕ) (text : List ℕ) (written : ℕ) : Type 0
   where
     pub not_whole : written < length text

@@ -1,8 +1,8 @@
--- What a caller reads of the encoder.
+-- The definitions that callers of the encoder read.
 pub mod Encodings
 pub mod Refusals
 pub mod Pushes
 pub mod Laws
 pub mod Lengths
--- What the walks over a value promise one another, which no public clause names.
+-- The internal contracts of the passes over a value, which no public contract names.
 pub mod Walks

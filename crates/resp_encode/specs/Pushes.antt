@@ -1,4 +1,4 @@
--- What a push encodes, as data.
+-- The data of a push.
 use Rattle.std.specs.Prelude.{List, map}
 use Rattle.resp_value.specs.Data.{Datum, aggregate, data_of_list}
 use Rattle.resp_value.specs.Data as d

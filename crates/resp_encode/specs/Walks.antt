@@ -1,4 +1,4 @@
--- The walks over a value: what one measures of it, what one writes as it goes, and what is written into spare room.
+-- The passes over a value: measuring it, encoding it as far as possible, and writing it into spare room.
 pub mod Sizes
 pub mod Measures
 pub mod Writings

@@ -1,7 +1,8 @@
-//! A value in one walk, which writes as it goes and stops where something is refused or there is no
-//! room.
+//! Encodes a value in one pass over it, which writes as it goes and stops at the first fault or
+//! when the room ends.
 //!
-//! Most values have no fault and there is room for them. They are not walked over twice.
+//! Most values have no fault, and there is room for them. This module saves the separate pass that
+//! measures them first.
 
 ghost use Rattle.resp_value.specs.Rules.{rules_under};
 ghost use Rattle.std.specs.Prelude.{◌≡◌, ◌+◌, ◌<◌, ◌≤◌, ◌++◌, ◌∷◌, [], ℕ, length, map};
@@ -31,7 +32,7 @@ use scalars::{
 
 mod scalars;
 
-/// Whether the version has the kind.
+/// Returns whether the version has the kind.
 #[inline]
 fn has_kind(version: Version, kind: OpenKind) -> bool
     ensures { OnTrue result (HasKind version (kind_of kind)) }
@@ -42,7 +43,8 @@ fn has_kind(version: Version, kind: OpenKind) -> bool
     }
 }
 
-/// Appends the head of an aggregate, or leaves the buffer.
+/// Appends the head of an aggregate and returns true. If there is a fault or no room, leaves the
+/// buffer unchanged and returns false.
 #[inline]
 fn attempt_head(
     items: u64,
@@ -69,7 +71,8 @@ fn attempt_head(
     true
 }
 
-/// Appends the text of a value that stands in another one, as far as nothing is in the way.
+/// Appends the text of a value inside another value, and returns true. Stops and returns false at a
+/// fault or when the room ends.
 #[cycle(attempt)]
 #[inline(always)]
 fn attempt_value(
@@ -118,8 +121,8 @@ fn attempt_value(
     }
 }
 
-/// Appends the text of an aggregate that counts its members one by one, as far as nothing is in the
-/// way.
+/// Appends the text of an aggregate whose head counts its members, and returns true. Stops and
+/// returns false at a fault or when the room ends.
 #[cycle(attempt)]
 #[inline(never)]
 fn attempt_group(
@@ -141,7 +144,8 @@ fn attempt_group(
     attempt_members(members, version, limits, deeper - 1, out)
 }
 
-/// Appends the text of a map of these pairs, as far as nothing is in the way.
+/// Appends the text of a map of these pairs, and returns true. Stops and returns false at a fault
+/// or when the room ends.
 #[cycle(attempt)]
 #[inline(never)]
 fn attempt_map(
@@ -168,7 +172,8 @@ fn attempt_map(
     attempt_pairs(pairs, version, limits, deeper - 1, out)
 }
 
-/// Appends the head and the pairs of an attribute, as far as nothing is in the way.
+/// Appends the head and the pairs of an attribute, and returns true. Stops and returns false at a
+/// fault or when the room ends.
 #[cycle(attempt)]
 #[inline(never)]
 fn attempt_attribute_pairs(
@@ -194,7 +199,8 @@ fn attempt_attribute_pairs(
     attempt_pairs(pairs, version, limits, deeper - 1, out)
 }
 
-/// Appends the text of the value that an attribute annotates, as far as nothing is in the way.
+/// Appends the text of the value that an attribute annotates, and returns true. Stops and returns
+/// false at a fault or when the room ends.
 #[cycle(attempt)]
 #[inline(never)]
 fn attempt_annotated(
@@ -211,7 +217,8 @@ fn attempt_annotated(
     attempt_value(value, version, limits, deeper, out)
 }
 
-/// Appends the texts of values that stand side by side, as far as nothing is in the way.
+/// Appends the texts of consecutive values, and returns true. Stops and returns false at a fault or
+/// when the room ends.
 #[cycle(attempt)]
 #[inline(never)]
 fn attempt_members(
@@ -232,7 +239,8 @@ fn attempt_members(
     true
 }
 
-/// Appends the texts of keys and values in turn, as far as nothing is in the way.
+/// Appends the texts of alternating keys and values, and returns true. Stops and returns false at a
+/// fault or when the room ends.
 #[cycle(attempt)]
 #[inline(never)]
 fn attempt_pairs(
@@ -256,7 +264,8 @@ fn attempt_pairs(
     true
 }
 
-/// Appends the text of a value that may be a push, as far as nothing is in the way.
+/// Appends the text of a value that may be a push, and returns true. Stops and returns false at a
+/// fault or when the room ends.
 #[inline(always)]
 fn attempt_top(value: &Value, version: Version, limits: &Limits, out: &mut BytesMut) -> bool
     ensures { Attempt version limits.now limits.now.depth (datum_of value.now) out.old out.new
@@ -271,7 +280,8 @@ fn attempt_top(value: &Value, version: Version, limits: &Limits, out: &mut Bytes
     }
 }
 
-/// Appends the text of a value where it has no fault and there is room, and else leaves the buffer.
+/// Appends the text of a value and returns true if the value has no fault and there is room for it.
+/// Otherwise leaves the buffer unchanged and returns false.
 #[inline(always)]
 pub(crate) fn attempt(value: &Value, version: Version, limits: &Limits, out: &mut BytesMut) -> bool
     ensures writes { OnTrue result (Fills out.old out.new

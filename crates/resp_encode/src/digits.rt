@@ -1,9 +1,9 @@
-//! The digits of a number, and how many it has.
+//! The decimal digits of a number.
 
 ghost use Rattle.std.specs.Prelude.{◌≡◌, ◌+◌, ◌/◌, ◌%◌, ◌≤◌, length};
 ghost use Rattle.resp_value.specs.Numbers.{decimal};
 
-/// How many decimal digits a number has, without leading zeros.
+/// Returns the number of decimal digits of a number, without leading zeros.
 #[inline]
 pub(crate) fn digit_count(number: u64) -> u64
     ensures count { result ≡ length (decimal number) }
@@ -18,7 +18,7 @@ pub(crate) fn digit_count(number: u64) -> u64
     count + short_digit_count(rest)
 }
 
-/// The same for a number below ten thousand.
+/// Returns the number of decimal digits of a number below ten thousand.
 #[inline]
 fn short_digit_count(number: u64) -> u64
     requires { number ≤ 9999 }
@@ -42,7 +42,7 @@ static PAIRS: [u8; 200] =
       40414243444546474849505152535455565758596061626364656667686970717273747576777879\
       8081828384858687888990919293949596979899";
 
-/// The two digits of a number below a hundred.
+/// Returns the two digits of a number below a hundred.
 #[inline(always)]
 pub(crate) fn two_digits(number: u64) -> (u8, u8)
     requires { number ≤ 99 }
@@ -53,7 +53,7 @@ pub(crate) fn two_digits(number: u64) -> (u8, u8)
     (PAIRS[at], PAIRS[at + 1])
 }
 
-/// The digits of a number below ten thousand, with leading zeros.
+/// Returns the digits of a number below ten thousand, with leading zeros.
 #[inline(always)]
 pub(crate) fn four_digits(number: u64) -> (u8, u8, u8, u8)
     requires { number ≤ 9999 }

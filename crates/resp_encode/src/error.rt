@@ -1,39 +1,39 @@
-//! Why a value is not encoded.
+//! Errors of the encoder.
 
 use resp_value::cause::Limit;
 use thiserror::Error;
 
-/// Why a value was not appended, and the buffer left as it was. Where a value has several faults,
-/// the first in this order is named.
+/// Why a value was not appended to a buffer. The buffer is unchanged. If a value has several
+/// faults, the error is the first of them in this order.
 #[derive(Clone, Copy, Debug, PartialEq, Eq, Error)]
 pub enum EncodeError {
-    /// The value holds a double, and the limits allow none.
+    /// The value holds a double, and the limits do not allow doubles.
     #[error("the limits allow no doubles")]
     Double,
-    /// The value holds a type that the version hasn't.
+    /// The value holds a type that the version does not have.
     #[error("the version has no such type")]
     NotInVersion,
-    /// A push stands below the top of the value.
+    /// The value holds a push inside another value.
     #[error("a push stands below the top")]
     NestedPush,
-    /// The value breaks this limit, and none that is tested before it.
+    /// The value exceeds this limit, and no limit that is checked before it.
     #[error("the value is over the limit {0:?}")]
     OverLimits(Limit),
-    /// A growth of the buffer was refused.
+    /// The buffer could not grow.
     #[error("out of memory")]
     OutOfMemory,
 }
 
-/// Why a value was not written whole to a device.
+/// Why a value was not completely written to a device.
 #[derive(Clone, Copy, Debug, PartialEq, Eq, Error)]
 pub enum EncodeToError {
-    /// The value was refused, or there was no memory for its text, before anything was written.
+    /// The value has a fault, or the allocation for its text failed. Nothing was written.
     #[error(transparent)]
     Refused(EncodeError),
-    /// A write failed, or took no byte.
+    /// A write failed, or wrote no byte.
     #[error("the device failed after {written} bytes")]
     Write {
-        /// How many bytes were written. They are a beginning of the text.
+        /// The number of bytes that were written. They are the first bytes of the text.
         written: u64,
     },
 }

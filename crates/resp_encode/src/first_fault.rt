@@ -1,4 +1,4 @@
-//! The first fault of a value, by its measure.
+//! The first fault of a value, found from its measure.
 
 ghost use Rattle.resp_value.specs.Rules.{rules_under};
 ghost use Rattle.resp_encode.specs.Encodings.{IsVerdict};
@@ -14,7 +14,7 @@ use resp_value::cause::Limit;
 use resp_value::limits::Limits;
 use resp_value::version::Version;
 
-/// Whether the version has each type of what was measured.
+/// Returns whether the version has each type of the measured value.
 #[inline]
 pub(crate) fn has_types(found: &Measure, version: Version) -> bool
     ensures { (x : Datum) → Describes version x found.now → (IsTrue result ↔ HasTypes version x) }
@@ -25,7 +25,7 @@ pub(crate) fn has_types(found: &Measure, version: Version) -> bool
     }
 }
 
-/// Whether the limits allow doubles where one was measured.
+/// Returns whether the limits allow the doubles of the measured value, if it has any.
 #[inline]
 pub(crate) fn are_doubles_allowed(found: &Measure, limits: &Limits) -> bool
     ensures { (version : Version) (x : Datum) → Describes version x found.now →
@@ -34,7 +34,8 @@ pub(crate) fn are_doubles_allowed(found: &Measure, limits: &Limits) -> bool
     found.no_double || limits.doubles()
 }
 
-/// The bytes of the text of what was measured, or its first fault, which is never OutOfMemory.
+/// Returns the number of bytes of the measured value's text, or its first fault. The fault is never
+/// `OutOfMemory`.
 #[inline]
 pub(crate) fn checked_size(
     found: &Measure,

@@ -1,9 +1,9 @@
-//! The canonical encoder: the one text of a value in a version, appended to a buffer or written to
-//! a device.
+//! Encodes values: appends the canonical text of a value to a buffer, or writes it to a device.
 //!
-//! The text is that of the Redis serialization protocol specification with every choice made:
-//! numbers without a `+` and without leading zeros, strings and aggregates by their length or count
-//! and never streamed, Null as `$-1` in version 2 and as `_` in version 3.
+//! The canonical text of a value is its encoding in the Redis serialization protocol specification
+//! with every choice fixed. Numbers have no `+` and no leading zeros. Strings have a length and
+//! aggregates have a count, so nothing is streamed. Null is `$-1` in version 2 and `_` in version
+//! 3.
 #![tactic(auto)]
 
 mod attempt;

@@ -1,4 +1,4 @@
-//! The measure of a value: all that decides whether it fits, and how long its text is.
+//! The measure of a value: the facts that decide whether it fits, and the length of its text.
 
 ghost use Rattle.std.specs.Prelude.{◌≡◌, ◌+◌, ◌≤◌, true, ℕ, length};
 ghost use Rattle.resp_value.specs.Data.{Datum, Data, none, aggregate, items_of, count};
@@ -10,28 +10,28 @@ ghost use Rattle.resp_encode.specs.Walks.Sizes.{IsSize};
 use crate::digits::digit_count;
 use resp_value::kind::OpenKind;
 
-/// The measure of a value, or of members that stand side by side.
+/// The measure of a value, or of consecutive members.
 #[derive(Clone, Copy)]
 pub(crate) struct Measure {
     /// Whether version 2 has each type.
     pub(crate) in_two: bool,
-    /// Whether no double stands there.
+    /// Whether there is no double.
     pub(crate) no_double: bool,
-    /// Whether no push stands there.
+    /// Whether there is no push.
     pub(crate) no_push: bool,
-    /// Whether no push stands below the top of the value.
+    /// Whether there is no push inside another value.
     pub(crate) push_at_top: bool,
-    /// How many aggregates stand inside one another, if that is below `u64::MAX`.
+    /// The number of aggregates inside one another, if it is below `u64::MAX`.
     pub(crate) depth: u64,
-    /// The bytes of the longest content.
+    /// The number of bytes of the longest content.
     pub(crate) longest: u64,
     /// The most members of one array, set or push, or pairs of one map or attribute.
     pub(crate) most_items: u64,
-    /// The bytes of the text, if a `u64` holds them.
+    /// The number of bytes of the text, if a `u64` holds it.
     pub(crate) size: Option<u64>,
 }
 
-/// The sum of two sizes, if a `u64` holds it.
+/// Returns the sum of two sizes, if a `u64` holds it.
 #[inline]
 pub(crate) fn sum(left: Option<u64>, right: Option<u64>) -> Option<u64>
     ensures { (m n : ℕ) → IsSize left m → IsSize right n → IsSize result (m + n) }
@@ -42,8 +42,8 @@ pub(crate) fn sum(left: Option<u64>, right: Option<u64>) -> Option<u64>
     }
 }
 
-/// How many bytes the head of an aggregate or of a string takes: the type byte, the number, CR and
-/// LF.
+/// Returns the number of bytes of the head of an aggregate or a string: the type byte, the number,
+/// CR and LF.
 #[inline]
 pub(crate) fn head_size(number: u64) -> u64
     ensures size { result ≡ length (decimal number) + 3 }
@@ -56,7 +56,7 @@ impl Measure {
     ghost use Rattle.resp_value.specs.Kinds.{kind_of};
     ghost use Rattle.resp_encode.specs.Walks.Measures.{DescribesEach, Describes};
 
-    /// The measure of no members.
+    /// Returns the measure of an empty list of members.
     #[inline]
     pub(crate) fn nothing() -> Measure
         ensures { (version : Version) → DescribesEach version none result }
@@ -64,7 +64,7 @@ impl Measure {
         Measure::scalar(true, 0, 0)
     }
 
-    /// The measure of a value without members.
+    /// Returns the measure of a value without members.
     #[inline]
     pub(crate) fn scalar(in_two: bool, length: u64, size: u64) -> Measure
         ensures { result ≡ record {
@@ -91,7 +91,7 @@ impl Measure {
         }
     }
 
-    /// The measure of these members and one more after them.
+    /// Returns the measure of these members with one more member after them.
     #[inline]
     pub(crate) fn with(&self, next: &Measure) -> Measure
         ensures { (version : Version) (xs : Data) (x : Datum) → DescribesEach version xs self.now →
@@ -109,7 +109,7 @@ impl Measure {
         }
     }
 
-    /// The measure of the aggregate that has these members, and this number in its head.
+    /// Returns the measure of the aggregate that has these members and this number in its head.
     #[inline]
     pub(crate) fn inside(&self, kind: OpenKind, items: u64) -> Measure
         ensures { (version : Version) (xs : Data) → DescribesEach version xs self.now →

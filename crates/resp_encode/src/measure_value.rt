@@ -1,4 +1,4 @@
-//! One walk over a value, which measures it.
+//! Measures a value in one pass over it.
 
 ghost use Rattle.std.specs.Prelude.{◌≡◌, ℕ, List, [], ◌∷◌, ◌++◌, ◌+◌, ◌≤◌, ◌^◌, length, map};
 ghost use Rattle.resp_value.specs.Bytes.{IsText};
@@ -17,7 +17,7 @@ use resp_value::kind::OpenKind;
 use resp_value::value::Value;
 use resp_value::version::Version;
 
-/// The measure of Null, whose text hangs on the version.
+/// Returns the measure of Null, whose text depends on the version.
 #[inline]
 pub(crate) fn measure_null(version: Version) -> Measure
     ensures { Describes version (scalar d.Null) result }
@@ -28,7 +28,7 @@ pub(crate) fn measure_null(version: Version) -> Measure
     }
 }
 
-/// The measure of a truth value, which version 2 hasn't.
+/// Returns the measure of a boolean, which version 2 does not have.
 #[inline]
 pub(crate) fn measure_bool(truth: bool) -> Measure
     ensures { (version : Version) → Describes version (scalar (d.Bool truth)) result }
@@ -36,7 +36,7 @@ pub(crate) fn measure_bool(truth: bool) -> Measure
     Measure::scalar(false, 0, 4)
 }
 
-/// The measure of an integer, whose digits don't count for length.
+/// Returns the measure of an integer. Its digits do not count for the limit of length.
 #[inline]
 pub(crate) fn measure_int(number: &i64) -> Measure
     ensures found { (version : Version) → Describes version (scalar (d.Int number.now)) result }
@@ -47,7 +47,7 @@ pub(crate) fn measure_int(number: &i64) -> Measure
     Measure::scalar(true, 0, size)
 }
 
-/// The measure of a simple string or of an error.
+/// Returns the measure of a simple string or of an error.
 #[inline]
 pub(crate) fn measure_line(text: &[u8]) -> Measure
     ensures simple { (version : Version) → Describes version (scalar (d.Simple text.now)) result }
@@ -58,7 +58,7 @@ pub(crate) fn measure_line(text: &[u8]) -> Measure
     Measure::scalar(true, length, length + 3)
 }
 
-/// The measure of a double, which version 2 hasn't.
+/// Returns the measure of a double, which version 2 does not have.
 #[inline]
 pub(crate) fn measure_double(text: &[u8]) -> Measure
     ensures found { (version : Version) → Describes version (scalar (d.Double text.now)) result }
@@ -72,7 +72,8 @@ pub(crate) fn measure_double(text: &[u8]) -> Measure
     }
 }
 
-/// How many bytes a string takes whose head says `counted`: the head, the content, CR and LF.
+/// Returns the number of bytes of a string whose head has the length `counted`: the head, the
+/// content, CR and LF.
 #[inline]
 pub(crate) fn string_size(counted: u64) -> u64
     requires { counted ≤ 2 ^ 63 + 4 }
@@ -81,7 +82,7 @@ pub(crate) fn string_size(counted: u64) -> u64
     head_size(counted) + counted + 2
 }
 
-/// The measure of a bulk string of these bytes.
+/// Returns the measure of a bulk string of these bytes.
 #[inline]
 pub(crate) fn measure_bulk(bytes: &[u8]) -> Measure
     ensures found { (version : Version) → Describes version (scalar (d.Bulk bytes.now)) result }
@@ -91,7 +92,7 @@ pub(crate) fn measure_bulk(bytes: &[u8]) -> Measure
     Measure::scalar(true, counted, string_size(counted))
 }
 
-/// The measure of a bulk string of this number of bytes, which may be any.
+/// Returns the measure of a bulk string of this many bytes, whatever they are.
 #[inline]
 pub(crate) fn measure_bulk_of(counted: u64) -> Measure
     ensures { (version : Version) (bytes : List ℕ) → length bytes ≡ counted →
@@ -104,7 +105,7 @@ pub(crate) fn measure_bulk_of(counted: u64) -> Measure
     }
 }
 
-/// The measure of a bulk error of these bytes, which version 2 hasn't.
+/// Returns the measure of a bulk error of these bytes, which version 2 does not have.
 #[inline]
 pub(crate) fn measure_bulk_error(bytes: &[u8]) -> Measure
     ensures found { (version : Version) →
@@ -115,7 +116,8 @@ pub(crate) fn measure_bulk_error(bytes: &[u8]) -> Measure
     Measure::scalar(false, counted, string_size(counted))
 }
 
-/// The measure of a verbatim string, whose head counts its format and the colon after that.
+/// Returns the measure of a verbatim string. Its head counts its format and the colon after the
+/// format.
 #[inline]
 pub(crate) fn measure_verbatim(format: &[u8; 3], text: &[u8]) -> Measure
     ensures found { (version : Version) →
@@ -126,7 +128,8 @@ pub(crate) fn measure_verbatim(format: &[u8; 3], text: &[u8]) -> Measure
     Measure::scalar(false, counted, string_size(counted))
 }
 
-/// The measure of a big number, whose digits count for length and whose sign doesn't.
+/// Returns the measure of a big number. Its digits count for the limit of length, and its sign does
+/// not.
 #[inline]
 pub(crate) fn measure_big(negative: bool, digits: &[u8]) -> Measure
     ensures { (version : Version) → Describes version (scalar (d.Big negative digits.now)) result }
@@ -136,10 +139,10 @@ pub(crate) fn measure_big(negative: bool, digits: &[u8]) -> Measure
     Measure::scalar(false, length, size)
 }
 
-/// The measure of a value. Each value of the program is one that a spelling may have.
+/// Returns the measure of a value. Each value of this type is a value of the protocol's grammar.
 ///
-/// It is inlined where it is called, so that the measure of a scalar stays in registers; what leads
-/// back to it is not.
+/// It is inlined in its caller, which keeps the measure of a scalar in registers. The functions
+/// that call it recursively are not inlined.
 #[cycle(measure)]
 #[inline(always)]
 pub(crate) fn measure_value(value: &Value, version: Version) -> Measure
@@ -168,7 +171,7 @@ pub(crate) fn measure_value(value: &Value, version: Version) -> Measure
     }
 }
 
-/// The measure of a map of these pairs.
+/// Returns the measure of a map of these pairs.
 #[cycle(measure)]
 #[inline(never)]
 fn measure_map(pairs: &[(Value, Value)], version: Version) -> Measure
@@ -180,7 +183,7 @@ fn measure_map(pairs: &[(Value, Value)], version: Version) -> Measure
     measure_pairs(pairs, version).inside(OpenKind::Map, pairs.len() as u64)
 }
 
-/// The measure of the value that an attribute annotates.
+/// Returns the measure of the value that an attribute annotates.
 #[cycle(measure)]
 #[inline(never)]
 fn measure_annotated(value: &Value, version: Version) -> Measure
@@ -190,7 +193,7 @@ fn measure_annotated(value: &Value, version: Version) -> Measure
     measure_value(value, version)
 }
 
-/// The measure of an attribute of these pairs, over a value of this measure.
+/// Returns the measure of an attribute of these pairs that annotates a value of this measure.
 #[cycle(measure)]
 #[inline(never)]
 fn measure_attr(pairs: &[(Value, Value)], version: Version, under: &Measure) -> Measure
@@ -203,7 +206,7 @@ fn measure_attr(pairs: &[(Value, Value)], version: Version, under: &Measure) -> 
     found.inside(OpenKind::Attr, pairs.len() as u64)
 }
 
-/// The measure of an aggregate that counts its members one by one.
+/// Returns the measure of an aggregate whose head counts its members.
 #[cycle(measure)]
 #[inline(never)]
 pub(crate) fn measure_group(members: &[Value], version: Version, kind: OpenKind) -> Measure
@@ -215,7 +218,7 @@ pub(crate) fn measure_group(members: &[Value], version: Version, kind: OpenKind)
     measure_members(members, version).inside(kind, members.len() as u64)
 }
 
-/// The measure of values that stand side by side.
+/// Returns the measure of consecutive values.
 #[cycle(measure)]
 fn measure_members(members: &[Value], version: Version) -> Measure
     ensures found { DescribesEach version (data_of_list (map datum_of members.now)) result }
@@ -228,7 +231,7 @@ fn measure_members(members: &[Value], version: Version) -> Measure
     found
 }
 
-/// The measure of keys and values in turn.
+/// Returns the measure of alternating keys and values.
 #[cycle(measure)]
 fn measure_pairs(pairs: &[(Value, Value)], version: Version) -> Measure
     ensures found { DescribesEach version

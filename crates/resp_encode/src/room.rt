@@ -1,4 +1,4 @@
-//! Room for a text.
+//! Room in a buffer for a text.
 
 ghost use Rattle.std.specs.Prelude.{◌≡◌, ◌+◌, ◌≤◌, ◌^◌, length, IfErr};
 ghost use Rattle.std.specs.Bool.{OnTrue};
@@ -9,11 +9,11 @@ use crate::error::EncodeError;
 use crate::measure::head_size;
 use bytes::BytesMut;
 
-/// The bytes of the longest head: the type byte, the twenty digits of the greatest `u64`, CR and
-/// LF.
+/// The number of bytes of the longest head: the type byte, the twenty digits of the greatest `u64`,
+/// CR and LF.
 const LONGEST_HEAD: u64 = 23;
 
-/// Makes room for `size` more bytes, and leaves the bytes that are there.
+/// Makes room for `size` more bytes. The bytes in the buffer stay the same.
 #[inline]
 pub(crate) fn reserve(out: &mut BytesMut, size: usize) -> Result<(), EncodeError>
     ensures items { out.new.items ≡ out.old.items }
@@ -26,7 +26,7 @@ pub(crate) fn reserve(out: &mut BytesMut, size: usize) -> Result<(), EncodeError
     }
 }
 
-/// How many more bytes the buffer takes without a growth.
+/// Returns the number of bytes that the buffer can receive without growing.
 #[inline]
 pub(crate) fn room(out: &BytesMut) -> u64
     ensures { result ≡ out.now.spare }
@@ -34,8 +34,8 @@ pub(crate) fn room(out: &BytesMut) -> u64
     (out.capacity() - out.len()) as u64
 }
 
-/// Whether there is surely room for a head with this number and the bytes after it. The digits
-/// are counted only where there is little room.
+/// Returns true only if there is room for a head with this number and the bytes after it. Counts
+/// the digits only if there is little room.
 #[inline(always)]
 pub(crate) fn has_room_for_head(out: &BytesMut, number: u64, beyond: u64) -> bool
     requires { beyond ≤ 2 ^ 63 + 6 }

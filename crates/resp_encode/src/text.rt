@@ -1,4 +1,4 @@
-//! The text of a value, into room that is there.
+//! Appends the text of a value to a buffer that already has room for it.
 
 ghost use Rattle.std.specs.Prelude.{◌+◌, ◌≤◌, ◌++◌, ◌∷◌, [], length, map};
 ghost use Rattle.resp_value.specs.Bytes.{crlf};
@@ -16,8 +16,8 @@ use bytes::BytesMut;
 use resp_value::value::Value;
 use resp_value::version::Version;
 
-/// Appends a head: the byte, the number, CR and LF. A number of one or two digits, as most are, is
-/// put there at once.
+/// Appends a head: the byte, the number, CR and LF. A number of one or two digits, the most common
+/// case, is written without a call.
 #[inline(always)]
 pub(crate) fn write_head(out: &mut BytesMut, byte: u8, number: u64)
     requires { length (decimal number) + 3 ≤ out.old.spare }
@@ -33,8 +33,8 @@ pub(crate) fn write_head(out: &mut BytesMut, byte: u8, number: u64)
     }
 }
 
-/// Appends a head with a number of three digits and more. Each byte is stored where it stays: bytes
-/// put together elsewhere and copied in one piece would have to be waited for.
+/// Appends a head with a number of at least three digits. Each byte is stored directly in its
+/// place, which is faster than building the head elsewhere and copying it.
 #[inline(never)]
 fn write_long_head(out: &mut BytesMut, byte: u8, number: u64)
     requires long { 100 ≤ number }
@@ -52,7 +52,7 @@ fn write_long_head(out: &mut BytesMut, byte: u8, number: u64)
     }
 }
 
-/// Appends a head with a number of five digits and more.
+/// Appends a head with a number of at least five digits.
 #[inline(never)]
 fn write_longer_head(out: &mut BytesMut, byte: u8, number: u64)
     requires long { 10000 ≤ number }
@@ -64,7 +64,7 @@ fn write_longer_head(out: &mut BytesMut, byte: u8, number: u64)
     out.extend_reserved(&[thousands, hundreds, tens, ones, b'\r', b'\n']);
 }
 
-/// Appends the byte and the number, which stands before the last four digits of another one.
+/// Appends the byte and the number. The last four digits of the whole number follow later.
 #[inline(always)]
 fn write_front(out: &mut BytesMut, byte: u8, number: u64)
     requires { length (decimal number) + 1 ≤ out.old.spare }
@@ -92,7 +92,7 @@ fn write_number(out: &mut BytesMut, byte: u8, number: u64)
     }
 }
 
-/// Appends the byte and a number of one digit to four.
+/// Appends the byte and a number of one to four digits.
 #[inline]
 fn write_short_number(out: &mut BytesMut, byte: u8, number: u64)
     requires short { number ≤ 9999 }
@@ -121,7 +121,7 @@ fn write_end(out: &mut BytesMut)
     out.extend_reserved(&end);
 }
 
-/// Appends Null as the version writes it.
+/// Appends Null in the form of the version.
 #[inline]
 pub(crate) fn write_null(out: &mut BytesMut, version: Version)
     requires { length (canonical_text version (scalar d.Null)) ≤ out.old.spare }
@@ -133,7 +133,7 @@ pub(crate) fn write_null(out: &mut BytesMut, version: Version)
     }
 }
 
-/// Appends a truth value.
+/// Appends a boolean.
 #[inline]
 pub(crate) fn write_bool(out: &mut BytesMut, truth: bool)
     requires { 4 ≤ out.old.spare }
@@ -272,7 +272,7 @@ pub(crate) fn write_group(members: &[Value], version: Version, byte: u8, out: &m
     write_members(members, version, out);
 }
 
-/// Appends the texts of values that stand side by side.
+/// Appends the texts of consecutive values.
 #[cycle(write)]
 fn write_members(members: &[Value], version: Version, out: &mut BytesMut)
     requires { length (texts (canonical_trees version (data_of_list (map datum_of members.now)))) ≤
@@ -285,7 +285,7 @@ fn write_members(members: &[Value], version: Version, out: &mut BytesMut)
     }
 }
 
-/// Appends the texts of keys and values in turn.
+/// Appends the texts of alternating keys and values.
 #[cycle(write)]
 #[inline(never)]
 fn write_pairs(pairs: &[(Value, Value)], version: Version, out: &mut BytesMut)

@@ -1,4 +1,4 @@
-//! Values into a buffer.
+//! Values, appended to a buffer.
 
 ghost use Rattle.resp_value.specs.Rules.{rules_under};
 ghost use Rattle.resp_encode.specs.Encodings.{IsVerdict, AppendsWhole};
@@ -23,17 +23,24 @@ use resp_value::limits::Limits;
 use resp_value::value::Value;
 use resp_value::version::Version;
 
-/// Appends the canonical text of a value, whole or not at all. Its forms are those that the Redis
-/// serialization protocol specification gives under "RESP protocol description".
+/// Appends the canonical text of a value to `out`, or leaves `out` unchanged. The forms are those
+/// of the Redis serialization protocol specification, "RESP protocol description".
 ///
-/// Refuses for the first of these that holds: the value holds a double and the limits allow none;
-/// the version lacks a type of the value (in version 2 all but Null, integers, simple strings,
-/// errors, bulk strings and arrays of these); a push stands below the top; the value is over the
-/// limit of depth, of length, of items or of total; a growth of the buffer was refused. The last
-/// never comes where the spare room of the buffer holds the text. After a refusal the buffer holds
-/// what it held.
+/// # Errors
 ///
-/// A reply of three members, in [example_encode](../../example_encode/src/main.rt):
+/// The first of these that holds. `out` is unchanged.
+///
+/// - `Double`: the value holds a double, and the limits do not allow doubles.
+/// - `NotInVersion`: the version does not have a type of the value. Version 2 has nulls, integers,
+///   simple strings, simple errors, bulk strings and arrays of these.
+/// - `NestedPush`: the value holds a push inside another value.
+/// - `OverLimits`: the value exceeds the limit of depth, length, items or total, checked in this
+///   order.
+/// - `OutOfMemory`: `out` could not grow. This never happens if its spare capacity holds the text.
+///
+/// # Examples
+///
+/// A reply of three members, from [example_encode](../../example_encode/src/main.rt):
 ///
 /// ```rust
 /// let hello = Value::Bulk(Content::new(Vec::from_slice(alloc, b"hello")?));
@@ -43,6 +50,8 @@ use resp_value::version::Version;
 /// let mut text = BytesMut::new(alloc);
 /// encode(Version::Three, &Limits::standard(), &reply, &mut text)?;
 /// ```
+///
+/// This appends `*3\r\n:42\r\n$5\r\nhello\r\n_\r\n`.
 pub fn encode(
     version: Version,
     limits: &Limits,
@@ -62,7 +71,7 @@ pub fn encode(
     Ok(())
 }
 
-/// The bytes of the text of a value, or its first fault.
+/// Returns the number of bytes of the value's text, or its first fault.
 #[cold]
 #[inline(never)]
 fn checked_value_size(
@@ -79,7 +88,7 @@ fn checked_value_size(
     checked_size(&found, version, limits)
 }
 
-/// Appends the text of a value into room that is there.
+/// Appends the text of a value. The buffer already has room for it.
 #[cold]
 #[inline(never)]
 fn write_whole(value: &Value, version: Version, out: &mut BytesMut)
@@ -89,7 +98,7 @@ fn write_whole(value: &Value, version: Version, out: &mut BytesMut)
     write_value(value, version, out);
 }
 
-/// The bytes of the text of a push of these values, or its first fault.
+/// Returns the number of bytes of the text of a push of these values, or its first fault.
 fn checked_push_size(limits: &Limits, items: &[Value]) -> Result<usize, EncodeError>
     ensures verdict { IsVerdict (rules_under Three limits.now) (push_of items.now) result }
     ensures size { IfOk result (λ size. size ≡ length (canonical_text Three (push_of items.now))) }
@@ -100,7 +109,7 @@ fn checked_push_size(limits: &Limits, items: &[Value]) -> Result<usize, EncodeEr
     checked_size(&found, Version::Three, limits)
 }
 
-/// Appends the text of a push of these values into room that is there.
+/// Appends the text of a push of these values. The buffer already has room for it.
 fn write_push(items: &[Value], out: &mut BytesMut)
     requires { length (canonical_text Three (push_of items.now)) ≤ out.old.spare }
     ensures { Fills out.old out.new (canonical_text Three (push_of items.now)) }
@@ -109,14 +118,28 @@ fn write_push(items: &[Value], out: &mut BytesMut)
 }
 
 /// Appends the canonical text of a push of these values in version 3 (Redis serialization protocol
-/// specification, "Pushes"), whole or not at all.
+/// specification, "Pushes"), or leaves `out` unchanged.
 ///
-/// Refuses as `encode` does for that push, and then the buffer holds what it held.
+/// # Errors
+///
+/// Those of [`encode`] for this push. `out` is unchanged.
+///
+/// # Examples
+///
+/// From [samples](../../samples/src/encoding.rt):
+///
+/// ```rust
+/// let kind = Value::Bulk(Content::new(Vec::from_slice(alloc, b"message")?));
+/// encode_push(&Limits::standard(), &[kind, Value::Int(1)], &mut out)?;
+/// println!(rt; "{}", out.escape_ascii())?;
+/// ```
+///
+/// This prints `>2\r\n$7\r\nmessage\r\n:1\r\n`.
 pub fn encode_push(limits: &Limits, items: &[Value], out: &mut BytesMut) -> Result<(), EncodeError>
     ensures verdict { IsVerdict (rules_under Three limits.now) (push_of items.now) result }
     ensures whole_or_nothing { AppendsWhole out.old out.new
         (canonical_text Three (push_of items.now)) result }
-    // It is a value, whatever the items hold.
+    // The push is a value of the protocol, whatever the items are.
     ensures is_value { OnOk result (IsValue (push_of items.now)) }
 {
     let size = checked_push_size(limits, items)?;
@@ -125,10 +148,22 @@ pub fn encode_push(limits: &Limits, items: &[Value], out: &mut BytesMut) -> Resu
     Ok(())
 }
 
-/// The length of the canonical text of a value in bytes, under no limits. Takes no memory.
+/// Returns the length of a value's canonical text in bytes, whatever the limits. Does not allocate.
 ///
-/// `None` exactly where the version lacks a type of the value, where a push stands below its top,
-/// and where a `u64` doesn't hold the length.
+/// Returns `None` if and only if the version does not have a type of the value, the value holds a
+/// push inside another value, or the length exceeds a `u64`.
+///
+/// # Examples
+///
+/// From [samples](../../samples/src/encoding.rt):
+///
+/// ```rust
+/// println!(rt; "{:?}", size(Version::Two, &Value::Null))?;
+/// println!(rt; "{:?}", size(Version::Three, &Value::Null))?;
+/// println!(rt; "{:?}", size(Version::Two, &Value::Bool(true)))?;
+/// ```
+///
+/// This prints `Some(5)`, `Some(3)` and `None`.
 pub fn size(version: Version, value: &Value) -> Option<u64>
     ensures length { IfSome result (λ n. n ≡ length (canonical_text version (datum_of value.now))) }
     ensures some { IsSome result ↔ (HasText version (datum_of value.now) ×

@@ -1,4 +1,4 @@
-//! Commands: arrays of bulk strings, in version 2.
+//! Commands, encoded as arrays of bulk strings in version 2.
 
 ghost use Rattle.resp_value.specs.Rules.{rules_under};
 ghost use Rattle.resp_encode.specs.Encodings.{IsVerdict, AppendsWhole};
@@ -26,7 +26,7 @@ use resp_value::kind::OpenKind;
 use resp_value::limits::Limits;
 use resp_value::version::Version;
 
-/// The measure of words as bulk strings side by side.
+/// Returns the measure of consecutive words, each as a bulk string.
 fn measure_words(words: &[Vec<u8>]) -> Measure
     ensures found { DescribesEach Two (data_of_list (map word_datum (texts_of words.now))) result }
     ensures are_values { AreValues (data_of_list (map word_datum (texts_of words.now))) }
@@ -38,7 +38,7 @@ fn measure_words(words: &[Vec<u8>]) -> Measure
     found
 }
 
-/// Appends each word as a bulk string into room that is there.
+/// Appends each word as a bulk string. The buffer already has room for them.
 fn write_each(words: &[Vec<u8>], out: &mut BytesMut)
     requires { length (texts (canonical_trees Two
         (data_of_list (map word_datum (texts_of words.now))))) ≤ out.old.spare }
@@ -50,7 +50,7 @@ fn write_each(words: &[Vec<u8>], out: &mut BytesMut)
     }
 }
 
-/// Appends the text of a command into room that is there.
+/// Appends the text of a command. The buffer already has room for it.
 fn write_words(words: &[Vec<u8>], out: &mut BytesMut)
     requires { length (canonical_text Two (command_of (texts_of words.now))) ≤ out.old.spare }
     ensures { Fills out.old out.new (canonical_text Two (command_of (texts_of words.now))) }
@@ -59,7 +59,7 @@ fn write_words(words: &[Vec<u8>], out: &mut BytesMut)
     write_each(words, out);
 }
 
-/// The bytes of a command's text, or the first limit that it breaks.
+/// Returns the number of bytes of a command's text, or the first limit that it exceeds.
 fn checked_words_size(limits: &Limits, words: &[Vec<u8>]) -> Result<usize, EncodeError>
     ensures verdict { IsVerdict (rules_under Two limits.now) (command_of (texts_of words.now))
         result }
@@ -72,8 +72,23 @@ fn checked_words_size(limits: &Limits, words: &[Vec<u8>]) -> Result<usize, Encod
     checked_size(&found, Version::Two, limits)
 }
 
-/// Whether `encode_words` takes these words: it answers as that does, but never OutOfMemory.
-/// Takes no memory.
+/// Checks whether [`encode_words`] accepts these words. Does not allocate.
+///
+/// # Errors
+///
+/// Those of [`encode_words`], except `OutOfMemory`.
+///
+/// # Examples
+///
+/// From [samples](../../samples/src/encoding.rt):
+///
+/// ```rust
+/// let limits = Limits::new(4, 64, 256)?;
+/// let words = [b"SET".to_vec(alloc)?, Vec::from_slice(alloc, &[b'x'; 65])?];
+/// println!(rt; "{:?}", check_words(&limits, words.as_slice()))?;
+/// ```
+///
+/// This prints `Err(OverLimits(Length))`.
 pub fn check_words(limits: &Limits, words: &[Vec<u8>]) -> Result<(), EncodeError>
     ensures verdict { IsVerdict (rules_under Two limits.now) (command_of (texts_of words.now))
         result }
@@ -83,11 +98,25 @@ pub fn check_words(limits: &Limits, words: &[Vec<u8>]) -> Result<(), EncodeError
     Ok(())
 }
 
-/// Appends the canonical text of a command, whole or not at all: the array of these words as bulk
-/// strings in version 2 (Redis serialization protocol specification, "Sending commands to a Redis
-/// server").
+/// Appends the canonical text of a command to `out`, or leaves `out` unchanged. The text is the
+/// array of these words as bulk strings in version 2 (Redis serialization protocol specification,
+/// "Sending commands to a Redis server").
 ///
-/// Refuses as `encode` does for that array, and then the buffer holds what it held.
+/// # Errors
+///
+/// Those of [`encode`](crate::encode) for this array. `out` is unchanged.
+///
+/// # Examples
+///
+/// From [samples](../../samples/src/encoding.rt):
+///
+/// ```rust
+/// let words = [b"GET".to_vec(alloc)?, b"hits".to_vec(alloc)?];
+/// encode_words(&Limits::standard(), words.as_slice(), &mut out)?;
+/// println!(rt; "{}", out.escape_ascii())?;
+/// ```
+///
+/// This prints `*2\r\n$3\r\nGET\r\n$4\r\nhits\r\n`.
 pub fn encode_words(
     limits: &Limits,
     words: &[Vec<u8>],
@@ -97,7 +126,7 @@ pub fn encode_words(
         result }
     ensures whole_or_nothing { AppendsWhole out.old out.new
         (canonical_text Two (command_of (texts_of words.now))) result }
-    // It is a value, whatever the words hold.
+    // The array is a value of the protocol, whatever the words are.
     ensures is_value { OnOk result (IsValue (command_of (texts_of words.now))) }
 {
     let size = checked_words_size(limits, words)?;
@@ -106,7 +135,7 @@ pub fn encode_words(
     Ok(())
 }
 
-/// The measure of words of these lengths as bulk strings side by side.
+/// Returns the measure of consecutive words of these lengths, each as a bulk string.
 fn measure_lengths(lengths: &[usize]) -> Measure
     ensures { (words : List (List ℕ)) → HaveLengths words lengths.now →
         DescribesEach Two (data_of_list (map word_datum words)) result }
@@ -118,7 +147,7 @@ fn measure_lengths(lengths: &[usize]) -> Measure
     found
 }
 
-/// The limit that a command is over, which has no other fault.
+/// Returns the limit that a command exceeds. A command has no other fault.
 fn limit_of(error: EncodeError) -> Limit
     ensures { (over : Limit) → error ≡ EncodeError.OverLimits over → result ≡ over }
 {
@@ -131,10 +160,22 @@ fn limit_of(error: EncodeError) -> Limit
     }
 }
 
-/// The bytes of the text of a command, by the lengths of its words. Takes no memory.
+/// Returns the number of bytes of a command's text, computed from the lengths of its words. Does
+/// not allocate.
 ///
-/// Refuses exactly where a command of such words is over the limits, by the first limit that it
-/// breaks.
+/// # Errors
+///
+/// The first limit that a command of such words exceeds, if there is one.
+///
+/// # Examples
+///
+/// From [samples](../../samples/src/encoding.rt):
+///
+/// ```rust
+/// println!(rt; "{:?}", words_size(&Limits::standard(), &[3, 4]))?;
+/// ```
+///
+/// This prints `Ok(23)`.
 pub fn words_size(limits: &Limits, lengths: &[usize]) -> Result<usize, Limit>
     ensures fits { (words : List (List ℕ)) → HaveLengths words lengths.now →
         OnOk result (Fits (rules_under Two limits.now) (command_of words)) }

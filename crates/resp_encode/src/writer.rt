@@ -1,4 +1,4 @@
-//! Values to a device.
+//! Values, written to a device.
 
 ghost use Rattle.resp_value.specs.Rules.{rules_under};
 ghost use Rattle.std.specs.Prelude.{◌≡◌, ◌≢◌, ◌<◌, length, IfOk, OnOk, IfErr, IsErrOf};
@@ -17,12 +17,29 @@ use resp_value::value::Value;
 use resp_value::version::Version;
 use std::alloc::Global;
 
-/// Writes the canonical text of a value by one write after another, and answers its length in
-/// bytes.
+/// Writes the canonical text of a value to a device, with as many writes as that needs, and returns
+/// its length in bytes.
 ///
-/// The text is made in memory first, so the refusals of `encode` come before anything is written.
-/// Where a write fails or takes no byte, the bytes that were written are a beginning of the text,
-/// as many as the refusal tells. No further write is made then.
+/// The text is built in memory before the first write.
+///
+/// # Errors
+///
+/// - `Refused`: an error of [`encode`](crate::encode). Nothing was written.
+/// - `Write`: a write failed or wrote no byte. The bytes written before are the first bytes of the
+///   text, and the error has their number. No further write is made.
+///
+/// # Examples
+///
+/// From [samples](../../samples/src/encoding.rt):
+///
+/// ```rust
+/// let mut sink = MemorySink::new(alloc, 64, 64)?;
+/// let limits = Limits::standard();
+/// let written = encode_to(alloc, Version::Three, &limits, &Value::Bool(true), &mut sink)?;
+/// println!(rt; "{written} {}", sink.bytes().escape_ascii())?;
+/// ```
+///
+/// This prints `4 #t\r\n`.
 pub fn encode_to<W: Sink>(
     alloc: Global,
     version: Version,
@@ -35,8 +52,8 @@ pub fn encode_to<W: Sink>(
         (canonical_text version (datum_of value.now))) }
     ensures fits { OnOk result (Fits (rules_under version limits.now) (datum_of value.now)) }
 
-    // Each fault is answered only where the value has it and no earlier one, always where it has,
-    // and before anything is written.
+    // A fault is returned only if the value has it and has no earlier fault. It is always returned
+    // then, and before anything is written.
     ensures first_fault { IfErr result (IsFirstRefusal (rules_under version limits.now)
         (datum_of value.now)) }
     ensures every_fault { (error : EncodeError) → error ≢ EncodeError.OutOfMemory →
@@ -45,7 +62,7 @@ pub fn encode_to<W: Sink>(
     ensures nothing_written { (error : EncodeError) →
         IsErrOf result (EncodeToError.Refused error) → writer.new ≡ writer.old }
 
-    // Where a write failed, the first bytes were written, as many as the refusal tells.
+    // If a write failed, the first bytes were written, as many as the error says.
     ensures part { IfErr result (IfWrite (WritesPart (W.written writer.old) (W.written writer.new)
         (W.failures writer.old) (W.failures writer.new)
         (canonical_text version (datum_of value.now)))) }

@@ -7,7 +7,7 @@ use Rattle.resp_value.specs.Trees as t
 use Rattle.resp_value.specs.Trees.{Tree, leaf, node, none, more, line, numeral, null, string, chunked, PlainNull, Counted, Streamed, text}
 use Rattle.resp_fronts.specs.Events.{Event, Null, Text, Byte, TextEnd, Open, Close, Done, Simple, Bulk, Verbatim, Big, Timed, all_events}
 
--- an event, at the index of its byte
+-- an event, with the index of its byte
 abbrev comes : ℕ → Event → Timed
 comes at event = record { at = at; event = event }
 
@@ -23,12 +23,12 @@ AnArray = HasEvents (node Array (Counted (codes "2"))
     (comes 3 (Open Array (Some 2)) ∷ comes 4 (Text Simple) ∷ comes 5 (Byte (byte "a")) ∷ comes 7 TextEnd ∷
     comes 11 (Text Bulk) ∷ comes 13 TextEnd ∷ comes 13 Close ∷ comes 13 Done ∷ [])
 
--- an attribute of no pairs, round a null
+-- an attribute without pairs that annotates a null
 abbrev pub AnAttribute : Type 0
 AnAttribute = HasEvents (node Attr (Counted (codes "0")) (more (leaf (null PlainNull)) none)) (codes "|0\r\n_\r\n")
     (comes 3 (Open Attr (Some 0)) ∷ comes 6 Null ∷ comes 6 Close ∷ comes 6 Done ∷ [])
 
--- a streamed array of a null
+-- a streamed array of one null
 abbrev pub AStreamedArray : Type 0
 AStreamedArray = HasEvents (node Array Streamed (more (leaf (null PlainNull)) none)) (codes "*?\r\n_\r\n.\r\n")
     (comes 3 (Open Array None) ∷ comes 6 Null ∷ comes 9 Close ∷ comes 9 Done ∷ [])
@@ -40,13 +40,13 @@ AVerbatimString = HasEvents (leaf (string (t.Verbatim (codes "txt")) (codes "6")
     (comes 7 (Text (Verbatim (codes "txt"))) ∷ comes 8 (Byte (byte "h")) ∷ comes 9 (Byte (byte "i")) ∷
     comes 11 TextEnd ∷ comes 11 Done ∷ [])
 
--- a big number, whose leading zeros are no content
+-- a big number, whose leading zeros are not content
 abbrev pub ABigNumber : Type 0
 ABigNumber = HasEvents (leaf (numeral t.Big Minus (codes "00120"))) (codes "(-00120\r\n")
     (comes 4 (Text (Big true)) ∷ comes 4 (Byte (byte "1")) ∷ comes 5 (Byte (byte "2")) ∷ comes 6 (Byte (byte "0")) ∷
     comes 8 TextEnd ∷ comes 8 Done ∷ [])
 
--- a big zero, which has no content, and whose events come at its end
+-- a zero big number, which has no content, and whose events come at its end
 abbrev pub ABigZero : Type 0
 ABigZero = HasEvents (leaf (numeral t.Big Minus (codes "0"))) (codes "(-0\r\n")
     (comes 4 (Text (Big false)) ∷ comes 4 TextEnd ∷ comes 4 Done ∷ [])

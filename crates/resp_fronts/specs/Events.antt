@@ -1,4 +1,4 @@
--- The events of a spelled tree, each with the index of the byte at which it comes.
+-- The events of a tree, each with the index of the byte after which it is given.
 use Rattle.std.specs.Prelude.{ℕ, ◌+◌, ◌-◌, ℤ, Option, None, Some, List, [], ◌∷◌, ◌++◌, length, cond, ltb}
 use Rattle.std.specs.Prelude.{Bool as Truth}
 use Rattle.resp_value.specs.Numbers.{number, Sign, signed_value, significant_digits, is_below_zero}
@@ -19,7 +19,7 @@ pub data TextKind : Type 0 where
   -- whether it is negative
   Big : Truth → TextKind
 
--- what a scanner tells of a value
+-- an event that a scanner gives
 pub data Event : Type 0 where
   Null : Event
   Bool : Truth → Event
@@ -28,12 +28,12 @@ pub data Event : Type 0 where
   -- one byte of a text's content
   Byte : ℕ → Event
   TextEnd : Event
-  -- with the number in its head, and with none where it is streamed
+  -- with the number in its head, or with no number if it is streamed
   Open : Kind → Option ℕ → Event
   Close : Event
   Done : Event
 
--- an event, and the index of the byte at which it comes
+-- an event, with the index of the byte after which it is given
 pub record Timed : Type 0 where
   pub at : ℕ
   pub event : Event
@@ -43,16 +43,16 @@ abbrev pub bytes_from : ℕ → List ℕ → List Timed
 bytes_from at [] = []
 bytes_from at (byte ∷ bytes) = record { at = at; event = Byte byte } ∷ bytes_from (at + 1) bytes
 
--- a text that begins at one index, whose content stands from another on, and which ends at a third
+-- a text that begins at one index, whose content begins at another, and which ends at a third
 abbrev pub text_events : TextKind → ℕ → ℕ → List ℕ → ℕ → List Timed
 text_events kind begins from content ends = record { at = begins; event = Text kind } ∷
     (bytes_from from content ++ record { at = ends; event = TextEnd } ∷ [])
 
--- the index of the last byte of a text that stands from here on
+-- the index of the last byte of a text that begins here
 abbrev pub last_of : ℕ → List ℕ → ℕ
 last_of from whole = from + length whole - 1
 
--- the kind of text that a line is
+-- the kind of text of a kind of line
 abbrev pub line_text_kind : LineKind → TextKind
 line_text_kind t.Simple = Simple
 line_text_kind t.Error = Error
@@ -62,18 +62,19 @@ line_text_kind t.Double = Double
 abbrev pub line_events : LineKind → ℕ → List ℕ → ℕ → List Timed
 line_events k from s last = text_events (line_text_kind k) from (from + 1) s last
 
--- the digits without leading zeros, of which the last has the last index but two; a zero has no content
+-- the digits without leading zeros, the last of which is two bytes before the last index; a zero has no content
 abbrev pub big_events : Truth → List ℕ → ℕ → List Timed
 big_events negative [] last = text_events (Big negative) last last [] last
 big_events negative (digit ∷ digits) last = text_events (Big negative) (last - 2 - length digits)
     (last - 2 - length digits) (digit ∷ digits) last
 
--- a number comes at its last byte, and a big one from its first digit that is no zero on
+-- the event of an integer comes at its last byte, and the events of a big number from its first digit other than zero
+-- on
 abbrev pub number_events : NumberKind → Sign → List ℕ → ℕ → List Timed
 number_events t.Int sign digits last = record { at = last; event = Int (signed_value sign digits) } ∷ []
 number_events t.Big sign digits last = big_events (is_below_zero sign digits) (significant_digits digits) last
 
--- content begins after the length's line, and that of a verbatim string after its format and the `:`
+-- content begins after the line of the length, and the content of a verbatim string after its format and the `:`
 abbrev pub string_events : StringKind → ℕ → List ℕ → List ℕ → ℕ → List Timed
 string_events t.Bulk from digits s last = text_events Bulk (from + length digits + 2) (from + length digits + 3) s last
 string_events t.BulkError from digits s last = text_events BulkError (from + length digits + 2)
@@ -82,7 +83,7 @@ string_events (t.Verbatim format) from digits s last =
     text_events (Verbatim format) (from + length digits + length format + 3) (from + length digits + length format + 4)
     s last
 
--- the content of chunks, of which the first begins at this index
+-- the content of chunks, the first of which begins at this index
 abbrev pub chunk_events : ℕ → List Chunk → List Timed
 chunk_events at [] = []
 chunk_events at (c ∷ cs) = bytes_from (at + length c.digits + 3) c.content ++
@@ -127,7 +128,7 @@ abbrev mutual
   events_each from none = []
   events_each from (more t ts) = events from t ++ events_each (from + length (text t)) ts
 
--- the events of a spelled value, Done last
+-- the events of a tree, `Done` last
 abbrev pub all_events : Tree → List Timed
 all_events t = events 0 t ++ record { at = last_of 0 (text t); event = Done } ∷ []
 
@@ -136,17 +137,17 @@ abbrev pub without_places : List Timed → List Event
 without_places [] = []
 without_places (e ∷ es) = e.event ∷ without_places es
 
--- the events that come within this many bytes
+-- the events of the first bytes, this many
 abbrev pub events_due : ℕ → List Timed → List Event
 events_due n [] = []
 events_due n (e ∷ es) = cond (ltb e.at n) (e.event ∷ events_due n es) (events_due n es)
 
--- what has come of a frame: its opening, and the events of its whole members
+-- the events of a frame so far: its opening, and the events of its complete members
 abbrev pub frame_events : ℕ → Frame → List Timed
 frame_events from frame = open_event from frame.kind frame.form ∷
     events_each (from + length (form_line frame.form) + 3) frame.done
 
--- the events of what the frames have taken
+-- the events of everything that the frames contain so far
 abbrev pub events_around : List Frame → List Timed
 events_around [] = []
 events_around (frame ∷ frames) = events_around frames ++ frame_events (length (text_around frames [])) frame

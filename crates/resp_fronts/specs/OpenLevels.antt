@@ -7,17 +7,18 @@ use Rattle.resp_value.specs.Trees.{AreTrees, Counted, Form, Streamed, count}
 use Rattle.resp_fronts.specs.Frames.{Frame}
 use Rattle.resp_fronts.specs.MayFollow.{CanAllEnd, CanEnd}
 
--- members that a scanner still counts: those to come in a counted aggregate, those taken of a streamed one
+-- the members that a scanner counts: the members to come of a counted aggregate, or the members received of a streamed
+-- one
 pub data Shape : Type 0 where
   to_come : ℕ → Shape
   so_far : ℕ → Shape
 
--- an aggregate that is open, as a scanner counts it
+-- an open aggregate, as a scanner counts it
 pub record Level : Type 0 where
   pub kind : Kind
   pub shape : Shape
 
--- an aggregate of this form that has n members
+-- an aggregate of this form with n members has this shape
 abbrev pub HasShape : Kind → Shape → Form → ℕ → Type 0
 HasShape k (to_come m) f n = (ds : List ℕ) × (f ≡ Counted ds) × IsDigits ds × (members_of k (number ds) ≡ n + m) ×
     (0 < m)
@@ -29,7 +30,7 @@ AreLevelsOf [] [] = Unit {0}
 AreLevelsOf (v ∷ vs) (f ∷ fs) = (v.kind ≡ f.kind) × HasShape f.kind v.shape f.form (count f.done) × AreLevelsOf vs fs
 AreLevelsOf _ _ = ⊥
 
--- what a scanner that waits for a member stands after
+-- the frames of a scanner that waits for a member
 abbrev pub AreReady : LeafRule → NodeRule → List Frame → Type 0
 AreReady L N [] = Unit {0}
 AreReady L N (f ∷ fs) = CanEnd N (length fs) f.kind f.form (count f.done) × AreTrees f.done ×

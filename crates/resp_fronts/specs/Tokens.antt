@@ -1,4 +1,4 @@
--- The bytes of a value so far, token by token, on a level and within the rules.
+-- The bytes of a value so far, for each token, on a level and within the rules.
 use Rattle.std.specs.Prelude.{◌≡◌, ℕ, zero, suc, ◌≤◌, false, List, [], ◌∷◌, ◌++◌, length, codes}
 use Rattle.std.specs.Str.{byte}
 use Rattle.resp_value.specs.Bytes.{IsLine, IsText, crlf}
@@ -9,7 +9,7 @@ use Rattle.resp_value.specs.Rules.{Rules, WithinItems}
 use Rattle.resp_value.specs.Trees.{Big, Bulk, Counted, Double, HasFormat, Int, IsLeaf, Leaf, LineKind, NumberKind, StringKind, kind_byte, leaf_line, leaf_rest, line_byte, number_byte, payload, string_byte}
 use Rattle.resp_value.specs.declared.version.Version.TheVariants.{Two}
 
--- whether no rule refuses lines of this kind: doubles are of version 3 alone, and only where they are allowed
+-- no rule rejects lines of this kind: only version 3 has doubles, and only if they are allowed
 abbrev pub HasLine : Rules → LineKind → Type 0
 HasLine r Double = (r.version ≡ Two → ⊥) × (r.limits.doubles ≡ false → ⊥)
 HasLine r _ = Unit {0}
@@ -42,12 +42,12 @@ abbrev pub greatest : Sign → ℕ
 greatest Minus = 9223372036854775808
 greatest _ = 9223372036854775807
 
--- what numbers of this kind may be: integers of 64 bits, and in version 3 big numbers up to the limit of length
+-- the numbers of this kind: integers of 64 bits, and in version 3 big numbers up to the limit of length
 abbrev pub MayBe : Rules → NumberKind → Sign → List ℕ → Type 0
 MayBe r Int sign digits = number digits ≤ greatest sign
 MayBe r Big sign digits = (r.version ≡ Two → ⊥) × (length (kept_digits digits) ≤ r.limits.length)
 
--- the type byte of a number, and a sign or none
+-- the type byte of a number, with or without a sign
 abbrev pub IsNumberBegun : Rules → NumberKind → Sign → ℕ → List ℕ → Type 0
 IsNumberBegun r k sign level bytes = MayBe r k sign (codes "0") × (bytes ≡ number_byte k ∷ (sign_text sign ++ []))
 
@@ -84,14 +84,14 @@ pub record IsLengthToken (r : Rules) (k : StringKind) (first : ℕ) (digits : Li
   pub fits : number (first ∷ digits) ≤ r.limits.length
   pub are : bytes ≡ string_byte k ∷ first ∷ digits
 
--- after a length's line, begun bytes of a payload of which this many are left
+-- the line of a length, and then the first bytes of a payload of which this many are left
 pub record IsContentToken (r : Rules) (k : StringKind) (first : ℕ) (digits begun : List ℕ) (left : ℕ) (level : ℕ)
     (bytes : List ℕ) : Type 0 where
   pub are_digits : IsDigits (first ∷ digits)
   pub has_string : HasString r k
   pub has_format : HasFormat k
   pub fits : number (first ∷ digits) ≤ r.limits.length
-  -- one content that begins so
+  -- some content that begins with these bytes
   pub content : List ℕ
   pub is_text : IsText content
   pub size : number (first ∷ digits) ≡ length (payload k content)
@@ -100,7 +100,7 @@ pub record IsContentToken (r : Rules) (k : StringKind) (first : ℕ) (digits beg
   pub rest_size : length rest ≡ left
   pub are : bytes ≡ (string_byte k ∷ first ∷ digits) ++ crlf begun
 
--- where nothing refuses a streamed string: version 3, with streamed forms allowed
+-- no rule rejects a streamed string: the version is 3, and streamed forms are allowed
 abbrev pub HasStreamed : Rules → Type 0
 HasStreamed r = (r.version ≡ Two → ⊥) × (r.limits.streamed ≡ false → ⊥)
 

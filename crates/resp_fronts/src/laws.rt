@@ -1,46 +1,46 @@
-//! Laws of fronts: what may follow them, the least that completes them, and the events due of them.
-//! Each is the contract of a function with an empty body.
+//! Laws of fronts: what may follow a front, the least number of bytes that completes it, and its
+//! events. Each law is the contract of a function with an empty body.
 
 ghost use Rattle.resp_fronts.specs.EventExamples.{AnArray, AnAttribute, AStreamedArray, AVerbatimString, ABigNumber, ABigZero, AStreamedString};
 ghost use Rattle.resp_fronts.specs.Laws.{WhatMayFollowContinues, WhatContinuesMayFollow, LeastCompletionSplits, ViableWhereLeastFits, AFirstByteHasItsCause, EventsDueSplit};
 
-/// A front, with anything that may follow it, spells a tree within the rules.
+/// A front together with anything that may follow it is the text of a tree within the rules.
 pub fn compose()
     ensures { WhatMayFollowContinues }
 {}
 
-/// What continues a front to the text of a tree within the rules may follow it, since no other tree
-/// begins so.
+/// If a front and a continuation together are the text of a tree within the rules, the continuation
+/// may follow the front. This holds because no other tree begins with the front.
 pub fn determine()
     ensures { WhatContinuesMayFollow }
 {}
 
-/// The least completion of a front is as long as that of the begun value and what the frames around
-/// it still need, together.
+/// The length of the least completion of a front is the length that the unfinished value needs plus
+/// the length that the open aggregates around it still need.
 pub fn follow_least()
     ensures { LeastCompletionSplits }
 {}
 
-/// A front is viable under every rule exactly where it and its least completion together are within
-/// the limit of total.
+/// A front is viable under every rule if and only if the front and its least completion together
+/// are within the limit of total.
 pub fn viable_in_all()
     ensures { ViableWhereLeastFits }
 {}
 
-/// A first byte that `first_byte_refusal` refuses has the rule that it names as its cause, and one
-/// that it does not refuse is viable within every rule but total.
+/// If `first_byte_refusal` names a rule for a first byte, this rule is the cause of the error. If
+/// it names no rule, the byte is viable under every rule except the limit of total.
 pub fn first_byte()
     ensures { AFirstByteHasItsCause }
 {}
 
-/// While a front's innermost value is unfinished, the events due are those of what the frames have
-/// taken, and then those due of this value.
+/// While the innermost value of a front is unfinished, the events of the front are the events of
+/// the parts that the open aggregates have received, followed by the events of the innermost value.
 pub fn events_due()
     ensures { EventsDueSplit }
 {}
 
-/// Seven trees with their events, worked out by hand, each with the index of the byte at which it
-/// comes.
+/// Seven trees with their events, worked out by hand. Each event has the index of the byte after
+/// which it is given.
 pub fn trees_and_their_events()
     ensures array { AnArray }
     ensures attribute { AnAttribute }

@@ -13,12 +13,12 @@ abbrev pub close_count_of : Event → ℕ
 close_count_of e.Close = 1
 close_count_of _ = 0
 
--- how many aggregates open
+-- the number of aggregates that open
 abbrev pub open_count : List Event → ℕ
 open_count [] = 0
 open_count (event ∷ es) = open_count_of event + open_count es
 
--- how many aggregates close
+-- the number of aggregates that close
 abbrev pub close_count : List Event → ℕ
 close_count [] = 0
 close_count (event ∷ es) = close_count_of event + close_count es

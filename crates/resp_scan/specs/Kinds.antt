@@ -1,4 +1,4 @@
--- The scanner's names for what the grammar names.
+-- The scanner's types, translated to the terms of the grammar.
 use Rattle.std.specs.Prelude.{◌≡◌, ℕ, List, [], ◌∷◌}
 use Rattle.resp_value.specs.Rules.{Rules, Rule}
 use Rattle.resp_value.specs.Spellings.{IsCause}
@@ -11,7 +11,7 @@ use Rattle.resp_scan.specs.declared.event.TextKind.TheVariants as text
 use Rattle.resp_value.specs.Kinds.{kind_of}
 use Rattle.resp_scan.specs.Machine.Tokens.{Place, Happening, Null, Truth, Int, Text, Digit, TextEnd, Open, Close}
 
--- the kind of text that the program's kind stands for
+-- the kind of text for a kind of the program
 abbrev pub text_kind_of : TextKind → e.TextKind
 text_kind_of text.Simple = e.Simple
 text_kind_of text.Error = e.Error
@@ -37,11 +37,11 @@ abbrev pub content_events : List ℕ → List Event
 content_events [] = []
 content_events (b ∷ bs) = e.Byte b ∷ content_events bs
 
--- the rules that a place is under
+-- the rules of a place
 abbrev pub rules_of : Place → Rules
 rules_of s = record { version = s.version; limits = s.bounds }
 
--- after the front the first rule that no spelling keeps is the one of this cause
+-- after the front, the first rule that no spelling keeps has this cause
 pub record IsRefusedFor (r : Rules) (front : List ℕ) (c : Cause) : Type 0 where
   pub rule : Rule
   pub names : c ≡ cause_of rule

@@ -1,4 +1,4 @@
--- What a caller reads of the scanner.
+-- The definitions that callers of the scanner read.
 pub mod Reading
 pub mod Listening
 pub mod Parts
@@ -6,5 +6,5 @@ pub mod Slots
 pub mod Counts
 pub mod Kinds
 pub mod Laws
--- The machine after it, which no public clause names.
+-- The machine behind them, which no public contract names.
 pub mod Machine

@@ -1,4 +1,4 @@
--- The machine by bytes: a place, what one byte makes of it, and what it has read.
+-- The machine, byte by byte: a place, the effect of one byte on it, and the meaning of the bytes it has read.
 pub mod Magnitudes
 pub mod Tokens
 pub mod Room

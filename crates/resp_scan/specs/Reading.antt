@@ -1,4 +1,4 @@
--- What a step promises of what has come, in words of texts and trees.
+-- The contracts of a step, in terms of texts and trees.
 use Rattle.std.specs.Prelude.{◌≡◌, ◌⊎◌, ℕ, ◌+◌, ◌-◌, ◌<◌, ◌≤◌, List, [], ◌∷◌, ◌++◌, length, take, Option, None, Some, Result, IfOk, IfNone}
 use Rattle.std.specs.List.{AllByRecursion}
 use Rattle.resp_value.specs.Trees.{Tree, Spells}
@@ -19,12 +19,12 @@ use Rattle.resp_scan.specs.Machine.Standing.{StandsAfter}
 abbrev pub Events : Type 0
 Events = List e.Event
 
--- a byte was refused, and this fault is answered for good
+-- a byte was rejected, and every later call returns this fault
 abbrev pub IsFaulted : Place → Fault → Type 0
 IsFaulted s fault = (s.token ≡ Dead fault.cause) × (s.taken ≡ fault.at)
 
--- What a scanner has read since a value began: it has taken the bytes of this front, and given these events of it. How
--- the scanner stands to them is opaque to callers: `new` establishes this relation, and `step` keeps it.
+-- The bytes that a scanner has read since a value began are this front, and it has given these events of them. The
+-- definition is opaque to callers: `new` establishes this relation, and `step` keeps it.
 pub record HasRead (s : Place) (front : List ℕ) (given : Events) : Type 0 where
   pub stands : StandsAfter s front given
   pub taken : s.taken ≡ length front
@@ -33,42 +33,42 @@ pub record HasRead (s : Place) (front : List ℕ) (given : Events) : Type 0 wher
 abbrev pub WhereRead : Place → (List ℕ → Events → Type 0) → Type 0
 WhereRead s P = (front : List ℕ) (given : Events) → HasRead s front given → P front given
 
--- some tree within the rules spells the front, and these are its events
+-- the front is the text of some tree within the rules, and these are its events
 pub record IsValue (r : Rules) (front : List ℕ) (given : Events) : Type 0 where
   pub tree : Tree
   pub spells : Spells tree front
   pub keeps : Keeps r WithinTotal tree
   pub told : given ≡ without_places (events 0 tree)
 
--- some tree within the rules spells the front
+-- the front is the text of some tree within the rules
 pub record IsSpelled (r : Rules) (front : List ℕ) : Type 0 where
   pub tree : Tree
   pub spells : Spells tree front
   pub keeps : Keeps r WithinTotal tree
 
--- the input may end after the front: no value was begun, or one is whole
+-- the input may end after the front: no value has begun, or a value is complete
 abbrev pub MayEnd : Rules → List ℕ → Type 0
 MayEnd r front = (front ≡ []) ⊎ IsSpelled r front
 
--- these are the events due by then of every tree that the front begins
+-- these are the events so far of every tree whose text begins with the front
 abbrev pub AreDue : List ℕ → Events → Type 0
 AreDue front es = (rest : List ℕ) (whole : Tree) → Spells whole (front ++ rest) →
     events_due (length front) (all_events whole) ≡ es
 
--- these are the first of the events due by then of every tree that the front begins
+-- these events are a prefix of the events so far of every tree whose text begins with the front
 abbrev pub BeginDue : List ℕ → Events → Type 0
 BeginDue front es = (rest : List ℕ) (whole : Tree) → Spells whole (front ++ rest) →
     (later : Events) × (events_due (length front) (all_events whole) ≡ es ++ later)
 
--- no front of the text is a spelling, in any version and under any limits
+-- the text does not begin with a spelling, in any version and under any limits
 abbrev pub HasNoValue : List ℕ → Type 0
 HasNoValue text = (n : ℕ) (tree : Tree) → Spells tree (take n text) → ⊥
 
--- no front of the text is a spelling within the rules
+-- the text does not begin with a spelling within the rules
 abbrev pub HasNoSpelling : Rules → List ℕ → Type 0
 HasNoSpelling r text = (n : ℕ) → IsSpelled r (take n text) → ⊥
 
--- any event but the end of the value
+-- any event except the end of the value
 abbrev pub IsNotDone : e.Event → Type 0
 IsNotDone e.Done = ⊥
 IsNotDone _ = Unit {0}
@@ -77,7 +77,7 @@ IsNotDone _ = Unit {0}
 abbrev pub HasNoDone : Events → Type 0
 HasNoDone given = AllByRecursion IsNotDone given
 
--- the events that an event stands for, content byte by byte
+-- the events of an event of the program, content byte by byte
 abbrev pub events_of : Event → Events
 events_of event.Null = e.Null ∷ []
 events_of (event.Bool truth) = e.Bool truth ∷ []
@@ -89,42 +89,42 @@ events_of (event.Open kind members) = e.Open (kind_of kind) members ∷ []
 events_of event.Close = e.Close ∷ []
 events_of event.Done = []
 
--- how many bytes are an event's own: the content of a part, and else the last that was taken
+-- the number of bytes of an event itself: the content of a part, and otherwise the last byte that was read
 abbrev pub own_bytes : Event → ℕ
 own_bytes (event.Part bytes) = length bytes.now
 own_bytes _ = 1
 
--- No event comes late: where bytes were used for it, the events given before it are all that were due before its own.
+-- No event comes late: if bytes were used for it, all events that come before it were given before.
 abbrev pub ComesInTime : List ℕ → Events → List ℕ → ℕ → Event → Type 0
 ComesInTime front given piece used x = 0 < used → AreDue (front ++ take (used - own_bytes x) piece) given
 
 -- Outcomes of a step.
 
--- where a step gave no event
+-- if a step gave no event
 abbrev pub IfNoEvent : Result Step Fault → (ℕ → Type 0) → Type 0
 IfNoEvent result P = IfOk result (λ step. IfNone step.event (P step.used))
 
--- where the event is Done
+-- if the event is Done
 abbrev pub OnDone : Option Event → Type 0 → Type 0
 OnDone (Some event.Done) P = P
 OnDone _ P = Unit {0}
 
--- where a step gave Done
+-- if a step gave Done
 abbrev pub IfDone : Result Step Fault → (ℕ → Type 0) → Type 0
 IfDone result P = IfOk result (λ step. OnDone step.event (P step.used))
 
--- where there is an event that isn't Done
+-- if there is an event other than Done
 abbrev pub OnOtherEvent : Option Event → (Event → Type 0) → Type 0
 OnOtherEvent None P = Unit {0}
 OnOtherEvent (Some event.Done) P = Unit {0}
 OnOtherEvent (Some event) P = P event
 
--- where a step gave an event that isn't Done
+-- if a step gave an event other than Done
 abbrev pub IfOtherEvent : Result Step Fault → (ℕ → Event → Type 0) → Type 0
 IfOtherEvent result P = IfOk result (λ step. OnOtherEvent step.event (P step.used))
 
--- the piece is used up: what came is viable, no value has ended, all events due were given, and the longer front was
--- read
+-- the piece is used up: the bytes read are viable, no value has ended, all their events were given, and the longer
+-- front was read
 pub record UsesUp (s : Place) (front : List ℕ) (given : Events) (piece : List ℕ) (used : ℕ) : Type 0 where
   pub whole_piece : used ≡ length piece
   pub viable : IsViable (rules_of s) WithinTotal (front ++ piece)
@@ -132,14 +132,16 @@ pub record UsesUp (s : Place) (front : List ℕ) (given : Events) (piece : List 
   pub all_due : AreDue (front ++ piece) given
   pub reads : HasRead s (front ++ piece) given
 
--- the bytes taken are a value and the events given are its events; no byte was used, and nothing is read of the next
+-- the bytes read are a value and the events given are its events; no byte was used, and no byte of the next value was
+-- read
 pub record EndsValue (r : Rules) (s : Place) (front : List ℕ) (given : Events) (used : ℕ) : Type 0 where
   pub no_byte : used ≡ 0
   pub is_value : IsValue r front given
   pub reads : HasRead s [] []
 
--- Of the front and the piece the bytes before the fault are viable. With the next byte they aren't, for the cause that
--- the fault names, the first in the order of the rules. All events due before were given, and no value has ended.
+-- The bytes of the front and the piece before the fault are viable. Together with the next byte they are not, because
+-- of the cause of the fault, the first in the order of the rules. All events before it were given, and no value has
+-- ended.
 pub record IsRefused (r : Rules) (front : List ℕ) (given : Events) (piece : List ℕ) (fault : Fault) : Type 0 where
   pub in_piece : length front ≤ fault.at
   pub before_end : fault.at < length (front ++ piece)

@@ -1,4 +1,4 @@
-//! Aggregates: they open after their heads, and the streamed ones close by a line of their own.
+//! Aggregates: they open after their heads, and streamed aggregates close with a line of their own.
 
 ghost use Rattle.std.specs.Prelude.{◌≡◌, ◌≤◌, ◌<◌, ◌+◌, ◌*◌, ◌^◌, ◌++◌, ◌∷◌, [], length, drop, Some, slice_index};
 
@@ -15,7 +15,7 @@ impl Machine {
     ghost use Rattle.resp_scan.specs.Machine.Moves.{may_close};
     ghost use Rattle.resp_scan.specs.Machine.Tokens.{at, Open, AtOpenCr, AtOpenLf, AtStart, AtCloseCr, AtCloseLf};
 
-    /// An aggregate opens, with `number` in its head and `members` members.
+    /// Opens an aggregate with `number` in its head and `members` members.
     #[inline]
     pub fn open(&mut self, used: usize, kind: OpenKind, number: u64, members: u64) -> Taken
         requires level { length self.old.frames.items < 128 }
@@ -33,7 +33,7 @@ impl Machine {
         self.at_boundary(used, EventTag::Open)
     }
 
-    /// Keeps the frame of one more open aggregate, the innermost, for which there is room.
+    /// Stores the frame of one more open aggregate, the innermost. There is room for it.
     #[inline]
     fn push(&mut self, frame: Frame)
         requires { length self.old.frames.items < 128 }
@@ -43,7 +43,7 @@ impl Machine {
         self.frames.push(frame);
     }
 
-    /// After the `?` of a streamed aggregate.
+    /// Reads the CR after the `?` of a streamed aggregate.
     #[inline]
     pub fn open_cr(&mut self, piece: &[u8], i: usize, kind: OpenKind) -> Taken
         requires within { i ≤ length piece.now }
@@ -62,7 +62,7 @@ impl Machine {
         self.open_lf(piece, i + 1, kind)
     }
 
-    /// The LF of a streamed aggregate's head, after which the aggregate is open.
+    /// Reads the LF of the head of a streamed aggregate. Then the aggregate is open.
     #[inline]
     pub fn open_lf(&mut self, piece: &[u8], i: usize, kind: OpenKind) -> Taken
         requires within { i ≤ length piece.now }
@@ -86,8 +86,8 @@ impl Machine {
         self.at_boundary(i + 1, EventTag::OpenStreamed)
     }
 
-    /// Whether the innermost open aggregate may close here: it is streamed, and a map between whole
-    /// pairs.
+    /// Returns whether the innermost open aggregate may close here. It has to be streamed, and a
+    /// map closes only between whole pairs.
     #[inline]
     fn may_close(&self) -> bool
         ensures { result ≡ may_close (place_of self.now).frames }
@@ -104,7 +104,7 @@ impl Machine {
         }
     }
 
-    /// At the `.` that closes a streamed aggregate.
+    /// Reads the `.` that closes a streamed aggregate.
     #[inline]
     #[tactic(auto, using(crate::proofs::Soundness::Places::close_owed))]
     pub fn close(&mut self, piece: &[u8]) -> Taken
@@ -121,7 +121,7 @@ impl Machine {
         self.close_cr(piece, 1)
     }
 
-    /// After the `.` that closes a streamed aggregate, where only CR follows.
+    /// Reads the CR after the `.` that closes a streamed aggregate.
     #[inline]
     pub fn close_cr(&mut self, piece: &[u8], i: usize) -> Taken
         requires { i ≤ length piece.now }
@@ -137,7 +137,7 @@ impl Machine {
         self.close_lf(piece, i + 1)
     }
 
-    /// The LF of a streamed aggregate's close: the innermost aggregate has ended.
+    /// Reads the LF after the `.` of a streamed aggregate. Then the innermost aggregate has ended.
     #[inline]
     pub fn close_lf(&mut self, piece: &[u8], i: usize) -> Taken
         requires { i ≤ length piece.now }

@@ -1,4 +1,4 @@
-//! Big numbers: digits of any number, of which leading zeros are passed over.
+//! Big numbers: any number of digits. Leading zeros are skipped.
 
 ghost use Rattle.resp_scan.specs.Machine.Runs.{digit_run};
 ghost use Rattle.std.specs.Prelude.{◌≡◌, ◌≤◌, ◌<◌, ◌+◌, ◌-◌, ◌^◌, length, drop};
@@ -12,7 +12,7 @@ impl Machine {
     ghost use Rattle.resp_scan.specs.Machine.Tokens.{at, Text, AtBigSign, AtBigFirst, InBigZeros, AtBigZeroLf, AtBigDigit, InBig};
     ghost use Rattle.resp_scan.specs.declared.event.TextKind.TheVariants as text;
 
-    /// After `(`. A sign brings the end no nearer.
+    /// Reads after `(`. A sign does not reduce the number of bytes that are needed.
     #[inline]
     pub fn big_sign(&mut self, piece: &[u8], i: usize) -> Taken
         requires { i ≤ length piece.now }
@@ -35,7 +35,7 @@ impl Machine {
         }
     }
 
-    /// After `(` or a sign: the first digit, without which there is no big number.
+    /// Reads the first digit, after `(` or a sign. A big number has at least one digit.
     #[inline]
     pub fn big_first(&mut self, piece: &[u8], i: usize, negative: bool) -> Taken
         requires { i ≤ length piece.now }
@@ -56,7 +56,7 @@ impl Machine {
         self.big_digit(i, negative, byte)
     }
 
-    /// After one zero or more.
+    /// Reads after one or more zeros.
     #[inline]
     pub fn big_zeros(&mut self, piece: &[u8], from: usize, negative: bool) -> Taken
         requires { from ≤ length piece.now }
@@ -82,7 +82,7 @@ impl Machine {
         self.rest(State::BigZeros, piece)
     }
 
-    /// The first digit that isn't zero: the text begins, and the digit is owed.
+    /// Reads the first digit other than zero. The text begins, and the digit is due as a part.
     #[inline]
     fn big_digit(&mut self, i: usize, negative: bool, byte: u8) -> Taken
         requires { i < 2 ^ 63 }
@@ -97,7 +97,7 @@ impl Machine {
         self.gives(i + 1, EventTag::Big)
     }
 
-    /// After zeros alone and the CR.
+    /// Reads the LF after a number of zeros alone.
     #[inline]
     pub fn big_zero_lf(&mut self, piece: &[u8], i: usize) -> Taken
         requires { i ≤ length piece.now }
@@ -115,7 +115,7 @@ impl Machine {
         self.gives(i + 1, EventTag::Big)
     }
 
-    /// Further digits, at the front of the piece.
+    /// Reads further digits, at the beginning of the piece.
     #[inline]
     pub fn big(&mut self, piece: &[u8]) -> Taken
         requires { self.old.state ≡ State.Big }
@@ -144,7 +144,7 @@ impl Machine {
     }
 }
 
-/// The digits at the front.
+/// Returns the number of digits at the beginning.
 #[inline]
 fn digit_run(s: &[u8]) -> usize
     ensures run { result ≡ digit_run s.now }

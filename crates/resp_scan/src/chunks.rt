@@ -1,4 +1,4 @@
-//! Streamed strings: chunks of counted content, and one of none that ends them.
+//! Streamed strings: chunks of counted content, ended by an empty chunk.
 
 ghost use Rattle.std.specs.Prelude.{◌≡◌, ◌≤◌, ◌<◌, ◌-◌, ◌^◌, length, drop};
 
@@ -11,7 +11,7 @@ impl Machine {
     ghost use Rattle.resp_scan.specs.Machine.Tokens.{at, at_boundary, TextEnd, AtStreamCr, AtStreamLf, AtChunk, InChunk, AtChunkCr, AtChunkLf};
     ghost use Rattle.resp_scan.specs.Machine.Heads.{chunk_at};
 
-    /// After `$?`.
+    /// Reads the CR after `$?`.
     #[inline]
     pub fn stream_cr(&mut self, piece: &[u8], i: usize) -> Taken
         requires { i ≤ length piece.now }
@@ -27,7 +27,8 @@ impl Machine {
         self.stream_lf(piece, i + 1)
     }
 
-    /// The LF of the head `$?`: the text begins, and length is the room for all of its chunks.
+    /// Reads the LF of the head `$?`. The text begins, and the limit of length is the room for all
+    /// its chunks.
     #[inline]
     pub fn stream_lf(&mut self, piece: &[u8], i: usize) -> Taken
         requires { i ≤ length piece.now }
@@ -45,7 +46,8 @@ impl Machine {
         self.gives(i + 1, EventTag::Bulk)
     }
 
-    /// Where a chunk begins, of a string of which length leaves `room`.
+    /// Reads the beginning of a chunk, in a string for which the limit of length leaves `room`
+    /// bytes.
     #[inline]
     pub fn chunk(&mut self, piece: &[u8], i: usize) -> Taken
         requires { i ≤ length piece.now }
@@ -62,7 +64,7 @@ impl Machine {
         self.head_first(piece, i + 1, Head::Chunk { room })
     }
 
-    /// After a chunk's head: its content, or the text's end where it has none.
+    /// Begins the content after the head of a chunk, or ends the text if the chunk is empty.
     #[inline]
     pub fn chunk_begins(&mut self, piece: &[u8], i: usize, count: u64, room: u64) -> Taken
         requires within { i ≤ length piece.now }
@@ -80,7 +82,7 @@ impl Machine {
         self.chunk_content(piece, i)
     }
 
-    /// A chunk's content, of which `count` bytes are still to come.
+    /// Reads the content of a chunk, of which `count` bytes are still to come.
     #[inline]
     pub fn chunk_content(&mut self, piece: &[u8], i: usize) -> Taken
         requires within { i ≤ length piece.now }
@@ -98,7 +100,7 @@ impl Machine {
         self.gives(i + run as usize, EventTag::ChunkPart)
     }
 
-    /// `count` bytes of a chunk are still to come.
+    /// Stores that `count` bytes of a chunk are still to come.
     #[inline]
     fn chunk_rests(&mut self, count: u64)
         ensures start { self.new.part_start ≡ self.old.part_start }
@@ -112,7 +114,7 @@ impl Machine {
         };
     }
 
-    /// After a chunk's content, where only CR follows.
+    /// Reads the CR after the content of a chunk.
     #[inline]
     pub fn chunk_cr(&mut self, piece: &[u8]) -> Taken
         ensures { out_of result self.new ≡
@@ -127,7 +129,7 @@ impl Machine {
         self.chunk_lf(piece, 1)
     }
 
-    /// The LF after a chunk's content, after which the next chunk begins.
+    /// Reads the LF after the content of a chunk. The next chunk begins after it.
     #[inline]
     pub fn chunk_lf(&mut self, piece: &[u8], i: usize) -> Taken
         requires { i ≤ length piece.now }

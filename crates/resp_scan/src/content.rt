@@ -1,4 +1,4 @@
-//! Counted content, whose end is found by its length, and a verbatim string's front.
+//! Counted content, which ends after a given number of bytes, and the format of a verbatim string.
 
 ghost use Rattle.std.specs.Prelude.{◌≡◌, ◌≤◌, ◌<◌, ◌^◌, ◌∷◌, [], length, drop};
 
@@ -11,7 +11,7 @@ impl Machine {
     ghost use Rattle.resp_scan.specs.Machine.Tokens.{at, InContent, AtContentCr, AtContentLf, AtFormat, AtFormatSecond, AtFormatThird, AtFormatColon};
     ghost use Rattle.resp_scan.specs.Machine.Heads.{content_at};
 
-    /// Content of `count` bytes begins.
+    /// Begins content of `count` bytes.
     #[inline]
     pub fn content_begins(&mut self, used: usize, count: u64, tag: EventTag) -> Taken
         ensures gives { result ≡ record { used = used; tag = tag } }
@@ -27,7 +27,7 @@ impl Machine {
         self.gives(used, tag)
     }
 
-    /// Content, at the front of the piece.
+    /// Reads content, at the beginning of the piece.
     #[inline]
     pub fn content(&mut self, piece: &[u8]) -> Taken
         requires { 0 < self.old.count }
@@ -41,7 +41,7 @@ impl Machine {
         self.content_begins(run as usize, self.count - run, EventTag::Part)
     }
 
-    /// After counted content, where only CR follows.
+    /// Reads the CR after counted content.
     #[inline]
     pub fn content_cr(&mut self, piece: &[u8]) -> Taken
         ensures { out_of result self.new ≡ scan 0 (at (place_of self.old) AtContentCr) piece.now }
@@ -55,7 +55,7 @@ impl Machine {
         self.content_lf(piece, 1)
     }
 
-    /// The LF after counted content: the text has ended.
+    /// Reads the LF after counted content. The text has ended.
     #[inline]
     pub fn content_lf(&mut self, piece: &[u8], i: usize) -> Taken
         requires { i ≤ length piece.now }
@@ -71,7 +71,8 @@ impl Machine {
         self.at_boundary(i + 1, EventTag::TextEnd)
     }
 
-    /// The first byte of a verbatim string's format; `count` bytes come with the front.
+    /// Reads the first byte of the format of a verbatim string. The head counts `count` bytes, with
+    /// the format and the colon.
     #[inline]
     pub fn format_first(&mut self, piece: &[u8], i: usize, count: u64) -> Taken
         requires within { i ≤ length piece.now }
@@ -86,7 +87,7 @@ impl Machine {
         self.format_second(piece, i + 1, piece[i])
     }
 
-    /// The second byte of a verbatim string's format, after this first one.
+    /// Reads the second byte of the format of a verbatim string, after this first byte.
     #[inline]
     pub fn format_second(&mut self, piece: &[u8], i: usize, first: u8) -> Taken
         requires within { i ≤ length piece.now }
@@ -102,7 +103,7 @@ impl Machine {
         self.format_third(piece, i + 1, first, piece[i])
     }
 
-    /// The third byte of a verbatim string's format, after these two.
+    /// Reads the third byte of the format of a verbatim string, after these two.
     #[inline]
     pub fn format_third(&mut self, piece: &[u8], i: usize, first: u8, second: u8) -> Taken
         requires within { i ≤ length piece.now }
@@ -118,7 +119,8 @@ impl Machine {
         self.format_colon(piece, i + 1, [first, second, piece[i]])
     }
 
-    /// The `:` after this format. The text begins, of four bytes fewer than the head counts.
+    /// Reads the `:` after this format. The text begins, and has four bytes fewer than the head
+    /// counts.
     #[inline]
     pub fn format_colon(&mut self, piece: &[u8], i: usize, format: [u8; 3]) -> Taken
         requires within { i ≤ length piece.now }

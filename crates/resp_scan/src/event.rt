@@ -1,18 +1,18 @@
-//! What a scanner tells: events, and the refusals of bytes and of calls.
+//! The events of a scanner, and its errors.
 
 use resp_value::cause::Cause;
 use resp_value::kind::OpenKind;
 use thiserror::Error;
 
-/// The kinds of text (Redis serialization protocol specification, "Simple strings", "Simple
-/// errors", "Doubles", "Bulk strings", "Bulk errors", "Verbatim strings" and "Big numbers").
+/// A kind of text (Redis serialization protocol specification, "Simple strings", "Simple errors",
+/// "Doubles", "Bulk strings", "Bulk errors", "Verbatim strings" and "Big numbers").
 #[derive(Clone, Copy, Debug, PartialEq, Eq)]
 pub enum TextKind {
     /// A simple string.
     Simple,
     /// A simple error.
     Error,
-    /// A double, whose text is its line as it came. It comes only where the limits allow doubles.
+    /// A double. Its text is its line as received. It occurs only if the limits allow doubles.
     Double,
     /// A bulk string, counted or streamed.
     Bulk,
@@ -20,84 +20,86 @@ pub enum TextKind {
     BulkError,
     /// A verbatim string, with the three bytes of its format.
     Verbatim([u8; 3]),
-    /// A big number, whose text is its digits without leading zeros. Zero has no digit, and is
-    /// never negative.
+    /// A big number. Its text is its digits without leading zeros. Zero has no digit and is never
+    /// negative.
     Big {
-        /// Whether it is below zero.
+        /// Whether the number is below zero.
         negative: bool,
     },
 }
 
-/// What stands in the bytes, in order.
+/// An event of the bytes received. The events of a value come in the order of its bytes.
 #[derive(Clone, Copy, Debug)]
 pub enum Event<'a> {
-    /// The null, in any of its spellings.
+    /// Null, in any of its encodings.
     Null,
-    /// A truth value.
+    /// A boolean.
     Bool(bool),
     /// An integer.
     Int(i64),
     /// A text begins. Its parts follow, and then [`Event::TextEnd`].
     Text(TextKind),
-    /// A run of the text's bytes, never empty. It lends the piece; the first digit of a big number
-    /// lends a constant.
+    /// Some consecutive bytes of the text, at least one. They are borrowed from the piece, except
+    /// that the first digit of a big number is borrowed from a constant.
     Part(&'a [u8]),
     /// The text has ended.
     TextEnd,
-    /// An aggregate begins, with the number of its members, or of its pairs in a map or an
-    /// attribute; none where it is streamed. Its members follow, and then [`Event::Close`].
+    /// An aggregate begins. The number is that of its members, or of its pairs if it is a map or an
+    /// attribute. It is `None` if the aggregate is streamed. Its members follow, and then
+    /// [`Event::Close`].
     Open(OpenKind, Option<u64>),
     /// The innermost aggregate has ended. An attribute ends after the value that it annotates.
     Close,
-    /// The value at the top is whole.
+    /// The outermost value is complete.
     Done,
 }
 
-/// What one step did.
+/// The result of one step.
 #[derive(Clone, Copy, Debug)]
 pub struct Step<'a> {
-    /// The number of bytes taken from the front of the piece; the whole piece where there is no
+    /// The number of bytes of the piece that were used. This is the whole piece if there is no
     /// event.
     pub used: usize,
-    /// The event that stands after them.
+    /// The event after these bytes, if there is one.
     pub event: Option<Event<'a>>,
 }
 
-/// The refusal of a byte, or of an input that ends inside a value.
+/// The error of a rejected byte, or of an input that ends inside a value.
 #[derive(Clone, Copy, Debug, PartialEq, Eq, Error)]
 #[error("{cause:?} at byte {at} of the value")]
 pub struct Fault {
-    /// Why.
+    /// The cause.
     pub cause: Cause,
-    /// The number of bytes of the value that were taken before.
+    /// The number of bytes of the value before the rejected byte, or before the end of the input.
     pub at: u64,
 }
 
-/// What one call over a piece did.
+/// The result of one call over a piece.
 #[derive(Clone, Copy, Debug, PartialEq, Eq)]
 pub struct Scanned {
-    /// The number of bytes taken from the front of the piece; the whole piece where no value has
+    /// The number of bytes of the piece that were used. This is the whole piece if no value has
     /// ended.
     pub used: usize,
-    /// Whether a value has ended after them.
+    /// Whether a value ends after these bytes.
     pub is_whole: bool,
 }
 
-/// Why a call over a piece went no further.
+/// Why a call over a piece has stopped.
 #[derive(Clone, Copy, Debug, PartialEq, Eq, Error)]
 pub enum ScanError {
-    /// A byte was refused.
+    /// A byte was rejected.
     #[error(transparent)]
     Fault(Fault),
-    /// The listener stopped.
+    /// The listener returned false.
     #[error("the listener stopped after {taken} bytes of the value")]
     Stopped {
-        /// The number of bytes of the value that were taken, with those of what it was told last.
+        /// The number of bytes of the value that were read, up to the event at which the listener
+        /// stopped.
         taken: u64,
     },
 }
 
-/// The refusal of a change of version: a value was begun, or a byte was refused.
+/// The error of a change of version inside a value or after a fault.
 #[derive(Clone, Copy, Debug, PartialEq, Eq, Error)]
 #[error("a value was begun")]
 pub struct Busy;

@@ -1,21 +1,23 @@
-//! What is kept of an open aggregate.
+//! The state that is kept for an open aggregate.
 
 use resp_value::kind::OpenKind;
 
 /// An open aggregate.
 #[derive(Clone, Copy)]
 pub struct Frame {
+    /// Its kind.
     pub kind: OpenKind,
+    /// The members that it counts.
     pub shape: Shape,
 }
 
-/// How many members an aggregate still counts. Keys and values are members of a map, and those of
-/// an attribute and the value that it annotates are members of it.
+/// The number of members of an open aggregate. The keys and values of a map are its members. The
+/// keys and values of an attribute and the value that it annotates are its members.
 #[derive(Clone, Copy)]
 pub enum Shape {
-    /// How many members are still to begin.
+    /// The number of members that have not begun.
     Left(u64),
-    /// How many members of a streamed aggregate have begun.
+    /// The number of members of a streamed aggregate that have begun.
     Begun(u64),
 }
 

@@ -1,5 +1,4 @@
-//! Heads: the number that counts a content's bytes or an aggregate's members, and what stands in
-//! its place.
+//! Heads of strings and aggregates: the number of bytes or members, or `-1` or `?` in its place.
 
 ghost use Rattle.resp_scan.specs.Machine.Heads.{head_needed, streamed_kind, may_end};
 ghost use Rattle.resp_scan.specs.Machine.Moves.{is_digit};
@@ -11,8 +10,8 @@ use resp_value::cause::Cause;
 use resp_value::kind::OpenKind;
 use resp_value::version::Version;
 
-/// After a number of at least this the digits are judged one by one, so that none is too great to
-/// be counted. Few numbers are.
+/// From this number on the digits are checked one by one, which keeps the number within range. Most
+/// numbers are smaller.
 const MOST_JUDGED: u64 = 1 << 30;
 
 impl Machine {
@@ -23,7 +22,7 @@ impl Machine {
     ghost use Rattle.resp_scan.specs.Machine.Moves.{full_cause};
     ghost use Rattle.resp_scan.specs.Machine.Sound.{IsWithinRoom};
 
-    /// After `$`: a number, `-1` for the null, or `?` for a streamed string.
+    /// Reads after `$`: a number, `-1` for null, or `?` for a streamed string.
     #[inline(always)]
     pub fn bulk_head(&mut self, piece: &[u8], i: usize) -> Taken
         requires { i ≤ length piece.now }
@@ -47,7 +46,7 @@ impl Machine {
         }
     }
 
-    /// After `*`: a number, `-1` for the null, or `?` for a streamed array.
+    /// Reads after `*`: a number, `-1` for null, or `?` for a streamed array.
     #[inline(never)]
     pub fn array_head(&mut self, piece: &[u8], i: usize) -> Taken
         requires { i ≤ length piece.now }
@@ -75,7 +74,8 @@ impl Machine {
         self.head_first(piece, i, Head::Array)
     }
 
-    /// What refuses this byte after the `*` of an array that would be a level too deep.
+    /// Returns the cause of rejecting this byte after the `*` of an array that exceeds the limit of
+    /// depth.
     #[inline]
     fn full_cause(&self, byte: u8) -> Cause
         ensures { result ≡ full_cause (place_of self.now) byte }
@@ -98,7 +98,7 @@ impl Machine {
         }
     }
 
-    /// What refuses the `?` of a streamed string.
+    /// Returns the cause of rejecting the `?` of a streamed string, if it is rejected.
     #[inline]
     fn streamed_string(&self, used: usize) -> Option<Cause>
         requires { used ≤ 2 ^ 63 }
@@ -116,7 +116,7 @@ impl Machine {
         }
     }
 
-    /// What refuses the `?` of a streamed aggregate.
+    /// Returns the cause of rejecting the `?` of a streamed aggregate, if it is rejected.
     #[inline]
     fn streamed_aggregate(&self, used: usize) -> Option<Cause>
         requires { used ≤ 2 ^ 63 }
@@ -137,7 +137,7 @@ impl Machine {
         }
     }
 
-    /// At a head's first digit, or at the `?` of a streamed aggregate.
+    /// Reads the first digit of a head, or the `?` of a streamed aggregate.
     #[inline(always)]
     pub fn head_first(&mut self, piece: &[u8], i: usize, head: Head) -> Taken
         requires within { i ≤ length piece.now }
@@ -165,7 +165,8 @@ impl Machine {
         self.head_digits(piece, i, head)
     }
 
-    /// At a head's first digit. The digits are run over first, and judged together where they end.
+    /// Reads a head from its first digit. All digits in the piece are read first and then checked
+    /// together.
     #[inline(always)]
     fn head_digits(&mut self, piece: &[u8], i: usize, head: Head) -> Taken
         requires within { i < length piece.now }
@@ -192,7 +193,8 @@ impl Machine {
         self.head_by_digits(piece, i, head)
     }
 
-    /// The same digit by digit, where they go on in the next piece, or one of them may be refused.
+    /// As `head_digits`, digit by digit. It is needed if the digits continue in the next piece or
+    /// one of them may be rejected.
     #[cold]
     #[inline(never)]
     fn head_by_digits(&mut self, piece: &[u8], i: usize, head: Head) -> Taken
@@ -209,7 +211,7 @@ impl Machine {
         }
     }
 
-    /// After a head's digit, digit by digit.
+    /// Reads after a digit of a head, digit by digit.
     #[inline(never)]
     pub fn head_more(&mut self, piece: &[u8], from: usize, head: Head, first: u64) -> Taken
         requires within { from ≤ length piece.now }
@@ -239,7 +241,8 @@ impl Machine {
         self.rest(State::HeadMore, piece)
     }
 
-    /// What refuses a head's digit, which makes its number this: length or items, and then total.
+    /// Returns the cause of rejecting a digit of a head that makes its number this: length or
+    /// items, and then total.
     #[inline]
     fn over(&self, used: usize, head: Head, number: u64) -> Option<Cause>
         requires index { used ≤ 2 ^ 63 }
@@ -270,7 +273,7 @@ impl Machine {
         self.over_total(used, needed_after(head, number))
     }
 
-    /// The LF of a head with this number, after which a string, a chunk or an aggregate begins.
+    /// Reads the LF of a head with this number. A string, a chunk or an aggregate begins after it.
     #[inline(always)]
     pub fn head_lf(&mut self, piece: &[u8], i: usize, head: Head, number: u64) -> Taken
         requires within { i ≤ length piece.now }
@@ -304,7 +307,7 @@ impl Machine {
     }
 }
 
-/// The kinds of aggregate that may be streamed.
+/// Returns the kind of aggregate, if it may be streamed.
 #[inline]
 fn streamed_kind(head: Head) -> Option<OpenKind>
     ensures { result ≡ streamed_kind head }
@@ -317,7 +320,8 @@ fn streamed_kind(head: Head) -> Option<OpenKind>
     }
 }
 
-/// Whether a head may end with this number: a verbatim string has four bytes before its text.
+/// Returns whether a head may end with this number. A verbatim string has four bytes before its
+/// text.
 #[inline]
 fn may_end(head: Head, number: u64) -> bool
     ensures { result ≡ may_end head number }

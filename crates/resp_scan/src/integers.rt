@@ -1,4 +1,4 @@
-//! Integers: digits after a sign or none, of which 64 bits hold the number.
+//! Integers: a sign or no sign, and digits of a number of 64 bits.
 
 ghost use Rattle.std.specs.Prelude.{◌≡◌, ◌≤◌, ◌<◌, length, drop};
 ghost use Rattle.resp_scan.specs.Machine.Magnitudes.{greatest_magnitude};
@@ -12,7 +12,7 @@ impl Machine {
     ghost use Rattle.resp_scan.specs.Machine.Scan.{scan};
     ghost use Rattle.resp_scan.specs.Machine.Tokens.{at, AtIntSign, AtIntFirst, InInt, AtIntLf};
 
-    /// After `:`. A sign brings the end no nearer.
+    /// Reads after `:`. A sign does not reduce the number of bytes that are needed.
     #[inline]
     pub fn int_sign(&mut self, piece: &[u8], i: usize) -> Taken
         requires { i ≤ length piece.now }
@@ -32,7 +32,7 @@ impl Machine {
         }
     }
 
-    /// After a sign: apart, since few integers have one.
+    /// Reads after a sign. It is not inlined, since few integers have a sign.
     #[inline(never)]
     pub fn int_signed(&mut self, piece: &[u8], i: usize, negative: bool) -> Taken
         requires { i ≤ length piece.now }
@@ -42,7 +42,7 @@ impl Machine {
         self.int_first(piece, i, negative)
     }
 
-    /// After `:` or a sign: the first digit, without which there is no integer.
+    /// Reads the first digit, after `:` or a sign. An integer has at least one digit.
     #[inline(always)]
     pub fn int_first(&mut self, piece: &[u8], i: usize, negative: bool) -> Taken
         requires { i ≤ length piece.now }
@@ -59,7 +59,7 @@ impl Machine {
         self.int_more(piece, i + 1, negative, piece[i] as u64 - b'0' as u64)
     }
 
-    /// After a digit. The digits are run over first, and judged together where they end.
+    /// Reads after a digit. All digits in the piece are read first and then checked together.
     #[inline(always)]
     pub fn int_more(&mut self, piece: &[u8], from: usize, negative: bool, first: u64) -> Taken
         requires within { from ≤ length piece.now }
@@ -84,7 +84,8 @@ impl Machine {
         self.int_by_digits(piece, from, negative, first)
     }
 
-    /// The same digit by digit, where they go on in the next piece, or one of them may be refused.
+    /// As `int_more`, digit by digit. It is needed if the digits continue in the next piece or one
+    /// of them may be rejected.
     #[cold]
     #[inline(never)]
     pub fn int_by_digits(&mut self, piece: &[u8], from: usize, negative: bool, first: u64) -> Taken
@@ -120,7 +121,7 @@ impl Machine {
         self.rest(State::Int, piece)
     }
 
-    /// The LF of an integer of this sign and magnitude, at which it is given.
+    /// Reads the LF of an integer of this sign and magnitude, and gives the integer.
     #[inline]
     pub fn int_lf(&mut self, piece: &[u8], i: usize, negative: bool, magnitude: u64) -> Taken
         requires within { i ≤ length piece.now }
@@ -141,7 +142,8 @@ impl Machine {
     }
 }
 
-/// The integer of this sign and magnitude. The magnitude of the least one is no `i64`.
+/// Returns the integer of this sign and magnitude. The magnitude of the least `i64` does not fit an
+/// `i64`.
 #[inline]
 fn with_sign(negative: bool, magnitude: u64) -> i64
     requires { magnitude ≤ greatest_magnitude negative }

@@ -1,9 +1,10 @@
-//! Reads RESP2 and RESP3 as bytes come, in pieces of any size, and gives events. No call takes
-//! memory.
+//! An incremental parser of RESP2 and RESP3. It reads bytes in pieces of any size and returns
+//! events. It never allocates.
 //!
-//! A [`scanner::Scanner`] keeps what it needs of a value in a few numbers and in one small frame
-//! for each open aggregate, at most 128. Content isn't kept: it is lent from the caller's piece. A
-//! byte is refused where no value that is within the limits goes on so, and no later.
+//! A [`scanner::Scanner`] keeps a few numbers for the current value and one small frame for each
+//! open aggregate, at most 128. It does not keep content: an event borrows content from the
+//! caller's piece. The scanner reports an error at the first byte that no value within the limits
+//! could contain there.
 #![tactic(auto)]
 
 mod aggregates;

@@ -1,4 +1,4 @@
-//! Simple strings and errors: one line, whose content is found by vectors.
+//! Simple strings and simple errors: one line, whose end is found with vector instructions.
 
 ghost use Rattle.resp_scan.specs.Machine.Runs.{plain_run, run_to};
 ghost use Rattle.std.specs.Prelude.{◌≡◌, ◌≤◌, length, drop};
@@ -12,7 +12,7 @@ impl Machine {
     ghost use Rattle.resp_scan.specs.Machine.Scan.{scan};
     ghost use Rattle.resp_scan.specs.Machine.Tokens.{at, InLine, AtLineLf};
 
-    /// A line's content, at the front of the piece.
+    /// Reads the content of a line, at the beginning of the piece.
     #[inline]
     pub fn line(&mut self, piece: &[u8]) -> Taken
         requires { self.old.state ≡ State.Line }
@@ -40,7 +40,7 @@ impl Machine {
         self.fail(0, Cause::Total)
     }
 
-    /// The LF of a line, or of a big number that isn't zero.
+    /// Reads the LF of a line, or of a big number other than zero.
     #[inline]
     pub fn line_lf(&mut self, piece: &[u8], i: usize) -> Taken
         requires { i ≤ length piece.now }
@@ -57,7 +57,8 @@ impl Machine {
     }
 }
 
-/// The bytes before the first CR or LF: the first few by hand, then by vectors.
+/// Returns the number of bytes before the first CR or LF. The first few bytes are checked one by
+/// one, the others with vector instructions.
 #[inline]
 pub fn line_run(s: &[u8]) -> usize
     ensures run { result ≡ plain_run s.now }
@@ -67,14 +68,14 @@ pub fn line_run(s: &[u8]) -> usize
     for i in 0..near {
         let byte = s[i];
         if byte <= b'\r' {
-            // An LF or another byte below CR is rare, and so it is sought in the other way.
+            // An LF or another byte below CR is rare, so the other search handles it.
             return if byte == b'\r' { i } else { far_run(s) };
         }
     }
     far_run(s)
 }
 
-/// The same by vectors alone: a CR is sought first, and then an LF before it.
+/// As `line_run`, with vector instructions alone: searches for a CR, and then for an LF before it.
 #[inline(never)]
 fn far_run(s: &[u8]) -> usize
     ensures run { result ≡ plain_run s.now }
@@ -84,7 +85,8 @@ fn far_run(s: &[u8]) -> usize
     run_to(b'\n', &s[..cr])
 }
 
-/// How many bytes stand before the first that is this one; all of them where none is.
+/// Returns the number of bytes before the first byte equal to `byte`, or the number of all bytes if
+/// there is no such byte.
 #[inline]
 fn run_to(byte: u8, s: &[u8]) -> usize
     ensures value { result ≡ run_to byte s.now }

@@ -1,4 +1,4 @@
-//! The loop over a piece: what stands in it is told to a listener, up to the end of a value.
+//! The loop over a piece, which passes its events to a listener up to the end of a value.
 
 ghost use Rattle.std.specs.Prelude.{◌≡◌, ◌≤◌, ◌<◌, ◌+◌, ◌-◌, ◌^◌, ◌++◌, Bool, Err, length, IfErr, IfOk, IfSome, false, min, take, drop, true};
 ghost use Rattle.resp_scan.specs.Machine.Runs.{plain_run};
@@ -12,25 +12,27 @@ use crate::step::{digit_text, run};
 use crate::step_into::Stands;
 use resp_value::cause::Cause;
 
-/// What came of one turn of the loop.
+/// The result of one turn of the loop.
 #[derive(Clone, Copy)]
 pub enum Turn {
-    /// The listener goes on.
+    /// The listener continues.
     On,
     /// The piece has ended.
     More,
     /// The value has ended.
     Done,
-    /// A byte was refused.
+    /// A byte was rejected.
     Failed,
     /// The listener stopped.
     Stopped,
 }
 
-/// The bytes that one turn used, and what came of it.
+/// The number of bytes that one turn used, and its result.
 #[derive(Clone, Copy)]
 pub struct Turned {
+    /// The number of bytes used.
     pub used: usize,
+    /// The result.
     pub turn: Turn,
 }
 
@@ -46,7 +48,7 @@ impl Machine {
     ghost use Rattle.resp_scan.specs.declared.event.Fault.{Fault};
     ghost use Rattle.resp_scan.specs.Machine.Turns.{IsLineTag, IsTurn, LeavesContent};
 
-    /// Tells the listener what stands in the piece, up to the end of a value.
+    /// Passes the events of the piece to the listener, up to the end of a value.
     #[inline(always)]
     pub fn scan<L: Listener>(
         &mut self,
@@ -121,8 +123,8 @@ impl Machine {
         }
     }
 
-    /// Whether a value at the top has ended, after which the next one may begin. Asked after each
-    /// event, since one more turn would cost more.
+    /// Returns whether the outermost value has ended and the next value may begin. This is checked
+    /// after each event, because another turn of the loop would be slower.
     #[inline(always)]
     #[tactic(auto, using(crate::proofs::Soundness::Places::sound_member))]
     fn begins_anew(&mut self, rest: &[u8]) -> bool
@@ -142,8 +144,8 @@ impl Machine {
         true
     }
 
-    /// Whether the piece has ended inside the content of a value at the top, as it mostly does where
-    /// it cuts one. Asked after each event, since one more turn would cost more.
+    /// Returns whether the piece ends inside the content of the outermost value, the most common
+    /// place. This is checked after each event, because another turn of the loop would be slower.
     #[inline(always)]
     fn is_cut(&self, rest: &[u8]) -> bool
         ensures cut { result ≡ true →
@@ -158,7 +160,7 @@ impl Machine {
         rest.is_empty()
     }
 
-    /// No byte is read any more.
+    /// Stops reading for good.
     #[cold]
     #[inline(never)]
     fn stop(&mut self)
@@ -168,7 +170,7 @@ impl Machine {
         self.cause = Cause::OutOfMemory;
     }
 
-    /// Goes on from the token in which the rest begins, and tells what it comes to.
+    /// Continues from the token in which the rest begins, and passes its event.
     #[inline(always)]
     fn turn<L: Listener>(&mut self, rest: &[u8], listener: &mut L) -> Turned
         requires { IsSound (place_of self.old) }
@@ -189,7 +191,7 @@ impl Machine {
         }
     }
 
-    /// Tells what a value's first byte comes to: a text whole where it ends in this rest.
+    /// Passes the event of a value's first byte, or a complete text if it ends in this rest.
     #[inline(always)]
     fn tell_value<L: Listener>(&mut self, rest: &[u8], listener: &mut L) -> Turned
         requires sound { IsSound (at (place_of self.old) AtStart) }
@@ -216,7 +218,7 @@ impl Machine {
         self.tell_begun(rest, taken, listener)
     }
 
-    /// Tells what has come of a first byte: a text whole where it ends in this rest.
+    /// Passes the event of a first byte that was read, or a complete text if it ends in this rest.
     #[inline(always)]
     fn tell_begun<L: Listener>(&mut self, rest: &[u8], taken: Taken, listener: &mut L) -> Turned
         requires { (s : Place) × IsSound s × (out_of taken self.old ≡ out_from s rest.now) }
@@ -235,8 +237,7 @@ impl Machine {
         }
     }
 
-    /// The same inside a token: inside counted content without a call, since it is what is mostly
-    /// cut.
+    /// Continues inside a token. Counted content, the most common case, is handled without a call.
     #[inline(always)]
     pub fn resume_content(&mut self, rest: &[u8]) -> Taken
         requires { IsSound (place_of self.old) }
@@ -250,7 +251,7 @@ impl Machine {
         self.resume(rest)
     }
 
-    /// Tells a line of text: whole where it ends in this rest, and else that it begins.
+    /// Passes a line of text: the complete text if it ends in this rest, otherwise its beginning.
     #[inline(always)]
     fn tell_line<L: Listener>(
         &mut self,
@@ -274,7 +275,7 @@ impl Machine {
         }
     }
 
-    /// Tells a counted string: whole where it ends in this rest, and else that it begins.
+    /// Passes a counted string: the complete text if it ends in this rest, otherwise its beginning.
     #[inline(always)]
     fn tell_content<L: Listener>(&mut self, rest: &[u8], taken: Taken, listener: &mut L) -> Turned
         requires whole { (s : Place) × IsSound s × (out_of taken self.old ≡ out_from s rest.now) }
@@ -292,7 +293,8 @@ impl Machine {
         }
     }
 
-    /// Tells a text of `run` bytes after the first `head`, with its CR LF.
+    /// Passes a text of `run` bytes that begins after the first `head` bytes and has a CR LF after
+    /// it.
     #[inline(always)]
     fn tell_whole<L: Listener>(
         &mut self,
@@ -319,8 +321,8 @@ impl Machine {
         told(used, listener.whole_text(kind, &rest[head..head + run]))
     }
 
-    /// How many bytes of a line stand before its CR LF, where these stand in this piece. The
-    /// `head` bytes before it aren't counted yet.
+    /// Returns the number of bytes of a line before its CR LF, if the CR LF is in this piece. The
+    /// `head` bytes before the line have not been counted yet.
     #[inline(always)]
     pub fn whole_line(&self, piece: &[u8], head: usize) -> Option<usize>
         requires { head ≤ 2 ^ 63 }
@@ -338,7 +340,8 @@ impl Machine {
         ends_at(piece, run)
     }
 
-    /// How many bytes of counted content stand before its CR LF, where these stand in this piece.
+    /// Returns the number of bytes of counted content before its CR LF, if the CR LF is in this
+    /// piece.
     #[inline(always)]
     pub fn whole_content(&self, piece: &[u8]) -> Option<usize>
         ensures few { IfSome result (λ run. run ≤ 2 ^ 63) }
@@ -354,7 +357,7 @@ impl Machine {
         ends_at(piece, self.count as usize)
     }
 
-    /// The same for a string of no bytes, and for one that is streamed.
+    /// As `whole_content`, for an empty string and for a streamed string.
     #[cold]
     #[inline(never)]
     fn no_content(&self, piece: &[u8]) -> Option<usize>
@@ -368,7 +371,7 @@ impl Machine {
         }
     }
 
-    /// Tells the event that an answer of a token stands for.
+    /// Passes the event for the result of a token.
     #[inline(always)]
     fn tell<L: Listener>(&mut self, rest: &[u8], taken: Taken, listener: &mut L) -> Turned
         requires { (s : Place) × IsSound s × (out_of taken self.old ≡ out_from s rest.now) }
@@ -408,7 +411,7 @@ impl Machine {
     }
 }
 
-/// An event that is owed of bytes that were taken.
+/// Returns an event of bytes that were already read.
 #[inline(always)]
 fn owed(tag: EventTag) -> Taken
     ensures { result ≡ record { used = 0; tag = tag } }
@@ -416,7 +419,7 @@ fn owed(tag: EventTag) -> Taken
     Taken { used: 0, tag }
 }
 
-/// A turn that told the listener nothing.
+/// Returns a turn that passed no event to the listener.
 #[inline]
 fn ends(used: usize, turn: Turn) -> Turned
     ensures { result ≡ record { used = used; turn = turn } }
@@ -424,7 +427,7 @@ fn ends(used: usize, turn: Turn) -> Turned
     Turned { used, turn }
 }
 
-/// A turn that told the listener an event, which answered whether to go on.
+/// Returns a turn that passed an event, with the listener's decision whether to continue.
 #[inline]
 fn told(used: usize, goes_on: bool) -> Turned
     ensures told { result ≡ record { used = used; turn = turn_of goes_on } }
@@ -434,7 +437,7 @@ fn told(used: usize, goes_on: bool) -> Turned
     Turned { used, turn }
 }
 
-/// The bytes from this index on.
+/// Returns the bytes from this index on.
 #[inline]
 pub fn beyond(piece: &[u8], from: usize) -> &[u8]
     requires { from ≤ length piece.now }
@@ -443,7 +446,7 @@ pub fn beyond(piece: &[u8], from: usize) -> &[u8]
     &piece[from..]
 }
 
-/// This index, where CR LF stand there.
+/// Returns this index if CR LF begins at it.
 #[inline]
 pub fn ends_at(piece: &[u8], run: usize) -> Option<usize>
     ensures { IfSome result (λ at. (at ≡ run) × EndsAt piece.now run) }

@@ -1,4 +1,4 @@
-//! Who is told what stands in the bytes.
+//! Receivers of all events of a value.
 
 ghost use Rattle.std.specs.Prelude.{[], ◌∷◌, ◌<◌, length};
 ghost use Rattle.resp_fronts.specs.Events as e;
@@ -10,28 +10,51 @@ ghost use Rattle.resp_scan.specs.Listening.{Hears, IsTextOf, whole_text_events};
 use crate::event::TextKind;
 use resp_value::kind::OpenKind;
 
-/// Is told the events of a value, in order. Each call answers whether to go on; where it answers
-/// false, the scanner stops for good.
+/// A receiver of the events of a value, in order. Each call returns whether to continue. If it
+/// returns false, the scanner stops for good.
 ///
-/// What a listener has heard it says in the words of a ghost member, so that it needn't keep the
-/// events themselves: a decoder says that it holds their values, a counter that it has their
-/// number, and a writer that their text was written after what it held before.
+/// The ghost members state what a listener knows of the events, so that it does not have to store
+/// them. For example, a decoder states that it holds their values, a counter that it has their
+/// number, and a writer that their text was written after its earlier contents.
+///
+/// # Examples
+///
+/// A listener that counts integers and states nothing, from
+/// [samples](../../samples/src/scanning.rt). The functions for the other events return true.
+///
+/// ```rust
+/// impl Listener for Counter {
+///     ghost Origin = { Unit {0} };
+///
+///     ghost has_heard = { λ _ _ _. Unit {0} };
+///
+///     ghost has_stopped = { λ _ _ _. Unit {0} };
+///     // ..
+///     fn int(&mut self, _number: i64) -> bool {
+///         self.integers = self.integers.saturating_add(1);
+///         true
+///     }
+///     // ..
+/// }
+/// ```
 pub trait Listener {
-    /// What it has to know of the time before it listened, such as what was held then.
+    /// The state before the value began that the listener has to remember, such as the text that
+    /// was already written.
     ghost Origin: { Type 0 };
 
-    /// The events that it has heard of the value, since that time.
+    /// Holds if the listener has received exactly these events of the value, since that state.
     ghost has_heard: { Self → Origin → Events → Type 0 };
 
-    /// It was told these events since then, and has stopped at the last of them.
+    /// Holds if the listener has received these events since that state, and stopped at the last of
+    /// them.
     ghost has_stopped: { Self → Origin → Events → Type 0 };
 
-    /// The null, in any of its spellings.
+    /// Null, in any of its encodings.
     fn null(&mut self) -> bool
         ensures { Hears (has_heard self.old) (has_heard self.new) (has_stopped self.new)
             (e.Null ∷ []) result };
 
-    /// A truth value.
+    /// A boolean.
     fn truth(&mut self, truth: bool) -> bool
         ensures { Hears (has_heard self.old) (has_heard self.new) (has_stopped self.new)
             (e.Bool truth ∷ []) result };
@@ -46,8 +69,8 @@ pub trait Listener {
         ensures { Hears (has_heard self.old) (has_heard self.new) (has_stopped self.new)
             (e.Text (text_kind_of kind) ∷ []) result };
 
-    /// A run of the text's bytes, never empty. It lends the piece, or for the first digit of a big
-    /// number a constant.
+    /// Some consecutive bytes of the text, at least one. They are borrowed from the piece, except
+    /// that the first digit of a big number is borrowed from a constant.
     fn part(&mut self, part: &[u8]) -> bool
         requires { 0 < length part.now }
         ensures { Hears (has_heard self.old) (has_heard self.new) (has_stopped self.new)
@@ -58,8 +81,9 @@ pub trait Listener {
         ensures { Hears (has_heard self.old) (has_heard self.new) (has_stopped self.new)
             (e.TextEnd ∷ []) result };
 
-    /// An aggregate begins, with the number of its members, or of its pairs in a map or an
-    /// attribute; none where it is streamed. Its members follow, and then its close.
+    /// An aggregate begins. The number is that of its members, or of its pairs if it is a map or an
+    /// attribute. It is `None` if the aggregate is streamed. Its members follow, and then its
+    /// close.
     fn open(&mut self, kind: OpenKind, count: Option<u64>) -> bool
         ensures { Hears (has_heard self.old) (has_heard self.new) (has_stopped self.new)
             (e.Open (kind_of kind) count ∷ []) result };
@@ -69,9 +93,12 @@ pub trait Listener {
         ensures { Hears (has_heard self.old) (has_heard self.new) (has_stopped self.new)
             (e.Close ∷ []) result };
 
-    /// A simple string, an error or a counted bulk string that lies in the piece with its end. That
-    /// one is told so is not promised: it may be told by [`Listener::text`], [`Listener::part`] and
-    /// [`Listener::text_end`], as this does where it isn't written.
+    /// A simple string, a simple error, a double or a counted bulk string that lies completely in
+    /// the piece.
+    ///
+    /// The scanner may deliver a complete text in this one call, but is not required to. It may
+    /// call [`Listener::text`], [`Listener::part`] and [`Listener::text_end`] instead, as the
+    /// default implementation of this function does.
     fn whole_text(&mut self, kind: TextKind, bytes: &[u8]) -> bool
         requires { IsTextOf kind bytes.now }
         ensures { Hears (has_heard self.old) (has_heard self.new) (has_stopped self.new)

@@ -1,4 +1,4 @@
-//! Nulls and truth values.
+//! Nulls and booleans.
 
 ghost use Rattle.std.specs.Prelude.{◌≡◌, ◌≤◌, length, drop};
 
@@ -10,7 +10,7 @@ impl Machine {
     ghost use Rattle.resp_scan.specs.Machine.Scan.{scan};
     ghost use Rattle.resp_scan.specs.Machine.Tokens.{at, AtNullOne, AtNullCr, AtNullLf, AtBool, AtBoolCr, AtBoolLf};
 
-    /// After `$-` or `*-`, where only `1` follows.
+    /// Reads the `1` after `$-` or `*-`.
     #[inline]
     pub fn null_one(&mut self, piece: &[u8], i: usize) -> Taken
         requires { i ≤ length piece.now }
@@ -26,7 +26,7 @@ impl Machine {
         self.null_cr(piece, i + 1)
     }
 
-    /// After `_`, `$-1` or `*-1`, where only CR follows.
+    /// Reads the CR after `_`, `$-1` or `*-1`.
     #[inline]
     pub fn null_cr(&mut self, piece: &[u8], i: usize) -> Taken
         requires { i ≤ length piece.now }
@@ -42,7 +42,7 @@ impl Machine {
         self.null_lf(piece, i + 1)
     }
 
-    /// The LF of a null, at which it is given.
+    /// Reads the LF of a null, and gives the null.
     #[inline]
     pub fn null_lf(&mut self, piece: &[u8], i: usize) -> Taken
         requires { i ≤ length piece.now }
@@ -58,7 +58,7 @@ impl Machine {
         self.at_boundary(i + 1, EventTag::Null)
     }
 
-    /// After `#`.
+    /// Reads after `#`.
     #[inline]
     pub fn bool(&mut self, piece: &[u8], i: usize) -> Taken
         requires { i ≤ length piece.now }
@@ -75,7 +75,7 @@ impl Machine {
         }
     }
 
-    /// After `#t` or `#f`, where only CR follows.
+    /// Reads the CR after `#t` or `#f`.
     #[inline]
     pub fn bool_cr(&mut self, piece: &[u8], i: usize, truth: bool) -> Taken
         requires { i ≤ length piece.now }
@@ -92,7 +92,7 @@ impl Machine {
         self.bool_lf(piece, i + 1, truth)
     }
 
-    /// The LF of a truth value, at which it is given.
+    /// Reads the LF of a boolean, and gives the boolean.
     #[inline]
     pub fn bool_lf(&mut self, piece: &[u8], i: usize, truth: bool) -> Taken
         requires { i ≤ length piece.now }

@@ -1,5 +1,5 @@
-//! The state between two bytes, and what all tokens share: room within the limits, members, and
-//! ends.
+//! The state between two bytes, and the operations that all tokens share: room within the limits,
+//! members, and ends.
 
 ghost use Rattle.resp_scan.specs.Machine.Sound.{IsOpenShape, need_of_frame};
 ghost use Rattle.resp_scan.specs.Machine.Room.{has_all, need_after_begin, begun_count};
@@ -19,7 +19,7 @@ pub enum Head {
     Bulk,
     BulkError,
     Verbatim,
-    /// A chunk of a streamed string, and how many bytes the limit of length leaves.
+    /// A chunk of a streamed string, and the number of bytes that the limit of length leaves.
     Chunk { room: u64 },
     Array,
     Set,
@@ -28,12 +28,12 @@ pub enum Head {
     Push,
 }
 
-/// The tokens: what the next byte may be.
+/// The tokens. A token decides which bytes may come next.
 #[derive(Clone, Copy)]
 pub enum State {
-    /// A value's first byte, or in a streamed aggregate a close.
+    /// Before a value's first byte, or before the close of a streamed aggregate.
     Start,
-    /// After a value or an aggregate's head: a close or the end is owed, or the next member may
+    /// After a value or the head of an aggregate. A close or the end is due, or the next member may
     /// begin.
     Boundary,
     Line,
@@ -46,10 +46,10 @@ pub enum State {
     BigFirst,
     BigZeros,
     BigZeroLf,
-    /// The first digit of a big number is owed as a part.
+    /// The first digit of a big number is due as a part.
     BigDigit,
     Big,
-    /// The end of a text is owed.
+    /// The end of a text is due.
     TextEnd,
     NullOne,
     NullCr,
@@ -82,7 +82,7 @@ pub enum State {
     Failed,
 }
 
-/// What stands after the bytes that were taken. What an event carries waits in the machine.
+/// The event after the bytes that were read. The data of the event is stored in the machine.
 #[derive(Clone, Copy)]
 pub enum EventTag {
     /// The piece has ended.
@@ -98,11 +98,11 @@ pub enum EventTag {
     BulkError,
     Verbatim,
     Big,
-    /// The bytes taken are content.
+    /// The bytes read are content.
     Part,
-    /// The bytes taken from `part_start` on are content.
+    /// The bytes read from `part_start` on are content.
     ChunkPart,
-    /// The one digit of a big number.
+    /// One digit of a big number.
     Digit,
     TextEnd,
     Open,
@@ -111,37 +111,38 @@ pub enum EventTag {
     Done,
 }
 
-/// The number of bytes taken, and what stands after them.
+/// The number of bytes read, and the event after them.
 #[derive(Clone, Copy)]
 pub struct Taken {
     pub used: usize,
     pub tag: EventTag,
 }
 
-/// The state between two bytes. The fields from `cause` on mean something in some states alone.
+/// The state between two bytes. The fields from `cause` on have a meaning only in some states.
 #[derive(Drop)]
 pub struct Machine {
     pub version: Version,
     pub limits: Limits,
     pub frames: ArrayVec<Frame, 128>,
     pub state: State,
-    /// Bytes of the value at the top that were taken before this piece.
+    /// The number of bytes of the outermost value that were read before this piece.
     pub taken: u64,
-    /// The fewest bytes by which the open aggregates end once the token has ended.
+    /// The least number of bytes that close the open aggregates after the token has ended.
     pub frames_need: u64,
     pub cause: Cause,
     pub head: Head,
     pub kind: OpenKind,
     pub truth: bool,
     pub negative: bool,
-    /// An integer's digits so far.
+    /// The value of an integer's digits so far.
     pub magnitude: u64,
     pub value: i64,
     /// The sign of a big number.
     pub big_negative: bool,
-    /// A head's number so far, or the bytes of content still to come.
+    /// The value of a head's digits so far, or the number of content bytes still to come.
     pub count: u64,
-    /// Bytes that length leaves of a line, of a big number's digits or of a streamed string.
+    /// The number of bytes that the limit of length leaves for a line, for the digits of a big
+    /// number or for a streamed string.
     pub room: u64,
     pub digit: u8,
     pub format: [u8; 3],
@@ -156,7 +157,7 @@ impl Machine {
     ghost use Rattle.resp_scan.specs.Machine.Tokens.{at, Dead, AtStart};
     ghost use Rattle.resp_scan.specs.Machine.Room.{total_room, has_total_room, over_total, is_full, with_shape, after_begin, begin_cause};
 
-    /// The end of the piece, in this state.
+    /// Ends the piece in this state.
     #[inline]
     pub fn rest(&mut self, state: State, piece: &[u8]) -> Taken
         ensures { out_of result self.new ≡
@@ -169,7 +170,7 @@ impl Machine {
         }
     }
 
-    /// `used` bytes of the piece are taken, and this event stands after them.
+    /// Returns this event after `used` bytes of the piece.
     #[inline]
     pub fn gives(&self, used: usize, tag: EventTag) -> Taken
         ensures { result ≡ record { used = used; tag = tag } }
@@ -177,7 +178,7 @@ impl Machine {
         Taken { used, tag }
     }
 
-    /// The byte after `used` bytes is refused for this cause, and so is every later one.
+    /// Rejects the byte after `used` bytes with this cause. Every later byte is rejected too.
     #[cold]
     #[inline(never)]
     pub fn fail(&mut self, used: usize, cause: Cause) -> Taken
@@ -191,8 +192,8 @@ impl Machine {
         }
     }
 
-    /// What total leaves of the value, beside the bytes taken before this piece and those by which
-    /// the open aggregates end.
+    /// Returns the number of bytes that the limit of total leaves for the value, after the bytes
+    /// read before this piece and those that close the open aggregates.
     #[inline]
     pub fn total_room(&self) -> u64
         ensures few { result ≤ 2 ^ 40 }
@@ -205,7 +206,8 @@ impl Machine {
             .saturating_sub(self.frames_need)
     }
 
-    /// Whether total leaves room for `used` bytes of this piece and `needed` after them.
+    /// Returns whether the limit of total leaves room for `used` bytes of this piece and `needed`
+    /// bytes after them.
     #[inline]
     pub fn has_total_room(&self, used: usize, needed: u64) -> bool
         requires index { used ≤ 2 ^ 63 }
@@ -217,7 +219,8 @@ impl Machine {
         used as u64 + needed <= self.total_room()
     }
 
-    /// Total, unless it leaves room for `used` bytes of this piece and `needed` after them.
+    /// Returns `Total` unless the limit of total leaves room for `used` bytes of this piece and
+    /// `needed` bytes after them.
     #[inline]
     pub fn over_total(&self, used: usize, needed: u64) -> Option<Cause>
         requires index { used ≤ 2 ^ 63 }
@@ -233,7 +236,8 @@ impl Machine {
         }
     }
 
-    /// What length and total leave of a text whose line's end is still to come.
+    /// Returns the number of bytes that the limits of length and total leave for a text whose line
+    /// end has not come.
     #[inline]
     pub fn text_room(&self) -> u64
         ensures { result ≡ min self.now.room (total_room (place_of self.now) - 2) }
@@ -241,7 +245,7 @@ impl Machine {
         self.room.min(self.total_room().saturating_sub(2))
     }
 
-    /// Whether the depth lets no further aggregate open.
+    /// Returns whether the limit of depth allows no further aggregate to open.
     #[inline]
     pub fn is_full(&self) -> bool
         ensures full { result ≡ is_full (place_of self.now) }
@@ -250,8 +254,8 @@ impl Machine {
         self.frames.len() as u64 >= self.limits.depth()
     }
 
-    /// A member begins by the byte at the front of this piece, and `needed` bytes are needed after
-    /// that byte: unless items or total refuse it.
+    /// Begins a member with the first byte of this piece. The member needs `needed` bytes after
+    /// that byte. Returns the cause if the limit of items or total rejects it.
     #[inline]
     pub fn begin(&mut self, needed: u64) -> Option<Cause>
         requires needed { needed < 2 ^ 10 }
@@ -270,7 +274,8 @@ impl Machine {
         }
     }
 
-    /// Begins a member of this aggregate, the innermost, unless items or total refuse it.
+    /// Begins a member of this aggregate, the innermost. Returns the cause if the limit of items or
+    /// total rejects it.
     #[inline]
     fn begin_in(&mut self, frame: Frame, needed: u64) -> Option<Cause>
         requires needed { needed < 2 ^ 10 }
@@ -299,8 +304,8 @@ impl Machine {
         }
     }
 
-    /// The innermost aggregate gets this shape, and the open ones need `frames_need` bytes, unless
-    /// total refuses that.
+    /// Sets the shape of the innermost aggregate, and `frames_need` as the bytes that the open
+    /// aggregates need. Returns the cause if the limit of total rejects that.
     #[inline(always)]
     fn begin_as(&mut self, shape: Shape, frames_need: u64, needed: u64) -> Option<Cause>
         requires needed { needed < 2 ^ 10 }
@@ -321,7 +326,7 @@ impl Machine {
         None
     }
 
-    /// The innermost open aggregate gets this shape.
+    /// Sets the shape of the innermost open aggregate.
     #[inline]
     pub fn set_shape(&mut self, shape: Shape)
         ensures items { reverse self.new.frames.items ≡
@@ -334,7 +339,7 @@ impl Machine {
         }
     }
 
-    /// After a value or an aggregate's head, with this event.
+    /// Goes to the state after a value or the head of an aggregate, with this event.
     #[inline]
     pub fn at_boundary(&mut self, used: usize, tag: EventTag) -> Taken
         ensures gives { result ≡ record { used = used; tag = tag } }
@@ -345,7 +350,7 @@ impl Machine {
     }
 }
 
-/// Whether a streamed aggregate in which `begun` members have begun has all the items it may.
+/// Returns whether a streamed aggregate with `begun` members has as many items as the limit allows.
 #[inline]
 fn has_all(kind: OpenKind, begun: u64, items: u64) -> bool
     ensures { result ≡ has_all kind (Begun begun) items }
@@ -356,8 +361,8 @@ fn has_all(kind: OpenKind, begun: u64, items: u64) -> bool
     }
 }
 
-/// What is owed once one more member of a streamed aggregate has begun: a map's key calls for its
-/// value.
+/// Returns the number of bytes that the open aggregates need after one more member of a streamed
+/// aggregate has begun. The key of a map needs a value after it.
 #[inline]
 fn need_after_begin(kind: OpenKind, begun: u64, frames_need: u64) -> u64
     requires frames_need { need_of_frame kind (Begun begun) ≤ frames_need }

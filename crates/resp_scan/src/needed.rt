@@ -1,4 +1,4 @@
-//! The fewest bytes that complete what was begun.
+//! The least number of bytes that complete the current value.
 
 ghost use Rattle.resp_scan.specs.Machine.Heads.{first_needed, head_needed};
 ghost use Rattle.std.specs.Prelude.{◌≡◌, ◌≤◌, ◌<◌, ◌^◌};
@@ -9,8 +9,8 @@ impl Machine {
     ghost use Rattle.resp_scan.specs.Machine.Fields.{place_of};
     ghost use Rattle.resp_scan.specs.Machine.Sound.{IsSound, needed, token_needed};
 
-    /// The fewest bytes that complete the value: the token's, and then those of the open
-    /// aggregates.
+    /// Returns the least number of bytes that complete the current value: those of the token and
+    /// those of the open aggregates.
     #[inline]
     pub fn needed(&self) -> u64
         requires { IsSound (place_of self.now) }
@@ -19,7 +19,7 @@ impl Machine {
         self.frames_need + self.token_needed()
     }
 
-    /// The fewest bytes that complete the token.
+    /// Returns the least number of bytes that complete the token.
     #[tactic(auto, using(crate::proofs::Soundness::Places::needs_fit))]
     fn token_needed(&self) -> u64
         requires { IsSound (place_of self.now) }
@@ -54,8 +54,8 @@ impl Machine {
     }
 }
 
-/// The fewest bytes that complete a value after its type byte, or a streamed string after the `;`
-/// of a chunk.
+/// Returns the least number of bytes that complete a value after its type byte, or a streamed
+/// string after the `;` of a chunk.
 #[inline]
 pub fn first_needed(head: Head) -> u64
     ensures few { result < 10 }
@@ -70,8 +70,8 @@ pub fn first_needed(head: Head) -> u64
     }
 }
 
-/// The fewest bytes that complete a value, or a streamed string, after a head's digits of this
-/// value.
+/// Returns the least number of bytes that complete a value, or a streamed string, after the digits
+/// of this number in a head.
 #[inline]
 pub fn needed_after(head: Head, number: u64) -> u64
     requires { number < 2 ^ 44 }

@@ -1,4 +1,4 @@
-//! The scanner, which reads values from pieces of any size and gives their events.
+//! The scanner, which reads values from pieces of any size and returns their events.
 
 ghost use Rattle.resp_value.specs.Bounds.{AreBounds};
 ghost use Rattle.std.specs.Prelude.{◌≡◌, ◌↔◌, ◌⊎◌, ◌≤◌, ◌<◌, ◌+◌, ◌++◌, ℕ, length, take, [], false, None, Some, Ok, Err, IsOk, OnOk, OnErr, IfOk, IfErr};
@@ -15,10 +15,30 @@ use resp_value::limits::Limits;
 use resp_value::version::Version;
 use std::marker::Model;
 
-/// Reads values one after another, in pieces of any size (Redis serialization protocol
+/// Reads values one after another, from pieces of any size (Redis serialization protocol
 /// specification, "RESP protocol description"; RESP3 specification for streamed forms).
 ///
-/// No call takes memory.
+/// No call allocates.
+///
+/// # Examples
+///
+/// From [samples](../../samples/src/scanning.rt):
+///
+/// ```rust
+/// let mut scanner = Scanner::new(Version::Two, &Limits::standard());
+/// let mut rest = b"$5\r\nhello\r\n".as_slice();
+/// for _ in 0..u64::MAX {
+///     let step = scanner.step(rest)?;
+///     rest = &rest[step.used..];
+///     match &step.event {
+///         Some(Event::Part(bytes)) => println!(rt; "part {}", bytes.escape_ascii())?,
+///         Some(event) => println!(rt; "{event:?}")?,
+///         None => break,
+///     }
+/// }
+/// ```
+///
+/// This prints `Text(Bulk)`, `part hello`, `TextEnd` and `Done`, each on a line.
 #[derive(Drop)]
 pub struct Scanner {
     machine: Machine,
@@ -52,7 +72,7 @@ impl Scanner {
     ghost use Rattle.resp_value.specs.Spellings.{IsViable};
     ghost use Rattle.resp_scan.specs.Machine.Tokens.{AtStart};
 
-    /// A scanner of this version within these limits, between two values.
+    /// Makes a scanner of this version with these limits, before the first value.
     pub fn new(version: Version, limits: &Limits) -> Scanner
         ensures nothing_read { HasRead result [] [] }
         ensures rules { rules_of result ≡ rules_under version limits.now }
@@ -83,15 +103,22 @@ impl Scanner {
         }
     }
 
-    /// Takes bytes of the piece until an event is there or the piece ends. An event may be owed at
-    /// bytes that were taken before, and comes then by a step that uses no byte, for an empty piece
-    /// too.
+    /// Reads bytes of the piece up to the next event, or up to the end of the piece if there is no
+    /// further event. Call it again with the bytes that are left. A step may return an event
+    /// without reading a byte, so call it again even with an empty piece, until it returns no
+    /// event.
     ///
-    /// Refuses the first byte after which nothing can follow, by the first cause that holds in this
-    /// order: Syntax, Double, Version, NestedPush, Range, Streamed, Depth, Length, Items, Total.
-    /// Every later step answers the same. After a listener's stop it refuses as [`Scanner::scan`].
+    /// # Errors
     ///
-    /// Each event of a piece, in [example_events](../../example_events/src/main.rt):
+    /// A [`Fault`] at the first byte that no value within the limits could contain there. If
+    /// several causes apply, the fault has the first in this order: `Syntax`, `Double`, `Version`,
+    /// `NestedPush`, `Range`, `Streamed`, `Depth`, `Length`, `Items`, `Total`. Every later step
+    /// returns the same fault. After a listener has stopped a [`Scanner::scan`], each step returns
+    /// the fault of that scan.
+    ///
+    /// # Examples
+    ///
+    /// Each event of a piece, from [example_events](../../example_events/src/main.rt):
     ///
     /// ```rust
     /// let step = scanner.step(rest)?;
@@ -104,25 +131,28 @@ impl Scanner {
     /// ```
     #[inline(always)]
     pub fn step<'a>(&mut self, piece: &'a [u8]) -> Result<Step<'a>, Fault>
-        // The piece is used up, no value has ended in it, and all events that are due were given.
+        // No event: the whole piece was read, no value has ended in it, and all events of the bytes
+        // read were given.
         ensures no_event { WhereRead self.old (λ front given.
             IfNoEvent result (UsesUp self.new front given piece.now)) }
 
-        // The bytes taken are a value, the events given are its events, and the next value may
-        // begin.
+        // `Done`: the bytes read are an encoding of a value, the events given are its events, and
+        // the next value may begin.
         ensures value_whole { WhereRead self.old (λ front given.
             IfDone result (EndsValue (rules_of self.old) self.new front given)) }
 
-        // The bytes used were taken, and the event was given.
+        // Another event: the bytes used were read, and the event was given.
         ensures another_event { WhereRead self.old (λ front given.
             IfOtherEvent result (λ used event.
             HasRead self.new (front ++ take used piece.now) (given ++ events_of event))) }
 
-        // The event comes with the last of its bytes, and no other was due before them.
+        // An event is given with the last of its bytes. No earlier event was missing before these
+        // bytes.
         ensures in_time { WhereRead self.old (λ front given.
             IfOtherEvent result (ComesInTime front given piece.now)) }
 
-        // The refused byte is the first after which nothing can follow, and the fault names why.
+        // A fault: the byte is the first that cannot follow the bytes before it, and the fault has
+        // its cause.
         ensures refusal { WhereRead self.old (λ front given.
             IfErr result (IsRefused (rules_of self.old) front given piece.now)) }
 
@@ -139,63 +169,100 @@ impl Scanner {
         self.machine.step(piece)
     }
 
-    /// Steps as [`Scanner::step`], but shows its event to the slot: a text that lies whole in the
-    /// piece, from its type byte to its end, with its bytes and its end at once. Answers how many
-    /// bytes were used for it, and none where the piece is used up.
+    /// Makes a step as [`Scanner::step`] does, and passes its event to the slot. If a text lies
+    /// completely in the piece, from its type byte to its end, the slot receives its bytes and its
+    /// end in one call. Returns the number of bytes used, or `None` if the whole piece was read
+    /// without an event.
     ///
-    /// Refuses as [`Scanner::step`]. Where it shows nothing, the slot is left.
+    /// # Errors
+    ///
+    /// Those of [`Scanner::step`]. If there is no event, the slot is not called.
+    ///
+    /// # Examples
+    ///
+    /// A slot that keeps the length of a text, from [samples](../../samples/src/scanning.rt):
+    ///
+    /// ```rust
+    /// let mut scanner = Scanner::new(Version::Two, &Limits::standard());
+    /// let mut length = Length { bytes: 0 };
+    /// let used = scanner.step_into(b"$5\r\nhello\r\n", &mut length)?;
+    /// println!(rt; "{used:?} {}", length.bytes)?;
+    /// ```
+    ///
+    /// This prints `Some(11) 5`.
     #[inline(always)]
     pub fn step_into<S: Slot>(&mut self, piece: &[u8], slot: &mut S) -> Result<Option<usize>, Fault>
-        // The slot shows the event of a step, or a text of which the events are the next.
+        // The slot has received the event of a step, or a text whose events come next.
         ensures shown { IfShown result (λ used.
             ShowsEvent (S.shows slot.new) self.old self.new piece.now used ⊎
             ShowsText (S.shows_text slot.new) self.old self.new piece.now used) }
 
-        // A step has used up the piece.
+        // No event: a step has read the whole piece.
         ensures used_up { IfNothingShown result (Steps self.old self.new piece.now
             (Ok (record { used = length piece.now; event = None }))) }
 
-        // A step has refused a byte.
+        // A fault: a step has rejected a byte.
         ensures refused { IfErr result (λ fault. Steps self.old self.new piece.now (Err fault)) }
         ensures slot_is_left { IfNotShown result (slot.new ≡ slot.old) }
     {
         self.machine.step_into(piece, slot)
     }
 
-    /// Tells the listener what stands in the piece, up to the end of a value: the events that
-    /// [`Scanner::step`] would give. Those of a text that lies whole in the piece may come by one
-    /// call, [`Listener::whole_text`].
+    /// Reads the piece up to the end of a value and passes the events to the listener, in the order
+    /// of [`Scanner::step`]. If a text lies completely in the piece, its events may be passed in
+    /// one call, [`Listener::whole_text`].
     ///
-    /// Refuses the first byte after which nothing can follow, as [`Scanner::step`] does. Where the
-    /// listener stops, no byte is read any more: every later call answers OutOfMemory, at the
-    /// number of bytes of the value that were taken.
+    /// # Errors
+    ///
+    /// - `Fault`: the first byte that no value within the limits could contain there, as for
+    ///   [`Scanner::step`].
+    /// - `Stopped`: the listener returned false. Then no more bytes are read, and every later call
+    ///   fails with `OutOfMemory` at the number of bytes of the value that were read.
+    ///
+    /// # Examples
+    ///
+    /// A listener that counts integers, from [samples](../../samples/src/scanning.rt):
+    ///
+    /// ```rust
+    /// let mut scanner = Scanner::new(Version::Two, &Limits::standard());
+    /// let mut counter = Counter { integers: 0 };
+    /// let scanned = scanner.scan(b"*2\r\n:1\r\n:2\r\n+next", &mut counter)?;
+    /// println!(rt; "{} {} {}", counter.integers, scanned.used, scanned.is_whole)?;
+    /// ```
+    ///
+    /// This prints `2 12 true`.
     #[inline(always)]
     pub fn scan<L: Listener>(
         &mut self,
         piece: &[u8],
         listener: &mut L,
     ) -> Result<Scanned, ScanError>
-        // The bytes are a value, the listener has heard its events, and the next value may begin.
+        // A value has ended: the bytes are its encoding, the listener has received its events, and
+        // the next value may begin.
         ensures value_whole { WhereHeard self.old (L.has_heard listener.old) (λ since front.
             IfWhole result (λ used. HearsValue (rules_of self.old) self.new
             (L.has_heard listener.new since) (front ++ take used piece.now))) }
 
-        // No value has ended in the piece, and the listener has heard all events that are due.
+        // No value has ended in the piece, and the listener has received all events of the bytes
+        // read.
         ensures used_up { WhereHeard self.old (L.has_heard listener.old) (λ since front.
             IfUsedUp result (HearsPiece self.new (L.has_heard listener.new since)
             (front ++ piece.now))) }
 
-        // The refused byte is the first after which nothing can follow, and the fault names why.
+        // A fault: the byte is the first that cannot follow the bytes before it, and the fault has
+        // its cause.
         ensures refusal { WhereHeard self.old (L.has_heard listener.old) (λ since front.
             IfRefused result (HearsRefusal (rules_of self.old) (L.has_heard listener.new since)
             front piece.now)) }
 
-        // The listener stopped where it may, told events that are the first of those due.
+        // The listener stopped. The events that it received are a prefix of the events of the bytes
+        // read.
         ensures stopped { WhereHeard self.old (L.has_heard listener.old) (λ since front.
             IfStopped result (StopsAfter (rules_of self.old) (L.has_stopped listener.new since)
             front piece.now)) }
 
-        // No value has ended before, so that of a piece with a byte at least one is used.
+        // If no value has ended in the bytes read before, a call with a piece that is not empty
+        // uses at least one byte.
         ensures uses_bytes { WhereHeard self.old (L.has_heard listener.old) (λ since front.
             HasNoValue front → IfOk result (λ scanned. 0 < length piece.now → 0 < scanned.used)) }
 
@@ -210,8 +277,26 @@ impl Scanner {
         self.machine.scan(piece, listener)
     }
 
-    /// The end of the input. Refuses it by Truncated inside a value, with the number of its bytes
-    /// that were taken, and by the fault that stands after a refused byte or a listener's stop.
+    /// Checks that the input may end here.
+    ///
+    /// # Errors
+    ///
+    /// - `Truncated` if a value has begun and some of its bytes are missing, at the number of its
+    ///   bytes that were read.
+    /// - The earlier fault, after a byte was rejected or a listener has stopped.
+    ///
+    /// # Examples
+    ///
+    /// From [samples](../../samples/src/scanning.rt):
+    ///
+    /// ```rust
+    /// let mut scanner = Scanner::new(Version::Two, &Limits::standard());
+    /// scanner.step(b"$5\r\n")?;
+    /// println!(rt; "{} {}", scanner.taken(), scanner.needed())?;
+    /// println!(rt; "{:?}", scanner.finish())?;
+    /// ```
+    ///
+    /// This prints `4 7` and `Err(Fault { cause: Truncated, at: 4 })`.
     pub fn finish(&self) -> Result<(), Fault>
         ensures may_end { WhereRead self.now (λ front given.
             IsOk result ↔ MayEnd (rules_of self.now) front) }
@@ -222,7 +307,7 @@ impl Scanner {
         self.end()
     }
 
-    /// Refuses the end by the machine's numbers.
+    /// Checks the end of the input by the numbers of the machine.
     fn end(&self) -> Result<(), Fault>
         ensures ok { OnOk result (end_cause self.now ≡ None) }
         ensures err { IfErr result (λ fault. (end_cause self.now ≡ Some fault.cause) ×
@@ -249,10 +334,25 @@ impl Scanner {
         }
     }
 
-    /// Reads this version from the next value on.
+    /// Changes the version, from the next value on.
     ///
-    /// Refuses, and changes nothing, from a value's first byte until its [`Event::Done`] was given,
-    /// and after a fault.
+    /// # Errors
+    ///
+    /// `Busy` from the first byte of a value until its [`Event::Done`] was given, and after a
+    /// fault. Then nothing is changed.
+    ///
+    /// # Examples
+    ///
+    /// From [samples](../../samples/src/scanning.rt):
+    ///
+    /// ```rust
+    /// let mut scanner = Scanner::new(Version::Two, &Limits::standard());
+    /// println!(rt; "{:?}", scanner.set_version(Version::Three))?;
+    /// scanner.step(b"*1\r\n")?;
+    /// println!(rt; "{:?}", scanner.set_version(Version::Two))?;
+    /// ```
+    ///
+    /// This prints `Ok(())` and `Err(Busy)`.
     pub fn set_version(&mut self, version: Version) -> Result<(), Busy>
         ensures only_between_values { WhereRead self.old (λ front given.
             IsOk result ↔ (front ≡ [])) }
@@ -267,7 +367,7 @@ impl Scanner {
         self.change_version(version)
     }
 
-    /// Changes the version where the machine's token and frames say that no value was begun.
+    /// Changes the version if no value has begun, judging by the machine's token and frames.
     fn change_version(&mut self, version: Version) -> Result<(), Busy>
         ensures between { IsOk result ↔ ((self.old.token ≡ AtStart) × (self.old.frames ≡ [])) }
         ensures ok { OnOk result (self.new ≡ record self.old { version = version }) }
@@ -287,7 +387,7 @@ impl Scanner {
         }
     }
 
-    /// The number of aggregates whose Open was given and whose Close wasn't.
+    /// Returns the number of open aggregates: those with an `Open` event and no `Close` event yet.
     pub fn depth(&self) -> usize
         ensures at_most_depth { result ≤ (rules_of self.now).limits.depth }
         ensures opens_less_closes { WhereRead self.now (λ front given.
@@ -296,7 +396,8 @@ impl Scanner {
         self.machine.frames.len()
     }
 
-    /// The number of bytes taken of the value, 0 between values. A refused byte isn't among them.
+    /// Returns the number of bytes of the current value that were read, 0 between values. A
+    /// rejected byte does not count.
     #[inline]
     pub fn taken(&self) -> u64
         ensures length_of_front { WhereRead self.now (λ front given. result ≡ length front) }
@@ -313,9 +414,9 @@ impl Scanner {
         self.machine.taken
     }
 
-    /// The least number of bytes that complete the value, whatever the limit of total: 3 between
-    /// values, and 0 where all its bytes have come and only events are owed. It says nothing after
-    /// a fault.
+    /// Returns the least number of bytes that complete the current value, ignoring the limit of
+    /// total: 3 between values, and 0 if all bytes were read and only events are left. The number
+    /// has no meaning after a fault.
     pub fn needed(&self) -> u64
         ensures least_completion { WhereRead self.now (λ front given.
             IsLeast (rules_of self.now) front result) }

@@ -1,4 +1,5 @@
-//! Bulk strings, simple strings and integers of few bytes that lie whole at the front of a piece.
+//! Fast paths for short bulk strings, simple strings and integers that lie completely at the
+//! beginning of a piece.
 
 ghost use Rattle.std.specs.Prelude.{IfNone, IfSome, ◌+◌, ◌-◌, ◌<◌, ◌^◌, ◌≡◌, ◌≤◌, drop, false, get_or, length, min, take, true};
 ghost use Rattle.resp_scan.specs.Machine.Heads.{content_at};
@@ -13,10 +14,11 @@ use crate::lines::line_run;
 use crate::listen::{beyond, ends_at};
 use crate::machine::{EventTag, Machine, State, Taken};
 
-/// How many bytes a line has at most that is looked at whole.
+/// The greatest number of bytes of a line that takes the fast path.
 const LINE: usize = 1_000;
 
-/// How many bytes of an integer are looked at for its CR: so few that no number is out of range.
+/// The number of bytes of an integer that are searched for its CR. No number of so few digits is
+/// out of range.
 const INTEGER: usize = 12;
 
 impl Machine {
@@ -24,7 +26,7 @@ impl Machine {
     ghost use Rattle.resp_scan.specs.Machine.Sound.{IsSound};
     ghost use Rattle.resp_scan.specs.Machine.Tokens.{AtStart};
 
-    /// Begins a bulk string that lies whole at the front of this piece and has few bytes.
+    /// Begins a short bulk string that lies completely at the beginning of this piece.
     #[inline(always)]
     pub fn short_text(&mut self, piece: &[u8]) -> Option<Short>
         requires { IsSound (at (place_of self.old) AtStart) }
@@ -50,8 +52,8 @@ impl Machine {
         }
     }
 
-    /// Begins a simple string that lies whole at the front of this piece, and answers how many bytes
-    /// stand before its CR LF.
+    /// Begins a simple string that lies completely at the beginning of this piece, and returns the
+    /// number of bytes before its CR LF.
     #[inline(always)]
     pub fn short_line(&mut self, piece: &[u8]) -> Option<usize>
         requires { IsSound (at (place_of self.old) AtStart) }
@@ -83,7 +85,7 @@ impl Machine {
         }
     }
 
-    /// Takes an integer of few digits and no sign, whose CR stands in this piece.
+    /// Reads an integer of few digits and without a sign, if its CR is in this piece.
     #[inline(always)]
     pub fn short_int(&mut self, piece: &[u8]) -> Option<Taken>
         requires { IsSound (at (place_of self.old) AtStart) }
@@ -102,14 +104,14 @@ impl Machine {
     }
 }
 
-/// Where the digits of an integer end by a CR, and the number that they are.
+/// The place of the CR after the digits of an integer, and their number.
 #[derive(Clone, Copy)]
 struct Digits {
     end: usize,
     magnitude: u64,
 }
 
-/// The digits of an integer after this first one, where they are few and a CR follows.
+/// Returns the digits of an integer after this first one, if they are few and a CR follows.
 #[inline(always)]
 fn few_digits(piece: &[u8], first: u64) -> Option<Digits>
     requires { first ≤ 9 }
@@ -134,15 +136,17 @@ fn few_digits(piece: &[u8], first: u64) -> Option<Digits>
     None
 }
 
-/// A number of one digit or two after the first byte of a piece: where what follows its CR LF
-/// begins, and the number.
+/// A number of one or two digits after the first byte of a piece, and the index after its CR LF.
 #[derive(Clone, Copy)]
 pub struct Short {
+    /// The index after the CR LF.
     pub head: usize,
+    /// The number.
     pub count: u64,
 }
 
-/// The head of a bulk string at the front of a piece, where it has one digit or two.
+/// Returns the head of a bulk string at the beginning of a piece, if its number has one or two
+/// digits.
 #[inline(always)]
 #[tactic(auto, using(crate::proofs::Soundness::ShortHeads::text_head))]
 fn short_head(piece: &[u8]) -> Option<Short>
@@ -159,7 +163,7 @@ fn short_head(piece: &[u8]) -> Option<Short>
     short_number(piece)
 }
 
-/// The number of one digit or two after the first byte of a piece, where CR LF follows.
+/// Returns the number of one or two digits after the first byte of a piece, if CR LF follows it.
 #[inline(always)]
 pub fn short_number(piece: &[u8]) -> Option<Short>
     requires { 5 ≤ length piece.now }
@@ -172,7 +176,7 @@ pub fn short_number(piece: &[u8]) -> Option<Short>
     }
 }
 
-/// The same where it has one digit.
+/// As `short_number`, for one digit.
 #[inline(always)]
 fn one_digit(piece: &[u8]) -> Option<Short>
     requires begins { (5 ≤ length piece.now) × (get_or piece.now 3 0 ≡ 10) }
@@ -187,7 +191,7 @@ fn one_digit(piece: &[u8]) -> Option<Short>
     })
 }
 
-/// The same where it has two digits.
+/// As `short_number`, for two digits.
 #[inline(always)]
 fn two_digits(piece: &[u8]) -> Option<Short>
     requires begins { (5 ≤ length piece.now) × (get_or piece.now 3 0 ≡ 13) }

@@ -1,4 +1,4 @@
-//! The head of an array of few members, where it lies whole at the front of a piece.
+//! Fast path for the head of a short array that lies completely at the beginning of a piece.
 
 ghost use Rattle.std.specs.Prelude.{◌≡◌, ◌<◌, ◌≤◌, ◌+◌, ◌*◌, IfSome, Some, drop, false, length};
 ghost use Rattle.resp_scan.specs.Machine.Heads.{after_open};
@@ -14,7 +14,7 @@ use resp_value::kind::OpenKind;
 impl Machine {
     ghost use Rattle.resp_scan.specs.Machine.Fields.{place_of, out_of};
 
-    /// After the `*` at the front of the piece, as [`Machine::array_head`].
+    /// Reads after the `*` at the beginning of the piece, as [`Machine::array_head`].
     #[inline(never)]
     pub fn array_begins(&mut self, piece: &[u8]) -> Taken
         requires { 1 ≤ length piece.now }
@@ -35,7 +35,7 @@ impl Machine {
     }
 }
 
-/// The head of an array at the front of a piece, where it has one digit or two.
+/// Returns the head of an array at the beginning of a piece, if its number has one or two digits.
 #[inline(always)]
 #[tactic(auto, using(crate::proofs::Soundness::ShortHeads::array_head))]
 fn short_head(piece: &[u8]) -> Option<Short>

@@ -1,4 +1,4 @@
-//! Who is shown one event at a time.
+//! Receivers of one event at a time.
 
 ghost use Rattle.std.specs.Prelude.{ℕ, List};
 ghost use Rattle.resp_scan.specs.declared.event.Event.{Event};
@@ -6,20 +6,21 @@ ghost use Rattle.resp_scan.specs.declared.event.TextKind.{TextKind};
 
 use crate::event::{Event, TextKind};
 
-/// Shows one event, in the place of the one before.
+/// A receiver that keeps one event, in place of the event before it.
 pub trait Slot {
-    /// It shows this event.
+    /// The slot holds this event.
     ghost shows: { Self → Event → Type 0 };
 
-    /// It shows a text of this kind and with these bytes, with its end.
+    /// The slot holds a text of this kind and with these bytes, together with its end.
     ghost shows_text: { Self → TextKind → List ℕ → Type 0 };
 
-    /// An event.
+    /// Receives an event.
     fn event(&mut self, event: Event<'_>)
         ensures { shows self.new event.entry };
 
-    /// A simple string, an error, a double or a counted bulk string that lies in the piece with its
-    /// end: what [`Event::Text`], [`Event::Part`] and [`Event::TextEnd`] say together.
+    /// Receives a simple string, a simple error, a double or a counted bulk string that lies
+    /// completely in the piece. This one call replaces [`Event::Text`], [`Event::Part`] and
+    /// [`Event::TextEnd`].
     fn text(&mut self, kind: TextKind, bytes: &[u8])
         ensures { shows_text self.new kind bytes.now };
 }

@@ -1,4 +1,4 @@
-//! A value's first byte.
+//! The first byte of a value.
 
 ghost use Rattle.std.specs.Prelude.{◌≡◌, ◌<◌, ℕ, List, length, drop};
 ghost use Rattle.resp_scan.specs.Machine.First.{by_first};
@@ -19,8 +19,8 @@ impl Machine {
     ghost use Rattle.resp_scan.specs.Machine.Tokens.{at, Text, AtStart, AtHead};
     ghost use Rattle.resp_scan.specs.declared.event.TextKind.TheVariants as text;
 
-    /// A value's first byte, or the `.` that closes a streamed aggregate. Refuses a double where
-    /// doubles aren't allowed, and in version 2 what version 3 alone has.
+    /// Reads a value's first byte, or the `.` that closes a streamed aggregate. Rejects a double if
+    /// doubles are not allowed, and rejects the forms of version 3 in version 2.
     #[inline(always)]
     #[tactic(auto, using(crate::proofs::Soundness::Starts::first_byte))]
     pub fn start(&mut self, piece: &[u8]) -> Taken
@@ -60,8 +60,8 @@ impl Machine {
         }
     }
 
-    /// The same in a function of its own, for all but the value at the top of a step and of the
-    /// loop, so that it stands there once.
+    /// As `start`, but not inlined. It is used everywhere except for the outermost value in a step
+    /// and in the loop, which keeps the code small.
     #[inline(never)]
     pub fn start_apart(&mut self, piece: &[u8]) -> Taken
         requires { IsSound (at (place_of self.old) AtStart) }
@@ -70,7 +70,7 @@ impl Machine {
         self.start(piece)
     }
 
-    /// A double begins, unless doubles aren't allowed or the version has none.
+    /// Begins a double, unless doubles are not allowed or the version has no doubles.
     #[inline(never)]
     fn double_begins(&mut self) -> Taken
         requires { IsSound (at (place_of self.old) AtStart) }
@@ -87,7 +87,8 @@ impl Machine {
         }
     }
 
-    /// A simple string, an error or a double begins, unless items or total refuse it.
+    /// Begins a simple string, a simple error or a double, unless the limit of items or total
+    /// rejects it.
     #[inline]
     #[tactic(auto, using(crate::proofs::Soundness::Starts::lines))]
     fn line_begins(&mut self, tag: EventTag) -> Taken
@@ -113,7 +114,7 @@ impl Machine {
         self.gives(1, tag)
     }
 
-    /// A form that version 3 alone has.
+    /// Begins a form that only version 3 has.
     #[inline]
     #[tactic(auto, using(crate::proofs::Soundness::Starts::answers))]
     fn start_three(&mut self, piece: &[u8], first: First) -> Taken
@@ -150,7 +151,7 @@ impl Machine {
         }
     }
 
-    /// The head of a string or of an aggregate that version 3 alone has.
+    /// Begins the head of a string or an aggregate that only version 3 has.
     #[inline(never)]
     #[tactic(auto, using(crate::proofs::Soundness::Starts::answers))]
     fn head_begins(&mut self, piece: &[u8], head: Head) -> Taken
@@ -168,7 +169,7 @@ impl Machine {
         }
     }
 
-    /// The head of an aggregate, which opens a level more.
+    /// Begins the head of an aggregate, which opens one more level.
     #[inline]
     fn aggregate_begins(&mut self, piece: &[u8], head: Head) -> Taken
         requires some { 0 < length piece.now }
@@ -184,7 +185,7 @@ impl Machine {
     }
 }
 
-/// The forms that version 3 alone has.
+/// The forms that only version 3 has.
 #[derive(Clone, Copy)]
 enum First {
     Null,
@@ -198,7 +199,7 @@ enum First {
     Push,
 }
 
-/// The form of version 3 alone that begins by this byte.
+/// Returns the form of version 3 that begins with this byte, if there is one.
 #[inline]
 fn first_of(byte: u8) -> Option<First>
     ensures { (s : Place) → m.start_three s byte ≡ by_first s result }

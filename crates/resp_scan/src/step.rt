@@ -1,4 +1,4 @@
-//! One step: the token in which the piece begins, and the event that it comes to.
+//! A step: the token in which the piece begins, and its event.
 
 ghost use Rattle.std.specs.Prelude.{◌≡◌, ◌≤◌, ◌∷◌, ℕ, List, [], length, take, drop, true, IfOk, IfErr};
 ghost use Rattle.resp_scan.specs.Machine.Moves.{is_digit};
@@ -8,7 +8,8 @@ use crate::frame::Shape;
 use crate::machine::{EventTag, Machine, State, Taken};
 use resp_value::cause::Cause;
 
-/// The ten digits. The first one of a big number is lent from here, since its piece may be gone.
+/// The ten digits. The first digit of a big number is borrowed from here, because its piece may no
+/// longer exist.
 static DIGITS: [u8; 10] = *b"0123456789";
 
 impl Machine {
@@ -19,7 +20,8 @@ impl Machine {
     ghost use Rattle.resp_scan.specs.Machine.Sound.{IsSound};
     ghost use Rattle.resp_scan.specs.Machine.Tokens.{Place};
 
-    /// After a value: its end or its parent's close is owed, or the next member may begin.
+    /// Continues after a value: its end or the close of its aggregate is due, or the next member
+    /// may begin.
     #[inline]
     #[tactic(auto, using(crate::proofs::Soundness::Places::sound_member))]
     pub fn after_value(&mut self, piece: &[u8]) -> Taken
@@ -43,7 +45,7 @@ impl Machine {
         }
     }
 
-    /// Goes on from the token in which the piece begins.
+    /// Continues from the token in which the piece begins.
     #[inline(never)]
     #[tactic(auto, using(crate::proofs::Soundness::Places::tokens_fit))]
     pub fn resume(&mut self, piece: &[u8]) -> Taken
@@ -98,7 +100,7 @@ impl Machine {
         }
     }
 
-    /// The first digit of a big number is given.
+    /// Gives the first digit of a big number.
     #[inline]
     fn first_digit(&mut self) -> Taken
         requires { self.old.state ≡ State.BigDigit }
@@ -108,7 +110,7 @@ impl Machine {
         self.gives(0, EventTag::Digit)
     }
 
-    /// The answer of a step whose token came to this.
+    /// Returns the result of a step whose token gave this.
     #[inline(always)]
     fn answer<'a>(&mut self, piece: &'a [u8], got: Taken) -> Result<Step<'a>, Fault>
         requires { (s : Place) × IsSound s × (out_of got self.old ≡ out_from s piece.now) }
@@ -152,7 +154,7 @@ impl Machine {
         Ok(Step { used, event })
     }
 
-    /// Takes bytes of the piece until an event is there or the piece ends, or refuses one for good.
+    /// Reads bytes of the piece up to an event or the end of the piece. A rejected byte is final.
     #[inline(always)]
     #[tactic(auto, using(crate::proofs::Soundness::Places::hot_tokens))]
     pub fn step<'a>(&mut self, piece: &'a [u8]) -> Result<Step<'a>, Fault>
@@ -192,7 +194,7 @@ impl Machine {
     }
 }
 
-/// The bytes from the first index to the second.
+/// Returns the bytes from the first index to the second.
 #[inline]
 pub fn run(piece: &[u8], start: usize, used: usize) -> &[u8]
     requires start { start ≤ used }
@@ -202,7 +204,7 @@ pub fn run(piece: &[u8], start: usize, used: usize) -> &[u8]
     &piece[start..used]
 }
 
-/// A constant of one byte, this digit.
+/// Returns a constant of one byte, this digit.
 pub fn digit_text(byte: u8) -> &'static [u8]
     requires { is_digit byte ≡ true }
     ensures { result.now ≡ byte ∷ [] }

@@ -1,4 +1,5 @@
-//! One step that shows its event to a slot, and a text with its end where both lie in the piece.
+//! A step that passes its event to a slot, and passes a text and its end together if both are in
+//! the piece.
 
 ghost use Rattle.std.specs.Prelude.{IfSome, Ok, Some, List, ℕ, ◌+◌, ◌<◌, ◌^◌, ◌≡◌, ◌≤◌, drop, length, take};
 ghost use Rattle.resp_scan.specs.Machine.Scan.{scan};
@@ -20,7 +21,7 @@ impl Machine {
     ghost use Rattle.resp_scan.specs.Slots.{IfNotShown};
     ghost use Rattle.resp_scan.specs.Machine.Tokens.{AtStart};
 
-    /// Goes on from the token in which the piece begins, and shows what it comes to.
+    /// Continues from the token in which the piece begins, and passes its event to the slot.
     #[inline(always)]
     pub fn step_into<S: Slot>(&mut self, piece: &[u8], slot: &mut S) -> Result<Option<usize>, Fault>
         requires { IsSound (place_of self.old) }
@@ -45,7 +46,8 @@ impl Machine {
         }
     }
 
-    /// Where the token stands. The end of a value or its parent's close is given where it is owed.
+    /// Returns where the token is. If the end of a value or the close of its aggregate is due, it
+    /// is counted as given.
     #[inline(always)]
     #[tactic(auto, using(crate::proofs::Soundness::Places::sound_member))]
     pub fn stands(&mut self) -> Stands
@@ -82,7 +84,7 @@ impl Machine {
         }
     }
 
-    /// A value's first byte and what comes of it.
+    /// Reads a value's first byte and passes its event.
     #[inline(always)]
     fn show_value<S: Slot>(&mut self, piece: &[u8], slot: &mut S) -> Result<Option<usize>, Fault>
         requires sound { IsSound (at (place_of self.old) AtStart) }
@@ -107,7 +109,7 @@ impl Machine {
         self.show(piece, taken, slot)
     }
 
-    /// What has come of a first byte: a text whole where it ends in this piece.
+    /// Passes the event of a first byte that was read, or a complete text if it ends in this piece.
     #[inline(always)]
     fn show<S: Slot>(
         &mut self,
@@ -129,7 +131,7 @@ impl Machine {
         }
     }
 
-    /// A line of text: whole where it ends in this piece, and else that it begins.
+    /// Passes a line of text: the complete text if it ends in this piece, otherwise its beginning.
     #[inline(always)]
     fn show_line<S: Slot>(
         &mut self,
@@ -151,7 +153,8 @@ impl Machine {
         }
     }
 
-    /// A counted string: whole where it ends in this piece, and else that it begins.
+    /// Passes a counted string: the complete text if it ends in this piece, otherwise its
+    /// beginning.
     #[inline(always)]
     fn show_content<S: Slot>(
         &mut self,
@@ -172,7 +175,8 @@ impl Machine {
         }
     }
 
-    /// A text of `run` bytes after the first `head`, with its CR LF.
+    /// Passes a text of `run` bytes that begins after the first `head` bytes and has a CR LF after
+    /// it.
     #[inline(always)]
     fn show_text<S: Slot>(
         &mut self,
@@ -196,7 +200,7 @@ impl Machine {
         used
     }
 
-    /// An event, as a step gives it.
+    /// Passes an event, as a step returns it.
     #[inline(always)]
     fn show_event<S: Slot>(
         &mut self,
@@ -248,7 +252,7 @@ impl Machine {
     }
 }
 
-/// The answer after an event was shown, for which `used` bytes were used.
+/// Returns the result for an event that was passed, for which `used` bytes were used.
 #[inline(always)]
 fn given(used: usize, _shown: ()) -> Result<Option<usize>, Fault>
     ensures { result ≡ Ok (Some used) }
@@ -259,9 +263,9 @@ fn given(used: usize, _shown: ()) -> Result<Option<usize>, Fault>
 /// Where a step begins.
 #[derive(Clone, Copy)]
 pub enum Stands {
-    /// A value has ended at the top.
+    /// The outermost value has ended.
     Done,
-    /// A value has ended, the last of its aggregate.
+    /// A value has ended that is the last member of its aggregate.
     Close,
     /// A value may begin.
     Member,
@@ -269,7 +273,7 @@ pub enum Stands {
     Inside,
 }
 
-/// The text that a line is which begins.
+/// Returns the kind of text of a line that begins.
 #[inline(always)]
 fn line_kind(tag: EventTag) -> Option<TextKind>
     ensures { IfSome result (λ kind. IsLineTag tag kind) }

@@ -1,4 +1,4 @@
--- What a session answers, in words of its state.
+-- The answers of a session, in terms of its state.
 use Rattle.std.specs.Prelude.{◌≡◌, ℕ, ◌+◌, ◌<◌, ◌≤◌, ◌^◌, Bool, true, false, List, [], ◌++◌, length, take, codes}
 use Rattle.resp_value.specs.Bounds.{Bounds}
 use Rattle.resp_value.specs.Canonical.{canonical_text}
@@ -19,7 +19,7 @@ abbrev pub state_with : Store → Version → List ℕ → Bool → ℕ → Sess
 state_with store version text closing count =
     record { store = store; version = version; text = text; closing = closing; count = count }
 
--- after a value, whatever was written and run before it
+-- the state after a value, whatever was written and run before it
 pub record IsAnswerTo (id : ℕ) (x : Datum) (store store' : Store) (before after : Session) (commands : ℕ) : Type 0 where
   pub reply : List ℕ
   pub replied : after.out.items ≡ before.out.items ++ reply
@@ -36,10 +36,10 @@ pub record AnswersBytes (limits : Bounds) (id : ℕ) (store store' : Store) (bef
       (front ++ take used piece) (state_with store' after.version (text ++ reply) after.closing (count + commands)) rest
   pub taking : after.closing ≡ false → HasReadFront after.decoder rest
   pub within : used ≤ length piece
-  -- an open session uses a byte at least, where there is one
+  -- an open session uses at least one byte, if there is one
   pub onward : after.closing ≡ false → 0 < length piece → 0 < used
 
--- the text was answered: the reply waits after what waited, and of an open session the rest was taken
+-- the text was answered: the reply follows the bytes that waited, and an open session has read the rest
 pub record IsAnswered (limits : Bounds) (id : ℕ) (store store' : Store) (before after : Session) (text : List ℕ)
     (commands : ℕ) : Type 0 where
   pub reply : List ℕ
@@ -49,15 +49,15 @@ pub record IsAnswered (limits : Bounds) (id : ℕ) (store store' : Store) (befor
       (state_with store' after.version reply after.closing commands) rest
   pub taking : after.closing ≡ false → HasReadFront after.decoder rest
 
--- the first bytes of a piece, and not all of it
+-- the first bytes of a piece, but not all of it
 pub record FirstOf (piece : List ℕ) : Type 0 where
   pub bytes : List ℕ
   pub beyond : List ℕ
   pub whole : piece ≡ bytes ++ beyond
   pub some : 0 < length beyond
 
--- memory was out after the front and the first bytes of the piece, which were answered: nothing of what stands
--- after them was done, and the session is closing
+-- memory was out after the front and the first bytes of the piece, which were answered: nothing after them was done,
+-- and the session is closing
 pub record IsCutShort (limits : Bounds) (id : ℕ) (store store' : Store) (before after : Session) (front piece : List ℕ)
     (commands : ℕ) : Type 0 where
   pub first : FirstOf piece
@@ -68,12 +68,12 @@ pub record IsCutShort (limits : Bounds) (id : ℕ) (store store' : Store) (befor
       (state_with store' after.version reply false commands) rest
   pub closes : after.closing ≡ true
 
--- the fault has a short name, and stands within 63 bits
+-- the fault has a short name, and its place is less than 2^63
 pub record IsNamedFault (fault : Fault) : Type 0 where
   pub short : length (name_of fault.cause) ≤ 16
   pub near : fault.at < 2 ^ 63
 
--- the line for the fault is queued, and the session is closing
+-- the error reply for the fault is queued, and the session is closing
 pub record AnswersFault (before after : Session) (fault : Fault) : Type 0 where
   pub caused : fault.cause ≡ OutOfMemory → ⊥
   pub closes : after.closing ≡ true

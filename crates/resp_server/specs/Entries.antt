@@ -1,4 +1,4 @@
--- The entries of the store, apart from memory, and the places in which they stand.
+-- The entries of the store as data, and their places.
 use Rattle.std.specs.Prelude.{◌≡◌, ℕ, Bool, List, [], ◌∷◌, map, Option, None, Some, Vec}
 use Rattle.std.specs.List.{IsDistinct, slice_get}
 use Rattle.std.specs.Map.{keys_of}
@@ -19,7 +19,7 @@ Rows = List (Vec ℕ Global × Row)
 abbrev pub entry_of : Vec ℕ Global × Row → List ℕ × List ℕ
 entry_of row = (row.0.items, row.1.value)
 
--- what stands in a place: the entry of the row with this index, or nothing
+-- the entry in a place: that of the row with this index, or no entry
 abbrev pub entry_at : Rows → Option ℕ → Option (List ℕ × List ℕ)
 entry_at rows None = None
 entry_at rows (Some index) = option_map entry_of (slice_get rows index)
@@ -28,7 +28,7 @@ abbrev pub and_some : {X : Type 0} → Option X → List X → List X
 and_some None xs = xs
 and_some (Some x) xs = x ∷ xs
 
--- those that are there, in order
+-- those that exist, in order
 abbrev pub somes : {X : Type 0} → List (Option X) → List X
 somes [] = []
 somes (o ∷ os) = and_some o (somes os)
@@ -37,8 +37,8 @@ somes (o ∷ os) = and_some o (somes os)
 abbrev pub entries_in : Rows → List (Option ℕ) → List (List ℕ × List ℕ)
 entries_in rows places = somes (map (entry_at rows) places)
 
--- each key stands in one row, each row's place has its index, and an index in a place is that of the row whose place
--- it is
+-- each key is in one row, the place of each row has the row's index, and an index in a place belongs to a row with this
+-- place
 pub record AreInPlace (rows : Rows) (places : List (Option ℕ)) : Type 0 where
   pub distinct : IsDistinct same_bytes (keys_of rows)
   pub there : (i : ℕ) (row : Vec ℕ Global × Row) → slice_get rows i ≡ Some row →

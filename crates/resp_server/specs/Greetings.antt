@@ -1,4 +1,4 @@
--- The text of HELLO's reply around the session's number.
+-- The text of HELLO's reply before and after the session's number.
 use Rattle.std.specs.Prelude.{ℕ, List, ◌++◌, codes}
 use Rattle.resp_value.specs.declared.version.Version.{Version}
 use Rattle.resp_value.specs.declared.version.Version.TheVariants.{Two, Three}
@@ -7,11 +7,11 @@ use Rattle.resp_value.specs.declared.version.Version.TheVariants.{Two, Three}
 abbrev pub server_fields : List ℕ
 server_fields = codes "$6\r\nserver\r\n$9\r\nresp_loop\r\n$7\r\nversion\r\n$5\r\n1.0.0\r\n"
 
--- what stands before the number
+-- the text before the number
 abbrev pub greeting_begin : Version → List ℕ
 greeting_begin Two = codes "*14\r\n" ++ server_fields ++ codes "$5\r\nproto\r\n:2\r\n$2\r\nid\r\n"
 greeting_begin Three = codes "%7\r\n" ++ server_fields ++ codes "$5\r\nproto\r\n:3\r\n$2\r\nid\r\n"
 
--- what stands after it
+-- the text after the number
 abbrev pub greeting_end : List ℕ
 greeting_end = codes "$4\r\nmode\r\n$10\r\nstandalone\r\n$4\r\nrole\r\n$6\r\nmaster\r\n$7\r\nmodules\r\n*0\r\n"

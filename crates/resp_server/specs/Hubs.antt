@@ -1,4 +1,4 @@
--- A hub apart from memory: its sessions and the store.
+-- The state of a hub: its sessions and the store.
 use Rattle.std.specs.Prelude.{◌≡◌, ◌⊎◌, ℕ, ◌==◌, ◌+◌, ◌<◌, ◌≤◌, ◌^◌, Bool, false, List, [], ◌∷◌, ◌++◌, length, Option, None, Some, map, cond}
 use Rattle.std.specs.List.{AllByRecursion}
 use Rattle.std.specs.Map.{lookup}
@@ -11,14 +11,14 @@ use Rattle.resp_session.specs.Stores.{Store}
 use Rattle.resp_server.specs.Reading.{HasReadFront, Reading, ReadsBy}
 use Rattle.resp_server.specs.declared.session.Session.{Session}
 
--- a session: the version in which it answers, what waits to be sent, whether it is closing, and what it reads with
+-- a session: the version of its replies, the bytes that wait to be written, whether it is closing, and its reader
 pub record Seat : Type 0 where
   pub version : Version
   pub out : List ℕ
   pub closing : Bool
   pub decoder : Reading
 
--- sessions by their ids, in the order in which they were opened, and the store
+-- sessions with their ids, in the order in which they were opened, and the store
 pub record HubState : Type 0 where
   pub limits : Bounds
   pub sessions : List (ℕ × Seat)
@@ -40,11 +40,11 @@ abbrev pub with_seat : List (ℕ × Seat) → ℕ → Seat → List (ℕ × Seat
 with_seat [] id seat = []
 with_seat (e ∷ es) id seat = cond (id == e.0) ((e.0, seat) ∷ es) (e ∷ with_seat es id seat)
 
--- the hub with this session in the place of the one of this id, and nothing else changed
+-- the hub with this session instead of the session with this id
 abbrev pub seated : HubState → ℕ → Seat → HubState
 seated hub id seat = record hub { sessions = with_seat hub.sessions id seat }
 
--- the hub with this store, and nothing else changed
+-- the hub with this store
 abbrev pub stocked : HubState → Store → HubState
 stocked hub store = record hub { store = store }
 
@@ -53,7 +53,7 @@ abbrev pub without_seat : List (ℕ × Seat) → ℕ → List (ℕ × Seat)
 without_seat [] id = []
 without_seat (e ∷ es) id = cond (id == e.0) es (e ∷ without_seat es id)
 
--- a session reads version 2 within the hub's limits, and while it is open it has taken a front of a value
+-- a session reads version 2 within the hub's limits, and while it is open it has read a front of a value
 pub record SessionIsSound (limits : Bounds) (last : ℕ) (id : ℕ) (decoder : Reading) (closing : Bool) : Type 0 where
   pub numbered : id ≤ last
   pub reading : ReadsBy (rules_under Two limits) decoder
@@ -63,14 +63,15 @@ abbrev pub AreSound : Bounds → ℕ → List (ℕ × Session) → Type 0
 AreSound limits last sessions =
     AllByRecursion (λ (e : ℕ × Session). SessionIsSound limits last e.0 e.1.decoder e.1.closing) sessions
 
--- what stands of every hub
+-- this holds of every hub
 pub record HubIsSound (limits : Bounds) (sessions : List (ℕ × Session)) (store : Store) (last : ℕ) : Type 0 where
-  -- each value in the store is within the limits, so that each reply is
+  -- each value in the store is within the limits, and so is each reply
   pub stored : FitsStore limits store
   pub few : last < 2 ^ 63
   pub sound : AreSound limits last sessions
 
--- a session is opened with the next id, which no other has, after the others: nothing was read, and nothing waits
+-- a session is opened after the others with the next id, which no other session has: it has read nothing, and nothing
+-- waits
 pub record IsOpened (old new : HubState) (id : ℕ) : Type 0 where
   pub next : id ≡ old.last + 1
   pub decoder : Reading
@@ -82,6 +83,6 @@ pub record IsOpened (old new : HubState) (id : ℕ) : Type 0 where
     last = id;
   }
 
--- as many sessions are open as can be, or the ids are used up
+-- as many sessions are open as possible, or all ids have been used
 abbrev pub HasNoSessionLeft : HubState → Type 0
 HasNoSessionLeft hub = (65536 ≤ length hub.sessions) ⊎ (9223372036854775807 ≤ hub.last)

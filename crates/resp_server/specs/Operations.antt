@@ -1,4 +1,4 @@
--- What the program's operations ask, in words of commands.
+-- The requests of the program's operations, in the terms of commands.
 use Rattle.std.specs.Prelude.{ℕ, List, ◌++◌, Option, None, Some, drop, codes}
 use Rattle.resp_value.specs.Values.{content_bytes}
 use Rattle.resp_session.specs.Operations as spec
@@ -20,14 +20,14 @@ verb_name Set = codes "set"
 verb_name Del = codes "del"
 verb_name Hello = codes "hello"
 
--- the text of a refusal
+-- the text of an error reply
 abbrev pub refusal_text : Refusal → List ℕ
 refusal_text (WrongNumber verb) = codes "ERR wrong number of arguments for '" ++ verb_name verb ++ codes "' command"
 refusal_text Syntax = codes "ERR syntax error"
 refusal_text NoProtocol = codes "NOPROTO unsupported protocol version"
 refusal_text UnknownCommand = codes "ERR unknown command"
 
--- what the command of this name asks with these words after it
+-- the request of the command of this name with these words after it
 abbrev pub operation_by : Option Verb → List (List ℕ) → spec.Operation
 operation_by (Some Ping) arguments = spec.ping_operation arguments
 operation_by (Some Echo) arguments = spec.echo_operation arguments
@@ -42,7 +42,7 @@ condition_in Always = spec.Always
 condition_in IfAbsent = spec.IfAbsent
 condition_in IfPresent = spec.IfPresent
 
--- what an operation asks
+-- the request of an operation
 abbrev pub operation_in : Operation → spec.Operation
 operation_in operation.Ping = spec.Ping
 operation_in (operation.Echo word) = spec.Echo (content_bytes word)

@@ -11,12 +11,12 @@ use Rattle.resp_server.specs.Hubs.{Seat}
 use Rattle.resp_server.specs.declared.error.PushError.{PushError}
 use Rattle.resp_server.specs.declared.error.PushError.TheVariants.{NoSession, Closing, NotInVersion, Double, NestedPush, OverLimits, OutOfMemory}
 
--- an open session at version 3
+-- an open session of version 3
 abbrev pub TakesPushes : Option Seat → Type 0
 TakesPushes None = ⊥
 TakesPushes (Some s) = (s.closing ≡ false) × (s.version ≡ Three)
 
--- the session refuses the push for this reason, and has none before it; OutOfMemory comes only where it has none
+-- the session refuses the push with this error, and no earlier error applies; `OutOfMemory` only if no other applies
 abbrev pub HubRefusesPush : Bounds → Option Seat → Datum → PushError → Type 0
 HubRefusesPush limits seat push NoSession = seat ≡ None
 HubRefusesPush limits None push error = ⊥
@@ -30,15 +30,15 @@ HubRefusesPush limits (Some s) push (OverLimits limit) =
     IsFirstOver (rules_under Three limits) push limit
 HubRefusesPush limits (Some s) push OutOfMemory = TakesPushes (Some s) × Fits (rules_under Three limits) push
 
--- a push is queued where the session takes pushes and it is within the limits, and else it is refused for the first
--- reason, OutOfMemory aside
+-- a push is queued if the session accepts pushes and the push is within the limits; otherwise it is refused with the
+-- first error that applies, apart from `OutOfMemory`
 pub record IsPushVerdict (limits : Bounds) (seat : Option Seat) (push : Datum) (result : Result (Unit {0}) PushError) :
     Type 0 where
   pub taken : OnOk result (TakesPushes seat × Fits (rules_under Three limits) push)
   pub first : IfErr result (HubRefusesPush limits seat push)
   pub every : (error : PushError) → error ≢ OutOfMemory → HubRefusesPush limits seat push error → IsErrOf result error
 
--- why a push is refused that is not encoded for this reason
+-- the error of a push for an error of the encoder
 abbrev pub push_error : EncodeError → PushError
 push_error encode.Double = Double
 push_error encode.NotInVersion = NotInVersion

@@ -1,4 +1,4 @@
--- What a session has read of a value.
+-- The bytes that a session has read of a value.
 use Rattle.std.specs.Prelude.{◌≡◌, ◌⊎◌, ℕ, List, [], length, Option, None, Some}
 use Rattle.resp_value.specs.Rules.{Rules, WithinTotal}
 use Rattle.resp_value.specs.Spellings.{IsSpelling, IsViable}
@@ -11,36 +11,36 @@ use Rattle.resp_decode.specs.Decoding as decoding
 use Rattle.resp_decode.specs.Decoding.{RefusesByte}
 use Rattle.resp_decode.specs.declared.decoder.Decoder.{Decoder}
 
--- what a session reads with: a decoder, or none between two values
+-- the reader of a session: a decoder, or no decoder between two values
 abbrev pub Reading : Type 0
 Reading = Option Decoder
 
--- the bytes of this front were taken of a value
+-- the bytes of this front were read of a value
 abbrev pub HasReadFront : Reading → List ℕ → Type 0
 HasReadFront None front = front ≡ []
 HasReadFront (Some decoder) front = decoding.HasTaken decoder front
 
--- this holds of every front that was taken
+-- this holds of every front that was read
 abbrev pub WhereFrontRead : Reading → (List ℕ → Type 0) → Type 0
 WhereFrontRead reading P = (front : List ℕ) → HasReadFront reading front → P front
 
--- what is read is read by these rules
+-- the reader uses these rules
 abbrev pub ReadsBy : Rules → Reading → Type 0
 ReadsBy rules None = Unit {0}
 ReadsBy rules (Some decoder) = decoding.rules_of decoder ≡ rules
 
--- the text is a spelling of the value, and nothing is taken of the next
+-- the text is a spelling of the value, and no byte of the next value was read
 pub record ReadsValue (rules : Rules) (reading : Reading) (written : List ℕ) (value : Value) : Type 0 where
   pub spelling : IsSpelling rules (datum_of value) written
   pub takes : HasReadFront reading []
 
--- the piece is used up: no value has ended in the text, which may go on, and is taken
+-- the piece is used up: no value has ended in the text, which is viable and was read
 pub record ReadsOn (rules : Rules) (reading : Reading) (written piece : List ℕ) (used : ℕ) : Type 0 where
   pub whole_piece : used ≡ length piece
   pub no_value : HasNoValue written
   pub viable : IsViable rules WithinTotal written
   pub takes : HasReadFront reading written
 
--- a byte of the piece is refused, or no memory was found
+-- a byte of the piece is rejected, or an allocation failed
 abbrev pub RefusesReading : Rules → List ℕ → List ℕ → Fault → Type 0
 RefusesReading rules front piece fault = RefusesByte rules front piece fault ⊎ (fault.cause ≡ OutOfMemory)

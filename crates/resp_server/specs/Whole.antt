@@ -1,4 +1,4 @@
--- Commands that lie whole in a piece, and are run from its bytes.
+-- Commands that lie completely in a piece and are run from its bytes.
 use Rattle.std.specs.Prelude.{◌≡◌, ℕ, ◌+◌, ◌≤◌, List, [], ◌∷◌, ◌++◌, length, Option}
 use Rattle.resp_value.specs.Bounds.{Bounds}
 use Rattle.resp_value.specs.Bytes.{crlf}
@@ -12,27 +12,27 @@ use Rattle.resp_server.specs.declared.refusal.Verb.{Verb}
 use Rattle.resp_server.specs.declared.whole.Lent.{Lent}
 use Rattle.resp_server.specs.declared.whole.Lent.TheVariants as lent
 
--- what a command of lent words asks
+-- the request of a command of borrowed words
 abbrev pub lent_operation : Lent → Operation
 lent_operation lent.Ping = Ping
 lent_operation (lent.Get key) = Get key.now
 lent_operation (lent.Set key value) = Set Always key.now value.now
 
--- the text begins with a head of this type byte and number, and goes on so
+-- the text begins with a head of this type byte and number, and then has this rest
 abbrev pub BeginsWithHead : List ℕ → ℕ → ℕ → List ℕ → Type 0
 BeginsWithHead text kind number rest = text ≡ kind ∷ (decimal number ++ crlf rest)
 
--- the text begins with a bulk string of this word, and goes on so
+-- the text begins with a bulk string of this word, and then has this rest
 abbrev pub BeginsWithWord : List ℕ → List ℕ → List ℕ → Type 0
 BeginsWithWord text word rest = BeginsWithHead text 36 (length word) (word ++ crlf rest)
 
--- the text begins with bulk strings of these words, one after another, and goes on so
+-- the text begins with bulk strings of these words, one after another, and then has this rest
 abbrev pub BeginsWithWords : List ℕ → List (List ℕ) → List ℕ → Type 0
 BeginsWithWords text [] rest = text ≡ rest
 BeginsWithWords text (word ∷ words) rest = (next : List ℕ) × BeginsWithWord text word next × (length word ≤ 99) ×
     BeginsWithWords next words rest
 
--- with this many words, the last of them at the front of the text, the command of this name asks this
+-- the command of this name with this many words, the last of which are at the beginning of the text, makes this request
 pub record AsksWith (verb : Option Verb) (count : ℕ) (text : List ℕ) (operation : Operation) (rest : List ℕ) :
     Type 0 where
   pub arguments : List (List ℕ)
@@ -41,7 +41,7 @@ pub record AsksWith (verb : Option Verb) (count : ℕ) (text : List ℕ) (operat
   pub words : BeginsWithWords text arguments rest
   pub asks : operation ≡ operation_by verb arguments
 
--- the piece begins with a spelling of a command that asks this, and goes on so
+-- the piece begins with a spelling of a command that makes this request, and then has this rest
 pub record BeginsWithCommand (limits : Bounds) (piece : List ℕ) (operation : Operation) (rest : List ℕ) : Type 0 where
   pub name : List ℕ
   pub arguments : List (List ℕ)

@@ -1,4 +1,4 @@
-//! What a session answers to a piece.
+//! The answer of a session to a piece.
 
 ghost use Rattle.std.specs.Prelude.{◌≡◌, ◌<◌, ◌^◌, ◌++◌, List, ℕ, false, IfOk, IfErr};
 ghost use Rattle.resp_session.specs.Answers.{server_rules};
@@ -14,8 +14,9 @@ use resp_value::limits::Limits;
 use std::alloc::Global;
 use std::hash::BuildHasher;
 
-/// Answers all that came whole with a piece, and tells how many commands were run. When out of
-/// memory, the session is closing, and the number is that of the commands run before.
+/// Answers everything that is complete with a piece, and returns the number of commands that were
+/// run. When out of memory, the session is closing, and the error has the number of commands run
+/// before.
 pub(crate) fn answer<S: BuildHasher>(
     store: &mut Store<S>,
     session: &mut Session,
@@ -38,7 +39,7 @@ pub(crate) fn answer<S: BuildHasher>(
 {
     laws::answers_go_on();
     laws::answers_end();
-    // What was taken is viable, as the decoder says of it here.
+    // The contract of the decoder's `taken` states here that the bytes read are viable.
     let _taken = session.decoder.taken(limits);
     let mut used = 0;
     let mut commands = 0;

@@ -1,4 +1,4 @@
-//! What a value that came whole leaves.
+//! The answer to a complete value.
 
 ghost use Rattle.std.specs.Prelude.{◌≡◌, ◌<◌, ◌≤◌, ◌^◌, List, ℕ, false, length, IfOk, OnOk, OnErr};
 ghost use Rattle.resp_value.specs.Bounds.{AreBounds};
@@ -23,8 +23,8 @@ use resp_value::value::Value;
 use std::alloc::{AllocError, Global};
 use std::hash::BuildHasher;
 
-/// Runs a command of these words, and queues the reply. When out of memory the store, the
-/// session's version and what waits are as before.
+/// Runs a command of these words, and queues the reply. When out of memory, the store, the
+/// session's version and the waiting bytes are unchanged.
 fn run_words<S: BuildHasher>(
     words: Words,
     store: &mut Store<S>,
@@ -48,8 +48,8 @@ fn run_words<S: BuildHasher>(
     run(operation_of(words), store, session, id, limits)
 }
 
-/// Answers a value that was read, and tells how many commands were run: one or none. When out of
-/// memory the store, the session's version and what waits are as before.
+/// Answers a value that was read, and returns the number of commands that were run, 0 or 1. When
+/// out of memory, the store, the session's version and the waiting bytes are unchanged.
 pub(crate) fn answer_value<S: BuildHasher>(
     value: Value,
     store: &mut Store<S>,

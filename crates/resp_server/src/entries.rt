@@ -1,4 +1,4 @@
-//! The entries of a hub's store, one after the other.
+//! The entries of a hub's store, one after another.
 
 ghost use Rattle.std.specs.Prelude.{◌≡◌, length};
 ghost use Rattle.std.specs.Iterator.{at_most};
@@ -9,8 +9,8 @@ use crate::row::Row;
 use indexmap::map::Slice;
 use std::marker::Model;
 
-/// Lends the keys that a hub's store holds and their values, in the order in which the keys came.
-/// None of its calls takes memory.
+/// An iterator over the keys of a hub's store with their values, in the order in which the keys
+/// were added. It does not allocate.
 #[derive(Drop)]
 pub struct Entries<'a> {
     rows: Slice<'a, Vec<u8>, Row>,
@@ -28,7 +28,7 @@ impl<'a> Model for Entries<'a> {
 }
 
 impl<'a> Entries<'a> {
-    /// The entries of these rows in these places.
+    /// Makes an iterator over these rows in the order of these places.
     pub(crate) fn new(rows: Slice<'a, Vec<u8>, Row>, places: &'a [Option<usize>]) -> Entries<'a>
         ensures { result ≡ entries_in rows.entry places.now }
     {

@@ -1,26 +1,26 @@
-//! Why a call of a hub is refused.
+//! The errors of a hub.
 
 use resp_value::cause::Limit;
 use thiserror::Error;
 
-/// No session has this id: none was given it, or it was closed.
+/// No session has this id: it was never given, or the session was closed.
 #[derive(Clone, Copy, Debug, PartialEq, Eq, Error)]
 #[error("no session has this id")]
 pub struct NoSession;
 
-/// Why no session was opened. The hub is as before.
+/// Why no session was opened. The hub is unchanged.
 #[derive(Clone, Copy, Debug, PartialEq, Eq, Error)]
 pub enum OpenError {
-    /// 65,536 sessions are open, or the ids are used up.
+    /// 65,536 sessions are open, or all ids have been used.
     #[error("too many sessions")]
     TooManySessions,
-    /// A growth was refused.
+    /// An allocation failed.
     #[error("out of memory")]
     OutOfMemory,
 }
 
-/// Why a push was not queued. The hub is as before. Of several reasons the first in this order is
-/// named.
+/// Why a push was not queued. The hub is unchanged. If several errors apply, it is the first in
+/// this order.
 #[derive(Clone, Copy, Debug, PartialEq, Eq, Error)]
 pub enum PushError {
     /// No session has this id.
@@ -32,31 +32,32 @@ pub enum PushError {
     /// The session answers in version 2, which has no pushes.
     #[error("the session's version has no pushes")]
     NotInVersion,
-    /// A double stands among the items, and the limits allow none.
+    /// An item holds a double, and the limits do not allow doubles.
     #[error("the limits allow no doubles")]
     Double,
-    /// A push stands among the items.
+    /// An item holds a push.
     #[error("a push stands below the top")]
     NestedPush,
-    /// The push is over this limit, and over none that is tested before it.
+    /// The push exceeds this limit, and no limit that is checked before it.
     #[error("the push is over the limit {0:?}")]
     OverLimits(Limit),
-    /// A growth was refused.
+    /// An allocation failed.
     #[error("out of memory")]
     OutOfMemory,
 }
 
-/// Why a piece was not answered whole.
+/// Why a piece was not completely answered.
 #[derive(Clone, Copy, Debug, PartialEq, Eq, Error)]
 pub enum HubError {
-    /// No session has this id. The hub is as before.
+    /// No session has this id. The hub is unchanged.
     #[error("no session has this id")]
     NoSession,
-    /// A growth was refused, in a command, in reading one or in the line for a protocol error. What
-    /// was done before stands, nothing of what comes after was done, and the session is closing.
+    /// An allocation failed: for a command, for reading a command, or for the error reply after a
+    /// protocol error. The commands run before keep their effect, nothing after them is done, and
+    /// the session is closing.
     #[error("out of memory after {commands} commands")]
     OutOfMemory {
-        /// How many commands of the call were run before.
+        /// The number of commands of the call that were run before.
         commands: u64,
     },
 }

@@ -1,4 +1,4 @@
-//! The line that names a protocol error.
+//! The error reply after a protocol error.
 
 ghost use Rattle.std.specs.Prelude.{◌≡◌, ◌<◌, ◌≤◌, ◌^◌, ◌++◌, length, codes, OnOk, OnErr};
 ghost use Rattle.resp_value.specs.Canonical.{canonical_text};
@@ -12,10 +12,11 @@ use resp_value::limits::Limits;
 use resp_value::version::Version;
 use std::alloc::{AllocError, Global};
 
-/// How much room holds the line of a protocol error.
+/// The room for the error reply after a protocol error.
 const LINE_ROOM: usize = 68;
 
-/// Appends the line for a protocol error of this name at this byte, whole or not at all.
+/// Appends the error reply for a protocol error of this name at this byte, or leaves the buffer
+/// unchanged.
 pub(crate) fn append_fault(
     out: &mut BytesMut,
     version: Version,
@@ -34,7 +35,7 @@ pub(crate) fn append_fault(
     let mut number = BytesMut::new(alloc);
     number.reserve(NUMBER_ROOM)?;
     reply_number(&mut number, version, limits, at);
-    // What is replied by a number is its type byte, its digits, CR and LF.
+    // The reply to a number is its type byte, its digits, CR and LF.
     let digits = &number.as_slice()[1..];
     out.reserve(LINE_ROOM)?;
     out.extend_reserved(b"-ERR Protocol error: ");

@@ -1,4 +1,4 @@
-//! Sessions over one store.
+//! The hub: sessions over one store.
 
 ghost use Rattle.std.specs.Prelude.{◌≡◌, ◌≢◌, ◌+◌, ◌≤◌, ◌++◌, ◌↔◌, [], length, drop, true, false, ℕ, List, None, Some, Ok, Err, IfSome, IsOk, IsErr, IsErrOf, IfOk, IfErr, OnOk, OnErr};
 ghost use Rattle.std.specs.Option.{option_map};
@@ -26,16 +26,32 @@ use std::collections::BTreeMap;
 use std::hash::BuildHasher;
 use std::marker::Model;
 
-/// What a piece did.
+/// The result of giving a session a piece.
 #[derive(Clone, Copy, Debug, PartialEq, Eq)]
 pub struct Handled {
-    /// How many commands were run, those that an error answers among them.
+    /// The number of commands that were run, including those with an error reply.
     pub commands: u64,
 }
 
-/// Sessions over one store. Each reads the commands of one client in version 2 (Redis serialization
-/// protocol specification, "Sending commands to a Redis server"), answers in the version that HELLO
-/// last set, and what it replies waits until it is sent. `S` makes the hashes of the store's keys.
+/// Sessions over one store. Each session reads the commands of one client in version 2 (Redis
+/// serialization protocol specification, "Sending commands to a Redis server") and replies in the
+/// version that HELLO last set. The replies wait in the hub until the caller has written them. `S`
+/// hashes the keys of the store.
+///
+/// # Examples
+///
+/// From [samples](../../samples/src/serving.rt):
+///
+/// ```rust
+/// let mut hub = Hub::new(alloc, Limits::standard(), hasher);
+/// let id = hub.open()?;
+/// let handled = hub.bytes(id, b"*3\r\n$3\r\nSET\r\n$1\r\na\r\n$1\r\n1\r\n")?;
+/// println!(rt; "{} {}", handled.commands, hub.out(id)?.escape_ascii())?;
+/// let length = hub.out(id)?.len();
+/// hub.sent(id, length)?;
+/// ```
+///
+/// This prints `1 +OK\r\n`.
 #[derive(Drop)]
 pub struct Hub<S: BuildHasher> {
     limits: Limits,
@@ -68,8 +84,8 @@ impl<S: BuildHasher> Hub<S> {
     ghost use Rattle.resp_server.specs.Hubs.{HubState, Seat, seat_at, seated, without_seat};
     ghost use Rattle.resp_server.specs.Hubs.{IsOpened, HasNoSessionLeft};
 
-    /// A hub without a session, over an empty store, whose sessions read and write within these
-    /// limits. Takes no memory.
+    /// Makes a hub with an empty store and without a session. Its sessions read and write within
+    /// these limits. Does not allocate.
     pub fn new(alloc: Global, limits: Limits, hasher: S) -> Hub<S>
         ensures { result ≡ record { limits = limits; sessions = []; store = []; last = 0 } }
     {
@@ -82,7 +98,7 @@ impl<S: BuildHasher> Hub<S> {
         }
     }
 
-    /// The value of a key, lent; none where the store doesn't have the key.
+    /// Returns the value of a key, or `None` if the store does not have the key.
     pub fn get(&self, key: &[u8]) -> Option<&[u8]>
         ensures { option_map (λ value. value.now) result ≡ value_at self.now.store key.now }
     {
@@ -92,16 +108,29 @@ impl<S: BuildHasher> Hub<S> {
         }
     }
 
-    /// The keys of the store and their values, in the order in which the keys came: a new key
-    /// stands last, and one that is set again keeps its place.
+    /// Returns the keys of the store with their values, in the order in which the keys were added.
+    /// A key that is set again keeps its place.
+    ///
+    /// # Examples
+    ///
+    /// From [samples](../../samples/src/serving.rt):
+    ///
+    /// ```rust
+    /// for (key, value) in hub.entries() {
+    ///     println!(rt; "{} is {}", key.escape_ascii(), value.escape_ascii())?;
+    /// }
+    /// ```
     pub fn entries(&self) -> Entries<'_>
         ensures { result ≡ self.now.store }
     {
         self.store.entries()
     }
 
-    /// What waits to be sent to a session's client, lent. Refuses exactly where no session has this
-    /// id.
+    /// Returns the bytes that wait to be written to a session's client.
+    ///
+    /// # Errors
+    ///
+    /// `NoSession` if no session has this id.
     pub fn out(&self, id: u64) -> Result<&[u8], NoSession>
         ensures waiting { IfOk result (λ text.
             option_map (λ (s : Seat). s.out) (seat_at self.now id) ≡ Some text.now) }
@@ -113,8 +142,12 @@ impl<S: BuildHasher> Hub<S> {
         }
     }
 
-    /// Drops `count` bytes, no more than wait, from the front of what waits in a session: those
-    /// that were sent. Refuses exactly where no session has this id, and then nothing is changed.
+    /// Removes the first `count` bytes of [`Hub::out`] after they were written. `count` is at most
+    /// the number of bytes that wait.
+    ///
+    /// # Errors
+    ///
+    /// `NoSession` if no session has this id. Then nothing is changed.
     pub fn sent(&mut self, id: u64, count: usize) -> Result<(), NoSession>
         requires { IfSome (seat_at self.old id) (λ (s : Seat). count ≤ length s.out) }
         ensures dropped { OnOk result (IfSome (seat_at self.old id) (λ (s : Seat).
@@ -130,13 +163,17 @@ impl<S: BuildHasher> Hub<S> {
         Ok(())
     }
 
-    /// Whether a session takes no more commands and pushes, after a protocol error or when out of
-    /// memory. Refuses exactly where no session has this id.
+    /// Returns whether a session accepts no more commands and pushes, after a protocol error or
+    /// when out of memory.
+    ///
+    /// # Errors
+    ///
+    /// `NoSession` if no session has this id.
     pub fn is_closing(&self, id: u64) -> Result<bool, NoSession>
         ensures closing { IfOk result (λ closing.
             option_map (λ (s : Seat). s.closing) (seat_at self.now id) ≡ Some closing) }
         ensures none { OnErr result (seat_at self.now id ≡ None) }
-        // An open session has taken a front of a value, which is answered by nothing yet.
+        // An open session has read the first bytes of a value, which has no reply yet.
         ensures taking { IfSome (seat_at self.now id) (λ (s : Seat). s.closing ≡ false →
             (front : List ℕ) × HasReadFront s.decoder front) }
         ensures waiting { WhereOpen self.now id (λ s front.
@@ -145,13 +182,16 @@ impl<S: BuildHasher> Hub<S> {
         let Some(session) = self.sessions.get(&id) else {
             return Err(NoSession);
         };
-        // What was taken is viable, as the decoder says of it here.
+        // The contract of the decoder's `taken` states here that the bytes read are viable.
         let _taken = session.decoder.taken(&self.limits);
         Ok(session.closing)
     }
 
-    /// The version in which a session answers: 2 until a HELLO sets another. Refuses exactly where
-    /// no session has this id.
+    /// Returns the version in which a session replies: 2 until a HELLO sets another.
+    ///
+    /// # Errors
+    ///
+    /// `NoSession` if no session has this id.
     pub fn version(&self, id: u64) -> Result<Version, NoSession>
         ensures version { IfOk result (λ version.
             option_map (λ (s : Seat). s.version) (seat_at self.now id) ≡ Some version) }
@@ -163,11 +203,13 @@ impl<S: BuildHasher> Hub<S> {
         }
     }
 
-    /// Opens a session, which answers in version 2 first. The ids are 1, 2, 3 and so on, and none
-    /// is given twice.
+    /// Opens a session and returns its id. The session first replies in version 2. The ids are 1,
+    /// 2, 3 and so on, and no id is given twice.
     ///
-    /// Refuses by TooManySessions exactly where 65,536 are open or 9,223,372,036,854,775,807 ids
-    /// were given, and else when out of memory. Then nothing is changed.
+    /// # Errors
+    ///
+    /// `TooManySessions` if 65,536 sessions are open or 9,223,372,036,854,775,807 ids were given,
+    /// otherwise `OutOfMemory` if an allocation fails. Then nothing is changed.
     pub fn open(&mut self) -> Result<u64, OpenError>
         ensures opened { IfOk result (IsOpened self.old self.new) }
         ensures too_many { IsErrOf result OpenError.TooManySessions ↔ HasNoSessionLeft self.old }
@@ -185,8 +227,11 @@ impl<S: BuildHasher> Hub<S> {
         Ok(id)
     }
 
-    /// Takes a session away, with what waits to be sent. Refuses exactly where no session has this
-    /// id, and then nothing is changed.
+    /// Closes a session and drops the bytes that wait to be written.
+    ///
+    /// # Errors
+    ///
+    /// `NoSession` if no session has this id. Then nothing is changed.
     pub fn close(&mut self, id: u64) -> Result<(), NoSession>
         ensures closed { OnOk result (self.new ≡
             record self.old { sessions = without_seat self.old.sessions id }) }
@@ -201,21 +246,42 @@ impl<S: BuildHasher> Hub<S> {
         Ok(())
     }
 
-    /// Takes a piece of what a session's client sends: runs all commands that came whole with it,
-    /// in order, and queues their replies. Pieces may be cut anywhere. A byte that is refused, or a
-    /// value that is no command, queues an error that names it and closes the session, which then
-    /// takes pieces and runs nothing. Nulls and empty arrays are passed over.
+    /// Gives a session a piece of the bytes that its client has sent. Runs all commands that are
+    /// complete with this piece, in order, and queues their replies. The pieces may be cut
+    /// anywhere.
     ///
-    /// Refuses by NoSession exactly where no session has this id, and then nothing is changed; and
-    /// when out of memory: the commands run before stand with their replies, nothing of what comes
-    /// after was done, and the session is closing.
+    /// If a byte is rejected or a value is not a command, the session queues an error reply that
+    /// names the problem, and is closing: it then ignores further pieces. Nulls and empty arrays
+    /// are ignored.
+    ///
+    /// # Errors
+    ///
+    /// - `NoSession` if no session has this id. Then nothing is changed.
+    /// - `OutOfMemory` if an allocation fails. The commands run before keep their effect and their
+    ///   replies, nothing after them is done, and the session is closing.
+    ///
+    /// # Examples
+    ///
+    /// A command in two pieces, and then bytes that are not a command, from
+    /// [samples](../../samples/src/serving.rt):
+    ///
+    /// ```rust
+    /// let first = hub.bytes(id, b"*1\r\n$4\r\nPI")?;
+    /// let second = hub.bytes(id, b"NG\r\n")?;
+    /// println!(rt; "{} {}", first.commands, second.commands)?;
+    /// hub.bytes(id, b"PING\r\n")?;
+    /// println!(rt; "{}", hub.out(id)?.escape_ascii())?;
+    /// println!(rt; "{}", hub.is_closing(id)?)?;
+    /// ```
+    ///
+    /// This prints `0 1`, `+PONG\r\n-ERR Protocol error: Syntax at byte 0\r\n` and `true`.
     pub fn bytes(&mut self, id: u64, piece: &[u8]) -> Result<Handled, HubError>
-        // What is queued, and the store, version and closing, are those of the answers to the bytes
-        // taken before of a value and the piece.
+        // The queued replies, the store, the version and whether the session is closing are the
+        // answer to the bytes read before of a value together with the piece.
         ensures answered { WhereOpen self.old id (λ s front. IfOk result (λ handled.
             HasAnswered self.old self.new id s (front ++ piece.now) handled.commands)) }
-        // At OutOfMemory they are those of the answers to the bytes taken before and the first
-        // of the piece.
+        // At `OutOfMemory` they are the answer to the bytes read before together with the first
+        // bytes of the piece.
         ensures cut_short { WhereOpen self.old id (λ s front. IfErr result (λ error.
             IfOutOfMemory error (HasCutShort self.old self.new id s front piece.now))) }
         ensures closing { IfSome (seat_at self.old id) (λ (s : Seat). s.closing ≡ true →
@@ -246,11 +312,28 @@ impl<S: BuildHasher> Hub<S> {
         Ok(Handled { commands })
     }
 
-    /// Queues a push of these items after what waits, in version 3 (Redis serialization protocol
-    /// specification, "Pushes").
+    /// Queues a push of these items in version 3 (Redis serialization protocol specification,
+    /// "Pushes").
     ///
-    /// Refuses by the first of NoSession, Closing, NotInVersion, Double, NestedPush and OverLimits
-    /// that there is, and else when out of memory, as [`PushError`] says. Then nothing is changed.
+    /// # Errors
+    ///
+    /// The first of `NoSession`, `Closing`, `NotInVersion`, `Double`, `NestedPush`, `OverLimits`
+    /// and `OutOfMemory` that applies, as [`PushError`] describes. Then nothing is changed.
+    ///
+    /// # Examples
+    ///
+    /// From [samples](../../samples/src/serving.rt):
+    ///
+    /// ```rust
+    /// println!(rt; "{:?}", hub.push(id, &[Value::Int(1)]))?;
+    /// hub.bytes(id, b"*2\r\n$5\r\nHELLO\r\n$1\r\n3\r\n")?;
+    /// let length = hub.out(id)?.len();
+    /// hub.sent(id, length)?;
+    /// hub.push(id, &[Value::Int(1)])?;
+    /// println!(rt; "{}", hub.out(id)?.escape_ascii())?;
+    /// ```
+    ///
+    /// This prints `Err(NotInVersion)` and `>1\r\n:1\r\n`.
     pub fn push(&mut self, id: u64, items: &[Value]) -> Result<(), PushError>
         ensures queued { OnOk result (IfSome (seat_at self.old id) (λ (s : Seat).
             self.new ≡ seated self.old id
@@ -258,7 +341,7 @@ impl<S: BuildHasher> Hub<S> {
         ensures verdict { IsPushVerdict self.old.limits (seat_at self.old id) (push_of items.now)
             result }
         ensures unchanged { OnErr result (self.new ≡ self.old) }
-        // It is a value, whatever the items hold.
+        // The push is a value of the protocol, whatever the items are.
         ensures is_value { OnOk result (IsValue (push_of items.now)) }
     {
         let Some(session) = self.sessions.get_mut(&id) else {

@@ -1,4 +1,5 @@
-//! Sessions over one store: what clients send, byte by byte, and what they are answered.
+//! A small server without input and output: sessions over one store. A session receives the bytes
+//! of a client and queues its replies.
 #![tactic(auto)]
 
 mod answer;

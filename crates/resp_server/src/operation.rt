@@ -1,4 +1,4 @@
-//! What a command asks, by its words.
+//! The request of a command, found from its words.
 
 ghost use Rattle.std.specs.Prelude.{◌≡◌, ◌<◌, ◌∷◌, List, ℕ, drop, length, slice_index_or, []};
 ghost use Rattle.std.specs.Str.{str_to_ascii_lowercase};
@@ -11,37 +11,38 @@ use resp_session::words::Words;
 use resp_value::content::Content;
 use resp_value::version::Version;
 
-/// When a SET sets.
+/// The condition of a SET.
 #[derive(Clone, Copy, Debug, PartialEq, Eq)]
 pub(crate) enum Condition {
-    /// Whether the key is there or not.
+    /// Set the key in any case.
     Always,
-    /// Where the key isn't there.
+    /// Set the key only if it does not exist.
     IfAbsent,
-    /// Where the key is there.
+    /// Set the key only if it exists.
     IfPresent,
 }
 
-/// What a command asks.
+/// The request of a command.
 #[derive(Drop)]
 pub(crate) enum Operation {
-    /// A sign of life.
+    /// PING without a word: reply `PONG`.
     Ping,
-    /// The word back.
+    /// Reply with this word.
     Echo(Content),
-    /// The value of the key.
+    /// Reply with the value of the key.
     Get(Content),
-    /// That the key has the value.
+    /// Set the key to the value.
     Set(Condition, Content, Content),
-    /// That the keys, the words after the name, are no more there.
+    /// Remove the keys, which are the words after the name.
     Del(Words),
-    /// What the session is, and the version, if one is named.
+    /// Describe the session, and change the version if one is given.
     Hello(Option<Version>),
-    /// It is refused.
+    /// Reply with an error.
     Refused(Refusal),
 }
 
-/// Whether a word is this name in lower case, whatever its own case.
+/// Returns whether a word is this name in upper, lower or mixed case. The name is given in lower
+/// case.
 fn is_name(word: &[u8], name: &[u8]) -> bool
     requires { str_to_ascii_lowercase name.now ≡ name.now }
     ensures { result ≡ spec.is_name name.now word.now }
@@ -49,7 +50,7 @@ fn is_name(word: &[u8], name: &[u8]) -> bool
     word.eq_ignore_ascii_case(name)
 }
 
-/// The command of this name, where it is known.
+/// Returns the command of this name, or `None` if the name is unknown.
 pub(crate) fn verb_of(name: &[u8]) -> Option<Verb>
     ensures { (arguments : List (List ℕ)) →
         operation_by result arguments ≡ spec.operation_of name.now arguments }
@@ -71,7 +72,7 @@ pub(crate) fn verb_of(name: &[u8]) -> Option<Verb>
     }
 }
 
-/// What a command of these words asks.
+/// Returns the request of a command of these words.
 pub(crate) fn operation_of(words: Words) -> Operation
     requires { 0 < length words }
     ensures { operation_in result ≡
@@ -88,7 +89,7 @@ pub(crate) fn operation_of(words: Words) -> Operation
     }
 }
 
-/// What PING asks.
+/// Returns the request of a PING.
 fn ping(mut words: Words) -> Operation
     requires { 0 < length words }
     ensures { operation_in result ≡ spec.ping_operation (drop 1 words) }
@@ -103,7 +104,7 @@ fn ping(mut words: Words) -> Operation
     }
 }
 
-/// What ECHO asks.
+/// Returns the request of an ECHO.
 fn echo(mut words: Words) -> Operation
     requires { 0 < length words }
     ensures { operation_in result ≡ spec.echo_operation (drop 1 words) }
@@ -117,7 +118,7 @@ fn echo(mut words: Words) -> Operation
     }
 }
 
-/// What GET asks.
+/// Returns the request of a GET.
 fn get(mut words: Words) -> Operation
     requires { 0 < length words }
     ensures { operation_in result ≡ spec.get_operation (drop 1 words) }
@@ -131,7 +132,7 @@ fn get(mut words: Words) -> Operation
     }
 }
 
-/// What SET asks.
+/// Returns the request of a SET.
 fn set(mut words: Words) -> Operation
     requires { 0 < length words }
     ensures { operation_in result ≡ spec.set_operation (drop 1 words) }
@@ -147,7 +148,7 @@ fn set(mut words: Words) -> Operation
     }
 }
 
-/// What SET of a key and a value asks with an option.
+/// Returns the request of a SET of a key and a value with an option.
 fn set_by(words: Words, option: &[u8]) -> Operation
     requires { length words ≡ 3 }
     ensures { operation_in result ≡ spec.conditional_operation
@@ -162,7 +163,7 @@ fn set_by(words: Words, option: &[u8]) -> Operation
     }
 }
 
-/// What SET of a key and a value asks, set under this condition.
+/// Returns the request of a SET of a key and a value under this condition.
 fn set_key(mut words: Words, condition: Condition) -> Operation
     requires { length words ≡ 3 }
     ensures { operation_in result ≡ spec.Set (condition_in condition)
@@ -177,7 +178,7 @@ fn set_key(mut words: Words, condition: Condition) -> Operation
     Operation::Set(condition, key, value)
 }
 
-/// What DEL asks.
+/// Returns the request of a DEL.
 fn del(words: Words) -> Operation
     requires { 0 < length words }
     ensures { operation_in result ≡ spec.del_operation (drop 1 words) }
@@ -188,7 +189,7 @@ fn del(words: Words) -> Operation
     Operation::Del(words)
 }
 
-/// What HELLO asks.
+/// Returns the request of a HELLO.
 fn hello(words: Words) -> Operation
     requires { 0 < length words }
     ensures { operation_in result ≡ spec.hello_operation (drop 1 words) }
@@ -200,7 +201,7 @@ fn hello(words: Words) -> Operation
     }
 }
 
-/// What HELLO asks with a word for the version.
+/// Returns the request of a HELLO with a word for the version.
 fn hello_of(word: &[u8]) -> Operation
     ensures { operation_in result ≡ spec.version_operation word.now }
 {

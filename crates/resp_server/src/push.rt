@@ -1,4 +1,4 @@
-//! Pushes, which a session sends unasked.
+//! Pushes, which a session sends without being asked.
 
 ghost use Rattle.std.specs.Prelude.{◌≡◌, ◌++◌, Some, OnOk, OnErr};
 ghost use Rattle.resp_value.specs.Canonical.{IsValue, canonical_text};
@@ -15,7 +15,7 @@ use resp_value::limits::Limits;
 use resp_value::value::Value;
 use resp_value::version::Version;
 
-/// Queues a push of these items after what waits in a session.
+/// Queues a push of these items in a session.
 pub(crate) fn queue_push(
     session: &mut Session,
     limits: &Limits,
@@ -43,7 +43,7 @@ pub(crate) fn queue_push(
     }
 }
 
-/// Why a push is not queued that is not encoded for this reason.
+/// Returns the error of a push for this error of the encoder.
 fn push_error(error: EncodeError) -> PushError
     ensures { result ≡ push_error error }
 {

@@ -1,4 +1,4 @@
-//! What a session reads with.
+//! The reader of a session.
 
 ghost use Rattle.std.specs.Prelude.{◌≡◌, ◌≤◌, ◌++◌, [], length, take, true, Some, IfOk, IfErr};
 ghost use Rattle.std.specs.Option.{option_map};
@@ -17,8 +17,8 @@ use resp_value::version::Version;
 use std::alloc::{AllocError, Global};
 use std::marker::Model;
 
-/// A decoder of version 2, in a block that is taken where a value begins and given back between two
-/// values, so that an idle session is small.
+/// A decoder of version 2. It is allocated when a value begins and freed between two values, which
+/// keeps an idle session small.
 #[derive(Drop)]
 pub(crate) struct Reader {
     decoder: Option<Box<Decoder>>,
@@ -38,7 +38,7 @@ impl Model for Reader {
 }
 
 impl Reader {
-    /// One that has read nothing. Takes no memory.
+    /// Makes a reader that has read nothing. Does not allocate.
     pub(crate) fn new() -> Reader
         ensures nothing_taken { HasReadFront result [] }
         ensures reading { (rules : Rules) → ReadsBy rules result }
@@ -46,8 +46,8 @@ impl Reader {
         Reader { decoder: None }
     }
 
-    /// Takes bytes of the piece, as [`Decoder::feed`] does. It may be out of memory before the
-    /// first byte of a value too.
+    /// Reads bytes of the piece, as [`Decoder::feed`] does. It may also be out of memory before the
+    /// first byte of a value.
     pub(crate) fn feed(
         &mut self,
         alloc: Global,
@@ -75,7 +75,7 @@ impl Reader {
         fed
     }
 
-    /// Whether nothing is taken of a value.
+    /// Returns whether no byte of a value has been read.
     pub(crate) fn is_between(&self) -> bool
         ensures { result ≡ true → WhereFrontRead self.now (λ front. front ≡ []) }
     {
@@ -85,7 +85,7 @@ impl Reader {
         }
     }
 
-    /// Gives the decoder's memory back, where nothing is taken of a value.
+    /// Frees the decoder if no byte of a value has been read.
     pub(crate) fn shrink(&mut self)
         ensures same_taken { WhereFrontRead self.old (HasReadFront self.new) }
         ensures reading { (rules : Rules) → ReadsBy rules self.old → ReadsBy rules self.new }
@@ -95,7 +95,7 @@ impl Reader {
         }
     }
 
-    /// The number of bytes taken of the value that is being read.
+    /// Returns the number of bytes read of the current value.
     pub(crate) fn taken(&self, limits: &Limits) -> u64
         requires reading { ReadsBy (server_rules limits.now) self.now }
         ensures length_of_front { WhereFrontRead self.now (λ front. result ≡ length front) }
@@ -110,7 +110,7 @@ impl Reader {
     }
 }
 
-/// The decoder, or where there is none a new one.
+/// Returns the decoder, or a new one if there is none.
 fn begun(
     decoder: Option<Box<Decoder>>,
     alloc: Global,

@@ -1,4 +1,4 @@
-//! The replies to commands that are refused.
+//! The error replies to commands.
 
 ghost use Rattle.std.specs.Prelude.{◌≡◌};
 ghost use Rattle.resp_value.specs.Canonical.{canonical_text};
@@ -7,7 +7,7 @@ ghost use Rattle.resp_session.specs.Replies.{error};
 ghost use Rattle.resp_server.specs.Operations.{refusal_text};
 ghost use Rattle.resp_server.specs.declared.refusal.Refusal.TheVariants.{WrongNumber};
 
-/// The name of a command that a server knows.
+/// The name of a command that the server knows.
 #[derive(Clone, Copy, Debug, PartialEq, Eq)]
 pub(crate) enum Verb {
     /// PING.
@@ -24,21 +24,21 @@ pub(crate) enum Verb {
     Hello,
 }
 
-/// Why a command is refused.
+/// Why a command has an error reply.
 #[derive(Clone, Copy, Debug, PartialEq, Eq)]
 pub(crate) enum Refusal {
-    /// It has too few words or too many.
+    /// It has too few or too many words.
     WrongNumber(Verb),
-    /// It has an option that isn't known.
+    /// It has an unknown option.
     Syntax,
-    /// HELLO asks for a version that isn't known.
+    /// HELLO requests an unknown version.
     NoProtocol,
-    /// Its name isn't known.
+    /// Its name is unknown.
     UnknownCommand,
 }
 
 impl Refusal {
-    /// The line that is replied.
+    /// Returns the line of the reply.
     pub(crate) fn line(self) -> &'static [u8]
         ensures { result.now ≡ canonical_text Two (error (refusal_text self)) }
     {
@@ -51,7 +51,7 @@ impl Refusal {
     }
 }
 
-/// The line for a command with too few words or too many.
+/// Returns the line of the reply to a command with too few or too many words.
 fn wrong_number(verb: Verb) -> &'static [u8]
     ensures { result.now ≡ canonical_text Two (error (refusal_text (WrongNumber verb))) }
 {

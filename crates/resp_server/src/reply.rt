@@ -1,4 +1,4 @@
-//! Replies, as they are written.
+//! Writes replies.
 
 ghost use Rattle.std.specs.Prelude.{◌≡◌, ◌+◌, ◌<◌, ◌≤◌, ◌^◌, ◌++◌, length, IsOk, OnOk, OnErr};
 ghost use Rattle.resp_value.specs.Canonical.{canonical_text, Fits};
@@ -15,8 +15,8 @@ use resp_value::value::Value;
 use resp_value::version::Version;
 use std::alloc::AllocError;
 
-/// Appends a reply that is within the limits, whole or not at all. Refuses when out of memory, and
-/// only where the room that is there doesn't hold it.
+/// Appends a reply that is within the limits, or leaves the buffer unchanged. Fails only when out
+/// of memory, and only if the spare capacity does not hold the reply.
 pub(crate) fn reply(
     out: &mut BytesMut,
     version: Version,
@@ -39,10 +39,10 @@ pub(crate) fn reply(
     }
 }
 
-/// How much room holds what is replied by a number.
+/// The room for a reply to a number.
 pub(crate) const NUMBER_ROOM: usize = 22;
 
-/// Appends what is replied by a number, into room that is there.
+/// Appends the reply to a number. The buffer already has room for it.
 pub(crate) fn reply_number(out: &mut BytesMut, version: Version, limits: &Limits, number: u64)
     requires room { 22 ≤ out.old.spare }
     requires small { number < 2 ^ 63 }
@@ -58,7 +58,7 @@ pub(crate) fn reply_number(out: &mut BytesMut, version: Version, limits: &Limits
     }
 }
 
-/// What HELLO replies before the session's number.
+/// Returns the part of HELLO's reply before the session's number.
 fn greeting_begin(version: Version) -> &'static [u8]
     ensures begin { result.now ≡ greeting_begin version }
     ensures short { length result.now ≤ 80 }
@@ -73,7 +73,7 @@ fn greeting_begin(version: Version) -> &'static [u8]
     }
 }
 
-/// What HELLO replies after the session's number.
+/// Returns the part of HELLO's reply after the session's number.
 fn greeting_end() -> &'static [u8]
     ensures end { result.now ≡ greeting_end }
     ensures short { length result.now ≤ 70 }
@@ -81,7 +81,7 @@ fn greeting_end() -> &'static [u8]
     b"$4\r\nmode\r\n$10\r\nstandalone\r\n$4\r\nrole\r\n$6\r\nmaster\r\n$7\r\nmodules\r\n*0\r\n"
 }
 
-/// Appends HELLO's reply in this version, whole or not at all.
+/// Appends HELLO's reply in this version, or leaves the buffer unchanged.
 pub(crate) fn reply_greeting(
     out: &mut BytesMut,
     version: Version,

@@ -1,4 +1,4 @@
-//! Rows of the store.
+//! The rows of the store.
 
 ghost use Rattle.std.specs.Prelude.{◌≡◌};
 ghost use Rattle.resp_value.specs.Values.{content_bytes};
@@ -6,10 +6,10 @@ ghost use Rattle.resp_value.specs.Values.{content_bytes};
 use crate::stored::Stored;
 use resp_value::content::Content;
 
-/// A value of the store, and the place of its key.
+/// A value of the store with the place of its key.
 #[derive(Drop)]
 pub(crate) struct Row {
-    /// The place of the key, from 0.
+    /// The place of the key, counted from 0.
     pub(crate) place: usize,
     pub(crate) value: Stored,
 }

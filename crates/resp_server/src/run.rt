@@ -1,4 +1,4 @@
-//! One command: its growths come first, and then what can't be refused.
+//! Runs a command. All allocations come first, and after them nothing can fail.
 
 ghost use Rattle.std.specs.Prelude.{◌≡◌, ◌<◌, ◌^◌, ℕ, List, drop, OnOk, OnErr};
 ghost use Rattle.resp_value.specs.Values.{content_bytes};
@@ -21,8 +21,8 @@ use resp_value::version::Version;
 use std::alloc::AllocError;
 use std::hash::BuildHasher;
 
-/// Does what a command asks in the session of this number, and queues the reply. When out of
-/// memory, the store, the session's version and what waits are as before.
+/// Runs a command in the session of this number, and queues the reply. When out of memory, the
+/// store, the session's version and the waiting bytes are unchanged.
 pub(crate) fn run<S: BuildHasher>(
     operation: Operation,
     store: &mut Store<S>,
@@ -58,7 +58,7 @@ pub(crate) fn run<S: BuildHasher>(
     }
 }
 
-/// Replies the value of a key.
+/// Replies with the value of a key.
 pub(crate) fn get<S: BuildHasher>(
     key: &[u8],
     store: &Store<S>,
@@ -78,8 +78,8 @@ pub(crate) fn get<S: BuildHasher>(
     }
 }
 
-/// Whether a SET under this condition sets this key. Only where there is a condition the key is
-/// looked up.
+/// Returns whether a SET under this condition sets this key. Looks the key up only if there is a
+/// condition.
 fn is_met<S: BuildHasher>(condition: Condition, key: &[u8], store: &Store<S>) -> bool
     ensures { result ≡ stores.is_met (condition_in condition) (value_at store.now key.now) }
 {
@@ -90,7 +90,7 @@ fn is_met<S: BuildHasher>(condition: Condition, key: &[u8], store: &Store<S>) ->
     }
 }
 
-/// Sets a key where its condition is met, and replies whether it was.
+/// Sets a key if its condition holds, and replies whether the key was set.
 fn set<S: BuildHasher>(
     condition: Condition,
     key: Content,
@@ -116,7 +116,7 @@ fn set<S: BuildHasher>(
     Ok(())
 }
 
-/// Removes the keys after the name, and replies how many were there.
+/// Removes the keys after the name, and replies with the number of keys that existed.
 fn del<S: BuildHasher>(
     words: &Words,
     store: &mut Store<S>,
@@ -136,7 +136,8 @@ fn del<S: BuildHasher>(
     Ok(())
 }
 
-/// Changes the version, where one is asked, and replies in it what the session is.
+/// Changes the version if one is requested, and replies with the description of the session in that
+/// version.
 fn hello(
     asked: Option<Version>,
     session: &mut Session,

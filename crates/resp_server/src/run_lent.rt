@@ -1,4 +1,5 @@
-//! One command of lent words: nothing is copied but a key or a value that is kept.
+//! Runs a command whose words are borrowed from the piece. Only a key or value that is stored is
+//! copied.
 
 ghost use Rattle.std.specs.Prelude.{OnOk, OnErr};
 ghost use Rattle.resp_session.specs.Fitting.{FitsEffect};
@@ -15,8 +16,8 @@ use resp_value::limits::Limits;
 use std::alloc::{AllocError, Global};
 use std::hash::BuildHasher;
 
-/// Does what a command of lent words asks in the session, and queues the reply. When out of memory,
-/// the store, the session's version and what waits are as before.
+/// Runs a command of borrowed words in the session, and queues the reply. When out of memory, the
+/// store, the session's version and the waiting bytes are unchanged.
 pub(crate) fn run_lent<S: BuildHasher>(
     command: Lent<'_>,
     store: &mut Store<S>,
@@ -38,7 +39,7 @@ pub(crate) fn run_lent<S: BuildHasher>(
     }
 }
 
-/// Sets a key, and replies that it was set.
+/// Sets a key, and replies `OK`.
 fn set_lent<S: BuildHasher>(
     key: &[u8],
     value: &[u8],

@@ -1,4 +1,4 @@
-//! A session: what it has read of its client, and what waits to be sent to it.
+//! A session: the bytes read from its client, and the bytes that wait to be written to it.
 
 ghost use Rattle.std.specs.Prelude.{◌≡◌, [], false};
 ghost use Rattle.resp_value.specs.Rules.{Rules};
@@ -13,18 +13,18 @@ use std::alloc::Global;
 /// A session of a hub.
 #[derive(Drop)]
 pub(crate) struct Session {
-    /// What it reads with, always version 2.
+    /// The reader of the client's bytes, always in version 2.
     pub(crate) decoder: Reader,
-    /// The version in which it answers.
+    /// The version in which it replies.
     pub(crate) version: Version,
-    /// What waits to be sent.
+    /// The bytes that wait to be written.
     pub(crate) out: BytesMut,
-    /// Whether it takes no more commands and pushes.
+    /// Whether it accepts no more commands and pushes.
     pub(crate) closing: bool,
 }
 
 impl Session {
-    /// A new session, which has read nothing. Takes no memory.
+    /// Makes a session that has read nothing. Does not allocate.
     pub(crate) fn new(alloc: Global) -> Session
         ensures version { result.version ≡ Two }
         ensures out { result.out.items ≡ [] }
@@ -40,8 +40,8 @@ impl Session {
         }
     }
 
-    /// Gives back the memory of what it reads with, where it reads no value: between two, and once
-    /// it is closing.
+    /// Frees the memory of the reader if it reads no value: between two values, and when the
+    /// session is closing.
     pub(crate) fn shrink(&mut self)
         ensures same_version { self.new.version ≡ self.old.version }
         ensures same_out { self.new.out.items ≡ self.old.out.items }

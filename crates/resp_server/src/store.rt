@@ -1,4 +1,4 @@
-//! The store: keys and their values, in the order in which the keys came.
+//! The store: keys with their values, in the order in which the keys were added.
 
 ghost use Rattle.std.specs.Prelude.{◌≡◌, ◌+◌, ◌<◌, ◌≤◌, ◌∷◌, [], ℕ, None, Some, Vec, drop, length, slice_get, IfNone, IfSome, IsSome, OnOk, OnErr};
 ghost use Rattle.std.proofs.Common.{Global};
@@ -18,11 +18,12 @@ use std::alloc::{AllocError, Global};
 use std::hash::BuildHasher;
 use std::marker::Model;
 
-/// Keys and their values. A new key goes last, and one that is there keeps its place. The place of
-/// a removed key stays empty, so that no other key moves, until most places are empty.
+/// Keys with their values. A new key goes last, and a key that is set again keeps its place. The
+/// place of a removed key stays empty, so no other key moves, until more than half of the places
+/// are empty.
 #[derive(Drop)]
 pub(crate) struct Store<S: BuildHasher> {
-    /// The keys and their values, in no order.
+    /// The keys and their values, in no particular order.
     rows: IndexMap<Vec<u8>, Row, S>,
     /// The index of the row in each place, in order.
     places: Vec<Option<usize>>,
@@ -40,7 +41,7 @@ impl<S: BuildHasher> Model for Store<S> {
 }
 
 impl<S: BuildHasher> Store<S> {
-    /// An empty one. Takes no memory.
+    /// Makes an empty store. Does not allocate.
     pub(crate) fn new(alloc: Global, hasher: S) -> Store<S>
         ensures { result ≡ [] }
     {
@@ -50,7 +51,7 @@ impl<S: BuildHasher> Store<S> {
         }
     }
 
-    /// The value of a key.
+    /// Returns the value of a key.
     pub(crate) fn get(&self, key: &[u8]) -> Option<&Stored>
         ensures { option_map (λ stored. stored.now) result ≡ value_at self.now key.now }
     {
@@ -60,14 +61,14 @@ impl<S: BuildHasher> Store<S> {
         }
     }
 
-    /// The keys and their values, in order.
+    /// Returns the keys with their values, in order.
     pub(crate) fn entries(&self) -> Entries<'_>
         ensures { result ≡ self.now }
     {
         Entries::new(self.rows.as_slice(), self.places.as_slice())
     }
 
-    /// Sets the value of a key. When out of memory nothing is changed.
+    /// Sets the value of a key. Changes nothing if an allocation fails.
     pub(crate) fn set(&mut self, key: Content, value: Content) -> Result<(), AllocError>
         ensures set { OnOk result (self.new ≡
             store_with self.old (content_bytes key) (content_bytes value)) }
@@ -79,7 +80,7 @@ impl<S: BuildHasher> Store<S> {
         }
     }
 
-    /// Sets the value of a key to copies of lent bytes. When out of memory nothing is changed.
+    /// Sets the value of a key, copying borrowed bytes. Changes nothing if an allocation fails.
     pub(crate) fn set_lent(
         &mut self,
         key: &[u8],
@@ -97,7 +98,7 @@ impl<S: BuildHasher> Store<S> {
         self.add(key, value)
     }
 
-    /// Sets the value of a key that is there; where it isn't, gives the value back.
+    /// Sets the value of an existing key. Returns the value if the key does not exist.
     fn replace(&mut self, key: &[u8], value: Content) -> Option<Content>
         ensures set { IfNone result
             (self.new ≡ store_with self.old key.now (content_bytes value)) }
@@ -115,7 +116,7 @@ impl<S: BuildHasher> Store<S> {
         None
     }
 
-    /// Adds a key that isn't there, with this value.
+    /// Adds a key that does not exist, with this value.
     fn add(&mut self, key: Content, value: Content) -> Result<(), AllocError>
         requires { value_at self.old (content_bytes key) ≡ None }
         ensures added { OnOk result (self.new ≡
@@ -138,7 +139,7 @@ impl<S: BuildHasher> Store<S> {
         }
     }
 
-    /// Removes the keys that follow the name in these words, and answers how many were there.
+    /// Removes the keys after the name in these words, and returns the number of keys that existed.
     pub(crate) fn remove(&mut self, words: &Words) -> u64
         ensures removed { self.new ≡ store_without self.old (drop 1 words.now) }
         ensures count { result + length self.new ≡ length self.old }
@@ -151,7 +152,7 @@ impl<S: BuildHasher> Store<S> {
         removed
     }
 
-    /// Removes a key, whose place stays empty, and answers how many were there: one or none.
+    /// Removes a key and leaves its place empty. Returns the number of keys removed, 0 or 1.
     fn remove_key(&mut self, key: &[u8]) -> u64
         ensures removed { self.new ≡ store_without self.old (key.now ∷ []) }
         ensures count { result + length self.new ≡ length self.old }
@@ -164,14 +165,14 @@ impl<S: BuildHasher> Store<S> {
             unreachable!()
         };
         self.places[row.place] = None;
-        // The row that was the last now has this index.
+        // The row that was last now has this index.
         if let Some((_, moved)) = self.rows.get_index(index) {
             self.places[moved.place] = Some(index);
         }
         1
     }
 
-    /// Closes up the places, where more than half are empty.
+    /// Removes the empty places if they are more than half.
     fn close_up(&mut self)
         ensures { self.new ≡ self.old }
     {
@@ -190,7 +191,7 @@ impl<S: BuildHasher> Store<S> {
     }
 }
 
-/// Says of the row with this index that its key is in this place.
+/// Stores in the row with this index that its key is in this place.
 fn move_row<S: BuildHasher>(rows: &mut IndexMap<Vec<u8>, Row, S>, index: usize, place: usize)
     requires { index < index_map_len rows.old }
     ensures { (key : Vec ℕ Global) (row : Row) →

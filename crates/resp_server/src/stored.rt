@@ -1,4 +1,4 @@
-//! Values as the store keeps them.
+//! The values of the store.
 
 ghost use Rattle.std.specs.Prelude.{◌≡◌};
 ghost use Rattle.resp_value.specs.Values.{datum_of, content_bytes};
@@ -8,7 +8,7 @@ use resp_value::content::Content;
 use resp_value::value::Value;
 use std::marker::Model;
 
-/// The value of a key, as the bulk string by which it is replied, so that no reply copies it first.
+/// The value of a key, stored as the bulk string of its reply. So a reply does not copy it first.
 #[derive(Drop)]
 pub(crate) struct Stored {
     reply: Value,
@@ -26,7 +26,7 @@ impl Model for Stored {
 }
 
 impl Stored {
-    /// These bytes. Takes no memory.
+    /// Makes a stored value of these bytes. Does not allocate.
     pub(crate) fn new(content: Content) -> Stored
         ensures { result ≡ content_bytes content }
     {
@@ -35,7 +35,7 @@ impl Stored {
         }
     }
 
-    /// The bytes.
+    /// Returns the bytes.
     pub(crate) fn bytes(&self) -> &[u8]
         ensures { result.now ≡ self.now }
     {
@@ -45,7 +45,7 @@ impl Stored {
         }
     }
 
-    /// The bulk string of these bytes.
+    /// Returns the bulk string of these bytes.
     pub(crate) fn reply(&self) -> &Value
         ensures { datum_of result.now ≡ bulk_string self.now }
     {

@@ -1,4 +1,4 @@
-//! One turn of a session's reading: a value that comes whole, or the end of the piece.
+//! One turn of a session: it reads up to the end of a value or of the piece.
 
 ghost use Rattle.std.specs.Prelude.{◌≡◌, ◌<◌, ◌≤◌, ◌^◌, List, [], ℕ, false, IfOk, OnOk, OnErr};
 ghost use Rattle.resp_value.specs.declared.cause.Cause.TheVariants.{OutOfMemory};
@@ -23,17 +23,17 @@ use resp_value::limits::Limits;
 use std::alloc::{AllocError, Global};
 use std::hash::BuildHasher;
 
-/// What a turn did.
+/// The result of a turn.
 #[derive(Clone, Copy, Debug, PartialEq, Eq)]
 pub(crate) struct Turn {
-    /// How many bytes of the piece were used.
+    /// The number of bytes of the piece that were used.
     pub(crate) used: usize,
-    /// How many commands were run: one or none.
+    /// The number of commands that were run, 0 or 1.
     pub(crate) commands: u64,
 }
 
-/// Reads up to the end of a value or of the piece, and answers the value or a fault. When out of
-/// memory, the store, the session's version and what waits are as before.
+/// Reads up to the end of a value or of the piece, and answers the value or the fault. When out of
+/// memory, the store, the session's version and the waiting bytes are unchanged.
 pub(crate) fn take_turn<S: BuildHasher>(
     store: &mut Store<S>,
     session: &mut Session,
@@ -63,7 +63,7 @@ pub(crate) fn take_turn<S: BuildHasher>(
     read_turn(store, session, id, limits, alloc, piece)
 }
 
-/// Runs a command that lies whole in the piece.
+/// Runs a command that lies completely in the piece.
 fn run_whole<S: BuildHasher>(
     whole: Whole<'_>,
     store: &mut Store<S>,
@@ -96,7 +96,7 @@ fn run_whole<S: BuildHasher>(
     Ok(Turn { used, commands: 1 })
 }
 
-/// Reads on with the decoder, and answers what comes of it.
+/// Reads with the decoder, and answers the value or the fault.
 fn read_turn<S: BuildHasher>(
     store: &mut Store<S>,
     session: &mut Session,
@@ -139,8 +139,8 @@ fn read_turn<S: BuildHasher>(
     Ok(Turn { used, commands })
 }
 
-/// Queues the line for a fault, and closes the session; or finds no memory, for the line or as the
-/// fault says.
+/// Queues the error reply for a fault and closes the session. Fails if the fault is `OutOfMemory`
+/// or the allocation for the reply fails.
 fn refuse(
     session: &mut Session,
     limits: &Limits,

@@ -1,5 +1,5 @@
-//! Commands that lie whole in a piece, as clients mostly write them: they are read without a
-//! decoder, and their words are lent.
+//! Fast path for commands that lie completely in a piece and are encoded as clients usually encode
+//! them. They are read without a decoder, and their words are borrowed.
 
 ghost use Rattle.std.specs.Prelude.{◌≤◌, length, Some, IfSome};
 
@@ -8,18 +8,18 @@ use crate::refusal::Verb;
 use resp_value::laws as grammar;
 use resp_value::limits::Limits;
 
-/// What a command asks, with words of the piece.
+/// The request of a command, with words borrowed from the piece.
 #[derive(Clone, Copy)]
 pub(crate) enum Lent<'a> {
-    /// A sign of life.
+    /// PING.
     Ping,
-    /// The value of the key.
+    /// GET of a key.
     Get(&'a [u8]),
-    /// That the key has the value, whether it is there or not.
+    /// SET of a key and a value, without a condition.
     Set(&'a [u8], &'a [u8]),
 }
 
-/// A command that lies whole in the piece, and what follows it.
+/// A command that lies completely in the piece, and the bytes after it.
 #[derive(Clone, Copy)]
 pub(crate) struct Whole<'a> {
     pub(crate) command: Lent<'a>,
@@ -29,9 +29,9 @@ pub(crate) struct Whole<'a> {
 ghost use Rattle.resp_server.specs.Whole.{AsksWith, BeginsWithCommand, BeginsWithHead, BeginsWithWord, lent_operation};
 ghost use Rattle.resp_server.specs.declared.refusal.Verb.TheVariants.{Ping, Get, Set};
 
-/// The command that the piece begins with, where it lies whole in it, is a PING, a GET or a SET
-/// without options, and each of its numbers is written in one digit or two without a leading zero.
-/// Of all else the decoder decides.
+/// Returns the command at the beginning of the piece if it lies completely in the piece, is a PING,
+/// a GET or a SET without options, and has only numbers of one or two digits without a leading
+/// zero. Everything else is left to the decoder.
 pub(crate) fn whole_command<'a>(piece: &'a [u8], limits: &Limits) -> Option<Whole<'a>>
     ensures { IfSome result (λ whole.
         BeginsWithCommand limits.now piece.now (lent_operation whole.command) whole.rest.now) }
@@ -48,7 +48,8 @@ pub(crate) fn whole_command<'a>(piece: &'a [u8], limits: &Limits) -> Option<Whol
     Some(whole)
 }
 
-/// What the command of this name asks with this many words, whose arguments begin the text.
+/// Returns the request of the command of this name with this many words. Its arguments are at the
+/// beginning of the text.
 fn asked_with(verb: Option<Verb>, count: usize, text: &[u8]) -> Option<Whole<'_>>
     ensures { IfSome result (λ whole.
         AsksWith verb count text.now (lent_operation whole.command) whole.rest.now) }
@@ -64,7 +65,7 @@ fn asked_with(verb: Option<Verb>, count: usize, text: &[u8]) -> Option<Whole<'_>
     }
 }
 
-/// What a GET of one key asks.
+/// Returns the request of a GET of one key.
 fn get(text: &[u8]) -> Option<Whole<'_>>
     ensures { IfSome result (λ whole.
         AsksWith (Some Get) 2 text.now (lent_operation whole.command) whole.rest.now) }
@@ -76,7 +77,7 @@ fn get(text: &[u8]) -> Option<Whole<'_>>
     })
 }
 
-/// What a SET of a key and a value asks.
+/// Returns the request of a SET of a key and a value.
 fn set(text: &[u8]) -> Option<Whole<'_>>
     ensures { IfSome result (λ whole.
         AsksWith (Some Set) 3 text.now (lent_operation whole.command) whole.rest.now) }
@@ -89,7 +90,7 @@ fn set(text: &[u8]) -> Option<Whole<'_>>
     })
 }
 
-/// A head of this type byte with a number of one digit or two, and what follows it.
+/// Returns the number of a head of this type byte, with one or two digits, and the bytes after it.
 fn head(text: &[u8], kind: u8) -> Option<(usize, &[u8])>
     ensures begins { IfSome result (λ head. BeginsWithHead text.now kind head.0 head.1.now) }
     ensures small { IfSome result (λ head. head.0 ≤ 99) }
@@ -115,7 +116,7 @@ fn head(text: &[u8], kind: u8) -> Option<(usize, &[u8])>
     Some((number, &text[5..]))
 }
 
-/// A bulk string that lies whole in the text, and what follows it.
+/// Returns a bulk string that lies completely in the text, and the bytes after it.
 fn word(text: &[u8]) -> Option<(&[u8], &[u8])>
     ensures begins { IfSome result (λ word. BeginsWithWord text.now word.0.now word.1.now) }
     ensures short { IfSome result (λ word. length word.0.now ≤ 99) }

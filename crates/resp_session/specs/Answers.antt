@@ -1,4 +1,4 @@
--- What a server answers to a text.
+-- The answer of a server to a text.
 use Rattle.std.specs.Prelude.{◌≡◌, ◌⊎◌, ℕ, ◌+◌, Bool, true, false, List, [], ◌∷◌, ◌++◌, if◌then◌else◌, codes}
 use Rattle.resp_value.specs.Numbers.{decimal}
 use Rattle.resp_value.specs.Data.{Datum}
@@ -14,18 +14,18 @@ use Rattle.resp_session.specs.Operations.{operation_of}
 use Rattle.resp_session.specs.Replies.{error}
 use Rattle.resp_session.specs.Stores.{Store, Effect, effect_of}
 
--- the store, and what a session has answered so far
+-- the store, and the answers of a session so far
 pub record SessionState : Type 0 where
   pub store : Store
   pub version : Version
   -- the replies, as they are written
   pub text : List ℕ
-  -- a protocol error has closed the session
+  -- whether a protocol error has closed the session
   pub closing : Bool
-  -- how many commands were run
+  -- the number of commands that were run
   pub count : ℕ
 
--- after the line that names a protocol error, which is the last answer
+-- the state after the error reply for a protocol error, which is the last answer
 abbrev pub after_error : List ℕ → ℕ → SessionState → SessionState
 after_error name at s = record s {
   text = s.text ++ canonical_text s.version (error (codes "ERR Protocol error: " ++ name ++ codes " at byte " ++
@@ -33,7 +33,7 @@ after_error name at s = record s {
   closing = true;
 }
 
--- after a command that had this effect
+-- the state after a command with this effect
 abbrev pub after_effect : Effect → SessionState → SessionState
 after_effect effect s = record s {
   store = effect.store;
@@ -42,33 +42,33 @@ after_effect effect s = record s {
   count = s.count + 1;
 }
 
--- after a value that means this, in an open session of this number
+-- the state after a value with this meaning, in an open session of this number
 abbrev pub after_meaning : ℕ → SessionState → Meaning → SessionState
 after_meaning id s (Call name arguments) = after_effect (effect_of s.store s.version id (operation_of name arguments)) s
 after_meaning id s Nothing = s
 after_meaning id s NoCommand = after_error (codes "NotCommand") 0 s
 
--- after a value; a closing session answers nothing
+-- the state after a value; a closing session answers nothing
 abbrev pub after_value : ℕ → SessionState → Datum → SessionState
 after_value id s x = if s.closing then s else after_meaning id s (meaning_of x)
 
--- after values, one after another
+-- the state after values, one after another
 abbrev pub after_values : ℕ → SessionState → List Datum → SessionState
 after_values id s [] = s
 after_values id s (x ∷ xs) = after_values id (after_value id s x) xs
 
--- no front of the text is a spelling
+-- the text does not begin with a value
 abbrev pub BeginsNoValue : Rules → List ℕ → Type 0
 BeginsNoValue rules text = (x : Datum) (front beyond : List ℕ) → IsSpelling rules x front → text ≡ front ++ beyond → ⊥
 
--- a rest that no value begins is waited on where it is viable
+-- a session waits at a rest that does not begin with a value and is viable
 pub record Waits (rules : Rules) (rest : List ℕ) (before after : SessionState) : Type 0 where
   pub is_open : before.closing ≡ false
   pub no_more : BeginsNoValue rules rest
   pub viable : IsViable rules WithinTotal rest
   pub same : after ≡ before
 
--- a rest that no value begins is refused where it isn't viable
+-- a session rejects a rest that does not begin with a value and is not viable
 pub record EndsInFault (rules : Rules) (rest : List ℕ) (before after : SessionState) : Type 0 where
   pub is_open : before.closing ≡ false
   pub no_more : BeginsNoValue rules rest
@@ -77,21 +77,22 @@ pub record EndsInFault (rules : Rules) (rest : List ℕ) (before after : Session
   pub fault : FaultOf rules rest rule at
   pub line : after ≡ after_error (name_of (cause_of rule)) at before
 
--- a session that a value has closed leaves the rest unread
+-- a session that a value has closed does not read the rest
 pub record IsUnread (before after : SessionState) : Type 0 where
   pub closed : before.closing ≡ true
   pub same : after ≡ before
 
--- what comes of the rest after the values that were answered
+-- the effect of the rest after the values that were answered
 abbrev pub Ends : Rules → List ℕ → SessionState → SessionState → Type 0
 Ends rules rest before after = Waits rules rest before after ⊎
     (EndsInFault rules rest before after ⊎ IsUnread before after)
 
--- a server reads version 2, whatever version it answers in
+-- a server reads version 2, whatever the version of its replies
 abbrev pub server_rules : Bounds → Rules
 server_rules limits = rules_under Two limits
 
--- the text is spellings of values, answered in order, and a rest that no value begins or that is left unread
+-- the text consists of spellings of values, which are answered in order, and a rest that does not begin with a value or
+-- is not read
 pub record Answers (limits : Bounds) (id : ℕ) (before : SessionState) (text : List ℕ) (after : SessionState)
     (rest : List ℕ) :
     Type 0 where

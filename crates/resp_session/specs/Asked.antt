@@ -1,17 +1,17 @@
--- What a value in memory asks, in words of commands.
+-- The request of a value in memory, in the terms of commands.
 use Rattle.std.specs.Prelude.{ℕ, List, Some}
 use Rattle.resp_session.specs.Commands.{Meaning, array_meaning}
 use Rattle.resp_session.specs.Commands as spec
 use Rattle.resp_session.specs.declared.words.Asked.{Asked}
 use Rattle.resp_session.specs.declared.words.Asked.TheVariants.{Command, Nothing, NoCommand}
 
--- what is asked
+-- the meaning of a request
 abbrev pub meaning_in : Asked → Meaning
 meaning_in (Command words) = array_meaning (Some words)
 meaning_in Nothing = spec.Nothing
 meaning_in NoCommand = spec.NoCommand
 
--- this holds of the words of a command
+-- this holds of the words if the request is a command
 abbrev pub IfCommand : Asked → (List (List ℕ) → Type 0) → Type 0
 IfCommand (Command words) P = P words
 IfCommand _ P = Unit {0}

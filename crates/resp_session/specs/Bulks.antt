@@ -5,7 +5,7 @@ use Rattle.resp_value.specs.declared.value.Value.{Value}
 use Rattle.resp_value.specs.declared.value.Value.TheVariants.{Bulk}
 use Rattle.resp_session.specs.Replies.{bulk_string}
 
--- the bytes of a bulk string, and none of any other value
+-- the bytes of a bulk string, and no bytes of any other value
 abbrev pub bulk_bytes : Value → List ℕ
 bulk_bytes (Bulk content) = content_bytes content
 bulk_bytes _ = []

@@ -1,4 +1,4 @@
--- What a client hears: replies with their numbers, and pushes apart from them.
+-- The replies and pushes that a client receives: replies with their numbers, and pushes separately.
 use Rattle.std.specs.Prelude.{ℕ, ◌+◌, Bool, true, false, not, List, [], ◌∷◌, filter}
 use Rattle.resp_value.specs.Data.{Datum, aggregate, Push}
 
@@ -7,7 +7,7 @@ abbrev pub is_push : Datum → Bool
 is_push (aggregate Push xs) = true
 is_push _ = false
 
--- the values that are no pushes
+-- the values that are not pushes
 abbrev pub replies_of : List Datum → List Datum
 replies_of xs = filter (λ x. not (is_push x)) xs
 

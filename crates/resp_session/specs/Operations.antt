@@ -1,16 +1,16 @@
--- What a command asks, by its name and the words after it.
+-- The request of a command, given its name and the words after it.
 use Rattle.std.specs.Prelude.{ℕ, Bool, List, [], ◌∷◌, ◌++◌, Option, None, Some, if◌then◌else◌, codes}
 use Rattle.std.specs.Str.{bytes_eq, str_to_ascii_lowercase}
 use Rattle.resp_value.specs.declared.version.Version.{Version}
 use Rattle.resp_value.specs.declared.version.Version.TheVariants.{Two, Three}
 
--- when a SET sets
+-- the condition of a SET
 pub data Condition : Type 0 where
   Always : Condition
   IfAbsent : Condition
   IfPresent : Condition
 
--- what a server is asked to do
+-- the requests of a server
 pub data Operation : Type 0 where
   Ping : Operation
   Echo : List ℕ → Operation
@@ -18,24 +18,24 @@ pub data Operation : Type 0 where
   -- the condition, the key and its value
   Set : Condition → List ℕ → List ℕ → Operation
   Del : List (List ℕ) → Operation
-  -- with the version that is asked, if one is
+  -- with the version that is requested, if there is one
   Hello : Option Version → Operation
-  -- the command is refused, with this text
+  -- the command has an error reply with this text
   Refused : List ℕ → Operation
 
--- the refusal of a command with too few words or too many
+-- the error reply to a command with too few or too many words
 abbrev pub wrong_number : List ℕ → Operation
 wrong_number name = Refused (codes "ERR wrong number of arguments for '" ++ name ++ codes "' command")
 
--- the refusal of an option
+-- the error reply to an unknown option
 abbrev pub syntax_error : Operation
 syntax_error = Refused (codes "ERR syntax error")
 
--- whether the word is this name in lower case, whatever its own case
+-- whether the word is this name in upper, lower or mixed case
 abbrev pub is_name : List ℕ → List ℕ → Bool
 is_name name word = bytes_eq (str_to_ascii_lowercase word) name
 
--- PING alone, or with a word to give back
+-- PING alone, or with a word to be returned
 abbrev pub ping_operation : List (List ℕ) → Operation
 ping_operation [] = Ping
 ping_operation (word ∷ []) = Echo word
@@ -84,7 +84,7 @@ hello_operation [] = Hello None
 hello_operation (word ∷ []) = version_operation word
 hello_operation (word ∷ option ∷ options) = syntax_error
 
--- what a command asks, by its name in any case and the words after it
+-- the request of a command, given its name in upper, lower or mixed case and the words after it
 abbrev pub operation_of : List ℕ → List (List ℕ) → Operation
 operation_of name arguments =
     if is_name (codes "ping") name then ping_operation arguments else

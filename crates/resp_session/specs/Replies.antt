@@ -25,17 +25,17 @@ natural n = scalar (d.Int (pos n))
 abbrev pub null : Datum
 null = scalar d.Null
 
--- a bulk string where there is a value, and else a null
+-- a bulk string if there is a value, and otherwise a null
 abbrev pub bulk_string_or_null : Option (List ℕ) → Datum
 bulk_string_or_null None = null
 bulk_string_or_null (Some content) = bulk_string content
 
--- the number by which HELLO names a version
+-- the number of a version in HELLO
 abbrev pub version_number : Version → ℕ
 version_number Two = 2
 version_number Three = 3
 
--- what HELLO tells of the session with this number
+-- the description of the session with this number in the reply to HELLO
 abbrev pub hello_pairs : Version → ℕ → List (Datum × Datum)
 hello_pairs version id =
     (bulk_string (codes "server"), bulk_string (codes "resp_loop")) ∷
@@ -46,7 +46,7 @@ hello_pairs version id =
     (bulk_string (codes "role"), bulk_string (codes "master")) ∷
     (bulk_string (codes "modules"), aggregate d.Array none) ∷ []
 
--- a map in version 3, and an array of keys and values in turn in version 2
+-- a map in version 3, and in version 2 an array of keys and values in turn
 abbrev pub hello_reply : Version → ℕ → Datum
 hello_reply Two id = aggregate d.Array (data_of_list (in_turn (hello_pairs Two id)))
 hello_reply Three id = aggregate d.Map (data_of_list (in_turn (hello_pairs Three id)))

@@ -1,4 +1,4 @@
--- What a client asks, what is sent for it, and what a client refuses to send.
+-- The requests of a client, the text that is sent for them, and the requests that a client refuses to send.
 use Rattle.std.specs.Prelude.{◌≡◌, ℕ, ◌≤◌, ◌^◌, ◌||◌, ◌&&◌, Bool, true, false, List, [], ◌∷◌, Option, None, Some, codes}
 use Rattle.std.specs.List.{AllByRecursion, list_any}
 use Rattle.resp_value.specs.Bounds.{Bounds}
@@ -14,7 +14,7 @@ use Rattle.resp_value.specs.declared.cause.Cause.TheVariants.{TooLarge, BadComma
 use Rattle.resp_session.specs.Operations.{is_name}
 use Rattle.resp_session.specs.Replies.{version_number}
 
--- what a client asks: HELLO with a version or without, or another command
+-- a request: HELLO with or without a version, or another command
 pub data Request : Type 0 where
   Hello : Option Version → Request
   Command : List (List ℕ) → Request
@@ -29,7 +29,7 @@ abbrev pub request_words : Request → List (List ℕ)
 request_words (Hello asked) = hello_words asked
 request_words (Command words) = words
 
--- the version that a request asks, if it is a HELLO with one
+-- the version that a request asks for, if it is a HELLO with a version
 abbrev pub version_asked : Request → Option Version
 version_asked (Hello asked) = asked
 version_asked (Command words) = None
@@ -43,18 +43,19 @@ abbrev pub is_reply_word : List (List ℕ) → Bool
 is_reply_word [] = false
 is_reply_word (word ∷ words) = is_name (codes "reply") word
 
--- the names of commands that are answered by no reply or by many, or that change the version
+-- the names of commands that do not have exactly one reply, or that change the version
 abbrev pub unsent_names : List (List ℕ)
 unsent_names = codes "hello" ∷ codes "subscribe" ∷ codes "unsubscribe" ∷ codes "psubscribe" ∷ codes "punsubscribe" ∷
     codes "ssubscribe" ∷ codes "sunsubscribe" ∷ codes "monitor" ∷ codes "sync" ∷ codes "psync" ∷ codes "reset" ∷ []
 
--- whether a client doesn't send these words: there is none, or the name is one of those, or it is CLIENT REPLY
+-- whether a client does not send these words: there is no word, or the name is one of those names, or it is CLIENT
+-- REPLY
 abbrev pub is_unsent : List (List ℕ) → Bool
 is_unsent [] = true
 is_unsent (name ∷ words) =
     list_any (λ unsent. is_name unsent name) unsent_names || (is_name (codes "client") name && is_reply_word words)
 
--- whether a client doesn't send this request; it does send a HELLO of its own
+-- whether a client does not send this request; it does send a HELLO of its own
 abbrev pub is_unsent_request : Request → Bool
 is_unsent_request (Hello asked) = false
 is_unsent_request (Command words) = is_unsent words
@@ -63,7 +64,7 @@ is_unsent_request (Command words) = is_unsent words
 abbrev pub FitsRequest : Bounds → Request → Type 0
 FitsRequest limits request = Fits (rules_under Two limits) (command_of (request_words request))
 
--- why a client that has queued this many requests refuses one: the first of these causes that there is
+-- why a client that has queued this many requests refuses this request: the first of these causes that applies
 abbrev pub RefusesRequest : Bounds → ℕ → Request → Cause → Type 0
 RefusesRequest limits count request BadCommand = is_unsent_request request ≡ true
 RefusesRequest limits count request TooLarge = (is_unsent_request request ≡ false) × (FitsRequest limits request → ⊥)
@@ -71,6 +72,6 @@ RefusesRequest limits count request TooMany =
     (is_unsent_request request ≡ false) × FitsRequest limits request × (2 ^ 63 ≤ count)
 RefusesRequest limits count request _ = ⊥
 
--- the words that a client sends are bytes
+-- the words that a client sends consist of bytes
 abbrev pub HasBytes : Request → Type 0
 HasBytes request = AllByRecursion IsText (request_words request)

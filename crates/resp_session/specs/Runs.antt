@@ -1,4 +1,4 @@
--- What comes of events: what refuses one, and what a list of them leaves.
+-- Outcomes of events: why an event is refused, and the state after a list of events.
 use Rattle.std.specs.Prelude.{◌≡◌, ℕ, Bool, true, false, List, [], ◌∷◌, length, Option, None, Some}
 use Rattle.resp_value.specs.Data.{Datum}
 use Rattle.resp_value.specs.Bounds.{Bounds}
@@ -17,20 +17,20 @@ pub data Outcome : Type 0 where
   Done : Outcome
   -- it was refused, and nothing changed
   Refused : Cause → Outcome
-  -- its client was dropped, or there is none of this number, and nothing changed
+  -- its client was dropped, or no client has this number, and nothing changed
   Gone : Outcome
 
--- whether the connection was dropped, or there is none
+-- whether the connection was dropped, or does not exist
 abbrev pub is_gone : Option Connection → Bool
 is_gone None = true
 is_gone (Some c) = c.dropped
 
--- how many requests were queued on a connection
+-- the number of requests queued on a connection
 abbrev pub request_count : Option Connection → ℕ
 request_count None = 0
 request_count (Some c) = length c.requests
 
--- why a session of this version refuses a push: the first of these causes that there is
+-- why a session of this version refuses a push: the first of these causes that applies
 abbrev pub RefusesPush : Bounds → Version → Datum → Cause → Type 0
 RefusesPush limits version push NotInVersion = version ≡ Two
 RefusesPush limits version push Double = (version ≡ Three) × (AllowsDoubles limits push → ⊥)
@@ -41,7 +41,7 @@ RefusesPush limits version push (OverLimits limit) =
     IsFirstOver (rules_under Three limits) push limit
 RefusesPush limits version push _ = ⊥
 
--- why an event on this connection is refused; bytes and drops never are
+-- why an event on this connection is refused; arriving bytes and drops are never refused
 abbrev pub RefusesEvent : Bounds → Option Connection → WorldEvent → Cause → Type 0
 RefusesEvent limits c (Send i words) cause = RefusesRequest limits (request_count c) (Command words) cause
 RefusesEvent limits c (Greet i asked) cause = RefusesRequest limits (request_count c) (Hello asked) cause
@@ -52,7 +52,7 @@ RefusesEvent limits c _ cause = ⊥
 abbrev pub connection_of : World → WorldEvent → Option Connection
 connection_of w event = connection_at w.connections (client_of event)
 
--- what comes of an event, and what it leaves
+-- the outcome of an event, and the state after it
 abbrev pub Step : Bounds → World → WorldEvent → Outcome → World → Type 0
 Step limits w event Gone next = (is_gone (connection_of w event) ≡ true) × (next ≡ w)
 Step limits w event (Refused cause) next =
@@ -61,7 +61,7 @@ Step limits w event Done next =
     (is_gone (connection_of w event) ≡ false) ×
     ((cause : Cause) → RefusesEvent limits (connection_of w event) event cause → ⊥) × (next ≡ after_event w event)
 
--- what events leave, one after another
+-- the state after events, one after another
 abbrev pub Run : Bounds → World → List WorldEvent → World → Type 0
 Run limits w [] last = last ≡ w
 Run limits w (event ∷ events) last =

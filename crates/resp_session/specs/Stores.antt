@@ -1,4 +1,4 @@
--- The store, and what a command does to it.
+-- The store, and the effect of a command on it.
 use Rattle.std.specs.Prelude.{ℕ, ◌-◌, Bool, true, false, not, List, [], ◌∷◌, length, filter, Option, None, Some, if◌then◌else◌, unwrap_or, codes}
 use Rattle.std.specs.List.{list_any}
 use Rattle.std.specs.Map.{lookup}
@@ -8,7 +8,7 @@ use Rattle.resp_value.specs.declared.version.Version.{Version}
 use Rattle.resp_session.specs.Operations.{Operation, Condition, Always, IfAbsent, IfPresent, Ping, Echo, Get, Set, Del, Hello, Refused, operation_of}
 use Rattle.resp_session.specs.Replies.{simple_string, error, bulk_string, natural, null, bulk_string_or_null, hello_reply}
 
--- keys and their values, in the order in which the keys came
+-- keys with their values, in the order in which the keys were added
 abbrev pub Store : Type 0
 Store = List (List ℕ × List ℕ)
 
@@ -16,16 +16,16 @@ Store = List (List ℕ × List ℕ)
 abbrev pub value_at : Store → List ℕ → Option (List ℕ)
 value_at store key = lookup (bytes_eq key) store
 
--- a key that is there keeps its place, and a new one goes last
+-- a key that exists keeps its place, and a new key goes last
 abbrev pub store_with : Store → List ℕ → List ℕ → Store
 store_with [] key value = (key, value) ∷ []
 store_with (e ∷ es) key value = if bytes_eq key e.0 then (e.0, value) ∷ es else e ∷ store_with es key value
 
--- the entries whose keys aren't among these
+-- the entries whose keys are not among these
 abbrev pub store_without : Store → List (List ℕ) → Store
 store_without store keys = filter (λ e. not (list_any (bytes_eq e.0) keys)) store
 
--- whether a SET on a key with this value sets
+-- whether a SET sets a key that has this value
 abbrev pub is_met : Condition → Option (List ℕ) → Bool
 is_met Always value = true
 is_met IfAbsent None = true
@@ -33,14 +33,14 @@ is_met IfAbsent (Some value) = false
 is_met IfPresent None = false
 is_met IfPresent (Some value) = true
 
--- what a command leaves, and what is replied to it
+-- the state after a command, and the reply to it
 pub record Effect : Type 0 where
   pub store : Store
   -- the session's version
   pub version : Version
   pub reply : Datum
 
--- what an operation does in a session of this version and number
+-- the effect of a request in a session of this version and number
 abbrev pub effect_of : Store → Version → ℕ → Operation → Effect
 effect_of store version id Ping = record { store = store; version = version; reply = simple_string (codes "PONG") }
 effect_of store version id (Echo word) = record { store = store; version = version; reply = bulk_string word }
@@ -58,7 +58,7 @@ effect_of store version id (Hello asked) =
     record { store = store; version = next; reply = hello_reply next id }
 effect_of store version id (Refused text) = record { store = store; version = version; reply = error text }
 
--- what the words of a command do; without a word there is no command, and nothing is done
+-- the effect of the words of a command; without a word there is no command, and nothing happens
 abbrev pub effect_of_words : Store → Version → ℕ → List (List ℕ) → Effect
 effect_of_words store version id [] = record { store = store; version = version; reply = null }
 effect_of_words store version id (name ∷ arguments) = effect_of store version id (operation_of name arguments)

@@ -1,4 +1,4 @@
--- Worlds: clients and their sessions over one store, and what each event leaves.
+-- Worlds: clients and their sessions over one store, and the state after each event.
 use Rattle.std.specs.Prelude.{ℕ, zero, suc, List, [], ◌∷◌, ◌++◌, map, fold, Option, None, Some}
 use Rattle.resp_value.specs.Data.{Datum}
 use Rattle.resp_value.specs.declared.version.Version.{Version}
@@ -10,23 +10,23 @@ use Rattle.resp_session.specs.Connections.{Connection, new_connection, push_mess
 pub record World : Type 0 where
   -- the clients with their sessions, numbered from 1
   pub connections : List Connection
-  -- the client and the words of each command, in the order in which they were run
+  -- the client and the words of each command, in the order in which the commands were run
   pub order : List (ℕ × List (List ℕ))
   pub store : Store
 
--- what may happen, each to the client of this number
+-- the events, each of the client of this number
 pub data WorldEvent : Type 0 where
-  -- it asks a command of these words
+  -- it sends a command of these words
   Send : ℕ → List (List ℕ) → WorldEvent
-  -- it asks HELLO, with a version or without
+  -- it sends HELLO, with or without a version
   Greet : ℕ → Option Version → WorldEvent
-  -- this many bytes more come to its session
+  -- its session receives this many more bytes
   ToServer : ℕ → ℕ → WorldEvent
-  -- this many bytes more come to it
+  -- it receives this many more bytes
   ToClient : ℕ → ℕ → WorldEvent
   -- a push of these items is sent to it
   Push : ℕ → List Datum → WorldEvent
-  -- it is given up
+  -- it is dropped
   Drop : ℕ → WorldEvent
 
 -- the client of an event
@@ -52,7 +52,7 @@ with_change f (c ∷ cs) zero = c ∷ cs
 with_change f (c ∷ cs) (suc zero) = f c ∷ cs
 with_change f (c ∷ cs) (suc (suc i)) = c ∷ with_change f cs (suc i)
 
--- the session's version, and version 2 where there is no session
+-- the session's version, and version 2 if there is no session
 abbrev pub version_of : Option Connection → Version
 version_of None = Two
 version_of (Some c) = c.version
@@ -61,7 +61,7 @@ version_of (Some c) = c.version
 abbrev pub world_with : (Connection → Connection) → World → ℕ → World
 world_with f w i = record w { connections = with_change f w.connections i }
 
--- after a command, of a client and with these words
+-- the world after a command of a client with these words
 abbrev pub after_command : World → ℕ × List (List ℕ) → World
 after_command w command =
     let effect = effect_of_words w.store (version_of (connection_at w.connections command.0)) command.0 command.1 in
@@ -71,7 +71,7 @@ after_command w command =
       store = effect.store;
     }
 
--- after commands, one after another
+-- the world after commands, one after another
 abbrev pub after_commands : World → List (ℕ × List (List ℕ)) → World
 after_commands w commands = fold after_command w commands
 
@@ -79,12 +79,12 @@ after_commands w commands = fold after_command w commands
 abbrev pub commands_for : ℕ → List Request → List (ℕ × List (List ℕ))
 commands_for i requests = map (λ (request : Request). (i, request_words request)) requests
 
--- after this many bytes more that come to the session of this connection
+-- the world after the session of this connection received this many more bytes
 abbrev pub after_arrival : World → ℕ → ℕ → Option Connection → World
 after_arrival w i k None = w
 after_arrival w i k (Some c) = after_commands (world_with (with_arrived k) w i) (commands_for i (new_requests k c))
 
--- what an event leaves that isn't refused
+-- the world after an event that is not refused
 abbrev pub after_event : World → WorldEvent → World
 after_event w (Send i words) = world_with (with_request (Command words)) w i
 after_event w (Greet i asked) = world_with (with_request (Hello asked)) w i
@@ -98,6 +98,6 @@ abbrev pub new_connections : ℕ → List Connection
 new_connections zero = []
 new_connections (suc n) = new_connection ∷ new_connections n
 
--- this many clients, of which none has sent anything, over an empty store
+-- this many clients that have sent nothing, over an empty store
 abbrev pub new_world : ℕ → World
 new_world n = record { connections = new_connections n; order = []; store = [] }

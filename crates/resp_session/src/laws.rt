@@ -1,5 +1,5 @@
-//! Laws of the definitions of sessions and worlds, each the contract of a function whose body is
-//! empty or calls other laws.
+//! Laws of the definitions of sessions and worlds. Each law is the contract of a function whose
+//! body is empty or calls other laws.
 
 ghost use Rattle.std.specs.Prelude.{◌≡◌, ◌-◌, ◌^◌, [], ◌∷◌, ◌++◌, Some, codes, length, true, false};
 ghost use Rattle.resp_value.specs.Words.{command_of};
@@ -22,13 +22,13 @@ ghost use Rattle.resp_session.specs.Serving.{ArrivalsGoOn, ArrivalsStay, WhatArr
 
 use resp_value::laws as grammar;
 
-/// A value is a command exactly where it is an array of the words, each as a bulk string.
+/// A value is a command if and only if it is an array of the words, each as a bulk string.
 pub fn a_command_is_its_words()
     ensures { ACommandIsItsWords }
 {}
 
-/// What is answered up to a rest, and then, where the session isn't closing, to the rest and more,
-/// is answered to the whole.
+/// Take the answers to a text up to some rest. If the session is not closing after them, the
+/// answers to the rest and more bytes, appended to these, are the answers to the whole text.
 pub fn answers_go_on()
     ensures { AnswersGoOn }
 {}
@@ -40,13 +40,13 @@ pub fn answers_end()
     grammar::fronts_of_spellings_are_viable();
 }
 
-/// What is answered doesn't hang on what was written and run before it.
+/// The answers do not depend on the output written and the commands run before.
 pub fn answers_are_added()
     ensures { AnswersAreAdded }
 {}
 
-/// A text has one answer at most, and where it has a cut, that is the answer to the cut's values
-/// and rest.
+/// A text has at most one answer. If the text can be cut into values and a rest, its answer is the
+/// answer to these values and this rest.
 pub fn a_text_has_one_answer()
     ensures one_answer { ATextHasOneAnswer }
     ensures of_the_cut { AnswersAreOfTheCut }
@@ -57,8 +57,8 @@ pub fn a_text_has_one_answer()
     grammar::a_rest_has_one_fault();
 }
 
-/// Whatever has come of texts that were sent is a number of whole ones, and a viable rest that
-/// begins no value.
+/// The bytes received of texts that were sent are a number of whole texts and a viable rest that
+/// does not begin with a value.
 pub fn what_comes_is_whole_texts()
     ensures { WhatComesIsWholeTexts }
 {
@@ -68,13 +68,13 @@ pub fn what_comes_is_whole_texts()
     grammar::the_empty_text_is_viable();
 }
 
-/// What is read, and then more from there on, is read whole.
+/// Reading a text and then more bytes after it gives the same as reading both at once.
 pub fn readings_go_on()
     ensures { ReadingsGoOn }
 {}
 
-/// What was read stays so, whatever is asked after it. So the version in which a value is read is
-/// fixed, also in the middle of a pipeline.
+/// The values that were read stay the same, whichever requests are made later. So the version in
+/// which a value is read is fixed, even in the middle of a pipeline.
 pub fn readings_stay()
     ensures { ReadingsStay }
 {
@@ -83,14 +83,14 @@ pub fn readings_stay()
     grammar::later_type_bytes_want_version_three();
 }
 
-/// A text is read into values and a rest that may go on in one way at most.
+/// There is at most one way to read a text into values and a viable rest.
 pub fn a_text_has_one_reading()
     ensures { ATextHasOneReading }
 {
     grammar::no_spelling_begins_another();
 }
 
-/// A rest that may go on has no fault, and any other has one at most.
+/// A viable rest has no fault, and any other rest has at most one.
 pub fn a_rest_has_one_client_fault()
     ensures { ARestHasOneClientFault }
 {
@@ -99,7 +99,7 @@ pub fn a_rest_has_one_client_fault()
     grammar::a_rest_has_one_fault();
 }
 
-/// Where nothing has come of a value, anything may come to a client.
+/// A client that has received no byte of a value may receive any value.
 pub fn nothing_may_go_on()
     ensures { NothingMayGoOn }
 {
@@ -107,40 +107,45 @@ pub fn nothing_may_go_on()
     grammar::the_empty_text_is_viable();
 }
 
-/// The replies among values, and then among more, are numbered on; pushes are apart from them.
+/// The replies in a list of values, and then in further values, are numbered without a gap. Pushes
+/// have no number.
 pub fn hearing_goes_on()
     ensures { HearingGoesOn }
 {}
 
-/// Whatever happens, one order of all commands, each of a client of the world, gives the store, the
-/// versions and the replies: each command runs on what all before it left. Each client's part of it
-/// is a beginning of what the client asked.
+/// Whatever happens, there is one order of all commands that explains the store, the versions and
+/// the replies. Each command belongs to a client of the world and runs on the state that all
+/// commands before it left. The commands of each client in this order are a prefix of the commands
+/// that the client sent.
 pub fn a_world_has_one_order()
     ensures { AWorldHasOneOrder }
 {}
 
-/// What was run stays first in the order, and a reply that is shown is of a command that was run.
-/// So a command that is sent after a shown reply stands after that reply's command.
+/// The commands that were run stay first in the order when more are run, and a reply that is shown
+/// belongs to a command that was run. So a command that is sent after a reply was shown comes after
+/// the command of that reply.
 pub fn the_order_goes_on()
     ensures cut_anywhere { ARunIsCut }
     ensures only_grows { TheOrderOnlyGrows }
     ensures holds_what_is_shown { ShownRepliesAreOfTheOrder }
 {}
 
-/// What is shown to a client is a beginning of what its session has sent, replies and pushes apart.
+/// The messages shown to a client are a prefix of those that its session has sent, for replies and
+/// for pushes separately.
 pub fn what_is_shown_was_sent()
     ensures { WhatIsShownWasSent }
 {}
 
-/// The pushes that a session has sent are those of the events that were neither refused nor of
-/// nobody, in their order, and those that are shown to its client are a beginning of them.
+/// The pushes that a session has sent are, in order, those of the push events that were neither
+/// refused nor for a client that does not exist. The pushes shown to the client are a prefix of
+/// them.
 pub fn pushes_are_of_events()
     ensures sent { PushesAreOfEvents }
     ensures shown { ShownPushesAreOfEvents }
 {}
 
-/// A request that a client sends is refused for no cause where it is within the limits and a number
-/// is left, and so is a push within the limits by a session of version 3.
+/// A request is never refused if it is within the limits and a command number is left. A push
+/// within the limits is never refused in a session of version 3.
 pub fn what_fits_is_sent()
     ensures requests { RequestsThatFitAreSent }
     ensures pushes { PushesThatFitAreSent }
@@ -148,8 +153,8 @@ pub fn what_fits_is_sent()
     ensures a_push { APushHappens }
 {}
 
-/// What has come to a session of a world is a number of whole commands, and a viable rest that
-/// begins no value. So no session of a world answers a fault.
+/// The bytes received by a session of a world are a number of whole commands and a viable rest that
+/// does not begin with a value. So no session of a world reports a fault.
 pub fn what_arrives_is_commands()
     ensures { WhatArrivesIsCommands }
 {
@@ -157,24 +162,24 @@ pub fn what_arrives_is_commands()
     grammar::canonical_text_spells_what_fits();
 }
 
-/// No more has come to a session or to a client of a world than was sent, and what has come stays
-/// so where more is asked.
+/// A session or client of a world receives no more bytes than were sent to it, and sending more
+/// does not change the bytes that were received.
 pub fn what_has_come_was_sent()
     ensures was_sent { WhatHasComeWasSent }
     ensures stays { ArrivalsStay }
 {}
 
-/// A change of one connection leaves the others as they are.
+/// An event of one connection leaves the other connections as they are.
 pub fn a_change_is_of_one_connection()
     ensures { AChangeIsOfOneConnection }
 {}
 
-/// Bytes that come in two parts leave what they leave together.
+/// Receiving bytes in two parts has the same effect as receiving them together.
 pub fn arrivals_go_on()
     ensures { ArrivalsGoOn }
 {}
 
-/// What a session of a world answers to the bytes that come to it is what they leave in the world.
+/// The effect of bytes received in a world is the session's answer to them.
 pub fn what_arrives_is_answered()
     ensures { WhatArrivesIsAnswered }
 {
@@ -185,20 +190,20 @@ pub fn what_arrives_is_answered()
     grammar::canonical_text_spells_what_fits();
 }
 
-/// What a command leaves, its reply and the store, is within the limits where its words and the
-/// store before it are, and the session's number has 63 bits. So a server that reads and stores
-/// within its limits writes within them.
+/// A command whose words are within the limits, run on a store within the limits, leaves a reply
+/// and a store within the limits, if the session's number is below 2^63. So a server that reads and
+/// stores within its limits writes within them.
 pub fn effects_fit()
     ensures { EffectsFit }
 {}
 
-/// A reply of a number below 2^63 has at most 22 bytes, so that room for it can be made before the
+/// The reply to a number below 2^63 has at most 22 bytes. So room for it can be reserved before the
 /// number is known.
 pub fn numbers_are_short()
     ensures { NumbersAreShort }
 {}
 
-/// All messages of a session of a world of fewer than 2^63 clients are within the limits.
+/// All messages of a session are within the limits, in a world of fewer than 2^63 clients.
 pub fn each_message_is_written()
     ensures { EachMessageIsWritten }
 {
@@ -206,8 +211,9 @@ pub fn each_message_is_written()
     grammar::canonical_text_spells_what_fits();
 }
 
-/// In a world of fewer than 2^63 clients the text of all messages of a session is what its client
-/// reads, each message in the version in which it is written or in version 3 what version 2 spells.
+/// The client reads all messages of its session back, in a world of fewer than 2^63 clients. Each
+/// message is read in the version in which it was written, or in version 3 if it was written in
+/// version 2.
 pub fn what_is_written_is_read()
     ensures { WhatIsWrittenIsRead }
 {
@@ -218,8 +224,8 @@ pub fn what_is_written_is_read()
     grammar::version_three_spells_what_two_does();
 }
 
-/// What has come to a client of a world of fewer than 2^63 clients is the messages that have come
-/// whole, and a rest that may go on. So no client of it answers a fault, however it reads.
+/// The bytes received by a client of a world of fewer than 2^63 clients are the messages that were
+/// received whole, and a viable rest. So no such client reports a fault, however it reads.
 pub fn what_is_shown_is_read()
     ensures read { WhatIsShownIsRead }
     ensures nothing_else { WhatIsReadIsShown }
@@ -237,11 +243,11 @@ pub fn what_is_shown_is_read()
     grammar::a_push_begins_with_its_byte();
 }
 
-/// What a new session of number 1 answers to commands and to values that are none.
+/// The answers of a new session with number 1 to commands, and to values that are not commands.
 pub fn commands_and_their_replies()
-    // Empty arrays and nulls are passed over.
+    // Empty arrays and nulls are ignored.
     ensures nothing_is_asked { answers_to (command_of [] ∷ null ∷ []) ≡ [] }
-    // A key that is named twice is removed once.
+    // A key that is named twice is removed and counted once.
     ensures set_del_get { answers_to (command_of set_a ∷
         command_of (codes "DEL" ∷ codes "a" ∷ codes "a" ∷ []) ∷ command_of get_a ∷ [])
         ≡ codes "+OK\r\n:1\r\n$-1\r\n" }
@@ -251,13 +257,13 @@ pub fn commands_and_their_replies()
         ≡ codes "-ERR unknown command\r\n" }
     ensures echoes { answers_to (command_of (codes "ECHO" ∷ codes "a" ∷ []) ∷
         command_of (codes "ping" ∷ codes "b" ∷ []) ∷ []) ≡ codes "$1\r\na\r\n$1\r\nb\r\n" }
-    // What is no command closes the session, and what stands after it is not answered.
+    // A value that is not a command closes the session, and the values after it are not answered.
     ensures no_command { answers_to (natural 1 ∷ command_of (codes "PING" ∷ []) ∷ [])
         ≡ codes "-ERR Protocol error: NotCommand at byte 0\r\n" }
     ensures closes { (after_values 1 new_session (natural 1 ∷ [])).closing ≡ true }
 {}
 
-/// What a new session answers to commands of too few words or too many.
+/// The answers of a new session to commands with too few or too many words.
 pub fn wrong_numbers_of_words()
     ensures ping { answers_to (command_of (codes "PING" ∷ codes "a" ∷ codes "b" ∷ []) ∷ [])
         ≡ codes "-ERR wrong number of arguments for 'ping' command\r\n" }
@@ -273,24 +279,24 @@ pub fn wrong_numbers_of_words()
         ≡ codes "-ERR wrong number of arguments for 'set' command\r\n" }
     ensures del { answers_to (command_of (codes "DEL" ∷ []) ∷ [])
         ≡ codes "-ERR wrong number of arguments for 'del' command\r\n" }
-    // A SET has one option at most.
+    // SET accepts at most one option.
     ensures set_of_five { answers_to (command_of (codes "SET" ∷ codes "a" ∷ codes "1" ∷
         codes "NX" ∷ codes "XX" ∷ []) ∷ []) ≡ codes "-ERR syntax error\r\n" }
     ensures set_of_six { answers_to (command_of (codes "SET" ∷ codes "a" ∷ codes "1" ∷
         codes "NX" ∷ codes "EX" ∷ codes "9" ∷ []) ∷ command_of get_a ∷ [])
         ≡ codes "-ERR syntax error\r\n$-1\r\n" }
-    // HELLO takes no option, so that a word after the version is a wrong one.
+    // HELLO accepts no option, so a word after the version is a syntax error.
     ensures hello_of_five { answers_to (command_of (codes "HELLO" ∷ codes "3" ∷ codes "AUTH" ∷
         codes "a" ∷ codes "b" ∷ []) ∷ command_of get_a ∷ [])
         ≡ codes "-ERR syntax error\r\n$-1\r\n" }
-    // Of two keys that are there both are removed, and counted.
+    // DEL removes and counts both of two keys that exist.
     ensures del_of_two { answers_to (command_of set_a ∷
         command_of (codes "SET" ∷ codes "b" ∷ codes "2" ∷ []) ∷
         command_of (codes "DEL" ∷ codes "b" ∷ codes "a" ∷ []) ∷ [])
         ≡ codes "+OK\r\n+OK\r\n:2\r\n" }
 {}
 
-/// Which commands a client doesn't send, in any case of letters.
+/// The commands that a client does not send, in upper, lower or mixed case.
 pub fn commands_that_are_not_sent()
     ensures no_word { is_unsent [] ≡ true }
     ensures hello { is_unsent (codes "Hello" ∷ codes "3" ∷ []) ≡ true }
@@ -311,13 +317,14 @@ pub fn commands_that_are_not_sent()
     ensures another_word { is_unsent (codes "get" ∷ codes "reset" ∷ []) ≡ false }
 {}
 
-/// After how many commands a client has no number for another one: 2^63, from 0 to 2^63 - 1.
+/// A client that has queued 0 to 2^63 - 1 commands has a number left for another command, and a
+/// client that has queued 2^63 commands has no number left.
 pub fn numbers_of_commands()
     ensures last { HasNumberAfter (2 ^ 63 - 1) }
     ensures none_left { HasNoNumberAfter (2 ^ 63) }
 {}
 
-/// What the replies to HELLO 3 leave of version 2, and others of theirs.
+/// The version of a client after the replies to its HELLO 3, and after other replies.
 pub fn versions_after_replies()
     ensures map { version_after Two (Some Three) (hello_reply Three 1) ≡ Three }
     ensures error { version_after Two (Some Three) (error (codes "NOPROTO")) ≡ Two }
@@ -330,21 +337,21 @@ pub fn versions_after_replies()
         (annotated (annotated (error (codes "NOPROTO")))) ≡ Two }
     ensures bulk_error_after_attribute { version_after Two (Some Three)
         (annotated (scalar (BulkError (codes "no")))) ≡ Two }
-    // An error within an attribute or within an array refuses nothing.
+    // An error inside an attribute or inside an array is not an error reply.
     ensures error_in_attribute { version_after Two (Some Three)
         (annotated_with (error (codes "no")) (simple_string (codes "OK"))) ≡ Three }
     ensures error_after_pair { version_after Two (Some Three)
         (annotated_with (simple_string (codes "OK")) (error (codes "no"))) ≡ Two }
     ensures error_in_array { version_after Two (Some Three)
         (aggregate Array (more (error (codes "no")) none)) ≡ Three }
-    // What is refused leaves version 3 too, and what asks no version leaves either.
+    // A refused HELLO leaves version 3 too, and a HELLO without a version changes neither version.
     ensures refused_in_three { version_after Three (Some Two) (error (codes "NOPROTO")) ≡ Three }
     ensures back_to_two { version_after Three (Some Two) (hello_reply Two 1) ≡ Two }
     ensures asks_nothing { version_after Two None (hello_reply Three 1) ≡ Two }
     ensures asks_nothing_in_three { version_after Three None (hello_reply Two 1) ≡ Three }
 {}
 
-/// What a new session answers to a command as a bare line of words.
+/// The answer of a new session to an inline command.
 pub fn an_inline_command_is_refused()
     ensures { AnInlineCommandIsRefused }
 {
@@ -354,7 +361,7 @@ pub fn an_inline_command_is_refused()
     grammar::no_other_byte_begins_a_tree();
 }
 
-/// What a new session of number 1 answers to HELLO.
+/// The answers of a new session with number 1 to HELLO.
 pub fn greetings_and_their_replies()
     // A map in version 3, and an array in version 2.
     ensures hello_three { answers_to (command_of (codes "HELLO" ∷ codes "3" ∷ []) ∷
@@ -363,7 +370,7 @@ pub fn greetings_and_their_replies()
         hello_in_two }
     ensures length_in_three { length hello_in_three ≡ 148 }
     ensures length_in_two { length hello_in_two ≡ 149 }
-    // Without a version nothing changes, and with another one it is refused.
+    // HELLO without a version changes nothing. HELLO with an unknown version is an error.
     ensures hello_alone { answers_to (command_of (codes "HELLO" ∷ []) ∷ command_of get_a ∷ []) ≡
         hello_in_two ++ codes "$-1\r\n" }
     ensures hello_four { answers_to (command_of (codes "HELLO" ∷ codes "4" ∷ []) ∷
@@ -371,7 +378,7 @@ pub fn greetings_and_their_replies()
     ensures hello_option { answers_to
         (command_of (codes "hello" ∷ codes "3" ∷ codes "x" ∷ []) ∷ [])
         ≡ codes "-ERR syntax error\r\n" }
-    // What is refused leaves version 3, as HELLO without a version does.
+    // A refused HELLO leaves version 3, as HELLO without a version does.
     ensures four_in_three { answers_to (command_of (codes "HELLO" ∷ codes "3" ∷ []) ∷
         command_of (codes "HELLO" ∷ codes "4" ∷ []) ∷ command_of get_a ∷ []) ≡
         hello_in_three ++ codes "-NOPROTO unsupported protocol version\r\n_\r\n" }
@@ -384,7 +391,7 @@ pub fn greetings_and_their_replies()
     ensures back_to_two { answers_to (command_of (codes "HELLO" ∷ codes "3" ∷ []) ∷
         command_of (codes "HELLO" ∷ codes "2" ∷ []) ∷ command_of get_a ∷ []) ≡
         hello_in_three ++ hello_in_two ++ codes "$-1\r\n" }
-    // Nor does another command change it.
+    // No other command changes the version.
     ensures others_in_three { answers_to (command_of (codes "HELLO" ∷ codes "3" ∷ []) ∷
         command_of (codes "PING" ∷ []) ∷ command_of get_a ∷
         command_of (codes "ECHO" ∷ codes "b" ∷ []) ∷ command_of get_a ∷
@@ -393,12 +400,12 @@ pub fn greetings_and_their_replies()
         command_of get_a ∷ command_of (codes "DEL" ∷ codes "a" ∷ []) ∷ command_of get_a ∷ []) ≡
         hello_in_three ++ codes "+PONG\r\n_\r\n$1\r\nb\r\n_\r\n-ERR unknown command\r\n_\r\n" ++
         codes "+OK\r\n_\r\n$1\r\n1\r\n:1\r\n_\r\n" }
-    // A null is written in the version that HELLO brought.
+    // A null is written in the version that HELLO set.
     ensures null_in_three { answers_to (command_of (codes "HELLO" ∷ codes "3" ∷ []) ∷
         command_of get_a ∷ []) ≡ hello_in_three ++ codes "_\r\n" }
 {}
 
-/// What a new session answers to SET with a condition.
+/// The answers of a new session to SET with a condition.
 pub fn conditions_and_their_replies()
     ensures conditions { answers_to (
         command_of (codes "SET" ∷ codes "a" ∷ codes "1" ∷ codes "NX" ∷ []) ∷
@@ -410,14 +417,14 @@ pub fn conditions_and_their_replies()
     ensures another_option { answers_to
         (command_of (codes "SET" ∷ codes "a" ∷ codes "1" ∷ codes "EX" ∷ []) ∷ [])
         ≡ codes "-ERR syntax error\r\n" }
-    // A key that is there keeps its place.
+    // A key that is set again keeps its place.
     ensures order_of_keys { (after_values 1 new_session (command_of set_a ∷
         command_of (codes "SET" ∷ codes "b" ∷ codes "2" ∷ []) ∷
         command_of (codes "SET" ∷ codes "a" ∷ codes "3" ∷ []) ∷ [])).store
         ≡ (codes "a", codes "3") ∷ (codes "b", codes "2") ∷ [] }
 {}
 
-/// Events, and what a world shows after them.
+/// Events, and the state that a world shows after them.
 pub fn events_and_what_they_show()
     ensures order { clients_of get_before_set ≡ 2 ∷ 1 ∷ [] }
     ensures to_the_first { replies_to get_before_set 1 ≡ simple_string (codes "OK") ∷ [] }
@@ -426,15 +433,15 @@ pub fn events_and_what_they_show()
     ensures greeting { length (replies_to push_after_hello 1) ≡ 1 }
     ensures push { pushes_to push_after_hello 1 ≡
         (push_message (bulk_string (codes "x") ∷ [])).value ∷ [] }
-    // One client reads the key that another has set.
+    // One client reads the key that another client has set.
     ensures one_store { replies_to get_after_set 2 ≡ bulk_string (codes "1") ∷ [] }
-    // Pushes are shown in the order in which they were sent, each once it has come whole.
+    // Pushes are shown in the order in which they were sent, each after it was received whole.
     ensures more_pushes { pushes_to more_pushes 1 ≡
         push_of_one (codes "x") ∷ push_of_one (codes "y") ∷ [] }
-    // A client that is dropped is gone for good, and what waited doesn't come.
+    // A client that was dropped never returns, and its waiting bytes are lost.
     ensures waiting_is_lost { IsOfNobody dropped_before_set (ToServer 1 27) }
     ensures dropped_for_good { IsOfNobody dropped_before_set (Send 1 get_a) }
-    // A push is refused in version 2, and nothing comes of an event of a client that isn't there.
+    // A push is refused in version 2. An event for a client that does not exist has no effect.
     ensures refused_push { RefusesEventFor get_before_set (Push 2 (bulk_string (codes "x") ∷ []))
         NotInVersion }
     ensures nobody { IsOfNobody get_before_set (Drop 3) }

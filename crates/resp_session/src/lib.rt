@@ -1,5 +1,7 @@
-//! What commands, replies, sessions and worlds mean: definitions, and their laws. What a value asks
-//! is also found in memory, by [`words::asked_by`].
+//! Definitions of commands, replies, sessions and worlds, and the laws of these definitions.
+//!
+//! A *session* is the server's state of one connection. A *world* is a store with several clients
+//! and their sessions. [`words::asked_by`] computes in memory which command a value is.
 #![tactic(auto)]
 
 pub mod laws;

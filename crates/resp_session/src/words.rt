@@ -1,4 +1,4 @@
-//! What a value asks of a server, in memory.
+//! The request that a value received by a server makes.
 
 ghost use Rattle.std.specs.Prelude.{◌≡◌, ◌<◌, [], ◌∷◌, ◌++◌, ◌↔◌, length, slice_index_or, map, None, IsSome, IfSome, IfNone};
 ghost use Rattle.std.specs.Bool.{MatchBool};
@@ -12,7 +12,7 @@ use resp_value::content::Content;
 use resp_value::value::Value;
 use std::marker::Model;
 
-/// The words of a command: the bulk strings of an array, as they were read. The name is the first.
+/// The words of a command, as they were read: the bulk strings of an array. The first is the name.
 #[derive(Drop)]
 pub struct Words {
     members: Vec<Value>,
@@ -30,22 +30,35 @@ impl Model for Words {
     ghost invariant = { λ words. AllByRecursion IsBulk words.members.items };
 }
 
-/// What a value asks of a server.
+/// The request that a value received by a server makes.
 #[derive(Drop)]
 pub enum Asked {
     /// A command of these words, the name first.
     Command(Words),
-    /// Nothing: an empty array or a null, which is passed over.
+    /// No request: an empty array or a null. The server ignores it.
     Nothing,
-    /// Any other value: it is no command.
+    /// Any other value. It is not a command.
     NoCommand,
 }
 
 ghost use Rattle.resp_session.specs.Asked.{meaning_in, IfCommand};
 
-/// What a value asks: a command where it is an array of bulk strings alone and of one at least
-/// (Redis serialization protocol specification, "Sending commands to a Redis server"), nothing
-/// where it is an empty array or a null, and else no command. Takes no memory.
+/// Returns the request that a value makes. An array that has at least one member and only bulk
+/// strings is a command (Redis serialization protocol specification, "Sending commands to a Redis
+/// server"). An empty array or a null makes no request. Any other value is not a command. Does not
+/// allocate.
+///
+/// # Examples
+///
+/// From [samples](../../samples/src/sessions.rt):
+///
+/// ```rust
+/// match asked_by(value) {
+///     Asked::Command(words) => println!(rt; "command {}", words.word(0).escape_ascii())?,
+///     Asked::Nothing => println!(rt; "nothing")?,
+///     Asked::NoCommand => println!(rt; "not a command")?,
+/// }
+/// ```
 pub fn asked_by(value: Value) -> Asked
     ensures meaning { meaning_in result ≡ meaning_of (datum_of value) }
     ensures has_name { IfCommand result (λ words. 0 < length words) }
@@ -69,7 +82,7 @@ pub fn asked_by(value: Value) -> Asked
     }
 }
 
-/// What an array of these members asks.
+/// Returns the request that an array of these members makes.
 fn asked_by_members(members: Vec<Value>) -> Asked
     ensures meaning { meaning_in result ≡
         array_meaning (bulk_contents (data_of_list (map datum_of members.items))) }
@@ -85,7 +98,7 @@ fn asked_by_members(members: Vec<Value>) -> Asked
     }
 }
 
-/// Whether each member is a bulk string.
+/// Returns whether each member is a bulk string.
 fn are_bulks(members: &[Value]) -> bool
     ensures { MatchBool result (AllByRecursion IsBulk members.now)
         (bulk_contents (data_of_list (map datum_of members.now)) ≡ None) }
@@ -100,14 +113,14 @@ fn are_bulks(members: &[Value]) -> bool
 }
 
 impl Words {
-    /// How many words there are.
+    /// Returns the number of words.
     pub fn len(&self) -> usize
         ensures { result ≡ length self.now }
     {
         self.members.len()
     }
 
-    /// The word at this index, from 0 and less than [`Words::len`], lent.
+    /// Returns the word at this index. The index counts from 0 and is less than [`Words::len`].
     pub fn word(&self, index: usize) -> &[u8]
         requires { index < length self.now }
         ensures { result.now ≡ slice_index_or self.now index [] }
@@ -118,7 +131,8 @@ impl Words {
         }
     }
 
-    /// Takes the last word away and gives it, where there is one. Takes no memory.
+    /// Removes the last word and returns it, or returns `None` if there is no word. Does not
+    /// allocate.
     pub fn pop(&mut self) -> Option<Content>
         ensures last { IfSome result (λ content.
             self.old ≡ self.new ++ content_bytes content ∷ []) }

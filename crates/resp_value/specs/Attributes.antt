@@ -1,9 +1,9 @@
--- A value and the attributes that stand before it.
+-- A value without the attributes in front of it.
 use Rattle.resp_value.specs.Data.{Datum, Data, scalar, aggregate, none, more, Array, Set, Map, Attr, Push}
 use Rattle.resp_value.specs.Data as d
 
 abbrev mutual
-  -- the value that is left once the attributes before it are taken away
+  -- the value without the attributes in front of it
   pub without_attributes : Datum → Datum
   without_attributes (scalar s) = scalar s
   without_attributes (aggregate Array xs) = aggregate Array xs
@@ -12,7 +12,7 @@ abbrev mutual
   without_attributes (aggregate Attr xs) = annotated_value xs
   without_attributes (aggregate Push xs) = aggregate Push xs
 
-  -- the value that an attribute with these members annotates, which stands last, without attributes of its own
+  -- the value that an attribute with these members annotates: its last member, without attributes of its own
   pub annotated_value : Data → Datum
   annotated_value none = scalar d.Null
   annotated_value (more x none) = without_attributes x

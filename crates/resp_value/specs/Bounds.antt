@@ -1,12 +1,12 @@
--- What limits say.
+-- The limits, as numbers and switches.
 use Rattle.std.specs.Prelude.{ℕ, ◌≤◌, Bool}
 
 pub record Bounds : Type 0 where
-  -- aggregates inside one another
+  -- aggregates nested inside one another
   pub depth : ℕ
   -- bytes of one content
   pub length : ℕ
-  -- bytes of one value as spelled
+  -- bytes of one encoded value
   pub total : ℕ
   -- members of one array, set or push, or pairs of one map or attribute
   pub items : ℕ

@@ -1,4 +1,4 @@
--- Bytes, and lines of them.
+-- Bytes, and lines without CR and LF.
 use Rattle.std.specs.Prelude.{◌≡◌, ℕ, ◌<◌, List, ◌++◌, length, codes}
 use Rattle.std.specs.List.{AllByRecursion}
 use Rattle.std.specs.Str.{byte}
@@ -15,7 +15,7 @@ IsText text = AllByRecursion IsByte text
 abbrev pub IsPlain : ℕ → Type 0
 IsPlain b = (b ≡ byte "\r" → ⊥) × (b ≡ byte "\n" → ⊥)
 
--- none of these is CR or LF
+-- no byte is CR or LF
 abbrev pub IsLine : List ℕ → Type 0
 IsLine text = AllByRecursion IsPlain text
 
@@ -23,6 +23,6 @@ IsLine text = AllByRecursion IsPlain text
 abbrev pub IsFull : List ℕ → Type 0
 IsFull text = 0 < length text
 
--- CR LF, and then more
+-- CR LF, followed by more bytes
 abbrev pub crlf : List ℕ → List ℕ
 crlf more = codes "\r\n" ++ more

@@ -1,4 +1,4 @@
--- The one text that is written for a value in a version, and which values it is a spelling of.
+-- The canonical text of a value in a version, and the conditions under which it is an encoding of the value.
 use Rattle.std.specs.Prelude.{◌≡◌, ℕ, ◌+◌, ◌/◌, ◌^◌, ◌<◌, ◌≤◌, Bool, true, false, ℤ, pos, negsuc, ◌≤ℤ◌, ◌<ℤ◌, List, length}
 use Rattle.std.proofs.Common.{neg_ℤ}
 use Rattle.resp_value.specs.Bounds.{Bounds}
@@ -13,27 +13,27 @@ use Rattle.resp_value.specs.declared.cause.Limit.TheVariants.{Depth, Length, Ite
 use Rattle.resp_value.specs.declared.version.Version.{Version}
 use Rattle.resp_value.specs.declared.version.Version.TheVariants.{Two, Three}
 
--- how a version writes Null
+-- the form of Null in a version
 abbrev pub null_form : Version → NullForm
 null_form Two = BulkNull
 null_form Three = PlainNull
 
--- the sign that an integer is written with
+-- the sign with which an integer is written
 abbrev pub int_sign : ℤ → Sign
 int_sign (pos n) = Unsigned
 int_sign (negsuc n) = Minus
 
--- an integer without its sign
+-- the absolute value of an integer
 abbrev pub int_size : ℤ → ℕ
 int_size (pos n) = n
 int_size (negsuc n) = n + 1
 
--- the sign that a big number is written with
+-- the sign with which a big number is written
 abbrev pub sign_of : Bool → Sign
 sign_of true = Minus
 sign_of false = Unsigned
 
--- the canonical spelling of a value without members
+-- the canonical encoding of a value without members
 abbrev pub canonical_leaf : Version → Scalar → Leaf
 canonical_leaf w d.Null = null (null_form w)
 canonical_leaf w (d.Bool b) = truth b
@@ -46,7 +46,7 @@ canonical_leaf w (d.BulkError s) = string BulkError (decimal (length s)) s
 canonical_leaf w (d.Verbatim format s) = string (Verbatim format) (decimal (length s + 4)) s
 canonical_leaf w (d.Big negative digits) = numeral Big (sign_of negative) digits
 
--- the canonical spelling of a value
+-- the canonical encoding of a value
 abbrev mutual
   pub canonical_tree : Version → Datum → Tree
   canonical_tree w (scalar s) = leaf (canonical_leaf w s)
@@ -56,11 +56,11 @@ abbrev mutual
   canonical_trees w d.none = none
   canonical_trees w (d.more x xs) = more (canonical_tree w x) (canonical_trees w xs)
 
--- the one text of a value in a version
+-- the canonical text of a value in a version
 abbrev pub canonical_text : Version → Datum → List ℕ
 canonical_text w x = text (canonical_tree w x)
 
--- what a scalar of the program may be
+-- the content of a scalar that the program can hold
 abbrev pub IsScalarValue : Scalar → Type 0
 IsScalarValue d.Null = Unit {0}
 IsScalarValue (d.Bool b) = Unit {0}
@@ -73,13 +73,13 @@ IsScalarValue (d.BulkError s) = IsText s
 IsScalarValue (d.Verbatim format s) = (length format ≡ 3) × IsText format × IsText s
 IsScalarValue (d.Big negative digits) = IsKept negative digits
 
--- a map's members are whole pairs, and an attribute's whole pairs and one value
+-- the members of a map are whole pairs, and the members of an attribute are whole pairs and one value
 abbrev pub IsWhole : Kind → ℕ → Type 0
 IsWhole Map n = n / 2 + n / 2 ≡ n
 IsWhole Attr n = n / 2 + n / 2 + 1 ≡ n
 IsWhole _ n = Unit {0}
 
--- what a value of the program may be
+-- the values that the program can hold
 abbrev mutual
   pub IsValue : Datum → Type 0
   IsValue (scalar s) = IsScalarValue s
@@ -89,7 +89,7 @@ abbrev mutual
   AreValues d.none = Unit {0}
   AreValues (d.more x xs) = IsValue x × AreValues xs
 
--- version 2 has the type of the scalar
+-- version 2 has the type of this scalar
 abbrev pub IsScalarInTwo : Scalar → Type 0
 IsScalarInTwo d.Null = Unit {0}
 IsScalarInTwo (d.Int i) = Unit {0}
@@ -98,12 +98,12 @@ IsScalarInTwo (d.Error s) = Unit {0}
 IsScalarInTwo (d.Bulk s) = Unit {0}
 IsScalarInTwo _ = ⊥
 
--- version 2 has the kind
+-- version 2 has this kind of aggregate
 abbrev pub IsKindInTwo : Kind → Type 0
 IsKindInTwo Array = Unit {0}
 IsKindInTwo _ = ⊥
 
--- version 2 has each type of the value
+-- version 2 has each type in the value
 abbrev mutual
   pub IsInTwo : Datum → Type 0
   IsInTwo (scalar s) = IsScalarInTwo s
@@ -113,17 +113,17 @@ abbrev mutual
   AreInTwo d.none = Unit {0}
   AreInTwo (d.more x xs) = IsInTwo x × AreInTwo xs
 
--- the version has each type of the value
+-- the version has each type in the value
 abbrev pub HasTypes : Version → Datum → Type 0
 HasTypes Two x = IsInTwo x
 HasTypes Three x = Unit {0}
 
--- the kind may stand below the top
+-- an aggregate of this kind may be inside another value
 abbrev pub IsKindBelow : Kind → Type 0
 IsKindBelow Push = ⊥
 IsKindBelow _ = Unit {0}
 
--- no push stands there, also not at the top
+-- the value holds no push, and is not a push itself
 abbrev mutual
   pub HasNoPush : Datum → Type 0
   HasNoPush (scalar s) = Unit {0}
@@ -133,17 +133,17 @@ abbrev mutual
   HaveNoPush d.none = Unit {0}
   HaveNoPush (d.more x xs) = HasNoPush x × HaveNoPush xs
 
--- no push stands below the top
+-- the value holds no push inside another value
 abbrev pub HasPushAtTop : Datum → Type 0
 HasPushAtTop (scalar s) = Unit {0}
 HasPushAtTop (aggregate k xs) = HaveNoPush xs
 
--- the scalar is no double
+-- the scalar is not a double
 abbrev pub IsScalarButDouble : Scalar → Type 0
 IsScalarButDouble (d.Double s) = ⊥
 IsScalarButDouble _ = Unit {0}
 
--- no double stands there
+-- the value holds no double
 abbrev mutual
   pub HasNoDouble : Datum → Type 0
   HasNoDouble (scalar s) = IsScalarButDouble s
@@ -153,11 +153,11 @@ abbrev mutual
   HaveNoDouble d.none = Unit {0}
   HaveNoDouble (d.more x xs) = HasNoDouble x × HaveNoDouble xs
 
--- the limits allow the doubles that stand there
+-- if the limits forbid doubles, the value holds no double
 abbrev pub AllowsDoubles : Bounds → Datum → Type 0
 AllowsDoubles limits x = limits.doubles ≡ false → HasNoDouble x
 
--- what makes a value's canonical text a spelling of it
+-- the conditions under which a value's canonical text is an encoding of the value
 pub record Fits (rules : Rules) (x : Datum) : Type 0 where
   pub allows_doubles : AllowsDoubles rules.limits x
   pub has_types : HasTypes rules.version x
@@ -167,7 +167,7 @@ pub record Fits (rules : Rules) (x : Datum) : Type 0 where
   pub within_items : most_items x ≤ rules.limits.items
   pub within_total : length (canonical_text rules.version x) ≤ rules.limits.total
 
--- the value breaks this limit, and none before it
+-- the value exceeds this limit, and no limit before it
 abbrev pub IsFirstOver : Rules → Datum → Limit → Type 0
 IsFirstOver rules x Depth = rules.limits.depth < depth x
 IsFirstOver rules x Length = (depth x ≤ rules.limits.depth) × (rules.limits.length < longest x)

@@ -4,7 +4,7 @@ use Rattle.resp_value.specs.Rules.{Rule, Grammar, NoDouble, InVersion, PushAtTop
 use Rattle.resp_value.specs.declared.cause.Cause.{Cause}
 use Rattle.resp_value.specs.declared.cause.Cause.TheVariants.{Syntax, Double, Version, NestedPush, Range, Depth, Length, Total, Truncated, OutOfMemory, Streamed, Items, Unasked, TooLarge, BadCommand, TooMany, TooManySessions, NoSession, Closing, NotInVersion, PushBelowTop, OverLimits, Read, Write, TooManyTurns, Ended, BadLine, BadDigits, Busy, BadLimits}
 
--- the cause of a refusal by a rule
+-- the cause of an error by a rule
 abbrev pub cause_of : Rule → Cause
 cause_of Grammar = Syntax
 cause_of NoDouble = Double

@@ -1,4 +1,4 @@
--- What a command of the program is, apart from memory.
+-- The words of a command in memory, as lists of bytes.
 use Rattle.std.specs.Prelude.{ℕ, List}
 use Rattle.resp_value.specs.Words.{texts_of}
 use Rattle.resp_value.specs.declared.command.Command.{Command}

@@ -1,4 +1,4 @@
--- Data: what a value is apart from memory, and what a spelled tree stands for.
+-- Data: the content of a value, wherever it is stored in memory. Trees have data as their value.
 use Rattle.std.specs.Prelude.{ℕ, ◌+◌, ◌/◌, ℤ, List, [], ◌∷◌, length, max}
 use Rattle.std.specs.Prelude.{Bool as Truth}
 
@@ -17,7 +17,7 @@ pub data Scalar : Type 0 where
   Int : ℤ → Scalar
   Simple : List ℕ → Scalar
   Error : List ℕ → Scalar
-  -- the text of a double, as it is spelled
+  -- the text of a double
   Double : List ℕ → Scalar
   Bulk : List ℕ → Scalar
   BulkError : List ℕ → Scalar
@@ -26,8 +26,8 @@ pub data Scalar : Type 0 where
   -- whether it is negative, and its digits
   Big : Truth → List ℕ → Scalar
 
--- The members of a map are its keys and values in turn. Those of an attribute are so too, and last comes the
--- value that it annotates.
+-- The members of a map are its keys and values in turn. The members of an attribute are its keys and values in turn,
+-- and then the value that it annotates.
 mutual
   pub data Datum : Type 0 where
     scalar : Scalar → Datum
@@ -47,12 +47,12 @@ abbrev pub in_turn : List (Datum × Datum) → List Datum
 in_turn [] = []
 in_turn (pair ∷ pairs) = pair.0 ∷ pair.1 ∷ in_turn pairs
 
--- how many data stand side by side
+-- the number of data in a list
 abbrev pub count : Data → ℕ
 count none = 0
 count (more x xs) = count xs + 1
 
--- how many members a head with this number has: a map's number counts pairs, and so does an attribute's
+-- the number of members of an aggregate with this number in its head: the head of a map or an attribute counts pairs
 abbrev pub members_of : Kind → ℕ → ℕ
 members_of Map n = n + n
 members_of Attr n = n + n + 1
@@ -64,7 +64,7 @@ items_of Map n = n / 2
 items_of Attr n = n / 2
 items_of _ n = n
 
--- the bytes of a scalar's content, which only strings, lines and big numbers have
+-- the number of content bytes of a scalar: only strings, lines and big numbers have content
 abbrev pub content_length : Scalar → ℕ
 content_length (Simple s) = length s
 content_length (Error s) = length s
@@ -75,7 +75,7 @@ content_length (Verbatim format s) = length s + 4
 content_length (Big negative digits) = length digits
 content_length _ = 0
 
--- how many aggregates stand inside one another
+-- the number of aggregates nested inside one another
 abbrev mutual
   pub depth : Datum → ℕ
   depth (scalar s) = 0

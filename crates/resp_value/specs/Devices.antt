@@ -1,38 +1,38 @@
--- What a device tells of its bytes, and how its counts rise.
+-- The bytes and the counts of a device, before and after a call.
 use Rattle.std.specs.Prelude.{◌≡◌, ℕ, ◌+◌, ◌-◌, ◌<◌, ◌≤◌, Bool, true, false, ◌==◌, List, [], ◌++◌, length, take, drop, min, Option, None, Some, Result, Ok, Err, ◌⊎◌}
 use Rattle.resp_value.specs.declared.device.DeviceFault.{DeviceFault}
 
--- the last value of a count
+-- the greatest value of a count
 abbrev pub last_count : ℕ
 last_count = 18446744073709551615
 
--- a count after this many more: at its last value it stays
+-- a count after this many more, which stays at its greatest value
 abbrev pub count_after : ℕ → ℕ → ℕ
 count_after n count = min (count + n) last_count
 
--- a count has risen, or is at its last value and passes as risen
+-- a count has risen, or is at its greatest value
 abbrev pub HasRisen : ℕ → ℕ → Type 0
 HasRisen before after = (before < after) ⊎ (after ≡ last_count)
 
--- the first bytes of those that were left are read: none of them only at the end, or where there is no room
+-- the first bytes that were left are read: no byte only at the end, or if there is no room
 pub record ReadsFront (left : List ℕ) (after : Option (List ℕ)) (into : List ℕ) (n : ℕ) : Type 0 where
   pub within : n ≤ length left
   pub bytes : take n into ≡ take n left
   pub beyond : after ≡ Some (drop n left)
   pub at_end : n ≡ 0 → 0 < length into → left ≡ []
 
--- what a read does to the bytes that a device tells, and to the room that it is given
+-- the effect of a read on the bytes that a device describes, and on the room for them
 abbrev pub Reads : Option (List ℕ) → Option (List ℕ) → List ℕ → Result ℕ DeviceFault → Type 0
 Reads None after into result = Unit {0}
 Reads (Some left) after into (Ok n) = ReadsFront left after into n
 Reads (Some left) after into (Err fault) = after ≡ Some left
 
--- the text was appended to what a device holds, where it tells that
+-- the text was appended to the bytes of a device, if the device describes its bytes
 abbrev pub Appends : Option (List ℕ) → Option (List ℕ) → List ℕ → Type 0
 Appends None after text = Unit {0}
 Appends (Some held) after text = after ≡ Some (held ++ text)
 
--- what a write does to the bytes that a device tells
+-- the effect of a write on the bytes that a device describes
 abbrev pub Writes : Option (List ℕ) → Option (List ℕ) → List ℕ → Result ℕ DeviceFault → Type 0
 Writes before after from (Ok n) = Appends before after (take n from)
 Writes before after from (Err fault) = Appends before after []
@@ -42,40 +42,40 @@ abbrev pub read_fails : Result ℕ DeviceFault → Bool
 read_fails (Ok n) = false
 read_fails (Err fault) = true
 
--- whether a write failed: it answered so, or took no byte
+-- whether a write failed: it returned an error, or wrote no byte
 abbrev pub write_fails : Result ℕ DeviceFault → Bool
 write_fails (Ok n) = n == 0
 write_fails (Err fault) = true
 
--- a count of failures after a call that failed or didn't
+-- a count of failures after a call that failed or succeeded
 abbrev pub failures_after : Bool → ℕ → ℕ
 failures_after true failures = count_after 1 failures
 failures_after false failures = failures
 
--- what a source over memory has still to give
+-- the state of a source over memory
 pub record SourceState : Type 0 where
-  -- the bytes that are not yet read
+  -- the bytes that have not been read
   pub left : List ℕ
-  -- how many of them a read moves at most
+  -- the greatest number of bytes in a read
   pub most : ℕ
-  -- how many of them may be read before reads fail, if reads fail at all
+  -- the number of bytes that may be read before reads fail, if reads fail at all
   pub sound : Option ℕ
-  -- how many reads were made
+  -- the number of reads
   pub calls : ℕ
-  -- how many of these failed
+  -- the number of reads that failed
   pub failures : ℕ
 
--- a number, or the limit where that is less
+-- a number, or the limit if that is less
 abbrev pub at_most : Option ℕ → ℕ → ℕ
 at_most None n = n
 at_most (Some limit) n = min limit n
 
--- a limit, after this much of it was used
+-- a limit after this much of it was used
 abbrev pub limit_after : Option ℕ → ℕ → Option ℕ
 limit_after None n = None
 limit_after (Some limit) n = Some (limit - n)
 
--- how many bytes a read moves into this much room
+-- the number of bytes that a read moves into this much room
 abbrev pub read_count : SourceState → ℕ → ℕ
 read_count source room = at_most source.sound (min source.most (min room (length source.left)))
 
@@ -95,24 +95,24 @@ after_failed_read source = record source {
       count_after 1 source.failures;
 }
 
--- what a sink over memory holds, and what it still takes
+-- the state of a sink over memory
 pub record SinkState : Type 0 where
   -- the bytes that were written
   pub held : List ℕ
-  -- how many bytes a write moves at most
+  -- the greatest number of bytes in a write
   pub most : ℕ
-  -- how many bytes may be written before writes fail
+  -- the number of bytes that may be written before writes fail
   pub sound : ℕ
-  -- how many writes were made
+  -- the number of writes
   pub calls : ℕ
-  -- how many of these failed, or took no byte
+  -- the number of writes that failed or wrote no byte
   pub failures : ℕ
 
--- how many bytes of a text a write moves
+-- the number of bytes of a text that a write moves
 abbrev pub write_count : SinkState → List ℕ → ℕ
 write_count sink text = min sink.sound (min sink.most (length text))
 
--- a sink after a write that took this many bytes of a text
+-- a sink after a write of this many bytes of a text
 abbrev pub after_write : SinkState → List ℕ → ℕ → SinkState
 after_write sink text n = record sink {
   held = sink.held ++ take n text;
@@ -129,7 +129,7 @@ after_failed_write sink = record sink { calls = count_after 1 sink.calls; failur
 pub record DeviceState (T : Type 0) : Type 0 where
   -- the reader or the writer
   pub inner : T
-  -- how many reads or writes were made
+  -- the number of reads or writes
   pub calls : ℕ
-  -- how many of these failed, or took no byte of a write
+  -- the number of reads that failed, or of writes that failed or wrote no byte
   pub failures : ℕ

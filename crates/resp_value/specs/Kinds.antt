@@ -3,7 +3,7 @@ use Rattle.resp_value.specs.Data as d
 use Rattle.resp_value.specs.declared.kind.OpenKind.{OpenKind}
 use Rattle.resp_value.specs.declared.kind.OpenKind.TheVariants.{Array, Set, Map, Attr, Push}
 
--- the kind that the program's kind stands for
+-- the kind of aggregate for a kind of the program
 abbrev pub kind_of : OpenKind → d.Kind
 kind_of Array = d.Array
 kind_of Set = d.Set

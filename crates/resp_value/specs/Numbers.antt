@@ -26,13 +26,13 @@ IsNumber n text = IsDigits text × (number text ≡ n)
 abbrev pub decimal : ℕ → List ℕ
 decimal n = map (λ digit. digit + byte "0") (cond (eqb n 0) (0 ∷ []) (digits_of 10 n))
 
--- a sign as it is spelled, or none
+-- a sign as it is written, or no sign
 pub data Sign : Type 0 where
   Unsigned : Sign
   Plus : Sign
   Minus : Sign
 
--- a sign as it is spelled
+-- the text of a sign
 abbrev pub sign_text : Sign → List ℕ
 sign_text Unsigned = []
 sign_text Plus = codes "+"
@@ -52,12 +52,12 @@ signed_value _ digits = pos (number digits)
 abbrev pub IsSignedDigits : List ℕ → Type 0
 IsSignedDigits text = (sign : Sign) × (digits : List ℕ) × IsDigits digits × (text ≡ sign_text sign ++ digits)
 
--- digits without leading zeros: none where all of them are zeros
+-- the digits without leading zeros, empty if all digits are zeros
 abbrev pub significant_digits : List ℕ → List ℕ
 significant_digits [] = []
 significant_digits (digit ∷ digits) = cond (eqb digit (byte "0")) (significant_digits digits) (digit ∷ digits)
 
--- a lone zero in the place of no digit
+-- a single zero if there is no digit
 abbrev pub zero_if_none : List ℕ → List ℕ
 zero_if_none [] = codes "0"
 zero_if_none (digit ∷ digits) = digit ∷ digits
@@ -66,7 +66,7 @@ zero_if_none (digit ∷ digits) = digit ∷ digits
 abbrev pub kept_digits : List ℕ → List ℕ
 kept_digits digits = zero_if_none (significant_digits digits)
 
--- whether a big number is negative: zero never is
+-- whether a big number is negative, which zero never is
 abbrev pub is_below_zero : Sign → List ℕ → Bool
 is_below_zero sign digits = cond (eqb (number digits) 0) false (is_minus sign)
 
@@ -74,7 +74,7 @@ is_below_zero sign digits = cond (eqb (number digits) 0) false (is_minus sign)
 abbrev pub IsKept : Bool → List ℕ → Type 0
 IsKept negative digits = IsDigits digits × (kept_digits digits ≡ digits) × (number digits ≡ 0 → negative ≡ false)
 
--- what a big number keeps of a text that is an optional sign and digits
+-- the sign and digits that a big number keeps of a text that is an optional sign and digits
 abbrev pub KeepsDigits : List ℕ → Bool → List ℕ → Type 0
 KeepsDigits text negative digits = (sign : Sign) × (written : List ℕ) × IsDigits written ×
     (text ≡ sign_text sign ++ written) × (negative ≡ is_below_zero sign written) × (digits ≡ kept_digits written)

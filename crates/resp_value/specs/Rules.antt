@@ -1,4 +1,4 @@
--- The rules of a version and limits, in their order: each leaves fewer trees than the one before.
+-- The rules of a version and limits, in order. Each rule admits fewer trees than the rule before it.
 use Rattle.std.specs.Prelude.{◌≡◌, ℕ, ◌^◌, ◌≤◌, false, pos, ◌≤ℤ◌, ◌<ℤ◌, length}
 use Rattle.std.proofs.Common.{neg_ℤ}
 use Rattle.resp_value.specs.Numbers.{signed_value}
@@ -18,7 +18,7 @@ pub record Rules : Type 0 where
 abbrev pub rules_under : Version → Bounds → Rules
 rules_under version limits = record { version = version; limits = limits }
 
--- the rules that a tree has to meet, each with its place in `rank`
+-- the rules that a tree has to meet, each with its number in `rank`
 pub data Rule : Type 0 where
   Grammar : Rule
   NoDouble : Rule
@@ -31,7 +31,7 @@ pub data Rule : Type 0 where
   WithinItems : Rule
   WithinTotal : Rule
 
--- the place of a rule in their order
+-- the number of a rule in their order
 abbrev pub rank : Rule → ℕ
 rank Grammar = 0
 rank NoDouble = 1
@@ -44,7 +44,7 @@ rank WithinLength = 7
 rank WithinItems = 8
 rank WithinTotal = 9
 
--- each leaf and each node of a tree is so
+-- this holds for each leaf and each node of a tree
 abbrev mutual
   pub Every : (Leaf → Type 0) → (Kind → Form → Type 0) → Tree → Type 0
   Every L N (leaf l) = L l
@@ -54,15 +54,15 @@ abbrev mutual
   EveryOf L N none = Unit {0}
   EveryOf L N (more t ts) = Every L N t × EveryOf L N ts
 
--- each leaf is so
+-- any leaf
 abbrev pub IsAnyLeaf : Leaf → Type 0
 IsAnyLeaf l = Unit {0}
 
--- each node is so
+-- any node
 abbrev pub IsAnyNode : Kind → Form → Type 0
 IsAnyNode k form = Unit {0}
 
--- the leaf is no double
+-- the leaf is not a double
 abbrev pub IsNoDouble : Leaf → Type 0
 IsNoDouble (line Double s) = ⊥
 IsNoDouble _ = Unit {0}
@@ -87,17 +87,17 @@ abbrev pub HasVersion : Version → Tree → Type 0
 HasVersion Two t = Every IsLeafInTwo IsNodeInTwo t
 HasVersion Three t = Unit {0}
 
--- the kind is no push
+-- the kind is not a push
 abbrev pub IsNoPush : Kind → Form → Type 0
 IsNoPush Push form = ⊥
 IsNoPush _ form = Unit {0}
 
--- no push stands below the root
+-- there is no push below the root
 abbrev pub HasPushAtRoot : Tree → Type 0
 HasPushAtRoot (leaf l) = Unit {0}
 HasPushAtRoot (node k form ts) = EveryOf IsAnyLeaf IsNoPush ts
 
--- an integer has 64 bits
+-- an integer fits 64 bits
 abbrev pub IsInRange : Leaf → Type 0
 IsInRange (numeral Int sign digits) = (neg_ℤ (pos (2 ^ 63)) ≤ℤ signed_value sign digits) ×
     (signed_value sign digits <ℤ pos (2 ^ 63))
@@ -113,7 +113,7 @@ abbrev pub IsCountedNode : Kind → Form → Type 0
 IsCountedNode k (Counted digits) = Unit {0}
 IsCountedNode k Streamed = ⊥
 
--- what one rule says of a tree
+-- the condition of one rule for a tree
 abbrev pub Meets : Rules → Rule → Tree → Type 0
 Meets r Grammar t = Unit {0}
 Meets r NoDouble t = r.limits.doubles ≡ false → Every IsNoDouble IsAnyNode t

@@ -1,43 +1,43 @@
--- Spellings of a value, what may still become one, the cause of a refusal, and the one cut of a text.
+-- Spellings of a value, viable texts, the cause of an error, and the one way to cut a text into values.
 use Rattle.std.specs.Prelude.{◌≡◌, ℕ, ◌+◌, ◌<◌, List, [], ◌∷◌, ◌++◌, length}
 use Rattle.resp_value.specs.Data.{Datum}
 use Rattle.resp_value.specs.Trees.{Tree, Spells}
 use Rattle.resp_value.specs.TreeValues.{value}
 use Rattle.resp_value.specs.Rules.{Rules, Rule, WithinTotal, rank, Keeps}
 
--- the text is a spelling of the value under the rules
+-- the text is a spelling (an encoding) of the value under the rules
 pub record IsSpelling (rules : Rules) (x : Datum) (text : List ℕ) : Type 0 where
   pub tree : Tree
   pub spells : Spells tree text
   pub keeps : Keeps rules WithinTotal tree
   pub valued : value tree ≡ x
 
--- some continuation of the front is spelled by a tree within the rules up to this one
+-- the front is a prefix of the text of some tree within the rules up to this one
 pub record IsViable (rules : Rules) (rule : Rule) (front : List ℕ) : Type 0 where
   pub rest : List ℕ
   pub tree : Tree
   pub spells : Spells tree (front ++ rest)
   pub keeps : Keeps rules rule tree
 
--- the first rule under which the front isn't viable
+-- the first rule under which the front is not viable
 pub record IsCause (rules : Rules) (front : List ℕ) (rule : Rule) : Type 0 where
   pub viable_before : (earlier : Rule) → rank earlier < rank rule → IsViable rules earlier front
   pub not_viable : IsViable rules rule front → ⊥
 
--- the text is spellings of the values, in order
+-- the text consists of spellings of the values, in order
 abbrev pub AreSpellings : Rules → List Datum → List ℕ → Type 0
 AreSpellings rules [] text = text ≡ []
 AreSpellings rules (x ∷ xs) text = (front : List ℕ) × (rest : List ℕ) × IsSpelling rules x front ×
     AreSpellings rules xs rest × (text ≡ front ++ rest)
 
--- the text is spellings of the values, and then a rest of which no front is a spelling
+-- the text consists of spellings of the values and a rest that does not begin with a spelling
 pub record Cut (rules : Rules) (text : List ℕ) (xs : List Datum) (rest : List ℕ) : Type 0 where
   pub front : List ℕ
   pub spelled : AreSpellings rules xs front
   pub whole : text ≡ front ++ rest
   pub no_more : (x : Datum) (next beyond : List ℕ) → IsSpelling rules x next → rest ≡ next ++ beyond → ⊥
 
--- where a rest stops being viable, and why: at the last byte of its shortest front that isn't
+-- the place where a rest stops being viable, and the rule: the last byte of its shortest prefix that is not viable
 pub record FaultOf (rules : Rules) (rest : List ℕ) (rule : Rule) (at : ℕ) : Type 0 where
   pub front : List ℕ
   pub beyond : List ℕ

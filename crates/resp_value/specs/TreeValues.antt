@@ -1,4 +1,4 @@
--- The value of a tree: it forgets how the tree is spelled.
+-- The value of a tree, which does not depend on how the tree is written.
 use Rattle.std.specs.Prelude.{ℕ, List}
 use Rattle.resp_value.specs.Numbers.{Sign, signed_value, kept_digits, is_below_zero}
 use Rattle.resp_value.specs.Data.{Scalar, Datum, Data, scalar, aggregate}

@@ -1,5 +1,5 @@
--- Trees of spelled texts. A tree keeps what a spelling may choose: the form of a null, signs, leading zeros,
--- chunks, and whether an aggregate is counted or streamed. So its text is a function of it.
+-- Trees: values together with the choices of their encoding. A tree records the form of a null, signs, leading zeros,
+-- chunks, and whether an aggregate is counted or streamed. So its text is a function of the tree.
 use Rattle.std.specs.Prelude.{◌≡◌, ℕ, ◌+◌, Bool, true, false, List, [], ◌∷◌, ◌++◌, length, codes}
 use Rattle.std.specs.List.{AllByRecursion}
 use Rattle.std.specs.Str.{byte}
@@ -7,7 +7,7 @@ use Rattle.resp_value.specs.Bytes.{IsText, IsLine, IsFull, crlf}
 use Rattle.resp_value.specs.Numbers.{IsDigits, IsNumber, number, Sign, sign_text}
 use Rattle.resp_value.specs.Data.{Kind, Array, Set, Map, Attr, Push, members_of}
 
--- what stands on one line as it is: a simple string, an error or a double
+-- the kinds of text on one line: a simple string, an error or a double
 pub data LineKind : Type 0 where
   Simple : LineKind
   Error : LineKind
@@ -24,7 +24,7 @@ pub data NullForm : Type 0 where
   ArrayNull : NullForm
   PlainNull : NullForm
 
--- a verbatim string has its format
+-- a verbatim string with its format
 pub data StringKind : Type 0 where
   Bulk : StringKind
   BulkError : StringKind
@@ -35,7 +35,7 @@ pub record Chunk : Type 0 where
   pub digits : List ℕ
   pub content : List ℕ
 
--- a value without members, as it is spelled
+-- a value without members, with the choices of its encoding
 pub data Leaf : Type 0 where
   line : LineKind → List ℕ → Leaf
   numeral : NumberKind → Sign → List ℕ → Leaf
@@ -43,10 +43,10 @@ pub data Leaf : Type 0 where
   truth : Bool → Leaf
   -- the digits of its length, and its content
   string : StringKind → List ℕ → List ℕ → Leaf
-  -- a streamed string: its chunks, and the zeros of the line that ends them
+  -- a streamed string: its chunks, and the zeros in the line that ends it
   chunked : List Chunk → List ℕ → Leaf
 
--- counted, by these digits, or streamed
+-- counted, with these digits, or streamed
 pub data Form : Type 0 where
   Counted : List ℕ → Form
   Streamed : Form
@@ -78,7 +78,7 @@ null_line BulkNull = codes "$-1"
 null_line ArrayNull = codes "*-1"
 null_line PlainNull = codes "_"
 
--- the line of a truth value
+-- the line of a boolean
 abbrev pub truth_line : Bool → List ℕ
 truth_line true = codes "#t"
 truth_line false = codes "#f"
@@ -89,7 +89,7 @@ string_byte Bulk = byte "$"
 string_byte BulkError = byte "!"
 string_byte (Verbatim format) = byte "="
 
--- the bytes that a string's length counts
+-- the bytes that the length of a string counts
 abbrev pub payload : StringKind → List ℕ → List ℕ
 payload (Verbatim format) s = format ++ (byte ":" ∷ s)
 payload _ s = s
@@ -102,7 +102,7 @@ kind_byte Map = byte "%"
 kind_byte Attr = byte "|"
 kind_byte Push = byte ">"
 
--- what follows the type byte in the head of an aggregate
+-- the text after the type byte in the head of an aggregate
 abbrev pub form_line : Form → List ℕ
 form_line (Counted digits) = digits
 form_line Streamed = codes "?"
@@ -116,12 +116,12 @@ leaf_line (truth b) = truth_line b
 leaf_line (string k digits s) = string_byte k ∷ digits
 leaf_line (chunked chunks zeros) = codes "$?"
 
--- chunks, and then more
+-- the text of chunks, followed by more bytes
 abbrev pub chunks_text : List Chunk → List ℕ → List ℕ
 chunks_text [] rest = rest
 chunks_text (c ∷ cs) rest = (byte ";" ∷ c.digits) ++ crlf (c.content ++ crlf (chunks_text cs rest))
 
--- what follows the first line
+-- the text after the first line
 abbrev pub leaf_rest : Leaf → List ℕ
 leaf_rest (string k digits s) = payload k s ++ crlf []
 leaf_rest (chunked chunks zeros) = chunks_text chunks ((byte ";" ∷ zeros) ++ crlf [])
@@ -131,7 +131,7 @@ leaf_rest _ = []
 abbrev pub leaf_text : Leaf → List ℕ
 leaf_text l = leaf_line l ++ crlf (leaf_rest l)
 
--- what closes an aggregate that is streamed
+-- the text that closes a streamed aggregate
 abbrev pub close : Form → List ℕ
 close (Counted digits) = []
 close Streamed = byte "." ∷ crlf []
@@ -146,7 +146,7 @@ abbrev mutual
   texts none = []
   texts (more t ts) = text t ++ texts ts
 
--- how many trees stand side by side
+-- the number of trees in a list
 abbrev pub count : Trees → ℕ
 count none = 0
 count (more t ts) = count ts + 1
@@ -156,7 +156,7 @@ abbrev pub joined_content : List Chunk → List ℕ
 joined_content [] = []
 joined_content (c ∷ cs) = c.content ++ joined_content cs
 
--- a chunk isn't empty, and its digits say its length
+-- a chunk is not empty, and its digits are its length
 abbrev pub IsChunk : Chunk → Type 0
 IsChunk c = IsNumber (length c.content) c.digits × IsFull c.content × IsText c.content
 
@@ -165,7 +165,7 @@ abbrev pub HasFormat : StringKind → Type 0
 HasFormat (Verbatim format) = (length format ≡ 3) × IsText format
 HasFormat _ = Unit {0}
 
--- the leaf is one of the grammar's
+-- the leaf is part of the grammar
 abbrev pub IsLeaf : Leaf → Type 0
 IsLeaf (line k s) = IsLine s × IsText s
 IsLeaf (numeral k sign digits) = IsDigits digits
@@ -173,19 +173,19 @@ IsLeaf (string k digits s) = IsNumber (length (payload k s)) digits × HasFormat
 IsLeaf (chunked chunks zeros) = AllByRecursion IsChunk chunks × IsNumber 0 zeros
 IsLeaf _ = Unit {0}
 
--- attributes and pushes aren't streamed, and a map is streamed by whole pairs
+-- attributes and pushes cannot be streamed, and a streamed map has whole pairs
 abbrev pub CanStream : Kind → ℕ → Type 0
 CanStream Map n = (pairs : ℕ) × (pairs + pairs ≡ n)
 CanStream Attr n = ⊥
 CanStream Push n = ⊥
 CanStream _ n = Unit {0}
 
--- an aggregate of this form may have this many members
+-- an aggregate of this form may have this number of members
 abbrev pub HasMembers : Kind → Form → ℕ → Type 0
 HasMembers k (Counted digits) n = IsDigits digits × (members_of k (number digits) ≡ n)
 HasMembers k Streamed n = CanStream k n
 
--- the tree is one of the grammar's
+-- the tree is part of the grammar
 abbrev mutual
   pub IsTree : Tree → Type 0
   IsTree (leaf l) = IsLeaf l
@@ -195,7 +195,7 @@ abbrev mutual
   AreTrees none = Unit {0}
   AreTrees (more t ts) = IsTree t × AreTrees ts
 
--- the tree is one of the grammar's, and the text is its text
+-- the tree is part of the grammar, and this is its text
 pub record Spells (tree : Tree) (written : List ℕ) : Type 0 where
   pub is_tree : IsTree tree
   pub spelled : text tree ≡ written

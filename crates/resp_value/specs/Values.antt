@@ -1,4 +1,4 @@
--- What a value of the program is, apart from memory.
+-- The data of a value in memory.
 use Rattle.std.specs.Prelude.{ℕ, List}
 use Rattle.std.specs.Prelude.{Bool as Truth}
 use Rattle.resp_value.specs.Data.{Datum, Data, scalar, aggregate}
@@ -35,13 +35,13 @@ list_of members = (out-Members members).items.items
 abbrev pub pairs_of : PairList → List (Value × Value)
 pairs_of pairs = (out-PairList pairs).pairs.items
 
--- data with one more after them
+-- data with one more datum after them
 abbrev pub extended : Data → Datum → Data
 extended d.none x = d.more x d.none
 extended (d.more y ys) x = d.more y (extended ys x)
 
 abbrev mutual
-  -- a value apart from memory
+  -- the data of a value
   pub datum_of : Value → Datum
   datum_of Null = scalar d.Null
   datum_of (Bool b) = scalar (d.Bool b)
@@ -59,16 +59,16 @@ abbrev mutual
   datum_of (Attr' shape row pairs annotated) = aggregate d.Attr (extended (data_of_pairs row) (datum_of annotated))
   datum_of (Push' shape row) = aggregate d.Push (data_of_row row)
 
-  -- the members of a value, as the type keeps them
+  -- the members of a value, as the type stores them
   pub data_of_row : {m : _} → Row_of-Value m → Data
   data_of_row end_of-Value = d.none
   data_of_row (more_of-Value x rest) = d.more (datum_of x) (data_of_row rest)
 
-  -- keys and values in turn, as the type keeps them
+  -- keys and values in turn, as the type stores them
   pub data_of_pairs : {m : _} → Row_of-PairList-pairs-2 m → Data
   data_of_pairs end_of-PairList-pairs-2 = d.none
   data_of_pairs (more_of-PairList-pairs-2 k x rest) = d.more (datum_of k) (d.more (datum_of x) (data_of_pairs rest))
 
--- a key and its value apart from memory
+-- the data of a key and its value
 abbrev pub pair_data : Value × Value → Datum × Datum
 pair_data pair = (datum_of pair.0, datum_of pair.1)

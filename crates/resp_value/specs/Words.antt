@@ -1,4 +1,4 @@
--- Words, and the value that is sent for them.
+-- The words of a command, and the value that is sent for them.
 use Rattle.std.specs.Prelude.{ℕ, List, map, Vec}
 use Rattle.std.proofs.Common.{Global}
 use Rattle.resp_value.specs.Data.{Datum, scalar, aggregate, data_of_list}

@@ -1,8 +1,8 @@
-//! The causes of refusals, each with its number and its name.
+//! The causes of errors, each with a number and a name.
 
 ghost use Rattle.std.specs.Prelude.{◌≡◌};
 
-/// The first limit that a value to be encoded breaks. They are tested in this order.
+/// The first limit that a value to be encoded exceeds. The limits are checked in this order.
 #[derive(Clone, Copy, Debug, PartialEq, Eq)]
 pub enum Limit {
     /// It has more aggregates inside one another than the limit of depth allows.
@@ -15,66 +15,66 @@ pub enum Limit {
     Total,
 }
 
-/// Why something was refused.
+/// The cause of an error.
 #[derive(Clone, Copy, Debug, PartialEq, Eq)]
 pub enum Cause {
     /// The bytes begin no value of any version.
     Syntax,
-    /// A double came where the limits don't allow doubles, or is to be encoded within such limits.
+    /// A double was received, or is to be encoded, and the limits do not allow doubles.
     Double,
-    /// A form of version 3 came while version 2 is read.
+    /// A form of version 3 was received while version 2 is read.
     Version,
-    /// A push came below the top level.
+    /// A push was received inside another value.
     NestedPush,
-    /// An integer is outside the range of signed 64 bits.
+    /// An integer is outside the range of a signed 64-bit integer.
     Range,
-    /// The value is over the limit of depth.
+    /// The value exceeds the limit of depth.
     Depth,
-    /// A content is over the limit of length.
+    /// A content exceeds the limit of length.
     Length,
-    /// The value can't end within the limit of total.
+    /// The value cannot end within the limit of total.
     Total,
     /// The input ended inside a value.
     Truncated,
-    /// A growth was refused.
+    /// An allocation failed.
     OutOfMemory,
-    /// A streamed form came while these are switched off.
+    /// A streamed form was received, and the limits do not allow streamed forms.
     Streamed,
-    /// An aggregate is over the limit of items.
+    /// An aggregate exceeds the limit of items.
     Items,
-    /// A value that is no push came while no command waits.
+    /// A value other than a push was received while no command waits for a reply.
     Unasked,
-    /// A command is outside the client's limits.
+    /// A command exceeds the client's limits.
     TooLarge,
-    /// A command has no word, or a name that the client doesn't send.
+    /// A command has no word, or its name is one that the client does not send.
     BadCommand,
-    /// The client's number of commands is used up.
+    /// The client has used all its command numbers.
     TooMany,
-    /// As many sessions are open as can be, or the ids are used up.
+    /// As many sessions are open as possible, or all ids have been used.
     TooManySessions,
     /// No session has this id.
     NoSession,
-    /// The session takes no more output.
+    /// The session is closing and accepts no more output.
     Closing,
-    /// The value holds a type that the version hasn't.
+    /// The value to be encoded holds a type that the version does not have.
     NotInVersion,
-    /// The value to be encoded holds a push below its top.
+    /// The value to be encoded holds a push inside another value.
     PushBelowTop,
-    /// The value to be encoded breaks a limit.
+    /// The value to be encoded exceeds a limit.
     OverLimits(Limit),
     /// The reader failed.
     Read,
-    /// The writer failed, or took no byte.
+    /// The writer failed, or wrote no byte.
     Write,
-    /// The stated number of reads and writes is used up.
+    /// The given number of reads and writes has been used.
     TooManyTurns,
-    /// The reader ended while a command waits.
+    /// The reader ended while a command waits for its reply.
     Ended,
-    /// A CR or LF stands in a line's text.
+    /// The text of a line contains CR or LF.
     BadLine,
-    /// A text isn't an optional sign and one or more digits.
+    /// A text is not an optional sign followed by one or more digits.
     BadDigits,
-    /// The version was to change in the middle of a value.
+    /// The version cannot be changed in the middle of a value.
     Busy,
     /// A limit is outside its range.
     BadLimits,
@@ -83,9 +83,9 @@ pub enum Cause {
 impl Cause {
     ghost use Rattle.resp_value.specs.Causes.{number_of, name_of};
 
-    /// The number of the cause: 1 to 10, 12 and 13 for what is read, 20 to 24 at a client, 30 to 32
-    /// at a server, 40 to 42 for what is encoded, 50 to 53 for devices, 60 to 63 for what is handed
-    /// in. Each cause has its own, whatever the limit of `OverLimits`.
+    /// Returns the number of the cause: 1 to 10, 12 and 13 for input, 20 to 24 for a client, 30 to
+    /// 32 for a server, 40 to 42 for encoding, 50 to 53 for devices, 60 to 63 for arguments. Each
+    /// cause has its own number. `OverLimits` has one number for all limits.
     pub fn number(self) -> u32
         ensures { result ≡ number_of self }
     {
@@ -123,8 +123,8 @@ impl Cause {
         }
     }
 
-    /// The name of the cause, as fault lines and error replies print it. `NestedPush` and
-    /// `PushBelowTop` share one.
+    /// Returns the name of the cause, as the program prints it and as error replies contain it.
+    /// `NestedPush` and `PushBelowTop` share a name.
     pub fn name(self) -> &'static str
         ensures { result.now ≡ name_of self }
     {

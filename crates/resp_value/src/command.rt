@@ -1,4 +1,4 @@
-//! Commands: what a client sends.
+//! Commands, which a client sends to a server.
 
 ghost use Rattle.std.specs.Prelude.{◌≡◌, ◌↔◌, ◌<◌, length, IsOk, IfOk, IfErr};
 ghost use Rattle.resp_value.specs.Words.{texts_of};
@@ -6,29 +6,41 @@ ghost use Rattle.resp_value.specs.Words.{texts_of};
 use std::alloc::{AllocError, Global};
 use thiserror::Error;
 
-/// One word or more: the name of a command and its arguments, each any bytes. It is sent as an
-/// array of bulk strings (Redis serialization protocol specification, "Sending commands to a Redis
-/// server").
+/// A command: its name and its arguments, each any bytes. There is at least the name. It is sent as
+/// an array of bulk strings (Redis serialization protocol specification, "Sending commands to a
+/// Redis server").
 #[derive(Debug, PartialEq, Eq, Drop)]
 pub struct Command {
     words: Vec<Vec<u8>>,
     ghost has_name: { 0 < length words.items },
 }
 
-/// The refusal of a command: it has no word.
+/// The error of [`Command::new`]: the command has no word.
 #[derive(Debug, PartialEq, Eq, Drop, Error)]
 #[error("a command has no word")]
 pub struct BadCommand {
-    /// The words that were handed in: none.
+    /// The words that were passed, an empty list.
     pub words: Vec<Vec<u8>>,
 }
 
 impl Command {
     ghost use Rattle.resp_value.specs.Commands.{words_of};
 
-    /// A command of these words. Takes no memory.
+    /// Makes a command of these words, the name first. Does not allocate.
     ///
-    /// Refuses exactly where there is no word, and hands the words back.
+    /// # Errors
+    ///
+    /// `BadCommand` if and only if there is no word. It returns the list.
+    ///
+    /// # Examples
+    ///
+    /// From [samples](../../samples/src/values.rt):
+    ///
+    /// ```rust
+    /// let words = vec![in alloc; b"INCR".to_vec(alloc)?, b"hits".to_vec(alloc)?]?;
+    /// let command = Command::new(words)?;
+    /// println!(rt; "{} words", command.words().len())?;
+    /// ```
     pub fn new(words: Vec<Vec<u8>>) -> Result<Command, BadCommand>
         ensures has_word { IsOk result ↔ (0 < length words.items) }
         ensures same_words { IfOk result (λ command. words_of command ≡ texts_of words.items) }
@@ -41,7 +53,7 @@ impl Command {
         }
     }
 
-    /// The words, lent: the name first.
+    /// Returns the words, the name first.
     pub fn words(&self) -> &[Vec<u8>]
         ensures same_words { texts_of result.now ≡ words_of self.now }
         ensures has_word { 0 < length result.now }
@@ -49,7 +61,11 @@ impl Command {
         self.words.as_slice()
     }
 
-    /// An equal command, or OutOfMemory.
+    /// Copies the command into newly allocated memory.
+    ///
+    /// # Errors
+    ///
+    /// `AllocError` if an allocation fails.
     pub fn try_clone(&self, alloc: Global) -> Result<Command, AllocError>
         ensures { IfOk result (λ copy. words_of copy ≡ words_of self.now) }
     {

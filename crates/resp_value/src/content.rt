@@ -1,4 +1,4 @@
-//! The content of a bulk string, a bulk error or a verbatim string: any bytes.
+//! The content of a bulk string, a bulk error or a verbatim string.
 
 ghost use Rattle.std.specs.Prelude.{◌≡◌, List, IfOk};
 ghost use Rattle.std.proofs.Props.{props};
@@ -6,11 +6,12 @@ ghost use Rattle.resp_value.specs.Bytes.{IsText};
 
 use std::alloc::{AllocError, Global};
 
-/// Any bytes, CR and LF among them: what a bulk string and a bulk error hold, and a verbatim string
-/// after its format (Redis serialization protocol specification, "Bulk strings", "Bulk errors" and
-/// "Verbatim strings").
+/// Any bytes, CR and LF included: the content of a bulk string or a bulk error, or the text of a
+/// verbatim string after its format (Redis serialization protocol specification, "Bulk strings",
+/// "Bulk errors" and "Verbatim strings").
 ///
-/// It has no limit of its own: that of length is met where a value is read or written.
+/// A content has no limit of its own. The limit of length is checked when a value is read or
+/// written.
 #[derive(Debug, PartialEq, Eq, Drop)]
 pub struct Content {
     bytes: Vec<u8>,
@@ -20,21 +21,21 @@ pub struct Content {
 impl Content {
     ghost use Rattle.resp_value.specs.Values.{content_bytes};
 
-    /// A content of these bytes, of which there may be none. Takes no memory.
+    /// Makes a content of these bytes. They may be empty. Does not allocate.
     pub fn new(bytes: Vec<u8>) -> Content
         ensures { content_bytes result ≡ bytes.items }
     {
         Content { bytes }
     }
 
-    /// Lends the bytes.
+    /// Returns the bytes.
     pub fn list(&self) -> &[u8]
         ensures { result.now ≡ content_bytes self.now }
     {
         self.bytes.as_slice()
     }
 
-    /// Gives the bytes back. Takes no memory.
+    /// Returns the bytes as a `Vec`. Does not allocate.
     pub fn into_vec(self) -> Vec<u8>
         ensures { result.items ≡ content_bytes self }
     {
@@ -42,7 +43,11 @@ impl Content {
         bytes
     }
 
-    /// A content of the same bytes in memory of its own. Refuses only where there is none.
+    /// Copies the content into newly allocated memory.
+    ///
+    /// # Errors
+    ///
+    /// `AllocError` if the allocation fails.
     pub fn try_clone(&self, alloc: Global) -> Result<Content, AllocError>
         ensures { IfOk result (λ copy. content_bytes copy ≡ content_bytes self.now) }
     {

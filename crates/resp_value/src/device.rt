@@ -1,4 +1,4 @@
-//! Byte devices: where bytes are read from and written to.
+//! Byte devices, from which bytes are read and to which bytes are written.
 
 ghost use Rattle.std.specs.Prelude.{◌≡◌, ℕ, ◌+◌, ◌<◌, ◌≤◌, List, length, Option, IfOk, IfErr, OnErr, OnOk, take};
 ghost use Rattle.resp_value.specs.Devices.{count_after, Reads, Writes, Appends, read_fails, write_fails, failures_after};
@@ -14,24 +14,28 @@ pub use memory_sink::MemorySink;
 pub use memory_source::MemorySource;
 pub use wrapped::Device;
 
-/// The refusal of a read or a write: it failed, and moved no byte.
+/// The error of a read or a write that failed. It moved no byte.
 #[derive(Clone, Copy, Debug, PartialEq, Eq, Error)]
 #[error("the device failed")]
 pub struct DeviceFault;
 
-/// A device that bytes are read from.
+/// A device from which bytes are read.
 pub trait Source {
-    /// The bytes that are left, or `None` where the device claims nothing of them.
+    /// The bytes that are left, or `None` if the device states nothing about them.
     ghost remaining: { Self → Option (List ℕ) };
 
-    /// How many reads were made.
+    /// The number of reads that were made.
     ghost calls: { Self → ℕ };
 
-    /// How many of these failed.
+    /// The number of reads that failed.
     ghost failures: { Self → ℕ };
 
-    /// Reads some bytes to the front of `into`, and answers how many: none only at the end, or
-    /// where `into` has no room. A failed read takes no byte.
+    /// Reads some bytes into the beginning of `into`, and returns their number. The number is 0
+    /// only at the end of the bytes, or if `into` is empty.
+    ///
+    /// # Errors
+    ///
+    /// `DeviceFault` if the read fails. Then no byte was read.
     fn read(&mut self, into: &mut [u8]) -> Result<usize, DeviceFault>
         ensures within { IfOk result (λ n. n ≤ length into.old) }
         ensures bytes { Reads (remaining self.old) (remaining self.new) into.new result }
@@ -40,19 +44,22 @@ pub trait Source {
             failures_after (read_fails result) (failures self.old) };
 }
 
-/// A device that bytes are written to.
+/// A device to which bytes are written.
 pub trait Sink {
-    /// The bytes that it holds, or `None` where the device claims nothing of them.
+    /// The bytes that the device holds, or `None` if it states nothing about them.
     ghost written: { Self → Option (List ℕ) };
 
-    /// How many writes were made.
+    /// The number of writes that were made.
     ghost calls: { Self → ℕ };
 
-    /// How many of these failed, or took no byte.
+    /// The number of writes that failed or wrote no byte.
     ghost failures: { Self → ℕ };
 
-    /// Writes some bytes of the front of `from`, and answers how many. A failed write takes no
-    /// byte.
+    /// Writes some bytes from the beginning of `from`, and returns their number.
+    ///
+    /// # Errors
+    ///
+    /// `DeviceFault` if the write fails. Then no byte was written.
     fn write(&mut self, from: &[u8]) -> Result<usize, DeviceFault>
         ensures within { IfOk result (λ n. n ≤ length from.now) }
         ensures bytes { Writes (written self.old) (written self.new) from.now result }
@@ -61,16 +68,33 @@ pub trait Sink {
             failures_after (write_fails result) (failures self.old) };
 }
 
-/// The refusal of a write of several bytes: one of its writes failed, or took no byte.
+/// The error of [`write_all`]: one of its writes failed, or wrote no byte.
 #[derive(Clone, Copy, Debug, PartialEq, Eq, Error)]
 #[error("the device failed after {written} bytes")]
 pub struct WriteFault {
-    /// How many of the bytes were written before that.
+    /// The number of bytes that were written before the failure.
     pub written: usize,
 }
 
-/// Writes all of `bytes`, by one write after another. Refuses where a write fails or takes no byte:
-/// then the first bytes were written, as many as the refusal says.
+/// Writes all of `bytes`, with as many writes as that needs.
+///
+/// # Errors
+///
+/// `WriteFault` if a write fails or writes no byte. Its field `written` is the number of bytes
+/// written before.
+///
+/// # Examples
+///
+/// From [samples](../../samples/src/values.rt), with a sink that accepts 4 bytes in a write and
+/// fails from byte 10 on:
+///
+/// ```rust
+/// let mut sink = MemorySink::new(alloc, 4, 10)?;
+/// let result = write_all(&mut sink, b"+a line of text\r\n");
+/// println!(rt; "{result:?} {}", sink.bytes().escape_ascii())?;
+/// ```
+///
+/// This prints `Err(WriteFault { written: 10 }) +a line of`.
 pub fn write_all<W: Sink>(sink: &mut W, bytes: &[u8]) -> Result<(), WriteFault>
     ensures ok { OnOk result (Appends (W.written sink.old) (W.written sink.new) bytes.now) }
     ensures none_failed { OnOk result (W.failures sink.new ≡ W.failures sink.old) }

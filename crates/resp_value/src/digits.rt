@@ -8,8 +8,8 @@ ghost use Rattle.resp_value.specs.Signs.{sign_at, unsigned_part};
 use std::alloc::{AllocError, Global};
 use thiserror::Error;
 
-/// A whole number of any size: a sign, and decimal digits without leading zeros (Redis
-/// serialization protocol specification, "Big numbers"). Zero is `0`, and never negative.
+/// An integer of any size: a sign, and decimal digits without leading zeros (Redis serialization
+/// protocol specification, "Big numbers"). Zero is `0` and is never negative.
 #[derive(Debug, PartialEq, Eq, Drop)]
 pub struct Digits {
     negative: bool,
@@ -17,25 +17,25 @@ pub struct Digits {
     ghost are_kept: { IsKept negative digits.items } by { Prim.hlevel props },
 }
 
-/// Why a text gives no digits.
+/// Why [`Digits::new`] failed.
 #[derive(Clone, Copy, Debug, PartialEq, Eq, Error)]
 pub enum DigitsError {
-    /// It isn't an optional `+` or `-` and one or more decimal digits.
+    /// The text is not an optional `+` or `-` followed by one or more decimal digits.
     #[error("not an optional sign and one or more digits")]
     BadDigits,
-    /// No memory was found for the digits.
+    /// The allocation for the digits failed.
     #[error("out of memory")]
     OutOfMemory,
 }
 
-/// Whether the text is one or more decimal digits.
+/// Returns whether the text is one or more decimal digits.
 fn are_digits(text: &[u8]) -> bool
     ensures { IsTrue result ↔ ((0 < length text.now) × All IsDigit text.now) }
 {
     !text.is_empty() && text.iter().all(|byte| byte.is_ascii_digit())
 }
 
-/// The digits without leading zeros, and a lone `0` of zeros alone.
+/// Returns the digits without leading zeros. If all digits are zeros it returns a single `0`.
 fn kept_part(digits: &[u8]) -> &[u8]
     requires { IsDigits digits.now }
     ensures { result.now ≡ kept_digits digits.now }
@@ -47,14 +47,14 @@ fn kept_part(digits: &[u8]) -> &[u8]
     rest
 }
 
-/// Whether the text begins with a `-`.
+/// Returns whether the text begins with `-`.
 fn begins_with_minus(text: &[u8]) -> bool
     ensures { result ≡ is_minus (sign_at text.now) }
 {
     !text.is_empty() && text[0] == b'-'
 }
 
-/// The text after its sign, or the whole text where it begins with neither `-` nor `+`.
+/// Returns the text after its sign, or the whole text if it begins with neither `-` nor `+`.
 fn unsigned_part(text: &[u8]) -> &[u8]
     ensures { result.now ≡ unsigned_part text.now }
 {
@@ -68,12 +68,30 @@ fn unsigned_part(text: &[u8]) -> &[u8]
 impl Digits {
     ghost use Rattle.resp_value.specs.Values.{is_negative, digits_text};
 
-    /// The sign and digits of a text such as `-120` or `+007`: an optional `+` or `-`, and one or
-    /// more decimal digits. Leading zeros go, and so does the sign of a zero; that a text may have
-    /// them is a leniency of our own.
+    /// Parses the text of a big number, such as `-120` or `+007`: an optional `+` or `-`, and one
+    /// or more decimal digits. Leading zeros are dropped, and so is the sign of a zero. Accepting
+    /// leading zeros and the sign of a zero is a leniency of this library.
     ///
-    /// Refuses by `BadDigits` exactly where the text isn't of that form. For a text of that form
-    /// memory for the digits is asked for, and `OutOfMemory` is the refusal where there is none.
+    /// # Errors
+    ///
+    /// `BadDigits` if and only if the text does not have that form. `OutOfMemory` if it has that
+    /// form and the allocation for the digits fails.
+    ///
+    /// # Examples
+    ///
+    /// From [samples](../../samples/src/values.rt):
+    ///
+    /// ```rust
+    /// let digits = Digits::new(alloc, b"-00123456789012345678901234567890")?;
+    /// println!(
+    ///     rt;
+    ///     "{} {}",
+    ///     digits.is_negative(),
+    ///     digits.digits().escape_ascii()
+    /// )?;
+    /// ```
+    ///
+    /// This prints `true 123456789012345678901234567890`.
     pub fn new(alloc: Global, text: &[u8]) -> Result<Digits, DigitsError>
         ensures kept { IfOk result (λ digits. KeepsDigits text.now (is_negative digits)
             (digits_text digits)) }
@@ -93,10 +111,10 @@ impl Digits {
         }
     }
 
-    /// These digits after this sign, in the memory that they have. Takes none.
+    /// Makes a big number of this sign and these digits, and keeps their memory. Does not allocate.
     ///
-    /// Refuses exactly where a big number doesn't keep them so: other bytes than digits or none, a
-    /// leading zero, and a negative `0`.
+    /// Returns `None` if the digits are empty or contain another byte than a digit, if they have a
+    /// leading zero, or if they are a negative `0`.
     pub fn of_kept(negative: bool, digits: Vec<u8>) -> Option<Digits>
         ensures kept { IsSome result ↔ IsKept negative digits.items }
         ensures same_sign { IfSome result (λ made. is_negative made ≡ negative) }
@@ -112,14 +130,15 @@ impl Digits {
         Some(Digits { negative, digits })
     }
 
-    /// Whether the number is below zero, which `0` never is.
+    /// Returns whether the number is below zero. `0` never is.
     pub fn is_negative(&self) -> bool
         ensures { result ≡ is_negative self.now }
     {
         self.negative
     }
 
-    /// The digits, without a sign and without leading zeros: one at least, and `0` alone for zero.
+    /// Returns the digits, without a sign and without leading zeros. There is at least one digit,
+    /// and zero is a single `0`.
     pub fn digits(&self) -> &[u8]
         ensures digits { result.now ≡ digits_text self.now }
         ensures kept { IsKept (is_negative self.now) result.now }
@@ -127,7 +146,11 @@ impl Digits {
         self.digits.as_slice()
     }
 
-    /// The same sign and digits in memory of their own. Refuses only where there is none.
+    /// Copies the number into newly allocated memory.
+    ///
+    /// # Errors
+    ///
+    /// `AllocError` if the allocation fails.
     pub fn try_clone(&self, alloc: Global) -> Result<Digits, AllocError>
         ensures sign { IfOk result (λ copy. is_negative copy ≡ is_negative self.now) }
         ensures digits { IfOk result (λ copy. digits_text copy ≡ digits_text self.now) }

@@ -4,7 +4,7 @@ ghost use Rattle.std.specs.Prelude.{◌≡◌, ◌↔◌, IsTrue};
 ghost use Rattle.resp_value.specs.Trees.{kind_byte};
 ghost use Rattle.resp_value.specs.Canonical.{IsKindInTwo, IsKindBelow};
 
-/// The kinds of aggregate (Redis serialization protocol specification, "Arrays", "Sets", "Maps" and
+/// A kind of aggregate (Redis serialization protocol specification, "Arrays", "Sets", "Maps" and
 /// "Pushes"; RESP3 specification, "Attribute type").
 #[derive(Clone, Copy, Debug, PartialEq, Eq)]
 pub enum OpenKind {
@@ -12,18 +12,18 @@ pub enum OpenKind {
     Array,
     /// A set.
     Set,
-    /// A map, whose keys and values come in turn.
+    /// A map. Keys and values alternate.
     Map,
-    /// An attribute: keys and values in turn, and last the value that it annotates.
+    /// An attribute. Keys and values alternate, and the value that it annotates comes last.
     Attr,
-    /// A push, at the top alone.
+    /// A push. It may only be the outermost value.
     Push,
 }
 
 impl OpenKind {
     ghost use Rattle.resp_value.specs.Kinds.{kind_of};
 
-    /// The type byte that begins an aggregate of the kind on the wire.
+    /// Returns the type byte that begins an aggregate of this kind.
     pub fn byte(self) -> u8
         ensures { result ≡ kind_byte (kind_of self) }
     {
@@ -36,7 +36,7 @@ impl OpenKind {
         }
     }
 
-    /// Whether version 2 has the kind.
+    /// Returns whether version 2 has this kind.
     pub fn is_in_two(self) -> bool
         ensures { IsTrue result ↔ IsKindInTwo (kind_of self) }
     {
@@ -46,7 +46,7 @@ impl OpenKind {
         }
     }
 
-    /// Whether the kind may stand below the top.
+    /// Returns whether an aggregate of this kind may be inside another value.
     pub fn is_below(self) -> bool
         ensures { IsTrue result ↔ IsKindBelow (kind_of self) }
     {

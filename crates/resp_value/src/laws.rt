@@ -1,4 +1,8 @@
-//! Laws of the grammar's definitions, each the contract of a function with an empty body.
+//! Laws of the grammar's definitions. Each law is the contract of a function with an empty body, so
+//! the check of that function proves it.
+//!
+//! A *spelling* of a value is one of its encodings. A text is *viable* if it is a prefix of some
+//! encoding.
 
 ghost use Rattle.std.specs.Prelude.{[], ◌∷◌, ◌≡◌, codes, true, false, pos, negsuc};
 ghost use Rattle.resp_value.specs.Canonical.{canonical_text};
@@ -10,17 +14,19 @@ ghost use Rattle.resp_value.specs.Laws.{EqualValuesHaveEqualData, ATextHasOneVal
 
 use crate::value::Value;
 
-/// Two values are equal by `==` exactly where they are so apart from memory.
+/// Two values are equal by `==` if and only if they have the same content, wherever it is stored in
+/// memory.
 pub fn equal_values_have_equal_data()
     ensures { EqualValuesHaveEqualData ⟦<Value as PartialEq>⟧.eq }
 {}
 
-/// A text is a spelling of one value alone, whatever the version and the limits.
+/// A text is a spelling of at most one value, whatever the version and the limits.
 pub fn a_text_has_one_value()
     ensures { ATextHasOneValue }
 {}
 
-/// Where two spellings begin one text, they are one, and so are their values and what follows them.
+/// If two spellings are prefixes of the same text, they are the same spelling, with the same value
+/// and the same bytes after it.
 pub fn no_spelling_begins_another()
     ensures { NoSpellingBeginsAnother }
 {}
@@ -30,42 +36,43 @@ pub fn no_spelling_is_empty()
     ensures { NoSpellingIsEmpty }
 {}
 
-/// A spelling begins with `>` exactly where its value is a push.
+/// A spelling begins with `>` if and only if its value is a push.
 pub fn a_push_begins_with_its_byte()
     ensures { APushBeginsWithItsByte }
 {}
 
-/// A text is cut in one way at most, into values and a rest that begins with no spelling.
+/// There is at most one way to cut a text into values and a rest that does not begin with a
+/// spelling.
 pub fn a_text_has_one_cut()
     ensures { ATextHasOneCut }
 {}
 
-/// A rest has one fault at most: one rule and one place.
+/// A rest has at most one fault: one rule and one byte.
 pub fn a_rest_has_one_fault()
     ensures { ARestHasOneFault }
 {}
 
-/// What version 2 spells, version 3 spells too, of the same value and under the same limits.
+/// A spelling in version 2 is a spelling of the same value in version 3, under the same limits.
 pub fn version_three_spells_what_two_does()
     ensures { VersionThreeSpellsWhatTwoDoes }
 {}
 
-/// A value's canonical text is a spelling of it exactly where the value fits the version and the
-/// limits.
+/// A value's canonical text is a spelling of the value if and only if the value fits the version
+/// and the limits.
 pub fn canonical_text_spells_what_fits()
     ensures { CanonicalTextSpellsWhatFits }
 {}
 
-/// Two values that a version has are equal exactly where their canonical texts are.
+/// Two values whose types the version has are equal if and only if their canonical texts are equal.
 pub fn canonical_text_tells_values_apart()
     ensures { CanonicalTextTellsValuesApart }
 {}
 
-/// What was read can be written: a value that was read fits the rules by which it was, but for the
-/// limit of total (`fits_but_for_total`), and where its canonical text is within that too, this is
-/// a spelling of it (`written`). So it is where nothing of what was read was streamed, since it is
-/// no longer than that (`no_longer`), and always where the limits allow no streamed form
-/// (`written_counted`).
+/// A value that was read can be written again. It fits all rules under which it was read, except
+/// perhaps the limit of total (`fits_but_for_total`). If its canonical text is within that limit
+/// too, the text is a spelling of the value (`written`). This holds if nothing in the input was
+/// streamed, because the canonical text is then no longer than the input (`no_longer`). It always
+/// holds if the limits forbid streamed forms (`written_counted`).
 pub fn what_was_read_can_be_written()
     ensures fits_but_for_total { WhatWasReadFitsButForTotal }
     ensures written { WhatWasReadCanBeWritten }
@@ -73,22 +80,22 @@ pub fn what_was_read_can_be_written()
     ensures written_counted { WhatWasReadCountedCanBeWritten }
 {}
 
-/// Every front of a spelling is viable under each rule.
+/// Every prefix of a spelling is viable under each rule.
 pub fn fronts_of_spellings_are_viable()
     ensures { FrontsOfSpellingsAreViable }
 {}
 
-/// Every front of a viable text is viable.
+/// Every prefix of a viable text is viable.
 pub fn fronts_of_viable_texts_are_viable()
     ensures { FrontsOfViableTextsAreViable }
 {}
 
-/// Each rule leaves no tree and no viable text that the rules before it don't.
+/// Each rule admits only trees and viable texts that the rules before it admit.
 pub fn later_rules_leave_less()
     ensures { LaterRulesLeaveLess }
 {}
 
-/// A text has one cause at most.
+/// A text has at most one cause of an error.
 pub fn a_text_has_one_cause()
     ensures { ATextHasOneCause }
 {}
@@ -98,18 +105,20 @@ pub fn a_viable_text_has_no_cause()
     ensures { AViableTextHasNoCause }
 {}
 
-/// Each rule but the one of total holds of a tree exactly where it holds at each node on its level.
+/// Each rule except the limit of total holds of a tree if and only if it holds at each node, given
+/// the node's depth.
 pub fn rules_hold_at_each_node()
     ensures { RulesHoldAtEachNode }
 {}
 
-/// Every text of a tree is bytes.
+/// Every text of a tree consists of bytes.
 pub fn texts_of_trees_are_bytes()
     ensures { TextsOfTreesAreBytes }
 {}
 
-/// With streamed forms allowed and items up to the most bytes of a value, the trees and the
-/// spellings are those of the other rules.
+/// If streamed forms are allowed and the limit of items is the greatest total, the limit of items
+/// and the switch for streamed forms reject nothing: the trees and spellings are those of the other
+/// rules.
 pub fn default_items_refuse_nothing()
     ensures { DefaultItemsRefuseNothing }
 {}
@@ -124,37 +133,38 @@ pub fn type_bytes_are_viable()
     ensures { TypeBytesAreViable }
 {}
 
-/// In version 2 the version is the cause of a later type byte's refusal.
+/// In version 2, a type byte of version 3 has the version as its cause.
 pub fn later_type_bytes_want_version_three()
     ensures { LaterTypeBytesWantVersionThree }
 {}
 
-/// A `,` begins a double. Where doubles aren't allowed it is refused for that, in both versions;
-/// where they are, version 2 refuses it for the version, and version 3 goes on.
+/// A `,` begins a double. If doubles are not allowed, it is rejected as a double in both versions.
+/// If doubles are allowed, version 2 rejects it because of the version, and version 3 accepts it.
 pub fn a_comma_begins_a_double()
     ensures { ACommaBeginsADouble }
 {}
 
-/// Where doubles aren't allowed, the spellings are those of values without doubles where they are:
-/// the switch changes nothing else.
+/// If doubles are not allowed, the spellings are exactly the spellings with doubles allowed whose
+/// values contain no double. The switch changes nothing else.
 pub fn doubles_are_all_that_the_switch_adds()
     ensures { DoublesAreAllThatTheSwitchAdds }
 {}
 
-/// Where doubles aren't allowed, the viable fronts are those of values without doubles where they
-/// are. So what is refused then, where and why, hangs on values without doubles alone.
+/// If doubles are not allowed, a text is viable under a rule after the first exactly if some tree
+/// without doubles begins with it and keeps the rules up to this one. So the place and the cause of
+/// an error depend only on values without doubles.
 pub fn fronts_are_viable_without_doubles()
     ensures { FrontsAreViableWithoutDoubles }
 {}
 
-/// No tree begins with a byte that is neither `,` nor a type byte of version 3.
+/// No tree begins with a byte other than `,` and the type bytes of version 3.
 pub fn no_other_byte_begins_a_tree()
     ensures { NoOtherByteBeginsATree }
 {}
 
-/// Texts and the values that they spell.
+/// Texts with the values that they encode.
 pub fn texts_and_their_values()
-    // An integer may have a sign and leading zeros, and so may a length have zeros.
+    // An integer may have a sign and leading zeros, and a length may have leading zeros.
     ensures plus_and_zeros { IsSpelledInBoth (codes ":+007\r\n") (integer (pos 7)) }
     ensures minus_zero { IsSpelledInBoth (codes ":-0\r\n") (integer (pos 0)) }
     ensures length_with_zero { IsSpelledInBoth (codes "$01\r\na\r\n") (scalar (Bulk (codes "a"))) }
@@ -164,20 +174,20 @@ pub fn texts_and_their_values()
     ensures array_null { IsSpelledInBoth (codes "*-1\r\n") (scalar Null) }
     ensures plain_null { IsSpelledInThree (codes "_\r\n") (scalar Null) }
 
-    // A big zero is not negative, and keeps one digit.
+    // A big zero is never negative and keeps one digit.
     ensures big_minus_zero { IsSpelledInThree (codes "(-00\r\n") (scalar (Big false (codes "0"))) }
 
     // The length of a verbatim string counts its format and the `:`.
     ensures verbatim { IsSpelledInThree (codes "=6\r\ntxt:hi\r\n")
         (scalar (Verbatim (codes "txt") (codes "hi"))) }
 
-    // Each other type byte has its kind.
+    // The other type bytes.
     ensures error { IsSpelledInBoth (codes "-a\r\n") (scalar (Error (codes "a"))) }
     ensures bulk_error { IsSpelledInThree (codes "!1\r\na\r\n") (scalar (BulkError (codes "a"))) }
     ensures set { IsSpelledInThree (codes "~1\r\n#f\r\n")
         (aggregate_of Set (scalar (Bool false) ∷ [])) }
 
-    // A streamed string is its chunks' joining.
+    // The value of a streamed string is its chunks joined.
     ensures chunks { IsSpelledStreamed (codes "$?\r\n;2\r\nab\r\n;1\r\nc\r\n;0\r\n")
         (scalar (Bulk (codes "abc"))) }
     ensures streamed_array { IsSpelledStreamed (codes "*?\r\n_\r\n.\r\n")
@@ -187,11 +197,11 @@ pub fn texts_and_their_values()
     ensures streamed_map { IsSpelledStreamed (codes "%?\r\n+a\r\n:1\r\n.\r\n")
         (aggregate_of Map (simple (codes "a") ∷ integer (pos 1) ∷ [])) }
 
-    // A double is any line, also an empty one.
+    // A double is any line, even an empty one.
     ensures double { IsSpelledWithDoubles (codes ",3.14\r\n") (scalar (Double (codes "3.14"))) }
     ensures empty_double { IsSpelledWithDoubles (codes ",\r\n") (scalar (Double [])) }
 
-    // An attribute and the value that it annotates are one member.
+    // An attribute together with the value that it annotates is one member.
     ensures attribute { IsSpelledInThree (codes "*1\r\n|1\r\n+a\r\n:1\r\n+b\r\n")
         (aggregate_of Array
         (aggregate_of Attr (simple (codes "a") ∷ integer (pos 1) ∷ simple (codes "b") ∷ []) ∷ [])) }
@@ -209,56 +219,56 @@ pub fn values_and_their_canonical_texts()
         ≡ codes "%1\r\n$3\r\nkey\r\n#t\r\n" }
 {}
 
-/// Texts that spell nothing.
+/// Texts that encode no value.
 pub fn texts_without_a_value()
-    // An attribute wants the value that it annotates.
+    // An attribute needs a value that it annotates.
     ensures attribute_alone { SpellsNothing (codes "|0\r\n") }
-    // Limits that don't allow doubles let none through.
+    // Limits that do not allow doubles reject every double.
     ensures double { SpellsNothingWithoutDoubles (codes ",1.5\r\n") }
     // An integer has 64 bits.
     ensures more_than_64_bits { SpellsNothing (codes ":9223372036854775808\r\n") }
     ensures below_64_bits { SpellsNothing (codes ":-9223372036854775809\r\n") }
-    // Version 2 has no streamed forms, and version 3 none where they are switched off.
+    // Version 2 has no streamed forms, and version 3 has none if the limits forbid them.
     ensures streamed_string_in_two { SpellsNothingInTwo (codes "$?\r\n;0\r\n") }
     ensures streamed_in_two { SpellsNothingInTwo (codes "*?\r\n.\r\n") }
     ensures array_switched_off { SpellsNothingSwitchedOff (codes "*?\r\n.\r\n") }
     ensures string_switched_off { SpellsNothingSwitchedOff (codes "$?\r\n;0\r\n") }
 {}
 
-/// Values, and what the limits count of them.
+/// Values with the numbers that the limits restrict.
 pub fn values_and_their_measures()
-    // The content of an integer counts nothing, and a big number's digits count without the sign.
+    // An integer has no content. The content of a big number is its digits without the sign.
     ensures integer { longest (integer (pos 123456)) ≡ 0 }
     ensures big { longest (scalar (Big true (codes "12"))) ≡ 2 }
-    // A double's text counts as another line's.
+    // The text of a double is its content.
     ensures double { longest (scalar (Double (codes "-inf"))) ≡ 4 }
-    // A verbatim string counts its format and the `:`.
+    // The content of a verbatim string includes its format and the `:`.
     ensures verbatim { longest (scalar (Verbatim (codes "txt") (codes "hi"))) ≡ 6 }
     ensures nested { depth (aggregate_of Array (aggregate_of Set [] ∷ simple (codes "a") ∷ [])) ≡
         2 }
-    // Items are members, or pairs of a map or an attribute.
+    // Items are members, or the pairs of a map or an attribute.
     ensures members { most_items (aggregate_of Array (scalar Null ∷ scalar Null ∷ [])) ≡ 2 }
     ensures pairs { most_items (aggregate_of Map (scalar Null ∷ scalar Null ∷ [])) ≡ 1 }
     ensures annotation { most_items
         (aggregate_of Attr (scalar Null ∷ scalar Null ∷ simple (codes "a") ∷ [])) ≡ 1 }
 {}
 
-/// Texts that are refused at their last byte, and why.
+/// Texts that are rejected at their last byte, each with its cause.
 pub fn texts_and_their_causes()
-    // A line has no LF in it.
+    // A line contains no LF.
     ensures newline_in_a_line { HasCause (codes "+a\n") Grammar }
-    // A number has a digit.
+    // A number has at least one digit.
     ensures no_digits { HasCause (codes ":\r") Grammar }
-    // A streamed map closes after whole pairs alone.
+    // A streamed map may end only after whole pairs.
     ensures map_closed_after_a_key { HasCause (codes "%?\r\n+a\r\n.") Grammar }
-    // Pushes and attributes aren't streamed.
+    // Pushes and attributes cannot be streamed.
     ensures streamed_push { HasCause (codes ">?") Grammar }
     ensures streamed_attribute { HasCause (codes "|?") Grammar }
-    // A push stands at the top alone.
+    // A push may only be the outermost value.
     ensures push_below_the_top { HasCauseInThree (codes "*1\r\n>") PushAtTop }
 {}
 
-/// A text is cut into its values and a rest, whose fault has a place and a cause.
+/// A text, cut into its values and a rest, with the place and cause of the fault in the rest.
 pub fn a_cut_and_its_fault()
     ensures { IsCutWithFault (codes "+a\r\n+b\n+c\r\n")
         (simple (codes "a") ∷ []) (codes "+b\n+c\r\n") Grammar 2 }

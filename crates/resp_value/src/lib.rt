@@ -1,6 +1,8 @@
-//! Values of RESP2 and RESP3 (Redis serialization protocol specification), the limits and causes of
-//! refusals, and byte devices. The grammar stands in `specs/`, as definitions that the contracts of
-//! all crates cite, and its laws in `laws`.
+//! Values of RESP2 and RESP3 (Redis serialization protocol specification), limits, error causes,
+//! and byte devices.
+//!
+//! The grammar is defined in `specs/`. The contracts of all crates cite these definitions, and
+//! [`laws`] proves facts about them.
 #![tactic(auto)]
 
 pub mod cause;

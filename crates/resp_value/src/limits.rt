@@ -1,4 +1,4 @@
-//! The limits of what is read and written.
+//! The limits on the values that are read and written.
 
 ghost use Rattle.std.specs.Prelude.{◌≡◌, ◌↔◌, true, false, IsOk, IfOk};
 ghost use Rattle.resp_value.specs.Bounds.{IsDepth, IsLength, IsTotal, IsItems, AreBounds};
@@ -6,24 +6,34 @@ ghost use Rattle.resp_value.specs.Bounds.{IsDepth, IsLength, IsTotal, IsItems, A
 use std::marker::Model;
 use thiserror::Error;
 
-/// The default of items: no value within the greatest total has more.
+/// The default limit of items. No value within the greatest limit of total has more.
 const ITEMS: u64 = 1_099_511_627_776;
 
-/// How deep, long and large a value may be, and whether it may be streamed or hold doubles. Each
-/// number is within its range.
+/// Limits on a value: how deep, long and large it may be, and whether streamed forms and doubles
+/// are allowed. Each number is within its range.
 ///
 /// | Limit | From | To | Default | What it counts |
 /// |---|---|---|---|---|
-/// | depth | 4 | 128 | 32 | aggregates inside one another |
+/// | depth | 4 | 128 | 32 | aggregates nested inside one another |
 /// | length | 64 | 1,073,741,824 | 536,870,912 | bytes of one content |
-/// | total | 256 | 1,099,511,627,776 | 1,073,741,824 | bytes of one value at the top, as spelled |
-/// | items | 16 | 1,099,511,627,776 | 1,099,511,627,776 | members of one array, set or push |
+/// | total | 256 | 1,099,511,627,776 | 1,073,741,824 | bytes of one outermost value, as encoded |
+/// | items | 16 | 1,099,511,627,776 | 1,099,511,627,776 | members or pairs of one aggregate |
 ///
 /// Empty aggregates and attributes count for depth too, and the value that an attribute annotates
-/// is inside it. A verbatim string is four bytes longer than its text, and a big number as long as
-/// its digits. The items of a map or an attribute are its pairs. The default of length is the
-/// standard's (Redis serialization protocol specification, "Bulk strings"); the other limits are
-/// our own.
+/// is inside the attribute. The content of a verbatim string is four bytes longer than its text,
+/// and the content of a big number is its digits. The items of a map or an attribute are its pairs.
+/// The default of length is the standard's (Redis serialization protocol specification, "Bulk
+/// strings"). The other limits are specific to this library.
+///
+/// # Examples
+///
+/// From [samples](../../samples/src/values.rt):
+///
+/// ```rust
+/// let limits = Limits::new(8, 1_048_576, 16_777_216)?
+///     .with_items(1_000)?
+///     .with_doubles(true);
+/// ```
 #[derive(Clone, Copy, Debug, PartialEq, Eq)]
 pub struct Limits {
     depth: u64,
@@ -67,17 +77,19 @@ impl Model for Limits {
     } };
 }
 
-/// The refusal of limits: one is outside its range.
+/// The error of [`Limits::new`] and [`Limits::with_items`]: a limit is outside its range.
 #[derive(Clone, Copy, Debug, PartialEq, Eq, Error)]
 #[error("a limit is outside its range")]
 pub struct BadLimits;
 
 impl Limits {
-    /// Limits of depth (4 to 128), of the bytes of one content (64 to 1,073,741,824) and of the
-    /// bytes of one value (256 to 1,099,511,627,776), with the default of items, with streamed
-    /// forms and without doubles.
+    /// Makes limits of depth (4 to 128), of the bytes of one content (64 to 1,073,741,824) and of
+    /// the bytes of one value (256 to 1,099,511,627,776). The limit of items is the default,
+    /// streamed forms are allowed, and doubles are not.
     ///
-    /// Refuses exactly where one of the three is outside its range.
+    /// # Errors
+    ///
+    /// `BadLimits` if one of the three is outside its range.
     pub fn new(depth: u64, length: u64, total: u64) -> Result<Limits, BadLimits>
         ensures ok { IsOk result ↔ (IsDepth depth × IsLength length × IsTotal total) }
         ensures kept { IfOk result (λ limits. limits ≡ record {
@@ -106,8 +118,8 @@ impl Limits {
         }
     }
 
-    /// The defaults: depth 32, contents of 536,870,912 bytes, values of 1,073,741,824 bytes,
-    /// 1,099,511,627,776 items, with streamed forms and without doubles.
+    /// Returns the default limits: depth 32, contents of 536,870,912 bytes, values of 1,073,741,824
+    /// bytes, 1,099,511,627,776 items, with streamed forms and without doubles.
     pub fn standard() -> Limits
         ensures { result ≡ record {
           depth = 32;
@@ -128,10 +140,12 @@ impl Limits {
         }
     }
 
-    /// The same limits with this limit of items: the members of one array, set or push, or the
-    /// pairs of one map or attribute (16 to 1,099,511,627,776).
+    /// Sets the limit of items: the members of one array, set or push, or the pairs of one map or
+    /// attribute (16 to 1,099,511,627,776). The other limits stay the same.
     ///
-    /// Refuses exactly where it is outside that range.
+    /// # Errors
+    ///
+    /// `BadLimits` if `items` is outside that range.
     pub fn with_items(self, items: u64) -> Result<Limits, BadLimits>
         ensures ok { IsOk result ↔ IsItems items }
         ensures kept { IfOk result (λ limits. limits ≡ record self { items = items }) }
@@ -143,7 +157,7 @@ impl Limits {
         }
     }
 
-    /// The same limits with streamed strings and aggregates allowed or not.
+    /// Allows or forbids streamed strings and aggregates. The other limits stay the same.
     pub fn with_streamed(self, allowed: bool) -> Limits
         ensures { result ≡ record self { streamed = allowed } }
     {
@@ -153,7 +167,7 @@ impl Limits {
         }
     }
 
-    /// The same limits with doubles allowed or not. Version 2 has none, whatever the limits
+    /// Allows or forbids doubles. The other limits stay the same. Version 2 never allows doubles
     /// (Redis serialization protocol specification, "Doubles").
     pub fn with_doubles(self, allowed: bool) -> Limits
         ensures { result ≡ record self { doubles = allowed } }
@@ -164,7 +178,7 @@ impl Limits {
         }
     }
 
-    /// The most aggregates inside one another, 4 to 128.
+    /// Returns the greatest number of aggregates nested inside one another, 4 to 128.
     pub fn depth(&self) -> u64
         ensures depth { result ≡ self.now.depth }
         ensures in_range { IsDepth result }
@@ -172,7 +186,7 @@ impl Limits {
         self.depth
     }
 
-    /// The most bytes of one content, 64 to 1,073,741,824.
+    /// Returns the greatest number of bytes of one content, 64 to 1,073,741,824.
     pub fn length(&self) -> u64
         ensures length { result ≡ self.now.length }
         ensures in_range { IsLength result }
@@ -180,7 +194,7 @@ impl Limits {
         self.length
     }
 
-    /// The most bytes of one value as spelled, 256 to 1,099,511,627,776.
+    /// Returns the greatest number of bytes of one encoded value, 256 to 1,099,511,627,776.
     pub fn total(&self) -> u64
         ensures total { result ≡ self.now.total }
         ensures in_range { IsTotal result }
@@ -188,8 +202,8 @@ impl Limits {
         self.total
     }
 
-    /// The most members of one array, set or push, or pairs of one map or attribute, 16 to
-    /// 1,099,511,627,776.
+    /// Returns the greatest number of members of one array, set or push, or of pairs of one map or
+    /// attribute, 16 to 1,099,511,627,776.
     pub fn items(&self) -> u64
         ensures items { result ≡ self.now.items }
         ensures in_range { IsItems result }
@@ -197,23 +211,24 @@ impl Limits {
         self.items
     }
 
-    /// Does nothing: its contract says that each limit is within its range.
+    /// Does nothing. Its contract states that each limit is within its range, for proofs that need
+    /// this fact.
     #[inline]
     pub fn are_in_range(&self)
         ensures { AreBounds self.now }
     {
-        // (what a field is read of is known to keep its invariant)
+        // (reading a field makes the invariant of its struct known to the proof)
         let _ = &self.depth;
     }
 
-    /// Whether streamed strings and aggregates are allowed.
+    /// Returns whether streamed strings and aggregates are allowed.
     pub fn streamed(&self) -> bool
         ensures { result ≡ self.now.streamed }
     {
         self.streamed
     }
 
-    /// Whether doubles are allowed.
+    /// Returns whether doubles are allowed.
     pub fn doubles(&self) -> bool
         ensures { result ≡ self.now.doubles }
     {

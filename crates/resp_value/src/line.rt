@@ -1,4 +1,4 @@
-//! The text of a simple string, an error or a double: bytes without CR and LF.
+//! The text of a simple string, a simple error or a double: bytes without CR and LF.
 
 ghost use Rattle.std.specs.Prelude.{◌≡◌, ◌↔◌, List, IsTrue, IsOk, IfOk, IfErr, All};
 ghost use Rattle.std.proofs.Props.{props};
@@ -7,7 +7,7 @@ ghost use Rattle.resp_value.specs.Bytes.{IsText, IsLine, IsPlain};
 use std::alloc::{AllocError, Global};
 use thiserror::Error;
 
-/// Bytes none of which is CR or LF: what a simple string, a simple error and a double hold (Redis
+/// Bytes without CR and LF: the text of a simple string, a simple error or a double (Redis
 /// serialization protocol specification, "Simple strings", "Simple errors" and "Doubles").
 #[derive(Debug, PartialEq, Eq, Drop)]
 pub struct Line {
@@ -16,15 +16,15 @@ pub struct Line {
     ghost is_line: { IsLine text.items } by { Prim.hlevel props },
 }
 
-/// The refusal of a line: a CR or an LF stands in its bytes.
+/// The error of [`Line::new`]: the bytes contain CR or LF.
 #[derive(Debug, PartialEq, Eq, Drop, Error)]
 #[error("a CR or LF stands in a line")]
 pub struct BadLine {
-    /// The bytes that were handed in, unchanged.
+    /// The bytes that were passed, unchanged.
     pub bytes: Vec<u8>,
 }
 
-/// Whether none of the bytes is CR or LF.
+/// Returns whether the bytes contain neither CR nor LF.
 fn is_line(bytes: &[u8]) -> bool
     ensures { IsTrue result ↔ All IsPlain bytes.now }
 {
@@ -34,9 +34,23 @@ fn is_line(bytes: &[u8]) -> bool
 impl Line {
     ghost use Rattle.resp_value.specs.Values.{line_text};
 
-    /// A line of these bytes, of which there may be none. Takes no memory.
+    /// Makes a line of these bytes. They may be empty. Does not allocate.
     ///
-    /// Refuses exactly where a CR or an LF stands in them, and hands them back.
+    /// # Errors
+    ///
+    /// `BadLine` if and only if the bytes contain CR or LF. It returns the bytes.
+    ///
+    /// # Examples
+    ///
+    /// From [samples](../../samples/src/values.rt):
+    ///
+    /// ```rust
+    /// let pong = Line::new(Vec::from_slice(alloc, b"PONG")?)?;
+    /// let two_lines = Line::new(Vec::from_slice(alloc, b"two\r\nlines")?);
+    /// println!(rt; "{} {}", pong.text().escape_ascii(), two_lines.is_err())?;
+    /// ```
+    ///
+    /// This prints `PONG true`.
     pub fn new(bytes: Vec<u8>) -> Result<Line, BadLine>
         ensures ok { IsOk result ↔ IsLine bytes.items }
         ensures kept { IfOk result (λ line. line_text line ≡ bytes.items) }
@@ -49,8 +63,8 @@ impl Line {
         }
     }
 
-    /// A line of these bytes, none of which is CR or LF. Takes no memory, and looks at none of
-    /// them.
+    /// Makes a line of bytes that contain neither CR nor LF, which the caller has to prove. Does
+    /// not allocate, and does not look at the bytes.
     #[inline]
     pub fn of_plain(bytes: Vec<u8>) -> Line
         requires { IsLine bytes.items }
@@ -59,7 +73,7 @@ impl Line {
         Line { text: bytes }
     }
 
-    /// The bytes of the line, without the CR LF that ends it on the wire.
+    /// Returns the bytes of the line, without the CR LF that ends it in the encoding.
     pub fn text(&self) -> &[u8]
         ensures text { result.now ≡ line_text self.now }
         ensures is_line { IsLine result.now }
@@ -67,7 +81,11 @@ impl Line {
         self.text.as_slice()
     }
 
-    /// A line of the same bytes in memory of its own. Refuses only where there is none.
+    /// Copies the line into newly allocated memory.
+    ///
+    /// # Errors
+    ///
+    /// `AllocError` if the allocation fails.
     pub fn try_clone(&self, alloc: Global) -> Result<Line, AllocError>
         ensures { IfOk result (λ copy. line_text copy ≡ line_text self.now) }
     {

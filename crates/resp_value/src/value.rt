@@ -10,79 +10,94 @@ use std::alloc::{AllocError, Global};
 
 mod attributes;
 
-/// The members of an array, a set or a push, in their order. One may stand there more than once, in
-/// a set too.
+/// The members of an array, a set or a push, in order.
+///
+/// The protocol does not remove duplicates: a set may hold the same member twice.
 #[derive(Debug, PartialEq, Eq, Drop)]
 #[cycle(value)]
 pub struct Members {
     items: Vec<Value>,
 }
 
-/// The pairs of a map or of an attribute, in their order. A key may stand there more than once.
+/// The pairs of a map or an attribute, in order. The same key may occur more than once.
 #[derive(Debug, PartialEq, Eq, Drop)]
 #[cycle(value)]
 pub struct PairList {
     pairs: Vec<(Value, Value)>,
 }
 
-/// A value of the protocol. It says nothing of how it was spelled, but for a double's text.
+/// A value of the protocol.
 ///
-/// Two values are equal where they have the same shape and content, in the same order. After each
-/// shape stands its section of the Redis serialization protocol specification; version 2 has nulls,
-/// integers, simple strings and errors, bulk strings and arrays, and version 3 has all.
+/// A value does not record how it was encoded, except that a double keeps its text. Two values are
+/// equal if they have the same shape and the same content, in the same order.
+///
+/// The comment of each variant names its section of the Redis serialization protocol specification.
+/// Version 2 has nulls, integers, simple strings, simple errors, bulk strings and arrays. Version 3
+/// has all of them.
+///
+/// # Examples
+///
+/// From [samples](../../samples/src/values.rt):
+///
+/// ```rust
+/// let name = Value::Bulk(Content::new(Vec::from_slice(alloc, b"hits")?));
+/// let pairs = vec![in alloc; (name, Value::Int(42))]?;
+/// let reply = Value::Map(PairList::new(pairs));
+/// ```
 #[derive(Debug, PartialEq, Eq, Drop)]
 #[cycle(value)]
 pub enum Value {
     /// Null, the absence of a value ("Nulls").
     Null,
-    /// A truth value ("Booleans").
+    /// `true` or `false` ("Booleans").
     Bool(bool),
-    /// A signed number of 64 bits ("Integers").
+    /// A signed 64-bit integer ("Integers").
     Int(i64),
-    /// A line ("Simple strings").
+    /// A string without CR and LF ("Simple strings").
     Simple(Line),
-    /// A line that says what failed ("Simple errors").
+    /// An error message without CR and LF ("Simple errors").
     Error(Line),
-    /// A double, as its text: it is not read as a number, and two doubles are equal where their
-    /// texts are ("Doubles"). Only limits that allow doubles let one be read or written.
+    /// A double, kept as its text ("Doubles"). The text is not parsed as a number, and two doubles
+    /// are equal if their texts are equal. Doubles are read and written only if
+    /// `Limits::with_doubles` allows them.
     Double(Line),
-    /// Any bytes ("Bulk strings").
+    /// A string of any bytes ("Bulk strings").
     Bulk(Content),
-    /// Any bytes that say what failed ("Bulk errors").
+    /// An error message of any bytes ("Bulk errors").
     BulkError(Content),
-    /// A format of three bytes, and the text ("Verbatim strings").
+    /// A format of three bytes, and a text of any bytes ("Verbatim strings").
     Verbatim([u8; 3], Content),
-    /// A whole number of any size ("Big numbers").
+    /// An integer of any size ("Big numbers").
     Big(Digits),
     /// Members in order ("Arrays").
     Array(Members),
-    /// Members, whose order counts here too ("Sets").
+    /// Members ("Sets"). Their order counts in a comparison too.
     Set(Members),
     /// Pairs of a key and a value ("Maps").
     Map(PairList),
     /// The pairs of an attribute, and the value that it annotates ("Attributes").
     Attr(PairList, Box<Value>),
-    /// Members that were sent unasked ("Pushes"). It stands at the top alone: encoding refuses one
-    /// below it.
+    /// Members that the server sent without being asked ("Pushes"). A push may only be the
+    /// outermost value: encoding a value with a push inside it fails.
     Push(Members),
 }
 
 impl Members {
-    /// The members of this list. Takes no memory.
+    /// Makes a list of these members. Does not allocate.
     pub fn new(items: Vec<Value>) -> Members
         ensures { list_of result ≡ items.items }
     {
         Members { items }
     }
 
-    /// Lends the members, in their order.
+    /// Returns the members, in order.
     pub fn list(&self) -> &[Value]
         ensures { result.now ≡ list_of self.now }
     {
         self.items.as_slice()
     }
 
-    /// Gives the members back, in their order. Takes no memory.
+    /// Returns the members as a `Vec`, in order. Does not allocate.
     pub fn into_vec(self) -> Vec<Value>
         ensures { result.items ≡ list_of self }
     {
@@ -92,21 +107,21 @@ impl Members {
 }
 
 impl PairList {
-    /// The pairs of this list. Takes no memory.
+    /// Makes a list of these pairs. Does not allocate.
     pub fn new(pairs: Vec<(Value, Value)>) -> PairList
         ensures { pairs_of result ≡ pairs.items }
     {
         PairList { pairs }
     }
 
-    /// Lends the pairs, in their order.
+    /// Returns the pairs, in order.
     pub fn list(&self) -> &[(Value, Value)]
         ensures { result.now ≡ pairs_of self.now }
     {
         self.pairs.as_slice()
     }
 
-    /// Gives the pairs back, in their order. Takes no memory.
+    /// Returns the pairs as a `Vec`, in order. Does not allocate.
     pub fn into_vec(self) -> Vec<(Value, Value)>
         ensures { result.items ≡ pairs_of self }
     {
@@ -116,7 +131,11 @@ impl PairList {
 }
 
 impl Value {
-    /// An equal value in memory of its own. Refuses only where there is none.
+    /// Copies the value into newly allocated memory.
+    ///
+    /// # Errors
+    ///
+    /// `AllocError` if an allocation fails.
     #[cycle(copy)]
     pub fn try_clone(&self, alloc: Global) -> Result<Value, AllocError>
         ensures { IfOk result (λ copy. datum_of copy ≡ datum_of self.now) }
@@ -145,7 +164,7 @@ impl Value {
     }
 }
 
-/// Equal members in memory of their own. Refuses only where there is none.
+/// Copies the members into newly allocated memory. Fails only if an allocation fails.
 #[cycle(copy)]
 fn copy_members(members: &Members, alloc: Global) -> Result<Members, AllocError>
     ensures { IfOk result (λ copy. map datum_of (list_of copy) ≡
@@ -158,7 +177,7 @@ fn copy_members(members: &Members, alloc: Global) -> Result<Members, AllocError>
     Ok(Members::new(items))
 }
 
-/// Equal pairs in memory of their own. Refuses only where there is none.
+/// Copies the pairs into newly allocated memory. Fails only if an allocation fails.
 #[cycle(copy)]
 fn copy_pairs(pairs: &PairList, alloc: Global) -> Result<PairList, AllocError>
     ensures { IfOk result (λ copy. map pair_data (pairs_of copy) ≡

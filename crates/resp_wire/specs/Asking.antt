@@ -1,4 +1,4 @@
--- What a client's requests and their replies come to.
+-- The results of a client's requests.
 use Rattle.std.specs.Prelude.{◌≡◌, ℕ, ◌≤◌, List, [], length, take, Option}
 use Rattle.resp_value.specs.Devices.{Appends}
 use Rattle.resp_client.specs.Clients.{ClientState, state_of, without_front}
@@ -7,20 +7,20 @@ use Rattle.resp_wire.specs.Requests.{MayAllBeSent, with_requests}
 use Rattle.resp_wire.specs.Turns.{Spends}
 use Rattle.resp_wire.specs.declared.asked.Request.{Request}
 
--- what the client shows once all requests are queued
+-- the state of the client once all requests are queued
 abbrev pub asked : Client → List Request → ClientState
 asked c requests = with_requests requests (state_of c)
 
--- and once all that waited was written
+-- the state of the client once all waiting bytes are written
 abbrev pub sent : Client → List Request → ClientState
 sent c requests = record (asked c requests) { out = [] }
 
--- all requests were queued, and what then waited was written
+-- all requests were queued, and then all waiting bytes were written
 pub record SendsAll (c : Client) (requests : List Request) (held held' : Option (List ℕ)) : Type 0 where
   pub may_be_sent : MayAllBeSent requests (state_of c)
   pub appended : Appends held held' (asked c requests).out
 
--- all requests were queued, and the first bytes of what then waited were written; the others wait
+-- all requests were queued, and then the first of the waiting bytes were written; the others still wait
 pub record SendsPart (old new : Client) (requests : List Request) (held held' : Option (List ℕ)) : Type 0 where
   pub may_be_sent : MayAllBeSent requests (state_of old)
   pub count : ℕ

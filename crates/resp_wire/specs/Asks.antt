@@ -1,4 +1,4 @@
--- How far a call of `ask` came where it stopped, and what is heard of what came.
+-- How far a call of `ask` came when it stopped, and the replies and pushes of the bytes received.
 use Rattle.std.specs.Prelude.{◌≡◌, ℕ, ◌++◌, Bool, List, Option}
 use Rattle.std.specs.List.{concat}
 use Rattle.resp_client.specs.Clients.{ClientState, state_of}
@@ -12,7 +12,8 @@ use Rattle.resp_wire.specs.declared.asked.Asked.{Asked}
 use Rattle.resp_wire.specs.declared.asked.Request.{Request}
 use Rattle.resp_wire.specs.declared.error.AskError.{AskError}
 
--- What came are these pieces, each by one read that was made while a request waited, and this is heard of it.
+-- The bytes received are these pieces, each from one read that was made while a request waited, with these replies and
+-- pushes.
 pub record HearsPieces {R : Type 0} (remaining : R → Option (List ℕ)) (calls failures : R → ℕ) (reader reader' : R)
     (is_over : Bool) (old : Client) (s : ClientState) (before : Asked) (IsHeard : List ℕ → Type 0) : Type 0 where
   pub pieces : List (List ℕ)

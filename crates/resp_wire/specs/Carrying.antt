@@ -1,4 +1,4 @@
--- What is carried between a client and its session.
+-- Carrying bytes between a client and its session.
 use Rattle.std.specs.Prelude.{◌≡◌, ◌⊎◌, ℕ, true, false, List, ◌++◌, take, replicate}
 use Rattle.resp_value.specs.declared.cause.Cause.{Cause}
 use Rattle.resp_value.specs.declared.cause.Cause.TheVariants.{OutOfMemory}
@@ -14,7 +14,7 @@ use Rattle.resp_wire.specs.declared.asked.Asked.{Asked}
 use Rattle.resp_wire.specs.declared.error.AskError.{AskError}
 use Rattle.resp_wire.specs.declared.error.AskError.TheVariants as ask
 
--- the text was answered in a session that is open still, and this number added to the order for each command
+-- the text was answered in a session that is still open, and this number was added to the order for each command
 pub record HasBrought (old new : HubState) (id : ℕ) (s : Seat) (text order order' : List ℕ) (number : ℕ) : Type 0 where
   pub commands : ℕ
   pub answered : HasAnswered old new id s text commands
@@ -29,29 +29,29 @@ pub record HasClosed (old : HubState) (id : ℕ) (s : Seat) (front text : List �
   pub answered : HasAnswered old new id s (front ++ take count text) commands
   pub is_closing : answered.closing ≡ true
 
--- Why nothing more is carried: memory was out, the link failed, or the session was closed by what came.
+-- Why no more bytes are carried: memory was out, the link failed, or the session was closed by the bytes received.
 abbrev pub StopsCarrying : HubState → ℕ → Seat → List ℕ → List ℕ → ℕ → ℕ → Cause → Type 0
 StopsCarrying old id s front text failures failures' cause =
     (cause ≡ OutOfMemory) ⊎ (FailsBy failures failures' cause ⊎ HasClosed old id s front text)
 
--- all that came is heard, and what the client has taken of a value may go on
+-- all bytes received are read, and the bytes that the client has read of a value are viable
 pub record HearsOn (s : ClientState) (c : Client) (before after : Asked) (came : List ℕ) : Type 0 where
   pub hears : HearsAll s c before after came
   pub may_go_on : MayGoOn (state_of c).limits (state_of c).waiting hears.rest
 
--- the client refused a byte of the front and the first bytes of the text, for this cause
+-- the client rejected a byte of the front and the first bytes of the text, with this cause
 pub record MeetsFault (s : ClientState) (before after : Asked) (front text : List ℕ) (cause : Cause) : Type 0 where
   pub count : ℕ
   pub fault : Fault
   pub met : HearsFault s before after (front ++ take count text) fault
   pub named : fault.cause ≡ cause
 
--- Why no more is shown to a client: memory was out, the link failed, or the client met a fault.
+-- Why no more bytes are carried to a client: memory was out, the link failed, or the client has a fault.
 abbrev pub StopsShowing : ClientState → Asked → Asked → List ℕ → List ℕ → ℕ → ℕ → Cause → Type 0
 StopsShowing s before after front text failures failures' cause =
     (cause ≡ OutOfMemory) ⊎ (FailsBy failures failures' cause ⊎ MeetsFault s before after front text cause)
 
--- the cause of a client's stop
+-- the cause of a client's error
 abbrev pub cause_of : AskError → Cause
 cause_of (ask.Fault fault) = fault.cause
 cause_of _ = OutOfMemory

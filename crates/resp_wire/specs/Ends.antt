@@ -1,4 +1,4 @@
--- What the calls of a world's client leave of it.
+-- The effect of the calls of a world's client.
 use Rattle.std.specs.Prelude.{◌≡◌, ℕ, false, [], ◌∷◌, ◌++◌, map, Result, Ok, Err}
 use Rattle.resp_value.specs.Bounds.{Bounds}
 use Rattle.resp_value.specs.Data.{Datum}
@@ -20,7 +20,7 @@ use Rattle.resp_wire.specs.declared.end.End.{End}
 use Rattle.resp_wire.specs.declared.event.Outcome.{Outcome}
 use Rattle.resp_wire.specs.declared.event.Outcome.TheVariants.{Done, Refused, Gone}
 
--- a client that asked nothing
+-- a client that has sent nothing
 pub record IsNew (limits : Bounds) (e : End) : Type 0 where
   pub state : state_of e.client ≡ new_state limits
   pub nothing_taken : HasTaken e.client []
@@ -29,13 +29,13 @@ pub record IsNew (limits : Bounds) (e : End) : Type 0 where
   pub pushes : pushes_with e.pushes.items ≡ []
   pub is_open : e.is_dropped ≡ false
 
--- what was heard stays, and whether it was dropped
+-- the replies and pushes received and whether it was dropped are unchanged
 pub record HeardStays (old new : End) : Type 0 where
   pub replies : values_in new.replies.items ≡ values_in old.replies.items
   pub pushes : pushes_with new.pushes.items ≡ pushes_with old.pushes.items
   pub dropped : new.is_dropped ≡ old.is_dropped
 
--- the request was queued, and added to what was asked
+-- the request was queued, and added to the client's requests
 pub record Queues (old new : End) (request : session.Request) : Type 0 where
   pub may_be_sent : MayBeSent (state_of old.client) request
   pub queued : state_of new.client ≡ with_request request (state_of old.client)
@@ -43,28 +43,28 @@ pub record Queues (old new : End) (request : session.Request) : Type 0 where
   pub same_reading : KeepsReading old.client new.client
   pub same_heard : HeardStays old new
 
--- nothing changed that is shown
+-- nothing that the client shows has changed
 pub record StaysAs (old new : End) : Type 0 where
   pub same_state : state_of new.client ≡ state_of old.client
   pub asked : requests_of new.asked.items ≡ requests_of old.asked.items
   pub same_reading : KeepsReading old.client new.client
   pub same_heard : HeardStays old new
 
--- what came of a request
+-- the outcome of a request
 abbrev pub TakesRequest : End → End → session.Request → Outcome → Type 0
 TakesRequest old new request Done = Queues old new request
 TakesRequest old new request (Refused cause) =
     RefusesRequest (state_of old.client).limits (queued (state_of old.client)) request cause × StaysAs old new
 TakesRequest old new request Gone = ⊥
 
--- what comes of a request that a client doesn't queue: OutOfMemory stops the world
+-- the outcome of a request that a client does not queue: `OutOfMemory` stops the world
 abbrev pub outcome_of_send : SendError → Result Outcome Cause
 outcome_of_send BadCommand = Ok (Refused cause.BadCommand)
 outcome_of_send TooLarge = Ok (Refused cause.TooLarge)
 outcome_of_send TooMany = Ok (Refused cause.TooMany)
 outcome_of_send OutOfMemory = Err cause.OutOfMemory
 
--- what comes of a push that a session doesn't queue: a refusal of the push itself, or a stop
+-- the outcome of a push that a session does not queue: the push is refused, or the world stops
 abbrev pub outcome_of_push : PushError → Result Outcome Cause
 outcome_of_push push.NoSession = Err cause.NoSession
 outcome_of_push push.Closing = Err cause.Closing
@@ -74,7 +74,7 @@ outcome_of_push push.NestedPush = Ok (Refused cause.PushBelowTop)
 outcome_of_push (push.OverLimits limit) = Ok (Refused (cause.OverLimits limit))
 outcome_of_push push.OutOfMemory = Err cause.OutOfMemory
 
--- what was heard is kept, the replies without their numbers
+-- the replies, without their numbers, and the pushes received are stored
 pub record KeepsHeard (old new : End) (heard : Asked) : Type 0 where
   pub client : new.client ≡ old.client
   pub asked : new.asked ≡ old.asked

@@ -1,4 +1,4 @@
--- What events leave of a world.
+-- The effect of events on a world.
 use Rattle.std.specs.Prelude.{◌≡◌, ℕ, suc, ◌<◌, false, List, [], length, take, None, Some, IfSome}
 use Rattle.std.specs.List.{slice_get}
 use Rattle.resp_value.specs.Bounds.{Bounds}
@@ -21,35 +21,35 @@ use Rattle.resp_wire.specs.declared.event.Stop.{Stop}
 abbrev pub IsOpenEnd : List End → ℕ → Type 0
 IsOpenEnd ends index = IfSome (slice_get ends index) (λ e. e.is_dropped ≡ false)
 
--- The event happened, was refused or was of nobody as in the definitions, and the world shows what it leaves there.
+-- The event has its outcome in the definitions, and the world shows the state after it.
 abbrev pub Happens : {L : Type 0} → (L → Type 0) → WorldState L → WorldState L → WorldEvent → Outcome → Type 0
 Happens {L} is_honest old new event outcome = (limits : Bounds) (w : World) → Shows is_honest old limits w →
     (next : World) × Step limits w event (outcome_of outcome) next × Shows is_honest new limits next
 
--- Over honest links the event stopped when out of memory, or since a link failed.
+-- Over honest links the event stopped when out of memory, or because a link failed.
 abbrev pub Fails : {L : Type 0} → (L → Type 0) → (L → ℕ) → WorldState L → WorldState L → Cause → Type 0
 Fails {L} is_honest failures old new cause = (limits : Bounds) (w : World) → Shows is_honest old limits w →
     StopsBy failures old.links new.links cause
 
--- a drop takes no memory
+-- the event is not a drop, which needs no memory
 abbrev pub IsNoDrop : WorldEvent → Type 0
 IsNoDrop (Drop i) = ⊥
 IsNoDrop _ = Unit {0}
 
--- Memory may be out at this event: it is no drop, and in the definitions it is done, so that it is neither refused nor
--- of nobody.
+-- Memory may be out at this event: it is not a drop, and in the definitions it is done, neither refused nor for a
+-- client that does not exist.
 pub record MayLackMemory {L : Type 0} (is_honest : L → Type 0) (s : WorldState L) (event : WorldEvent) : Type 0 where
   pub no_drop : IsNoDrop event
   pub done : (limits : Bounds) (w : World) → Shows is_honest s limits w →
       Step limits w event runs.Done (after_event w event)
 
--- The events came to what they come to in the definitions, and the world shows what they leave there.
+-- The events have their outcomes in the definitions, and the world shows the state after them.
 abbrev pub RunsTo : {L : Type 0} → (L → Type 0) → WorldState L → WorldState L → List WorldEvent → Type 0
 RunsTo {L} is_honest old new events = (limits : Bounds) (w : World) → Shows is_honest old limits w →
     (next : World) × Run limits w events next × Shows is_honest new limits next
 
--- The events before this one came to what they come to in the definitions, and it stopped: at once where the world had
--- stopped before, and else since memory was out at an event at which it may be, or a link failed in this run.
+-- The events before this one have their outcomes in the definitions, and this event stopped: at once if the world had
+-- stopped before, otherwise because memory was out at an event that may need it, or because a link failed in this run.
 pub record StopsAt {L : Type 0} (is_honest : L → Type 0) (failures : L → ℕ) (old new : WorldState L)
     (events : List WorldEvent) (stop : Stop) : Type 0 where
   pub within : stop.event < length events
@@ -61,7 +61,7 @@ pub record StopsAt {L : Type 0} (is_honest : L → Type 0) (failures : L → ℕ
   pub memory : old.stopped ≡ None → stop.cause ≡ OutOfMemory →
       IfSome (slice_get events stop.event) (MayLackMemory is_honest between)
 
--- this many sessions were opened, each with a client that asked nothing
+-- this many sessions were opened, each with a client that has sent nothing
 pub record AreOpened (limits : Bounds) (old new : HubState) (ends : List End) (count : ℕ) : Type 0 where
   pub same_limits : new.limits ≡ old.limits
   pub same_store : new.store ≡ old.store

@@ -1,4 +1,4 @@
--- What is heard of a connection's other end, in words of texts and values.
+-- The replies and pushes received from the other end of a connection, in terms of texts and values.
 use Rattle.std.specs.Prelude.{◌≡◌, ◌≢◌, ℕ, ◌+◌, ◌<◌, List, [], ◌∷◌, ◌++◌, length, map, take}
 use Rattle.std.specs.List.{concat}
 use Rattle.resp_value.specs.Data.{Datum}
@@ -16,11 +16,11 @@ use Rattle.resp_client.specs.declared.heard.What.{What}
 use Rattle.resp_client.specs.declared.heard.What.TheVariants.{Reply, Push, Shown, More}
 use Rattle.resp_wire.specs.declared.asked.Asked.{Asked}
 
--- the replies that were heard, with their numbers
+-- the replies that were received, with their numbers
 abbrev pub replies_in : Asked → List (ℕ × Datum)
 replies_in asked = map (λ (reply : ℕ × Value). (reply.0, datum_of reply.1)) asked.replies.items
 
--- the pushes that were heard
+-- the pushes that were received
 abbrev pub pushes_in : Asked → List Datum
 pushes_in asked = map (λ (items : Members). datum_of (value.Push items)) asked.pushes.items
 
@@ -29,21 +29,22 @@ abbrev pub Adds : Asked → Asked → List (ℕ × Datum) → List Datum → Typ
 Adds before after replies pushes = (replies_in after ≡ replies_in before ++ replies) ×
     (pushes_in after ≡ pushes_in before ++ pushes)
 
--- what was heard was added
+-- the reply or push was added
 abbrev pub AddsHeard : Asked → Asked → What → Type 0
 AddsHeard before after (Reply number x) = Adds before after ((number, datum_of x) ∷ []) []
 AddsHeard before after (Push items) = Adds before after [] (datum_of (value.Push items) ∷ [])
 AddsHeard before after Shown = Adds before after [] []
 AddsHeard before after More = Adds before after [] []
 
--- Of a front and what came after it these values were read, by what was waited for, and a rest is left.
+-- These values were read of a front and the bytes received after it, given the commands that waited, and a rest is
+-- left.
 pub record ReadsFrom (s : ClientState) (values : List Datum) (came : List ℕ) (waiting : Waiting) (rest : List ℕ) :
     Type 0 where
   pub text : List ℕ
   pub reads : ReadsAs s.limits s.waiting values text waiting
   pub whole : came ≡ text ++ rest
 
--- All that came is read: the values are heard, and the client has taken the rest.
+-- All bytes received are read: the values are added, and the client has read the rest.
 pub record HearsAll (s : ClientState) (c : Client) (before after : Asked) (came : List ℕ) : Type 0 where
   pub values : List Datum
   pub rest : List ℕ
@@ -54,19 +55,19 @@ pub record HearsAll (s : ClientState) (c : Client) (before after : Asked) (came 
   pub same_limits : (state_of c).limits ≡ s.limits
   pub same_out : (state_of c).out ≡ s.out
 
--- once these bytes are heard, a command still waits
+-- after these bytes a command still waits
 pub record StillWaits (s : ClientState) (before : Asked) (came : List ℕ) : Type 0 where
   pub between : Client
   pub heard : Asked
   pub hears : HearsAll s between before heard came
   pub waits : (state_of between).waiting.asks ≢ []
 
--- Each piece was read only while a command waited once all that came before it was heard.
+-- Each piece was read only while a command waited after all bytes received before it.
 abbrev pub WaitsBefore : ClientState → Asked → List ℕ → List (List ℕ) → Type 0
 WaitsBefore s before front pieces = (k : ℕ) → k < length pieces →
     StillWaits s before (front ++ concat (take k pieces))
 
--- A byte of what came is refused: the values before are heard.
+-- A byte received is rejected, and the values before it are added.
 pub record HearsFault (s : ClientState) (before after : Asked) (came : List ℕ) (fault : Fault) : Type 0 where
   pub values : List Datum
   pub waiting : Waiting
@@ -75,7 +76,7 @@ pub record HearsFault (s : ClientState) (before after : Asked) (came : List ℕ)
   pub heard : Adds before after (numbered_replies (next_number s) values) (pushes_of values)
   pub fault_of : ClientFault s.limits waiting rest fault.cause fault.at
 
--- No memory was found: the first of the values are heard.
+-- An allocation failed, and the first of the values are added.
 pub record HearsSome (s : ClientState) (before after : Asked) (came : List ℕ) : Type 0 where
   pub values : List Datum
   pub waiting : Waiting

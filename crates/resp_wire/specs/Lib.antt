@@ -1,4 +1,4 @@
--- What a caller reads of both ends, of links and of worlds.
+-- The definitions that callers of both ends, of links and of worlds read.
 pub mod Hearing
 pub mod Turns
 pub mod Pieces

@@ -1,9 +1,10 @@
--- What came, piece by piece. Of a reader are known the bytes that are left, its reads, and those of them that failed.
+-- The bytes received, piece by piece. A reader is described by the bytes that are left, its reads, and its failed
+-- reads.
 use Rattle.std.specs.Prelude.{◌≡◌, ℕ, ◌<◌, ◌≤◌, Bool, true, false, List, [], ◌∷◌, length, Option}
 use Rattle.resp_value.specs.Devices.{count_after}
 use Rattle.resp_wire.specs.Turns.{WereRead}
 
--- one read, which didn't fail, gave this piece
+-- one read, which did not fail, returned this piece
 pub record GivesPiece {R : Type 0} (remaining : R → Option (List ℕ)) (calls failures : R → ℕ) (before after : R)
     (piece : List ℕ) : Type 0 where
   pub some : 0 < length piece
@@ -12,20 +13,21 @@ pub record GivesPiece {R : Type 0} (remaining : R → Option (List ℕ)) (calls 
   pub once : calls after ≡ count_after 1 (calls before)
   pub none_failed : failures after ≡ failures before
 
--- these pieces were given in order, each by one read
+-- these pieces were returned in order, each by one read
 abbrev pub GivesPieces : {R : Type 0} → (R → Option (List ℕ)) → (R → ℕ) → (R → ℕ) → R → R → List (List ℕ) → Type 0
 GivesPieces remaining calls failures before after [] = after ≡ before
 GivesPieces {R} remaining calls failures before after (piece ∷ pieces) = (between : R) ×
     GivesPiece remaining calls failures before between piece ×
     GivesPieces remaining calls failures between after pieces
 
--- one read was made that gave nothing, or none was made
+-- one read was made that returned nothing, or no read was made
 abbrev pub ReadsNothing : {R : Type 0} → (R → Option (List ℕ)) → (R → ℕ) → R → R → Bool → Type 0
 ReadsNothing remaining calls before after true =
     WereRead (remaining before) (remaining after) [] × (calls after ≡ count_after 1 (calls before))
 ReadsNothing remaining calls before after false = after ≡ before
 
--- What was read are these pieces, in order, each by one read, and then a read gave nothing, or there was none.
+-- The bytes read are these pieces, in order, each from one read, and then a read returned nothing or no further read
+-- was made.
 pub record ReadsPieces {R : Type 0} (remaining : R → Option (List ℕ)) (calls failures : R → ℕ) (before after : R)
     (pieces : List (List ℕ)) (is_over : Bool) : Type 0 where
   pub between : R

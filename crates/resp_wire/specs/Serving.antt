@@ -1,4 +1,4 @@
--- What a server's end comes to, in words of its hub and of what was written.
+-- The results of a server's end, in terms of its hub and of the bytes written.
 use Rattle.std.specs.Prelude.{◌≡◌, ◌⊎◌, ℕ, ◌<◌, Bool, true, false, List, [], ◌++◌, length, take, Option, Some, None, Result, Ok, Err}
 use Rattle.std.specs.List.{concat}
 use Rattle.std.specs.Option.{option_map}
@@ -12,11 +12,11 @@ use Rattle.resp_wire.specs.declared.error.ServeError.TheVariants.{NoSession, Out
 use Rattle.resp_wire.specs.declared.serve.Served.{Served}
 use Rattle.resp_wire.specs.declared.serve.Served.TheVariants.{Ended, Closed}
 
--- there is a session of this id
+-- there is a session with this id
 abbrev pub IsThere : HubState → ℕ → Type 0
 IsThere hub id = (s : Seat) × (seat_at hub id ≡ Some s)
 
--- it is open, and has taken a front of a value
+-- the session is open, and has read a front of a value
 pub record IsOpen (hub : HubState) (id : ℕ) : Type 0 where
   pub seat : Seat
   pub here : seat_at hub id ≡ Some seat
@@ -24,11 +24,11 @@ pub record IsOpen (hub : HubState) (id : ℕ) : Type 0 where
   pub front : List ℕ
   pub taken : HasReadFront seat.decoder front
 
--- whether it is closing
+-- whether the session is closing
 abbrev pub IsClosing : HubState → ℕ → Bool → Type 0
 IsClosing hub id closing = option_map (λ (s : Seat). s.closing) (seat_at hub id) ≡ Some closing
 
--- of what waited in a session all but this rest was written, and nothing else of the hub is changed
+-- the bytes that waited in a session were written except for this rest, and nothing else in the hub is changed
 pub record HasSent (old new : HubState) (id : ℕ) (held held' : Option (List ℕ)) (waits : List ℕ) : Type 0 where
   pub seat : Seat
   pub here : seat_at old id ≡ Some seat
@@ -37,11 +37,11 @@ pub record HasSent (old new : HubState) (id : ℕ) (held held' : Option (List �
   pub appended : Appends held held' text
   pub state : new ≡ seated old id (record seat { out = waits })
 
--- of what waited in a session the first bytes were written, and some are left
+-- the first of the bytes that waited in a session were written, and some are left
 abbrev pub HasSentPart : HubState → HubState → ℕ → Option (List ℕ) → Option (List ℕ) → Type 0
 HasSentPart old new id held held' = (waits : List ℕ) × (0 < length waits) × HasSent old new id held held' waits
 
--- After a text: as a hub that was given it whole, and of whose replies all but this rest was then written.
+-- After a text: the state of a hub that received it whole, and whose replies were then written except for this rest.
 pub record Serves (old new : HubState) (id : ℕ) (s : Seat) (text : List ℕ) (held held' : Option (List ℕ))
     (waits : List ℕ) : Type 0 where
   pub given : HubState
@@ -49,7 +49,7 @@ pub record Serves (old new : HubState) (id : ℕ) (s : Seat) (text : List ℕ) (
   pub answered : HasAnswered old given id s text commands
   pub sent : HasSent given new id held held' waits
 
--- After what came, when out of memory: as a hub that answered the first bytes of it.
+-- After the bytes received, when out of memory: the state of a hub that answered the first of them.
 pub record ServesFirst (old new : HubState) (id : ℕ) (s : Seat) (front came : List ℕ) (held held' : Option (List ℕ))
     (waits : List ℕ) : Type 0 where
   pub given : HubState
@@ -57,8 +57,8 @@ pub record ServesFirst (old new : HubState) (id : ℕ) (s : Seat) (front came : 
   pub cut_short : HasCutShort old given id s front came commands
   pub sent : HasSent given new id held held' waits
 
--- What stands where serving stopped: after a failed write some of the answers are left, after a failed read none is and
--- the session goes on. Where no turn is left, one was wanted for a write or for a read.
+-- The state when serving stopped. After a failed write some of the answers are left. After a failed read no answer is
+-- left, and the session continues. If no turn is left, a write or a read needed one.
 abbrev pub StopsServing : HubState → HubState → ℕ → Seat → List ℕ → List ℕ → Option (List ℕ) → Option (List ℕ) →
     ServeError → Type 0
 StopsServing old new id s front came held held' NoSession = ⊥
@@ -72,7 +72,7 @@ StopsServing old new id s front came held held' TooManyTurns =
     (waits : List ℕ) × ((0 < length waits) ⊎ IsClosing new id false) ×
     Serves old new id s (front ++ came) held held' waits
 
--- By then all answers to a text were written, and the session went on.
+-- By then all answers to a text were written, and the session continued.
 pub record HadAnswered (old : HubState) (id : ℕ) (s : Seat) (text : List ℕ) (held held' : Option (List ℕ)) :
     Type 0 where
   pub between : HubState
@@ -82,17 +82,17 @@ pub record HadAnswered (old : HubState) (id : ℕ) (s : Seat) (text : List ℕ) 
   pub later : List ℕ
   pub appended : Appends held_before held' later
 
--- Each piece was read only once all answers to what came before it were written.
+-- Each piece was read only after all answers to the bytes received before it were written.
 abbrev pub AnswersBefore : HubState → ℕ → Seat → List ℕ → List (List ℕ) → Option (List ℕ) → Option (List ℕ) → Type 0
 AnswersBefore old id s front pieces held held' = (k : ℕ) → k < length pieces →
     HadAnswered old id s (front ++ concat (take k pieces)) held held'
 
--- what each end tells: of the input that none is left while the session goes on, or of the session that it is closing
+-- each end says: no input is left while the session continues, or the session is closing
 abbrev pub EndsBy : HubState → ℕ → Option (List ℕ) → Option (List ℕ) → Served → Type 0
 EndsBy hub id left left' Ended = TellsEnd left left' × IsClosing hub id false
 EndsBy hub id left left' Closed = IsClosing hub id true
 
--- what waited in a session that is closing was written, or the first of it
+-- the bytes that waited in a closing session were written, or the first of them
 abbrev pub ServesClosing : HubState → HubState → ℕ → Option (List ℕ) → Option (List ℕ) → Result Served ServeError →
     Type 0
 ServesClosing old new id held held' (Ok Ended) = ⊥
@@ -101,7 +101,7 @@ ServesClosing old new id held held' (Err Write) = HasSentPart old new id held he
 ServesClosing old new id held held' (Err TooManyTurns) = HasSentPart old new id held held'
 ServesClosing old new id held held' (Err error) = ⊥
 
--- what each refusal tells: that there is no session, or that the device's count of failures has risen
+-- each error says: there is no session, or the device's count of failures has risen
 abbrev pub FailsServing : HubState → ℕ → ℕ → ℕ → ℕ → ℕ → ServeError → Type 0
 FailsServing hub id writes writes' reads reads' NoSession = seat_at hub id ≡ None
 FailsServing hub id writes writes' reads reads' OutOfMemory = Unit {0}
@@ -109,28 +109,28 @@ FailsServing hub id writes writes' reads reads' Read = HasRisen reads reads'
 FailsServing hub id writes writes' reads reads' Write = HasRisen writes writes'
 FailsServing hub id writes writes' reads reads' TooManyTurns = Unit {0}
 
--- whether the stop is by a failed write
+-- whether the call stopped because a write failed
 abbrev pub is_of_writer : ServeError → Bool
 is_of_writer Write = true
 is_of_writer _ = false
 
--- and whether it is by a failed read
+-- whether the call stopped because a read failed
 abbrev pub is_of_reader : ServeError → Bool
 is_of_reader Read = true
 is_of_reader _ = false
 
--- whether the last read gave nothing
+-- whether the last read returned nothing
 abbrev pub ends_by_read : Result Served ServeError → Bool
 ends_by_read (Ok Ended) = true
 ends_by_read (Ok Closed) = false
 ends_by_read (Err error) = is_of_reader error
 
--- whether a call stopped by a failed write
+-- whether a call stopped because a write failed
 abbrev pub failed_to_write : {T : Type 0} → Result T ServeError → Bool
 failed_to_write (Ok done) = false
 failed_to_write (Err error) = is_of_writer error
 
--- and whether it stopped by a failed read
+-- whether a call stopped because a read failed
 abbrev pub failed_to_read : {T : Type 0} → Result T ServeError → Bool
 failed_to_read (Ok done) = false
 failed_to_read (Err error) = is_of_reader error
@@ -141,7 +141,7 @@ StopsWriting failures failures' left Write = HasRisen failures failures'
 StopsWriting failures failures' left TooManyTurns = left ≡ 0
 StopsWriting failures failures' left _ = ⊥
 
--- why an answer stops: memory was out, or a write stopped
+-- why answering stops: memory was out, or a write stopped
 abbrev pub StopsAnswering : ℕ → ℕ → ℕ → ServeError → Type 0
 StopsAnswering failures failures' left OutOfMemory = Unit {0}
 StopsAnswering failures failures' left error = StopsWriting failures failures' left error

@@ -1,4 +1,4 @@
--- Why a client's end stops, and what was heard by then.
+-- Why a client's end stops, and the replies and pushes received by then.
 use Rattle.std.specs.Prelude.{◌≡◌, ◌≢◌, ◌<◌, ◌≤◌, ℕ, Bool, true, false, List, [], ◌∷◌, length, take, drop, Option, Result, Ok, Err}
 use Rattle.resp_value.specs.Devices.{HasRisen}
 use Rattle.resp_value.specs.declared.cause.Cause.{Cause}
@@ -18,7 +18,7 @@ use Rattle.resp_wire.specs.declared.asked.Request.{Request}
 use Rattle.resp_wire.specs.declared.error.AskError.{AskError}
 use Rattle.resp_wire.specs.declared.error.AskError.TheVariants.{Ended, Fault, OutOfMemory, Read, Refused, TooManyTurns, Write}
 
--- OutOfMemory is told apart from the other faults of a client
+-- `OutOfMemory` has an error of its own, and the other faults of a client share one
 abbrev pub error_by : Cause → event.Fault.Fault → AskError
 error_by cause.OutOfMemory fault = OutOfMemory
 error_by _ fault = Fault fault
@@ -26,7 +26,7 @@ error_by _ fault = Fault fault
 abbrev pub error_of : event.Fault.Fault → AskError
 error_of fault = error_by fault.cause fault
 
--- OutOfMemory is told apart from the other refusals of a request
+-- `OutOfMemory` has an error of its own, and the other errors of a request share one
 abbrev pub error_at : ℕ → SendError → AskError
 error_at index send.OutOfMemory = OutOfMemory
 error_at index error = Refused index error
@@ -37,7 +37,7 @@ pub record QueuesFirst (old new : Client) (requests : List Request) (count : ℕ
   pub may_be_sent : MayAllBeSent (take count requests) (state_of old)
   pub queued : state_of new ≡ with_requests (take count requests) (state_of old)
 
--- the requests before this one were queued, and it is refused
+-- the requests before this one were queued, and this one is refused
 pub record DeclinesAt (old new : Client) (requests : List Request) (index : ℕ) (error : SendError) : Type 0 where
   pub before : QueuesFirst old new requests index
   pub request : Request
@@ -45,41 +45,41 @@ pub record DeclinesAt (old new : Client) (requests : List Request) (index : ℕ)
   pub here : drop index requests ≡ request ∷ later
   pub declined : DeclinesRequest (state_of new) (request_of request) error
 
--- a request is refused, or no memory is found for one
+-- a request is refused, or an allocation failed for a request
 abbrev pub StopsQueueing : Client → Client → List Request → AskError → Type 0
 StopsQueueing old new requests (Refused index send.OutOfMemory) = ⊥
 StopsQueueing old new requests (Refused index error) = DeclinesAt old new requests index error
 StopsQueueing old new requests OutOfMemory = (index : ℕ) × DeclinesAt old new requests index send.OutOfMemory
 StopsQueueing old new requests _ = ⊥
 
--- a client stops by a fault or when out of memory
+-- a client stops because of a fault or when out of memory
 abbrev pub StopsClient : AskError → Type 0
 StopsClient (Fault fault) = Unit {0}
 StopsClient OutOfMemory = Unit {0}
 StopsClient _ = ⊥
 
--- a fault of the client is answered for good
+-- the client returns a fault from now on
 abbrev pub KeepsFault : Client → AskError → Type 0
 KeepsFault c (Fault fault) = HasFault c fault
 KeepsFault c _ = Unit {0}
 
--- what was heard of a piece in which the client stopped
+-- the replies and pushes received of a piece in which the client stopped
 abbrev pub StopsHearing : ClientState → Asked → Asked → List ℕ → AskError → Type 0
 StopsHearing s before after came (Fault fault) = HearsFault s before after came fault
 StopsHearing s before after came OutOfMemory = HearsSome s before after came
 StopsHearing s before after came _ = ⊥
 
--- whether the stop is by a failed write
+-- whether the call stopped because a write failed
 abbrev pub is_of_writer : AskError → Bool
 is_of_writer Write = true
 is_of_writer _ = false
 
--- and whether it is by a failed read
+-- whether the call stopped because a read failed
 abbrev pub is_of_reader : AskError → Bool
 is_of_reader Read = true
 is_of_reader _ = false
 
--- whether the last read gave nothing, since it failed or was at the end
+-- whether the last read returned no byte, because it failed or was at the end
 abbrev pub is_of_last_read : AskError → Bool
 is_of_last_read Read = true
 is_of_last_read Ended = true
@@ -89,23 +89,24 @@ abbrev pub ends_by_read : Result (Unit {0}) AskError → Bool
 ends_by_read (Ok done) = false
 ends_by_read (Err error) = is_of_last_read error
 
--- whether a call stopped by a failed write
+-- whether a call stopped because a write failed
 abbrev pub failed_to_write : Result (Unit {0}) AskError → Bool
 failed_to_write (Ok done) = false
 failed_to_write (Err error) = is_of_writer error
 
--- and whether it stopped by a failed read
+-- whether a call stopped because a read failed
 abbrev pub failed_to_read : Result (Unit {0}) AskError → Bool
 failed_to_read (Ok done) = false
 failed_to_read (Err error) = is_of_reader error
 
--- why something is left that waits to be written: a write failed, or no turn is left
+-- why bytes still wait to be written: a write failed, or no turn is left
 abbrev pub FailsWriting : ℕ → ℕ → List ℕ → AskError → Type 0
 FailsWriting failures failures' waits Write = HasRisen failures failures' × (0 < length waits)
 FailsWriting failures failures' waits TooManyTurns = 0 < length waits
 FailsWriting failures failures' waits _ = ⊥
 
--- What was heard of all that was read, where a call stopped: where no byte was refused and memory was found it is all.
+-- The replies and pushes received of all bytes that were read, when a call stopped: if no byte was rejected and no
+-- allocation failed, they are all of them.
 abbrev pub StopsListening : ClientState → Client → Asked → Asked → List ℕ → AskError → Type 0
 StopsListening s c before after came (Fault fault) = HearsFault s before after came fault
 StopsListening s c before after came OutOfMemory = HearsSome s before after came
@@ -114,7 +115,7 @@ StopsListening s c before after came TooManyTurns = HearsAll s c before after ca
 StopsListening s c before after came Ended = HearsAll s c before after came
 StopsListening s c before after came _ = ⊥
 
--- why no more is heard while a request waits: a read failed, no turn is left, or the input ended; or the client stopped
+-- why reading stops while a request waits: a read failed, no turn is left, the input ended, or the client stopped
 abbrev pub FailsReading : ℕ → ℕ → Option (List ℕ) → Option (List ℕ) → ClientState → AskError → Type 0
 FailsReading failures failures' left left' s Read = HasRisen failures failures' × (s.waiting.asks ≢ [])
 FailsReading failures failures' left left' s TooManyTurns = s.waiting.asks ≢ []

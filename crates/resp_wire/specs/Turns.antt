@@ -1,15 +1,15 @@
--- What the reads and writes of one end come to.
+-- The results of the reads and writes of one end.
 use Rattle.std.specs.Prelude.{◌≡◌, ℕ, ◌+◌, ◌<◌, Bool, true, false, List, [], ◌++◌, Option, None, Some, Result, Ok, Err}
 use Rattle.resp_value.specs.Devices.{HasRisen, count_after}
 use Rattle.resp_wire.specs.declared.turns.Halt.{Halt}
 use Rattle.resp_wire.specs.declared.turns.Halt.TheVariants.{Failed, NoTurn}
 
--- Bytes were read: of those that were left, where the device tells them, these are the first.
+-- Bytes were read: if the device describes its bytes, they are the first of the bytes that were left.
 abbrev pub WereRead : Option (List ℕ) → Option (List ℕ) → List ℕ → Type 0
 WereRead None after came = Unit {0}
 WereRead (Some left) after came = (rest : List ℕ) × (left ≡ came ++ rest) × (after ≡ Some rest)
 
--- A count of calls has risen by `count`, which were spent of the turns that were left.
+-- A count of calls has risen by `count`, and so many of the remaining turns were used.
 pub record Spends (calls calls' turns turns' : ℕ) : Type 0 where
   pub count : ℕ
   pub none : count ≡ 0 → calls' ≡ calls
@@ -21,17 +21,17 @@ abbrev pub Halts : ℕ → ℕ → ℕ → Halt → Type 0
 Halts failures failures' left Failed = HasRisen failures failures'
 Halts failures failures' left NoTurn = left ≡ 0
 
--- whether it was the device that failed
+-- whether the device failed
 abbrev pub has_failed : Halt → Bool
 has_failed Failed = true
 has_failed NoTurn = false
 
--- and whether what stopped so, if anything did
+-- whether a call stopped because the device failed
 abbrev pub is_failed : {T : Type 0} → Result T Halt → Bool
 is_failed (Ok x) = false
 is_failed (Err halt) = has_failed halt
 
--- a device that told its bytes before tells that none is left
+-- a device that described its bytes states that no byte is left
 abbrev pub TellsEnd : Option (List ℕ) → Option (List ℕ) → Type 0
 TellsEnd None after = Unit {0}
 TellsEnd (Some left) after = after ≡ Some []

@@ -1,4 +1,4 @@
--- What a world shows, and how its clients and their sessions stand to the world of the definitions.
+-- The state that a world shows, and how its clients and sessions relate to the world of the definitions.
 use Rattle.std.specs.Prelude.{◌≡◌, ◌⊎◌, ℕ, suc, ◌<◌, ◌^◌, Bool, true, false, Result, Ok, Err, List, ◌++◌, length, map, take, drop, Option, None, Some, set}
 use Rattle.std.specs.List.{AllByRecursion, slice_get}
 use Rattle.resp_value.specs.Bounds.{Bounds, AreBounds}
@@ -35,7 +35,7 @@ use Rattle.resp_wire.specs.declared.event.Outcome.{Outcome}
 use Rattle.resp_wire.specs.declared.event.Outcome.TheVariants as outcome
 use Rattle.resp_wire.specs.declared.event.Stop.{Stop}
 
--- an event as the definitions have it
+-- an event, as in the definitions
 abbrev pub event_of : Event → WorldEvent
 event_of (event.Send i command) = session_worlds.Send i (words_of command)
 event_of (event.Hello i asked) = session_worlds.Greet i asked
@@ -44,26 +44,26 @@ event_of (event.ToClient i count) = session_worlds.ToClient i count
 event_of (event.Push i items) = session_worlds.Push i (map datum_of (list_of items))
 event_of (event.Drop i) = session_worlds.Drop i
 
--- what came of an event as the definitions have it
+-- the outcome of an event, as in the definitions
 abbrev pub outcome_of : Outcome → runs.Outcome
 outcome_of outcome.Done = runs.Done
 outcome_of (outcome.Refused cause) = runs.Refused cause
 outcome_of outcome.Gone = runs.Gone
 
--- requests as the definitions have them
+-- requests, as in the definitions
 abbrev pub requests_of : List Request → List session.Request
 requests_of requests = map request_of requests
 
--- values as the definitions have them
+-- values, as in the definitions
 abbrev pub values_in : List Value → List Datum
 values_in values = map datum_of values
 
--- pushes of these members as the definitions have them
+-- pushes of these members, as in the definitions
 abbrev pub pushes_with : List Members → List Datum
 pushes_with pushes = map (λ (items : Members). datum_of (value.Push items)) pushes
 
--- A client that was not dropped and its session stand as the connection has them: what waits both ways, and what each
--- has read of it.
+-- A client that was not dropped and its session are in the state of the connection: the bytes that wait in both
+-- directions, and the bytes that each has read.
 pub record Stands (limits : Bounds) (seat : Option Seat) (e : End) (c : Connection) : Type 0 where
   pub session : Seat
   pub there : seat ≡ Some session
@@ -83,7 +83,7 @@ pub record Stands (limits : Bounds) (seat : Option Seat) (e : End) (c : Connecti
   pub whole : take c.shown (back_text c) ≡ text ++ rest
   pub reading : HasTaken e.client rest
 
--- a client shows what the connection shows, and one that was dropped has no session
+-- a client shows the state of the connection, and a client that was dropped has no session
 pub record ShowsClient (limits : Bounds) (seat : Option Seat) (e : End) (c : Connection) : Type 0 where
   pub asked : requests_of e.asked.items ≡ c.requests
   pub replies : values_in e.replies.items ≡ shown_replies c
@@ -92,7 +92,7 @@ pub record ShowsClient (limits : Bounds) (seat : Option Seat) (e : End) (c : Con
   pub gone : c.dropped ≡ true → seat ≡ None
   pub stands : c.dropped ≡ false → Stands limits seat e c
 
--- Clients, sessions and their store stand as events leave them.
+-- Clients, sessions and their store are in the state after the events.
 pub record ShowsEach (limits : Bounds) (hub : HubState) (ends : List End) (order : List ℕ) (w : World) : Type 0 where
   pub n : ℕ
   pub events : List WorldEvent
@@ -107,7 +107,7 @@ pub record ShowsEach (limits : Bounds) (hub : HubState) (ends : List End) (order
   pub each : (k : ℕ) (e : End) (c : Connection) → slice_get ends k ≡ Some e →
       connection_at w.connections (suc k) ≡ Some c → ShowsClient limits (seat_at hub (suc k)) e c
 
--- A world apart from memory: its hub, its clients with a link for each, the order, and why it stopped.
+-- The state of a world: its hub, its clients with a link for each, the order, and why it stopped.
 pub record WorldState (L : Type 0) : Type 0 where
   pub hub : HubState
   pub ends : List End
@@ -115,8 +115,8 @@ pub record WorldState (L : Type 0) : Type 0 where
   pub order : List ℕ
   pub stopped : Option Cause
 
--- The world shows a world of the definitions, over links that are honest. How its clients and sessions stand to that is
--- opaque to callers: `new` and `over` establish it, and each event keeps it until a stop.
+-- The world shows a world of the definitions, over honest links. The definition is opaque to callers: `new` and `over`
+-- establish it, and each event keeps it until a stop.
 pub record Shows {L : Type 0} (is_honest : L → Type 0) (s : WorldState L) (limits : Bounds) (w : World) : Type 0 where
   pub each : ShowsEach limits s.hub s.ends s.order w
   pub honest : AllByRecursion is_honest s.links
@@ -134,23 +134,23 @@ HasFailed {L} failures old new = HasFailedIn (map failures old) (map failures ne
 abbrev pub KeepFailures : {L : Type 0} → (L → ℕ) → List L → List L → Type 0
 KeepFailures {L} failures old new = map failures new ≡ map failures old
 
--- of these links one failed once, and the others not
+-- one of these links failed once, and the others did not fail
 pub record FailsOnce {L : Type 0} (failures : L → ℕ) (old new : List L) : Type 0 where
   pub at : ℕ
   pub before : ℕ
   pub there : slice_get (map failures old) at ≡ Some before
   pub once : map failures new ≡ set (map failures old) at (count_after 1 before)
 
--- one link failed once, or none did
+-- one link failed once, or no link failed
 abbrev pub CountsFailures : {L : Type 0} → (L → ℕ) → List L → List L → Bool → Type 0
 CountsFailures {L} failures old new true = FailsOnce failures old new
 CountsFailures {L} failures old new false = KeepFailures failures old new
 
--- whether a stop is for a cause of links
+-- whether a stop has a cause of links
 abbrev pub stop_is_of_link : {X : Type 0} → Result X Stop → Bool
 stop_is_of_link (Ok x) = false
 stop_is_of_link (Err stop) = is_of_link stop.cause
 
--- why a world stops: it is out of memory, or a link failed for a cause of links
+-- why a world stops: it is out of memory, or a link failed with a cause of links
 abbrev pub StopsBy : {L : Type 0} → (L → ℕ) → List L → List L → Cause → Type 0
 StopsBy {L} failures old new cause = (cause ≡ OutOfMemory) ⊎ HasFailed failures old new × IsLinkCause cause

@@ -1,4 +1,4 @@
-//! A client's end of a connection.
+//! The client's end of a connection.
 
 ghost use Rattle.std.specs.Prelude.{◌≡◌, ◌⊎◌, ◌<◌, ◌≤◌, ◌++◌, ℕ, List, [], false, drop, length, take, IsErrOf, OnOk, OnErr, IfOk, IfErr};
 ghost use Rattle.resp_client.specs.Clients.{state_of, with_request, without_front};
@@ -22,17 +22,27 @@ use resp_client::{Client, SendError};
 use resp_session::laws;
 use resp_value::device::{Sink, Source};
 
-/// Queues the requests, writes all that waits, and reads until no command waits; the last piece
-/// that is read is heard whole. What is heard is added, whatever is answered. Each read and each
-/// write is a turn, and no more than `turns` of them are taken.
+/// Queues the requests, writes all waiting bytes, and reads until no command waits for a reply. The
+/// replies and pushes of each piece that was read are added to `heard`, even if the call fails.
 ///
-/// Refuses as [`AskError`] says. A refused request is answered before anything is written, and
-/// those before it stay queued. Where a write fails, or no turn is left for one, the rest waits in
-/// the client. Where a read fails, no turn is left for one, or the input ends, what came is heard,
-/// and the other commands wait. After OutOfMemory bytes that were read may be lost, and the
-/// connection is to be given up.
+/// Each read and each write is a turn, and the call makes at most `turns` of them.
 ///
-/// Over a socket, in [example_tcp](../../example_tcp/src/asking.rt):
+/// # Errors
+///
+/// As [`AskError`] describes:
+///
+/// - If a request is refused, nothing was written, and the requests before it stay queued.
+/// - If a write fails or no turn is left for it, the bytes that were not written wait in the
+///   client, and nothing was read.
+/// - If a read fails, no turn is left for it, or the input ends, the replies received before are
+///   added, and the other commands still wait.
+/// - If a byte received is not valid or was not requested, the replies before it are added, and the
+///   client returns the fault from then on.
+/// - After `OutOfMemory`, bytes that were read may be lost. Close the connection.
+///
+/// # Examples
+///
+/// Over a socket, from [example_tcp](../../example_tcp/src/asking.rt):
 ///
 /// ```rust
 /// let stream = TcpStream::connect(net, ("127.0.0.1", port))?;
@@ -48,6 +58,19 @@ use resp_value::device::{Sink, Source};
 ///     TURNS,
 /// )?;
 /// ```
+///
+/// Over devices in memory, from [samples](../../samples/src/wire.rt):
+///
+/// ```rust
+/// let mut reader = MemorySource::new(b"+OK\r\n:1\r\n", 4);
+/// let mut writer = MemorySink::new(alloc, 16, 256)?;
+/// let mut client = Client::new(alloc, &Limits::standard());
+/// let mut heard = Asked::new(alloc);
+/// ask(&mut reader, &mut writer, &mut client, requests, &mut heard, 100)?;
+/// for (number, value) in heard.replies.iter() {
+///     println!(rt; "reply {number}: {value:?}")?;
+/// }
+/// ```
 pub fn ask<R: Source, W: Sink>(
     reader: &mut R,
     writer: &mut W,
@@ -56,8 +79,9 @@ pub fn ask<R: Source, W: Sink>(
     heard: &mut Asked,
     turns: u64,
 ) -> Result<(), AskError>
-    // All requests and what waited before were written, and all that came is heard. What came are
-    // pieces, each by one read that was made while a command waited.
+    // All requests and the bytes that waited before were written, and all replies received were
+    // added. The bytes received are pieces, each from one read that was made while a command
+    // waited.
     ensures sent { OnOk result (SendsAll client.old requests.now (W.written writer.old)
         (W.written writer.new)) }
     ensures heard { OnOk result (HearsPieces R.remaining R.calls R.failures reader.old reader.new
@@ -68,14 +92,14 @@ pub fn ask<R: Source, W: Sink>(
         (R.calls reader.old) (R.calls reader.new) turns left ×
         (IsErrOf result AskError.TooManyTurns → left ≡ 0) }
 
-    // A device fails once where the answer says so, and else never.
+    // A device fails once if the error says so, and otherwise never.
     ensures write_failures { W.failures writer.new ≡
         failures_after (failed_to_write result) (W.failures writer.old) }
     ensures read_failures { R.failures reader.new ≡
         failures_after (failed_to_read result) (R.failures reader.old) }
 
     // A request is refused before anything is written, or a write fails before anything is read, or
-    // all was written, and what came before the stop is heard.
+    // all was written and the replies received before the error were added.
     ensures refusal { IfErr result (λ error.
         StopsBeforeWriting client.old client.new requests.now writer.old writer.new reader.old
         reader.new heard.old heard.new error ⊎
@@ -128,7 +152,7 @@ fn queue_one(client: &mut Client, request: &Request) -> Result<u64, SendError>
     }
 }
 
-/// Why a refused request stops the call.
+/// Returns the error of the call for a refused request.
 fn refused(index: usize, error: SendError) -> AskError
     ensures error { result ≡ error_at index error }
     ensures no_device { (is_of_writer result ≡ false) × (is_of_reader result ≡ false) }
@@ -139,7 +163,7 @@ fn refused(index: usize, error: SendError) -> AskError
     }
 }
 
-/// Writes what waits to be sent.
+/// Writes the bytes that wait in the client.
 fn send_all<W: Sink>(writer: &mut W, client: &mut Client, turns: &mut u64) -> Result<(), AskError>
     ensures sent { (count : ℕ) × (count ≤ length (state_of client.old).out) ×
         Appends (W.written writer.old) (W.written writer.new)
@@ -163,7 +187,7 @@ fn send_all<W: Sink>(writer: &mut W, client: &mut Client, turns: &mut u64) -> Re
     }
 }
 
-/// Why a write that moved no byte stops the call.
+/// Returns the error of the call for a write that moved no byte.
 fn unwritten(halt: Halt) -> AskError
     ensures reason { (failures failures' left : ℕ) (waits : List ℕ) → 0 < length waits →
         Halts failures failures' left halt → FailsWriting failures failures' waits result }
@@ -178,7 +202,7 @@ fn unwritten(halt: Halt) -> AskError
     }
 }
 
-/// Reads until no command waits, and adds what is heard.
+/// Reads until no command waits for a reply, and adds the replies and pushes received.
 fn hear_all<R: Source>(
     reader: &mut R,
     client: &mut Client,

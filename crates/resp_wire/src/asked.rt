@@ -1,4 +1,4 @@
-//! What is asked, and what is heard.
+//! Requests of a client, and the replies and pushes received.
 
 ghost use Rattle.std.specs.Prelude.{◌≡◌, [], OnOk, OnErr};
 
@@ -8,16 +8,16 @@ use resp_value::value::{Members, Value};
 use resp_value::version::Version;
 use std::alloc::{AllocError, Global};
 
-/// What a client asks.
+/// A request of a client.
 #[derive(Debug, PartialEq, Eq, Drop)]
 pub enum Request {
-    /// HELLO with the version that it asks, if it asks one.
+    /// HELLO, with the version that it requests, if any.
     Hello(Option<Version>),
-    /// Another command. A HELLO among these is refused, as [`resp_client::SendError`] says.
+    /// Another command. HELLO as a command is refused, as [`resp_client::SendError`] describes.
     Command(Command),
 }
 
-/// What was heard, the replies in order and the pushes in order.
+/// The replies and the pushes that a client has received, each in order.
 #[derive(Debug, PartialEq, Eq, Drop)]
 pub struct Asked {
     /// The replies, each with the number of its command, from 1.
@@ -29,7 +29,7 @@ pub struct Asked {
 impl Asked {
     ghost use Rattle.resp_wire.specs.Hearing.{AddsHeard, pushes_in, replies_in};
 
-    /// Nothing was heard. Takes no memory.
+    /// Makes an empty list. Does not allocate.
     pub fn new(alloc: Global) -> Asked
         ensures replies { replies_in result ≡ [] }
         ensures pushes { pushes_in result ≡ [] }
@@ -40,7 +40,7 @@ impl Asked {
         }
     }
 
-    /// Adds what a client heard. Where there is no memory nothing is added.
+    /// Adds a reply or a push. Adds nothing if an allocation fails.
     pub(crate) fn add(&mut self, what: What) -> Result<(), AllocError>
         ensures added { OnOk result (AddsHeard self.old self.new what) }
         ensures replies_stay { OnErr result (replies_in self.new ≡ replies_in self.old) }

@@ -1,4 +1,4 @@
-//! What links carry between a client and its session.
+//! Carrying bytes between a client and its session.
 
 ghost use Rattle.std.specs.Prelude.{◌≡◌, ◌≤◌, ◌++◌, [], length, take, drop, min, replicate, false, IfSome, IfErr, OnOk};
 ghost use Rattle.resp_value.specs.Devices.{failures_after};
@@ -23,11 +23,11 @@ use resp_session::laws;
 use resp_value::cause::Cause;
 use std::hash::BuildHasher;
 
-/// The most bytes that a link carries at once.
+/// The greatest number of bytes that a link carries at once.
 const PIECE: usize = 1_024;
 
-/// Carries the first `count` bytes that wait in a client to its session, or all where fewer wait,
-/// and adds this number to the order for each command that they bring.
+/// Carries the first `count` bytes that wait in a client to its session, or all if fewer wait. Adds
+/// the client's number to the order for each command that these bytes complete.
 pub(crate) fn carry_to_server<L: Link, S: BuildHasher>(
     link: &mut L,
     client: &mut Client,
@@ -72,8 +72,8 @@ pub(crate) fn carry_to_server<L: Link, S: BuildHasher>(
     Ok(())
 }
 
-/// Carries the first `count` bytes that wait in a session to its client, or all where fewer wait,
-/// and adds what they bring to what was heard.
+/// Carries the first `count` bytes that wait in a session to its client, or all if fewer wait. Adds
+/// the replies and pushes that these bytes complete.
 pub(crate) fn carry_to_client<L: Link, S: BuildHasher>(
     link: &mut L,
     client: &mut Client,
@@ -178,7 +178,7 @@ fn add(order: &mut Vec<usize>, number: usize, commands: u64) -> Result<(), Cause
     Ok(())
 }
 
-/// Shows a client the first bytes that wait in its session, as many as there is room for.
+/// Gives a client the first bytes that wait in its session, as many as there is room for.
 fn show<L: Link, S: BuildHasher>(
     link: &mut L,
     client: &mut Client,
@@ -218,7 +218,7 @@ fn show<L: Link, S: BuildHasher>(
     }
 }
 
-/// The cause of a client's stop.
+/// Returns the cause of a client's error.
 fn cause_of(error: AskError) -> Cause
     ensures { result ≡ cause_of error }
 {
@@ -228,7 +228,7 @@ fn cause_of(error: AskError) -> Cause
     }
 }
 
-/// Asks a client whether what it has taken of a value may go on.
+/// Checks that the bytes that a client has read of a value are viable.
 fn settle(client: &mut Client) -> Result<(), Cause>
     ensures taken { WhereTaken client.old (λ front. OnOk result (HasTaken client.new front ×
         MayGoOn (state_of client.old).limits (state_of client.old).waiting front ×
@@ -244,7 +244,7 @@ fn settle(client: &mut Client) -> Result<(), Cause>
     Ok(())
 }
 
-/// `count` of the bytes that wait, or all where fewer wait.
+/// Returns `count`, or the number of waiting bytes if fewer wait.
 fn at_most(waiting: usize, count: u64) -> usize
     ensures { result ≡ min count waiting }
 {

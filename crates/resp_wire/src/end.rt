@@ -1,4 +1,4 @@
-//! A client of a world, with what it asked and what it heard.
+//! A client of a world, with its requests and the replies and pushes that it has received.
 
 ghost use Rattle.std.specs.Prelude.{◌≡◌, ◌++◌, ℕ, map, IfErr, IfOk, OnErr, OnOk};
 ghost use Rattle.resp_value.specs.Commands.{words_of};
@@ -16,14 +16,14 @@ use resp_value::value::{Members, Value};
 use resp_value::version::Version;
 use std::alloc::{AllocError, Global};
 
-/// A client, and what was asked and heard.
+/// A client, with its requests and the replies and pushes that it has received.
 #[derive(Drop)]
 pub(crate) struct End {
     pub(crate) client: Client,
     pub(crate) asked: Vec<Request>,
     pub(crate) replies: Vec<Value>,
     pub(crate) pushes: Vec<Members>,
-    /// Whether its session is closed, and nothing comes any more.
+    /// Whether its session is closed. Then no more bytes are carried.
     pub(crate) is_dropped: bool,
 }
 
@@ -32,7 +32,7 @@ impl End {
     ghost use Rattle.resp_client.specs.Sending.{MayBeSent};
     ghost use Rattle.resp_wire.specs.Ends.{IsNew, KeepsHeard, TakesRequest};
 
-    /// A client that asked nothing. TakesRequest no memory.
+    /// Makes a client without requests. Does not allocate.
     pub(crate) fn new(alloc: Global, limits: &Limits) -> End
         ensures { IsNew limits.now result }
     {
@@ -83,7 +83,7 @@ impl End {
         Ok(Outcome::Done)
     }
 
-    /// KeepsHeard what was heard, the replies without their numbers.
+    /// Stores the replies, without their numbers, and the pushes received.
     pub(crate) fn keep(&mut self, heard: Asked) -> Result<Outcome, Cause>
         ensures kept { OnOk result (KeepsHeard self.old self.new heard) }
         ensures done { IfOk result (λ outcome. outcome ≡ Outcome.Done) }
@@ -115,7 +115,7 @@ fn add_values(values: &mut Vec<Value>, replies: Vec<(u64, Value)>) -> Result<(),
     Ok(())
 }
 
-/// What comes of a request that a client doesn't queue.
+/// Returns the outcome of a request that a client does not queue.
 fn outcome_of_send(error: SendError) -> Result<Outcome, Cause>
     ensures { result ≡ outcome_of_send error }
 {

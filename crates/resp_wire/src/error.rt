@@ -1,60 +1,62 @@
-//! Why a client's end or a server's end stops.
+//! The errors of the client's end and the server's end.
 
 use resp_client::SendError;
 use resp_scan::event::Fault;
 use thiserror::Error;
 
-/// Why [`crate::ask::ask`] stopped.
+/// Why [`crate::ask::ask`] failed.
 #[derive(Clone, Copy, Debug, PartialEq, Eq, Error)]
 pub enum AskError {
-    /// The client refused this request before anything was written. Those before it are queued.
+    /// The client refused this request. Nothing was written, and the requests before it stay
+    /// queued.
     #[error("request {index}: {error}")]
     Refused {
-        /// The place of the request, from 0.
+        /// The index of the request, from 0.
         index: usize,
-        /// Why; never when out of memory.
+        /// The reason. It is never `OutOfMemory`.
         error: SendError,
     },
-    /// A byte of what came is refused, or was asked for by no command. What came before is heard,
-    /// and the client answers this fault from then on.
+    /// A byte received is not valid, or it begins a reply while no command waits. The replies
+    /// before it were added, and the client returns this fault from then on.
     #[error(transparent)]
     Fault(Fault),
-    /// A growth was refused: for a request, before anything was written, or for what came, of which
-    /// the first is heard.
+    /// An allocation failed. Either it was for a request, and nothing was written, or it was for
+    /// the bytes received, and only the first of their replies were added.
     #[error("out of memory")]
     OutOfMemory,
-    /// A read failed. What came before is heard.
+    /// A read failed. The replies received before were added.
     #[error("the reader failed")]
     Read,
-    /// A write failed, or took no byte. What wasn't written waits, and nothing was read.
+    /// A write failed or wrote no byte. The bytes that were not written still wait, and nothing was
+    /// read.
     #[error("the writer failed")]
     Write,
-    /// As many reads and writes were made as were allowed. What wasn't written waits, and what came
-    /// is heard.
+    /// All allowed reads and writes were made. The bytes that were not written still wait, and the
+    /// replies received were added.
     #[error("too many turns")]
     TooManyTurns,
-    /// The input ended while a command waited for its reply. What came is heard.
+    /// The input ended while a command waited for its reply. The replies received were added.
     #[error("the input ended")]
     Ended,
 }
 
-/// Why [`crate::serve::serve`] stopped.
+/// Why [`crate::serve::serve`] failed.
 #[derive(Clone, Copy, Debug, PartialEq, Eq, Error)]
 pub enum ServeError {
     /// No session has this id. Nothing was done.
     #[error("no session has this id")]
     NoSession,
-    /// A growth was refused. The commands run before stand, nothing of what comes after was done,
+    /// An allocation failed. The commands run before keep their effect, nothing after them is done,
     /// and the session is closing.
     #[error("out of memory")]
     OutOfMemory,
-    /// A read failed. All that was answered before is written.
+    /// A read failed. All replies before it were written.
     #[error("the reader failed")]
     Read,
-    /// A write failed, or took no byte. What wasn't written waits.
+    /// A write failed or wrote no byte. The bytes that were not written still wait.
     #[error("the writer failed")]
     Write,
-    /// As many reads and writes were made as were allowed. What wasn't written waits.
+    /// All allowed reads and writes were made. The bytes that were not written still wait.
     #[error("too many turns")]
     TooManyTurns,
 }

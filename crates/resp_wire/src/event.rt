@@ -1,4 +1,4 @@
-//! What may happen in a world, and what comes of it.
+//! The events of a world, and their outcomes.
 
 ghost use Rattle.std.specs.Prelude.{◌≡◌};
 ghost use Rattle.resp_session.specs.Worlds.{client_of};
@@ -10,25 +10,25 @@ use resp_value::value::Members;
 use resp_value::version::Version;
 use thiserror::Error;
 
-/// What may happen, each to the client of this number, from 1.
+/// An event. Each event concerns the client of this number, counted from 1.
 #[derive(Debug, PartialEq, Eq, Drop)]
 pub enum Event {
-    /// It asks a command. HELLO is refused here.
+    /// The client sends a command. HELLO is refused here.
     Send(usize, Command),
-    /// It asks HELLO, with a version or without.
+    /// The client sends HELLO, with or without a version.
     Hello(usize, Option<Version>),
-    /// This number of its waiting bytes come to its session, or all where fewer wait.
+    /// This many of the client's waiting bytes reach its session, or all of them if fewer wait.
     ToServer(usize, u64),
-    /// This number of its session's waiting bytes come to it, or all where fewer wait.
+    /// This many of the session's waiting bytes reach its client, or all of them if fewer wait.
     ToClient(usize, u64),
-    /// A push of these items is sent to it. Its session takes one at version 3 alone.
+    /// The session sends a push of these items to the client. It does so only in version 3.
     Push(usize, Members),
-    /// Its session is closed, and what waits both ways is lost.
+    /// The session is closed, and the waiting bytes of both directions are lost.
     Drop(usize),
 }
 
 impl Event {
-    /// The number of its client.
+    /// Returns the number of the client of the event.
     pub fn client(&self) -> usize
         ensures { result ≡ client_of (event_of self.now) }
     {
@@ -43,26 +43,27 @@ impl Event {
     }
 }
 
-/// What came of an event.
+/// The outcome of an event.
 #[derive(Clone, Copy, Debug, PartialEq, Eq)]
 pub enum Outcome {
-    /// It happened.
+    /// The event happened.
     Done,
-    /// The client refused it by BadCommand, TooLarge or TooMany, or the session by NotInVersion,
-    /// Double, PushBelowTop or OverLimits, the first of these that there is, and nothing changed.
+    /// The event was refused, and nothing changed. The cause is `BadCommand`, `TooLarge` or
+    /// `TooMany` of the client, or `NotInVersion`, `Double`, `PushBelowTop` or `OverLimits` of the
+    /// session, the first of these that applies.
     Refused(Cause),
-    /// The client was dropped, or there is none of this number, and nothing changed.
+    /// The client was dropped, or no client has this number. Nothing changed.
     Gone,
 }
 
-/// Why a world stopped. Each later step stops for the same cause, and nothing is promised of what
-/// the world shows.
+/// Why a world stopped. Each later step stops with the same cause, and what the world then shows is
+/// unspecified.
 #[derive(Clone, Copy, Debug, PartialEq, Eq, Error)]
 #[error("the world stopped at event {event}: {cause:?}")]
 pub struct Stop {
-    /// The index of the event among those of the call, from 0.
+    /// The index of the event among the events of the call, from 0.
     pub event: usize,
-    /// OutOfMemory, the cause of a link's refusal, or the fault of a client or a session, which is
-    /// met over no honest links.
+    /// `OutOfMemory`, the cause of a link's error, or the cause of a fault of a client or session.
+    /// A client or session has a fault only if a link changes bytes.
     pub cause: Cause,
 }

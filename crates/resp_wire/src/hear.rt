@@ -1,4 +1,4 @@
-//! What a client hears of a piece.
+//! Feeding a piece to a client.
 
 ghost use Rattle.std.specs.Prelude.{◌≡◌, ◌++◌, false, OnOk, IfErr};
 ghost use Rattle.resp_client.specs.Clients.{state_of};
@@ -17,7 +17,7 @@ use resp_scan::event::Fault;
 use resp_session::laws;
 use resp_value::cause::Cause;
 
-/// Why a client's fault stops the call.
+/// Returns the error of the call for a client's fault.
 #[tactic(auto, using(crate::proofs::LinkStops::not_of_link))]
 fn stop(fault: Fault) -> AskError
     requires { IsOfBytes fault.cause }
@@ -30,7 +30,7 @@ fn stop(fault: Fault) -> AskError
     }
 }
 
-/// Gives the client a whole piece, and adds what it hears.
+/// Feeds a whole piece to the client, and adds the replies and pushes received.
 pub(crate) fn hear_piece(
     client: &mut Client,
     piece: &[u8],
@@ -47,7 +47,7 @@ pub(crate) fn hear_piece(
     laws::readings_go_on();
     laws::hearing_goes_on();
     let mut rest = piece;
-    // Each turn uses a byte at least.
+    // Each turn uses at least one byte.
     for turn in 0..piece.len() {
         if rest.is_empty() {
             return Ok(());

@@ -1,7 +1,8 @@
-//! Both ends of a connection over any reader and writer, and links between clients and sessions.
+//! The client's and the server's end of a connection, over any reader and writer, and worlds of
+//! clients and sessions.
 //!
-//! [`ask::ask`] sends requests to the other end and hears the replies; [`serve::serve`] hears
-//! commands and sends the replies. A [`world::World`] is several clients of one server, and events
+//! [`ask::ask`] writes a client's requests and reads the replies. [`serve::serve`] reads commands
+//! and writes the replies. A [`world::World`] simulates several clients of one server, with events
 //! that happen one after another.
 #![tactic(auto)]
 

@@ -13,7 +13,7 @@ mod tcp;
 pub use memory::MemoryLink;
 pub use tcp::TcpLink;
 
-/// Which way bytes go.
+/// The direction of a carry.
 #[derive(Clone, Copy, Debug, PartialEq, Eq)]
 pub enum Direction {
     /// From the client to its session.
@@ -22,32 +22,36 @@ pub enum Direction {
     ToClient,
 }
 
-/// The refusal of a link.
+/// The error of a link.
 #[derive(Clone, Copy, Debug, PartialEq, Eq, Error)]
 #[error("the link failed: {cause:?}")]
 pub struct LinkFault {
-    /// Why: Read, Write or TooManyTurns.
+    /// The cause: `Read`, `Write` or `TooManyTurns`.
     pub cause: Cause,
 }
 
-/// What comes of a carry.
+/// The result of a carry.
 pub type Carried = Result<(), LinkFault>;
 
-/// What carries bytes both ways between a client and its session.
+/// A connection between a client and its session that carries bytes in both directions.
 pub trait Link: Drop {
-    /// It gives the bytes that it takes. Where this doesn't hold the link claims nothing of them.
+    /// Holds if the link delivers the bytes that it is given. If it does not hold, the link states
+    /// nothing about its bytes.
     ghost is_honest: { Self → Type 0 };
 
-    /// How many calls failed.
+    /// The number of calls that failed.
     ghost failures: { Self → ℕ };
 
-    /// How many reads and writes it made.
+    /// The number of reads and writes that were made.
     ghost calls: { Self → ℕ };
 
-    /// Carries a piece of at most 1,024 bytes to the other end, where `into` has as much room.
+    /// Carries a piece of at most 1,024 bytes to the other end. `into` has the same length. Makes
+    /// at most 65,536 reads and writes.
     ///
-    /// Refuses by Read, Write or TooManyTurns, and makes at most 65,536 reads and writes. After a
-    /// refusal nothing is known of what was carried.
+    /// # Errors
+    ///
+    /// A [`LinkFault`] with the cause `Read`, `Write` or `TooManyTurns`. Then the bytes in `into`
+    /// are unspecified.
     fn carry(&mut self, direction: Direction, piece: &[u8], into: &mut [u8]) -> Carried
         requires same_length { length piece.now ≡ length into.old }
         requires short { length piece.now ≤ 1_024 }

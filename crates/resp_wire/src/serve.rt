@@ -1,4 +1,4 @@
-//! A server's end of a connection.
+//! The server's end of a connection.
 
 ghost use Rattle.std.specs.Prelude.{◌≡◌, ◌≢◌, ◌≤◌, ◌++◌, ℕ, List, [], length, true, false, None, Err, IfSome, IfOk, IfErr, IsErrOf, OnOk, OnErr};
 ghost use Rattle.std.specs.List.{concat};
@@ -26,19 +26,26 @@ pub enum Served {
     Closed,
 }
 
-/// Reads a piece of at most 16,384 bytes, gives it to the session, and writes all that waits, until
-/// the input ends or the session is closing. What waits is written first; of a session that is
-/// closing nothing is read.
+/// Serves a session: writes the bytes that wait, reads a piece of at most 16,384 bytes, and gives
+/// it to the session, until the input ends or the session is closing. Nothing is read of a session
+/// that is closing.
 ///
-/// Each read and each write is a turn, and no more than `turns` of them are taken.
+/// Each read and each write is a turn, and the call makes at most `turns` of them.
 ///
-/// Refuses by NoSession where no session has this id, and then nothing was done. Where a read fails
-/// all that was answered is written. Where a write fails, or no turn is left, the rest waits in the
-/// hub. When out of memory the session is closing, and what waits is still to be written.
+/// # Errors
 ///
-/// Over a socket set `set_nodelay`: without it a pipeline of more than one piece waits for the
-/// delayed acknowledgement of each. One connection after another, in
-/// [example_tcp](../../example_tcp/src/serving.rt):
+/// - `NoSession` if no session has this id. Nothing was done.
+/// - `Read` if a read fails. All replies before it were written.
+/// - `Write` if a write fails or writes no byte, and `TooManyTurns` if no turn is left. The bytes
+///   that were not written wait in the hub.
+/// - `OutOfMemory` if an allocation fails. The session is closing, and its waiting bytes have not
+///   been written.
+///
+/// # Examples
+///
+/// Over sockets, one connection after another, from
+/// [example_tcp](../../example_tcp/src/serving.rt). Set `set_nodelay`: without it a pipeline of
+/// more than one piece waits for the delayed acknowledgement of each piece.
 ///
 /// ```rust
 /// let mut hub = Hub::new(alloc, Limits::standard(), hasher);
@@ -56,6 +63,18 @@ pub enum Served {
 ///     hub.close(id)?;
 /// }
 /// ```
+///
+/// Over devices in memory, from [samples](../../samples/src/wire.rt):
+///
+/// ```rust
+/// let mut reader = MemorySource::new(b"*1\r\n$4\r\nPING\r\n", 5);
+/// let mut writer = MemorySink::new(alloc, 16, 256)?;
+/// let id = hub.open()?;
+/// let served = serve(&mut reader, &mut writer, &mut hub, id, 100)?;
+/// println!(rt; "{served:?} {}", writer.bytes().escape_ascii())?;
+/// ```
+///
+/// This prints `Ended +PONG\r\n`.
 pub fn serve<R: Source, W: Sink, S: BuildHasher>(
     reader: &mut R,
     writer: &mut W,
@@ -63,10 +82,10 @@ pub fn serve<R: Source, W: Sink, S: BuildHasher>(
     id: u64,
     turns: u64,
 ) -> Result<Served, ServeError>
-    // What came are pieces, each by one read, and before each of these all answers to what came
-    // before it were written. What was written and what still waits, joined, are what waited before
-    // and the answer to the front that the session had taken and what came, and the hub is as that
-    // answer leaves it.
+    // The bytes received are pieces, each from one read. Before each read, all answers to the bytes
+    // received before were written. The bytes written and the bytes that still wait, joined, are
+    // the bytes that waited before and the answer to the bytes read before of a value together with
+    // the bytes received. The hub is in the state after that answer.
     ensures served { (pieces : List (List ℕ)) × ReadsPieces R.remaining R.calls R.failures
         reader.old reader.new pieces (ends_by_read result) × WhereOpen hub.old id (λ s front.
         OnOk result (Serves hub.old hub.new id s (front ++ concat pieces) (W.written writer.old)
@@ -77,13 +96,13 @@ pub fn serve<R: Source, W: Sink, S: BuildHasher>(
     ensures end { IfOk result (EndsBy hub.new id (R.remaining reader.old)
         (R.remaining reader.new)) }
 
-    // Of a session that is closing nothing is read, and what waits is written.
+    // Nothing is read of a session that is closing, and its waiting bytes are written.
     ensures closing { IfSome (seat_at hub.old id) (λ (s : Seat). s.closing ≡ true →
         (reader.new ≡ reader.old) × ServesClosing hub.old hub.new id (W.written writer.old)
         (W.written writer.new) result) }
     ensures refusal { IfErr result (FailsServing hub.old id (W.failures writer.old)
         (W.failures writer.new) (R.failures reader.old) (R.failures reader.new)) }
-    // A device fails once where the answer says so, and else never.
+    // A device fails once if the error says so, and otherwise never.
     ensures write_failures { W.failures writer.new ≡
         failures_after (failed_to_write result) (W.failures writer.old) }
     ensures read_failures { R.failures reader.new ≡
@@ -159,7 +178,7 @@ fn serve_open<R: Source, W: Sink, S: BuildHasher>(
     }
 }
 
-/// Gives the session a piece, and writes all that waits. Tells whether the session is closing.
+/// Gives the session a piece, and writes all waiting bytes. Returns whether the session is closing.
 fn answer<W: Sink, S: BuildHasher>(
     writer: &mut W,
     hub: &mut Hub<S>,
@@ -195,7 +214,7 @@ fn answer<W: Sink, S: BuildHasher>(
     Ok(closing)
 }
 
-/// Writes all that waits in the session.
+/// Writes all bytes that wait in the session.
 fn write_out<W: Sink, S: BuildHasher>(
     writer: &mut W,
     hub: &mut Hub<S>,
@@ -228,7 +247,7 @@ fn write_out<W: Sink, S: BuildHasher>(
     }
 }
 
-/// Why a piece that wasn't answered whole stops the call.
+/// Returns the error of the call for a piece that was not completely answered.
 fn unanswered(error: HubError) -> ServeError
     requires { error ≢ HubError.NoSession }
     ensures { result ≡ ServeError.OutOfMemory }
@@ -239,7 +258,7 @@ fn unanswered(error: HubError) -> ServeError
     }
 }
 
-/// Why a read that moved no byte stops the call.
+/// Returns the error of the call for a read that moved no byte.
 fn unread(halt: Halt) -> ServeError
     ensures stops { (failures failures' left : ℕ) → Halts failures failures' left halt →
         StopsReading failures failures' left result }
@@ -252,7 +271,7 @@ fn unread(halt: Halt) -> ServeError
     }
 }
 
-/// Why a write that moved no byte stops the call.
+/// Returns the error of the call for a write that moved no byte.
 fn unwritten(halt: Halt) -> ServeError
     ensures stops { (failures failures' left : ℕ) → Halts failures failures' left halt →
         StopsWriting failures failures' left result }

@@ -1,4 +1,4 @@
-//! Reads and writes as turns, whose number each call bounds.
+//! Reads and writes as turns, whose number each call limits.
 
 ghost use Rattle.std.specs.Prelude.{◌≡◌, ◌<◌, ◌≤◌, [], drop, length, take, IfOk, IfErr, IsErrOf, OnOk, OnErr};
 ghost use Rattle.resp_value.specs.Devices.{Appends, count_after, failures_after};
@@ -6,28 +6,28 @@ ghost use Rattle.resp_wire.specs.Turns.{Halts, WereRead, Spends, TellsEnd, is_fa
 
 use resp_value::device::{Sink, Source};
 
-/// How many bytes one read asks for.
+/// The number of bytes that one read requests.
 pub(crate) const PIECE: usize = 16_384;
 
 /// Why a read or a write moved no byte.
 #[derive(Clone, Copy, Debug, PartialEq, Eq)]
 pub(crate) enum Halt {
-    /// It failed, or a write took no byte.
+    /// It failed, or a write wrote no byte.
     Failed,
     /// No turn was left for it.
     NoTurn,
 }
 
-/// How much of a text was written.
+/// The result of writing a text.
 #[derive(Clone, Copy, Debug, PartialEq, Eq)]
 pub(crate) struct Written {
-    /// How many of the first bytes were written.
+    /// The number of bytes written, from the beginning of the text.
     pub(crate) count: usize,
-    /// Why no more than these, unless they are all.
+    /// Why writing stopped, if not all bytes were written.
     pub(crate) end: Result<(), Halt>,
 }
 
-/// Writes a text, by one write after another.
+/// Writes a text, with as many writes as that needs.
 pub(crate) fn write_text<W: Sink>(writer: &mut W, text: &[u8], turns: &mut u64) -> Written
     ensures within { result.count ≤ length text.now }
     ensures appended { Appends (W.written writer.old) (W.written writer.new)
@@ -63,7 +63,7 @@ pub(crate) fn write_text<W: Sink>(writer: &mut W, text: &[u8], turns: &mut u64) 
     Written { count, end: Ok(()) }
 }
 
-/// Reads some bytes, by one read: none only at the end, or where there is no room.
+/// Reads some bytes with one read. The number is 0 only at the end, or if there is no room.
 pub(crate) fn read_some<R: Source>(
     reader: &mut R,
     into: &mut [u8],
@@ -97,7 +97,7 @@ pub(crate) fn read_some<R: Source>(
     }
 }
 
-/// The bytes from this index on.
+/// Returns the bytes from this index on.
 #[inline]
 pub(crate) fn beyond(piece: &[u8], from: usize) -> &[u8]
     requires { from ≤ length piece.now }
@@ -106,7 +106,7 @@ pub(crate) fn beyond(piece: &[u8], from: usize) -> &[u8]
     &piece[from..]
 }
 
-/// The first `count` bytes of a piece.
+/// Returns the first `count` bytes of a piece.
 #[inline]
 pub(crate) fn front(piece: &[u8], count: usize) -> &[u8]
     requires { count ≤ length piece.now }

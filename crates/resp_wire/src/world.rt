@@ -31,19 +31,35 @@ use std::alloc::Global;
 use std::hash::BuildHasher;
 use std::marker::Model;
 
-/// The most clients of a world.
+/// The greatest number of clients of a world.
 const MOST_CLIENTS: usize = 65_536;
 
 /// Clients and their sessions over one store, with a link between each client and its session.
 /// Clients are numbered from 1.
+///
+/// # Examples
+///
+/// Two clients of one store, from [samples](../../samples/src/worlds.rt):
+///
+/// ```rust
+/// let mut world = World::new(alloc, 2, Limits::standard(), hasher)?;
+/// world.step(&Event::Send(1, command(alloc, &[b"SET", b"a", b"1"])?))?;
+/// world.step(&Event::Send(2, command(alloc, &[b"GET", b"a"])?))?;
+/// world.step(&Event::ToServer(2, 1_000))?;
+/// world.step(&Event::ToServer(1, 1_000))?;
+/// world.step(&Event::ToClient(2, 1_000))?;
+/// println!(rt; "{:?} {:?}", world.order(), world.replies(2))?;
+/// ```
+///
+/// The GET arrives first, so this prints `[2, 1] [Null]`.
 #[derive(Drop)]
 pub struct World<L: Link, S: BuildHasher> {
     alloc: Global,
     hub: Hub<S>,
-    /// The clients, and the link of each to its session.
+    /// The clients, with the link of each client to its session.
     ends: Vec<End>,
     links: Vec<L>,
-    /// The client of each command, in the order in which they were run.
+    /// The client of each command, in the order in which the commands were run.
     order: Vec<usize>,
     stopped: Option<Cause>,
 }
@@ -70,11 +86,13 @@ impl<L: Link, S: BuildHasher> Model for World<L, S> {
 }
 
 impl<S: BuildHasher + Drop> World<MemoryLink, S> {
-    /// `count` clients that asked nothing, over memory and an empty store. Each reads and writes
-    /// within these limits, and so does its session.
+    /// Makes a world of `count` clients that have sent nothing, with links over memory and an empty
+    /// store. Each client and each session reads and writes within these limits.
     ///
-    /// Refuses by TooManySessions exactly where there are more than 65,536, and else when out of
-    /// memory.
+    /// # Errors
+    ///
+    /// `TooManySessions` if and only if `count` is more than 65,536, otherwise `OutOfMemory` if an
+    /// allocation fails.
     pub fn new(alloc: Global, count: usize, limits: Limits, hasher: S) -> Result<Self, OpenError>
         ensures shows { IfOk result (λ world.
             Shows (λ _. Unit {0}) world limits (new_world count)) }
@@ -95,11 +113,13 @@ impl<S: BuildHasher + Drop> World<MemoryLink, S> {
 }
 
 impl<L: Link, S: BuildHasher + Drop> World<L, S> {
-    /// A client that asked nothing for each of these links, over an empty store. Each reads and
-    /// writes within these limits, and so does its session.
+    /// Makes a world with a client for each of these links and an empty store. The clients have
+    /// sent nothing. Each client and each session reads and writes within these limits.
     ///
-    /// Refuses by TooManySessions exactly where there are more than 65,536, and else when out of
-    /// memory.
+    /// # Errors
+    ///
+    /// `TooManySessions` if and only if there are more than 65,536 links, otherwise `OutOfMemory`
+    /// if an allocation fails.
     pub fn over(alloc: Global, links: Vec<L>, limits: Limits, hasher: S) -> Result<Self, OpenError>
         ensures shows { IfOk result (λ world. AllByRecursion L.is_honest links.items →
             Shows L.is_honest world limits (new_world (length links.items))) }
@@ -127,12 +147,14 @@ impl<L: Link, S: BuildHasher + Drop> World<L, S> {
         })
     }
 
-    /// Takes one event, and answers what came of it. A refused event changes nothing.
+    /// Performs one event and returns its outcome. A refused event changes nothing.
     ///
-    /// Stops when out of memory, and where a link fails; over honest links it stops for nothing
-    /// else. An event that is refused or of nobody takes no memory, nor does a drop. After a stop
-    /// each step stops with the same cause, and nothing is promised of what the world shows. The
-    /// index of the stop is 0.
+    /// # Errors
+    ///
+    /// A [`Stop`] with index 0 if an allocation or a link fails. If no link changes bytes, there is
+    /// no other cause. An event that is refused or concerns no client does not allocate, and
+    /// neither does a drop. After a stop each step returns the same cause, and what the world shows
+    /// is unspecified.
     pub fn step(&mut self, event: &Event) -> Result<Outcome, Stop>
         ensures happens { IfOk result (Happens L.is_honest self.old self.new (event_of event.now)) }
         ensures going { OnOk result (self.new.stopped ≡ None) }
@@ -147,7 +169,8 @@ impl<L: Link, S: BuildHasher + Drop> World<L, S> {
         ensures index { IfErr result (λ stop. stop.event ≡ 0) }
         ensures none_failed { OnOk result
             (KeepFailures L.failures self.old.links self.new.links) }
-        // Over any links: exactly one fails, once, where the stop names a cause of links.
+        // Whatever the links are: if the cause of the stop is a link's, exactly one link has
+        // failed, once.
         ensures links { self.old.stopped ≡ None → CountsFailures L.failures self.old.links
             self.new.links (stop_is_of_link result) }
         ensures as_many { length self.new.ends ≡ length self.old.ends }
@@ -164,8 +187,12 @@ impl<L: Link, S: BuildHasher + Drop> World<L, S> {
         }
     }
 
-    /// Takes events, one after another, and stops at the first that [`World::step`] stops at, with
-    /// its index from 0. An event that is refused or whose client is gone stops nothing.
+    /// Performs events one after another, up to the first at which [`World::step`] fails. Events
+    /// that are refused or whose client was dropped do not stop the run.
+    ///
+    /// # Errors
+    ///
+    /// The [`Stop`] of that event, with its index from 0.
     pub fn run(&mut self, events: &[Event]) -> Result<(), Stop>
         ensures happens { OnOk result (RunsTo L.is_honest self.old self.new
             (map event_of events.now)) }
@@ -190,7 +217,7 @@ impl<L: Link, S: BuildHasher + Drop> World<L, S> {
         Ok(())
     }
 
-    /// What comes of an event, or why the world stops at it.
+    /// Returns the outcome of an event, or the cause at which the world stops.
     fn happen(&mut self, event: &Event) -> Result<Outcome, Cause>
         ensures happens { IfOk result (Happens L.is_honest self.old self.new (event_of event.now)) }
         ensures stops { IfErr result (Fails L.is_honest L.failures self.old self.new) }
@@ -264,7 +291,7 @@ impl<L: Link, S: BuildHasher + Drop> World<L, S> {
         self.ends[number - 1].hello(asked)
     }
 
-    /// Carries `count` of a client's waiting bytes to its session, or all where fewer wait.
+    /// Carries `count` of a client's waiting bytes to its session, or all if fewer wait.
     fn to_server(&mut self, number: usize, count: u64) -> Result<Outcome, Cause>
         requires there { (1 ≤ number) × (number ≤ length self.old.ends) }
         requires is_open { IsOpenEnd self.old.ends (number - 1) }
@@ -298,8 +325,8 @@ impl<L: Link, S: BuildHasher + Drop> World<L, S> {
         Ok(Outcome::Done)
     }
 
-    /// Carries `count` of a session's waiting bytes to its client, or all where fewer wait, and
-    /// keeps what they bring.
+    /// Carries `count` of a session's waiting bytes to its client, or all if fewer wait, and stores
+    /// the replies and pushes that they complete.
     fn to_client(&mut self, number: usize, count: u64) -> Result<Outcome, Cause>
         requires there { (1 ≤ number) × (number ≤ length self.old.ends) }
         requires is_open { IsOpenEnd self.old.ends (number - 1) }
@@ -358,7 +385,7 @@ impl<L: Link, S: BuildHasher + Drop> World<L, S> {
         Ok(Outcome::Done)
     }
 
-    /// Closes a client's session. Nothing comes any more, either way.
+    /// Closes a client's session. No more bytes are carried in either direction.
     fn drop_client(&mut self, number: usize) -> Result<Outcome, Cause>
         requires there { (1 ≤ number) × (number ≤ length self.old.ends) }
         requires is_open { IsOpenEnd self.old.ends (number - 1) }
@@ -381,14 +408,15 @@ impl<L: Link, S: BuildHasher + Drop> World<L, S> {
         Ok(Outcome::Done)
     }
 
-    /// How many clients there are.
+    /// Returns the number of clients.
     pub fn clients(&self) -> usize
         ensures { result ≡ length self.now.ends }
     {
         self.ends.len()
     }
 
-    /// What the client of this number, from 1 to that of the clients, has queued, in order.
+    /// Returns the requests that the client of this number has queued, in order. Clients are
+    /// numbered from 1 to [`World::clients`].
     pub fn asked(&self, number: usize) -> &[Request]
         requires { (1 ≤ number) × (number ≤ length self.now.ends) }
         ensures { (limits : Bounds) (w : session.World) → Shows L.is_honest self.now limits w →
@@ -397,7 +425,7 @@ impl<L: Link, S: BuildHasher + Drop> World<L, S> {
         self.ends[number - 1].asked.as_slice()
     }
 
-    /// The client of each command, in the order in which they were run.
+    /// Returns the client of each command, in the order in which the commands were run.
     pub fn order(&self) -> &[usize]
         ensures { (limits : Bounds) (w : session.World) → Shows L.is_honest self.now limits w →
             result.now ≡ clients_in w }
@@ -405,7 +433,8 @@ impl<L: Link, S: BuildHasher + Drop> World<L, S> {
         self.order.as_slice()
     }
 
-    /// The replies that the client of this number heard: the nth is that to its nth command.
+    /// Returns the replies that the client of this number has received. The nth reply belongs to
+    /// its nth command.
     pub fn replies(&self, number: usize) -> &[Value]
         requires { (1 ≤ number) × (number ≤ length self.now.ends) }
         ensures { (limits : Bounds) (w : session.World) → Shows L.is_honest self.now limits w →
@@ -415,7 +444,7 @@ impl<L: Link, S: BuildHasher + Drop> World<L, S> {
         self.ends[number - 1].replies.as_slice()
     }
 
-    /// The members of each push that the client of this number heard, in order.
+    /// Returns the members of each push that the client of this number has received, in order.
     pub fn pushes(&self, number: usize) -> &[Members]
         requires { (1 ≤ number) × (number ≤ length self.now.ends) }
         ensures { (limits : Bounds) (w : session.World) → Shows L.is_honest self.now limits w →
@@ -425,8 +454,8 @@ impl<L: Link, S: BuildHasher + Drop> World<L, S> {
         self.ends[number - 1].pushes.as_slice()
     }
 
-    /// The keys and values of the store, in the order in which the keys came; one that is set again
-    /// keeps its place.
+    /// Returns the keys of the store with their values, in the order in which the keys were added.
+    /// A key that is set again keeps its place.
     pub fn entries(&self) -> Entries<'_>
         ensures { (limits : Bounds) (w : session.World) → Shows L.is_honest self.now limits w →
             result ≡ w.store }
@@ -435,7 +464,7 @@ impl<L: Link, S: BuildHasher + Drop> World<L, S> {
     }
 }
 
-/// A session for each of `count` clients that asked nothing.
+/// Opens a session for each of `count` clients that have sent nothing.
 fn open_each<S: BuildHasher>(
     alloc: Global,
     hub: &mut Hub<S>,
@@ -459,7 +488,7 @@ fn open_each<S: BuildHasher>(
     Ok(ends)
 }
 
-/// What comes of a push that a session doesn't queue.
+/// Returns the outcome of a push that a session does not queue.
 fn outcome_of_push(error: PushError) -> Result<Outcome, Cause>
     ensures { result ≡ outcome_of_push error }
 {

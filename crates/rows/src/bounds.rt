@@ -1,11 +1,11 @@
-//! Limits as rows spell them.
+//! Limits as rows write them.
 
 use crate::text::number;
 use anyhow::{Context, Result, bail};
 use resp_value::Limits;
 
-/// The limits that a text names, as `depth=4 length=64 total=256 items=16 streamed=0 doubles=1`.
-/// What it doesn't name is as in the standard limits.
+/// Returns the limits written in a text, as `depth=4 length=64 total=256 items=16 streamed=0
+/// doubles=1`. Limits that are not named have their standard value.
 pub(crate) fn limits(text: &str) -> Result<Limits> {
     let standard = Limits::standard();
     let (mut depth, mut length) = (standard.depth(), standard.length());

@@ -1,4 +1,4 @@
-//! The rows that are run on a client.
+//! Rows that run on a client.
 
 mod hearing;
 mod queueing;
@@ -48,7 +48,7 @@ impl Subject for Talker {
     }
 }
 
-/// Hears a text: in pieces without a sink or with one, or in one call.
+/// Feeds a text to the client: in pieces with or without a sink, or in one call.
 fn hear(
     alloc: Global,
     client: &mut Client,
@@ -68,7 +68,7 @@ fn hear(
     hearing::show(alloc, client, pieces.as_slice(), said)
 }
 
-/// `client LIMITS` takes a new client.
+/// `client LIMITS` begins a new client.
 fn renew(alloc: Global, client: &mut Client, limits: &str) -> Result<()> {
     *client = Client::new(alloc, &bounds::limits(limits)?);
     Ok(())

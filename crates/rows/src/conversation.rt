@@ -1,20 +1,20 @@
-//! The rows of a conversation, and how they are read from its lines.
+//! The rows of a conversation, and how they are parsed from its lines.
 
 use anyhow::{Context, Result};
 use std::alloc::Global;
 
-/// A row, and what it has to say.
+/// A row with the lines that it has to print.
 #[derive(Drop)]
 pub(crate) struct Row<'a> {
     /// The name of its call.
     pub(crate) name: &'a str,
-    /// What the call is given.
+    /// The arguments of the call.
     pub(crate) given: &'a str,
-    /// The lines that it has to say, each with LF.
+    /// The lines that it has to print, each with its LF.
     pub(crate) wanted: String,
 }
 
-/// The rows of a conversation.
+/// Parses the rows of a conversation.
 pub(crate) fn rows<'a>(alloc: Global, conversation: &'a str) -> Result<Vec<Row<'a>>> {
     let mut rows: Vec<Row<'a>> = Vec::new(alloc);
     for line in conversation.lines() {

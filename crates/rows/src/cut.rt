@@ -2,20 +2,20 @@
 
 use std::alloc::{AllocError, Global};
 
-/// How each text that is heard is cut.
+/// How each received text is cut.
 #[derive(Clone, Copy, Debug)]
 pub(crate) enum Cut {
     /// It is one piece.
     Whole,
-    /// It is two pieces, the first of this many bytes, or of all where it has fewer.
+    /// It is two pieces. The first has this many bytes, or all bytes if there are fewer.
     At(usize),
-    /// Each byte is a piece, with an empty one before it and after it.
+    /// Each byte is a piece, with an empty piece before and after it.
     Bytes,
 }
 
 impl Cut {
-    /// The cut of a number: first none, then at each byte of a text of this length, and last byte
-    /// by byte.
+    /// Returns the cut of a number: first no cut, then a cut at each byte of a text of this length,
+    /// and last byte by byte.
     pub(crate) fn numbered(number: usize, length: usize) -> Cut {
         match number {
             0 => Cut::Whole,
@@ -25,7 +25,7 @@ impl Cut {
     }
 }
 
-/// The pieces of a text that is cut so.
+/// Returns the pieces of a text with this cut.
 pub(crate) fn pieces<'a>(
     alloc: Global,
     text: &'a [u8],

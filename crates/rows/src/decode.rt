@@ -1,4 +1,4 @@
-//! The rows that are run on a decoder.
+//! Rows that run on a decoder.
 
 mod calls;
 
@@ -49,7 +49,7 @@ impl Subject for Reader {
     }
 }
 
-/// Takes a decoder of a version under limits, as `3 depth=4`.
+/// Replaces the decoder with a new decoder of the version and limits, written as `3 depth=4`.
 fn renew(alloc: Global, decoder: &mut Decoder, given: &str) -> Result<()> {
     let (number, limits) = split(given);
     *decoder = Decoder::new(alloc, version(number)?, &bounds::limits(limits)?);

@@ -1,14 +1,14 @@
-//! Reads conversations as rows from the files `scan`, `decode`, `client`, `server`, `wire`
-//! and `tap`, runs each at every cut of what is heard, and prints where what was said is not what
-//! is wanted.
+//! Reads conversations as rows from the files `scan`, `decode`, `client`, `server`, `wire` and
+//! `tap`, runs each with its texts cut in every way, and prints where the lines printed are not the
+//! expected lines.
 //!
-//! Conversations are separated by empty lines. The first line of one is its title, `# what it
-//! shows`; further lines with `#` are comments. A row is the name of a call and, after a space,
-//! what the call is given. The lines after a row that begin with `> ` are what it has to say, and a
-//! row without them has to say nothing.
+//! Conversations are separated by empty lines. The first line of a conversation is its title, `#
+//! what it shows`; further lines with `#` are comments. A row is the name of a call and, after a
+//! space, the arguments of the call. The lines after a row that begin with `> ` are the lines that
+//! it has to print. A row without such lines has to print nothing.
 //!
-//! A conversation is run with each text that is heard in one piece, cut in two before each of its
-//! bytes, and byte by byte with an empty piece between, on a new subject each time.
+//! A conversation is run with each received text in one piece, cut in two before each of its bytes,
+//! and byte by byte with an empty piece between two bytes, on a new subject each time.
 #![tactic(auto)]
 
 mod bounds;

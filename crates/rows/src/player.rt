@@ -1,4 +1,4 @@
-//! Runs conversations, and prints how many runs said what is wanted.
+//! Runs conversations, and prints how many runs printed the expected lines.
 
 use crate::conversation::{Row, rows};
 use crate::cut::Cut;
@@ -8,8 +8,8 @@ use anyhow::{Context, Result};
 use std::alloc::Global;
 use std::fs::{self, Files};
 
-/// Runs the conversations of a file on new subjects. Prints a line for each: its title and the
-/// number of runs, or how many of them differ and where the first does.
+/// Runs the conversations of a file, each on a new subject. Prints a line for each conversation:
+/// its title with the number of runs, or the number of runs that differ and the first difference.
 pub(crate) fn play<T: Subject>(rt: &(impl Files + Print + AllocGlobal), file: &str) -> Result<()> {
     let alloc = rt.alloc();
     let text = fs::read_to_string(rt, file)?;
@@ -20,7 +20,7 @@ pub(crate) fn play<T: Subject>(rt: &(impl Files + Print + AllocGlobal), file: &s
     Ok(())
 }
 
-/// Runs a conversation, and prints what came of it. Comments alone are none.
+/// Runs a conversation and prints the result. A block of comments alone is not a conversation.
 fn report<T: Subject>(rt: &impl Print, alloc: Global, conversation: &str) -> Result<()> {
     let rows = rows(alloc, conversation)?;
     if rows.is_empty() {
@@ -34,7 +34,7 @@ fn report<T: Subject>(rt: &impl Print, alloc: Global, conversation: &str) -> Res
     runs.print(rt, title)
 }
 
-/// How many runs there were, how many of them differ, and the first difference.
+/// The number of runs, the number of runs that differ, and the first difference.
 #[derive(Drop)]
 struct Runs {
     count: u64,
@@ -43,7 +43,8 @@ struct Runs {
 }
 
 impl Runs {
-    /// Runs the rows whole, cut at each byte of the longest text that is cut, and byte by byte.
+    /// Runs the rows with their texts whole, cut at each byte of the longest text, and byte by
+    /// byte.
     fn of<T: Subject>(alloc: Global, rows: &[Row<'_>]) -> Result<Runs> {
         let mut runs = Runs {
             count: 0,
@@ -61,7 +62,8 @@ impl Runs {
         Ok(runs)
     }
 
-    /// Runs the rows on a new subject, up to the first that says other than is wanted of it.
+    /// Runs the rows on a new subject, up to the first row that prints something else than
+    /// expected.
     fn run<T: Subject>(&mut self, alloc: Global, rows: &[Row<'_>], cut: Cut) -> Result<()> {
         self.count = self.count.saturating_add(1);
         let mut subject = T::new(alloc)?;
@@ -75,7 +77,7 @@ impl Runs {
         Ok(())
     }
 
-    /// Notes what a row said in place of what is wanted, where it is the first that differs.
+    /// Records the actual and the expected lines of a row, if it is the first that differs.
     fn note(&mut self, row: &Row<'_>, cut: Cut, said: &str) -> Result<()> {
         if self.first.is_empty() {
             let Row {
@@ -91,7 +93,7 @@ impl Runs {
         Ok(())
     }
 
-    /// Prints a line under this title, and after it the first difference.
+    /// Prints a line with this title, and the first difference after it.
     fn print(&self, rt: &impl Print, title: &str) -> Result<()> {
         let Runs {
             count,
@@ -106,7 +108,7 @@ impl Runs {
     }
 }
 
-/// The length of the longest text that is cut.
+/// Returns the length of the longest text that is cut.
 fn longest<T: Subject>(alloc: Global, rows: &[Row<'_>]) -> usize {
     let mut longest = 0;
     for row in rows {
@@ -118,7 +120,7 @@ fn longest<T: Subject>(alloc: Global, rows: &[Row<'_>]) -> usize {
     longest
 }
 
-/// What a row says.
+/// Returns the lines that a row prints.
 fn said<T: Subject>(alloc: Global, subject: &mut T, row: &Row<'_>, cut: Cut) -> Result<String> {
     let mut said = String::new(alloc);
     if let Err(error) = subject.run(row.name, row.given, cut, &mut said) {

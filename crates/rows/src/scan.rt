@@ -1,4 +1,4 @@
-//! Rows that are run on scanners.
+//! Rows that run on scanners.
 
 mod needed;
 mod reader;

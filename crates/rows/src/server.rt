@@ -1,4 +1,4 @@
-//! The rows that are run on a hub.
+//! Rows that run on a hub.
 
 mod calls;
 mod shows;
@@ -18,7 +18,7 @@ pub(crate) fn new_hub(alloc: Global, limits: Limits) -> TestHub {
     Hub::new(alloc, limits, BuildHasherDefault::new())
 }
 
-/// The hub of a conversation, at first one of the standard limits that has no session.
+/// The hub of a conversation. It begins with the standard limits and without a session.
 #[derive(Drop)]
 pub(crate) struct Serving {
     alloc: Global,
@@ -56,7 +56,7 @@ impl Subject for Serving {
     }
 }
 
-/// Takes a hub under these limits.
+/// Replaces the hub with a new hub with these limits.
 fn renew(alloc: Global, hub: &mut TestHub, limits: &str) -> Result<()> {
     *hub = new_hub(alloc, bounds::limits(limits)?);
     Ok(())

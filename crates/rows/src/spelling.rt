@@ -1,4 +1,4 @@
-//! Values on one line, in the words of `resp show`: `array [int 1, bulk "a"]`, `map {null: true}`,
+//! Values on one line, in the format of `resp show`: `array [int 1, bulk "a"]`, `map {null: true}`,
 //! `attr {simple "ttl": int 3600} of int 3`.
 
 use resp_scan::event::Fault;
@@ -44,7 +44,8 @@ fn add_text(said: &mut String, word: &str, text: &[u8]) -> Result<(), AllocError
     write!(said, "{word} \"{}\"", text.escape_ascii())
 }
 
-/// Adds the members of an array, a set or a push, as that of a push which answers no command.
+/// Adds the members of an array, a set or a push. A push is printed as a push that belongs to no
+/// command.
 #[cycle(add_value)]
 pub(crate) fn add_members(
     said: &mut String,
@@ -89,7 +90,7 @@ pub(crate) fn add_values(said: &mut String, values: &[Value]) -> Result<(), Allo
     Ok(())
 }
 
-/// Adds a line for each push that answers no command.
+/// Adds a line for each push. A push belongs to no command.
 pub(crate) fn add_pushes(said: &mut String, pushes: &[Members]) -> Result<(), AllocError> {
     for members in pushes {
         add_members(said, "push", members.list())?;
@@ -98,12 +99,12 @@ pub(crate) fn add_pushes(said: &mut String, pushes: &[Members]) -> Result<(), Al
     Ok(())
 }
 
-/// Adds the line of a refusal: the name of its cause, and its place.
+/// Adds the line of a fault: the name of its cause, and its place.
 pub(crate) fn add_fault(said: &mut String, cause: Cause, at: u64) -> Result<(), AllocError> {
     writeln!(said, "refused: {} at {at}", cause.name())
 }
 
-/// Adds the line of a fault, and one where it isn't answered for good.
+/// Adds the line of a fault, and a line if it is not returned again by every later call.
 pub(crate) fn add_final_fault(
     said: &mut String,
     fault: Fault,
@@ -116,7 +117,7 @@ pub(crate) fn add_final_fault(
     Ok(())
 }
 
-/// Whether a call answers this fault.
+/// Returns whether a call returned this fault.
 pub(crate) fn is_refused<T: Drop>(answer: Result<T, Fault>, fault: Fault) -> bool {
     match answer {
         Ok(_) => false,
@@ -124,7 +125,7 @@ pub(crate) fn is_refused<T: Drop>(answer: Result<T, Fault>, fault: Fault) -> boo
     }
 }
 
-/// Adds a line of what a call answers: a word and the number, or another word and the error.
+/// Adds a line for the result of a call: a word and the number, or another word and the error.
 pub(crate) fn add_answer<E: Debug + Drop>(
     said: &mut String,
     answered: &str,
@@ -137,12 +138,12 @@ pub(crate) fn add_answer<E: Debug + Drop>(
     }
 }
 
-/// Adds the line of a text as Rust writes a byte string.
+/// Adds the line of a text in the syntax of a Rust byte string.
 pub(crate) fn add_quoted(said: &mut String, word: &str, text: &[u8]) -> Result<(), AllocError> {
     writeln!(said, "{word}\"{}\"", text.escape_ascii())
 }
 
-/// The number of a version.
+/// Returns the number of a version.
 pub(crate) fn version_number(version: Version) -> u8 {
     match version {
         Version::Two => 2,

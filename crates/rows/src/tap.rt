@@ -1,4 +1,4 @@
-//! The rows that are run on a tap.
+//! Rows that run on a tap.
 
 use crate::bounds;
 use crate::cut::{Cut, pieces};
@@ -12,15 +12,15 @@ use resp_value::Limits;
 use std::alloc::Global;
 use std::str;
 
-/// How many bytes of what is printed for a row are compared.
+/// The number of bytes printed for a row that are compared.
 const MOST: usize = 65_536;
 
-/// A tap on the connection of client 1.
+/// A tap of the connection of client 1.
 #[derive(Drop)]
 pub(crate) struct Tapping {
     alloc: Global,
     tap: TimedTap,
-    /// When what passes comes, where that is told.
+    /// The time at which the next bytes pass, if the row sets a time.
     now: Option<Moment>,
 }
 
@@ -49,14 +49,14 @@ impl Subject for Tapping {
 }
 
 impl Tapping {
-    /// `tap LIMITS` taps a new connection.
+    /// `tap LIMITS` begins a tap of a new connection.
     fn renew(&mut self, limits: &str) -> Result<()> {
         self.tap = TimedTap::new(self.alloc, &bounds::limits(limits)?);
         Ok(())
     }
 
-    /// `now OF_DAY STEADY` is the moment at which all comes that passes from here on, in
-    /// microseconds: of the day, and by a clock that is never set.
+    /// `now OF_DAY STEADY` sets the time of all bytes that pass from here on, in microseconds: the
+    /// time of day, and the time of a clock that is never set.
     fn set_clock(&mut self, moment: &str) -> Result<()> {
         let Some((of_day, steady)) = moment.split_once(' ') else {
             bail!("a moment has two numbers");
@@ -68,7 +68,7 @@ impl Tapping {
         Ok(())
     }
 
-    /// `client TEXT` and `server TEXT` print what is seen of a text that this side sends.
+    /// `client TEXT` and `server TEXT` print what the tap shows of a text sent by this side.
     fn pass(&mut self, side: Side, given: &str, cut: Cut, said: &mut String) -> Result<()> {
         let alloc = self.alloc;
         let text = bytes(alloc, given)?;

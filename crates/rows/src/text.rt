@@ -1,11 +1,11 @@
-//! Texts as rows spell them: with the escapes `\r`, `\n`, `\\` and `\xNN`, and with `{text*count}`
-//! for a text that stands there `count` times. Another brace is written `\x7b` or `\x7d`.
+//! Texts as rows write them: with the escapes `\r`, `\n`, `\\` and `\xNN`, and with `{text*count}`
+//! for `count` repetitions of a text. Any other brace is written `\x7b` or `\x7d`.
 
 use anyhow::{Context, Result, bail};
 use resp_value::{Command, Version};
 use std::alloc::Global;
 
-/// The bytes that a row's text spells.
+/// Returns the bytes of a row's text.
 pub(crate) fn bytes(alloc: Global, text: &str) -> Result<Vec<u8>> {
     let mut all = Vec::new(alloc);
     let (first, runs) = text.split_once('{').unwrap_or((text, ""));
@@ -20,7 +20,8 @@ pub(crate) fn bytes(alloc: Global, text: &str) -> Result<Vec<u8>> {
     Ok(all)
 }
 
-/// The words of a row's text. A space in a word is written `\x20`, and an empty word `{x*0}`.
+/// Returns the words of a row's text. A space inside a word is written `\x20`, and an empty word
+/// `{x*0}`.
 pub(crate) fn words(alloc: Global, text: &str) -> Result<Vec<Vec<u8>>> {
     let mut all = Vec::new(alloc);
     for word in text.split_whitespace() {
@@ -29,17 +30,17 @@ pub(crate) fn words(alloc: Global, text: &str) -> Result<Vec<Vec<u8>>> {
     Ok(all)
 }
 
-/// The first word, and what stands after its space.
+/// Returns the first word, and the text after the space that follows it.
 pub(crate) fn split(text: &str) -> (&str, &str) {
     text.split_once(' ').unwrap_or((text, ""))
 }
 
-/// The number that a text spells.
+/// Returns the number written in a text.
 pub(crate) fn number(text: &str) -> Result<u64> {
     text.parse::<u64>().context("no number")
 }
 
-/// The version of this number.
+/// Returns the version of this number.
 pub(crate) fn version(number: &str) -> Result<Version> {
     match number {
         "2" => Ok(Version::Two),
@@ -48,7 +49,7 @@ pub(crate) fn version(number: &str) -> Result<Version> {
     }
 }
 
-/// The version of a number, or none where no number is given.
+/// Returns the version of a number, or `None` if no number is given.
 pub(crate) fn version_if_any(number: &str) -> Result<Option<Version>> {
     if number.is_empty() {
         return Ok(None);
@@ -56,12 +57,12 @@ pub(crate) fn version_if_any(number: &str) -> Result<Option<Version>> {
     version(number).map(Some)
 }
 
-/// A command of the words of a row's text.
+/// Makes a command of the words of a row's text.
 pub(crate) fn command(alloc: Global, text: &str) -> Result<Command> {
     Ok(Command::new(words(alloc, text)?)?)
 }
 
-/// Adds a text `text*count`.
+/// Adds the repetitions written as `text*count`.
 fn add_run(alloc: Global, all: &mut Vec<u8>, run: &str) -> Result<()> {
     let (text, count) = run.rsplit_once('*').context("a run without its count")?;
     let mut once = Vec::new(alloc);
@@ -72,7 +73,7 @@ fn add_run(alloc: Global, all: &mut Vec<u8>, run: &str) -> Result<()> {
     Ok(())
 }
 
-/// Adds a text that has escapes and no runs.
+/// Adds a text that has escapes and no repetitions.
 fn add_escaped(all: &mut Vec<u8>, text: &str) -> Result<()> {
     let mut rest = text.as_bytes();
     for _ in 0..text.len() {
@@ -91,7 +92,7 @@ fn add_escaped(all: &mut Vec<u8>, text: &str) -> Result<()> {
     Ok(())
 }
 
-/// Adds the byte of an escape, whose backslash was read, and gives what follows it.
+/// Adds the byte of an escape whose backslash was read, and returns the text after the escape.
 fn add_escape<'a>(all: &mut Vec<u8>, text: &'a [u8]) -> Result<&'a [u8]> {
     let (byte, rest) = match text {
         [b'r', rest @ ..] => (b'\r', rest),
@@ -104,7 +105,7 @@ fn add_escape<'a>(all: &mut Vec<u8>, text: &'a [u8]) -> Result<&'a [u8]> {
     Ok(rest)
 }
 
-/// The value of a hexadecimal digit.
+/// Returns the value of a hexadecimal digit.
 fn digit(byte: u8) -> Result<u8> {
     match byte {
         b'0'..=b'9' => Ok(byte - b'0'),

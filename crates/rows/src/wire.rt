@@ -1,4 +1,4 @@
-//! The rows that are run on clients, sessions and worlds, with devices between.
+//! Rows that run on clients, sessions and worlds, over devices in memory.
 
 mod asking;
 mod devices;
@@ -19,12 +19,12 @@ use resp_value::limits::Limits;
 use resp_wire::Direction;
 use std::alloc::Global;
 
-/// What a conversation is about: a client, a hub, or a world, and the devices of the next call.
+/// The subject of a conversation: a client, a hub or a world, and the devices of the next call.
 #[derive(Drop)]
 pub(crate) struct Talk {
     alloc: Global,
     devices: Devices,
-    /// The calls of the devices by the last row.
+    /// The number of device calls in the last row.
     calls: Calls,
     asking: Asking,
     hub: TestHub,

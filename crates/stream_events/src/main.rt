@@ -1,10 +1,10 @@
-//! Tells the events of many streams, to be compared with what `bindings/c/streams.c` tells of them
-//! by the library for C: for each stream a sum of the numbers by which `include/resp.h` tells its
-//! steps.
+//! Scans many streams, and prints for each stream a checksum of the numbers that represent its
+//! steps in `include/resp.h`. tests/bindings compares them with those that `bindings/c/streams.c`
+//! prints with the library for C.
 //!
 //! Standard input has one stream after another: its version; a byte of switches, 1 for doubles, 2
-//! for no streamed forms and 4 for small limits; the number of its pieces; the length of each, a
-//! byte; and their bytes.
+//! for no streamed forms and 4 for small limits; the number of its pieces; the length of each
+//! piece, one byte; and their bytes.
 #![tactic(auto)]
 
 use anyhow::{Context, Result};
@@ -12,7 +12,7 @@ use resp_scan::{Event, OpenKind, Scanner, TextKind};
 use resp_value::{Limits, Version};
 use std::io::{BufWriter, Read, Write};
 
-/// The sum of numbers, in their order: FNV-1a of 64 bits, a number at a time.
+/// A checksum of numbers, in their order: 64-bit FNV-1a, a number at a time.
 #[derive(Drop)]
 struct Sum(u64);
 
@@ -87,7 +87,7 @@ impl Sum {
     }
 }
 
-/// The limits that the switches name.
+/// Returns the limits for the switches.
 fn limits(switches: u8) -> Result<Limits> {
     let limits = if switches & 4 == 0 {
         Limits::standard()
@@ -101,8 +101,8 @@ fn limits(switches: u8) -> Result<Limits> {
     )
 }
 
-/// Adds the steps of a piece, each after the number of bytes that it used, and then what the
-/// scanner says of itself; or why a byte is refused. Whether none is.
+/// Adds the steps of a piece, each after the number of bytes that it used, and then the state of
+/// the scanner or the cause of a fault. Returns whether there was no fault.
 fn add_piece(scanner: &mut Scanner, piece: &[u8], sum: &mut Sum) -> bool {
     let mut rest = piece;
     for _ in 0..u64::MAX {
@@ -150,7 +150,7 @@ fn print_stream<'a, W: Write>(streams: &'a [u8], output: &mut W) -> Result<&'a [
         Ok(()) => 0,
         Err(fault) => u64::from(fault.cause.number()),
     });
-    // As many bits as keep the output short.
+    // Prints half of the bits, to keep the output short.
     writeln!(output, "{:08x}", sum.0 >> 32)?;
     Ok(rest)
 }

@@ -1,4 +1,4 @@
-//! A key is set by one client and read by another, and before each event one of them is dropped.
+//! A client sets a key and another client reads it. Before each event one of them is dropped.
 
 use crate::Tally;
 use crate::replay::{Asked, Replay, TestWorld};
@@ -7,7 +7,7 @@ use resp_wire::{Event, Outcome, World};
 use std::alloc::{AllocError, Global};
 use std::hash::BuildHasherDefault;
 
-/// What each client asks.
+/// The command of each client.
 const ASKED: [Asked; 2] = [Asked::Set(b'a', b'1'), Asked::Get(b'a')];
 
 /// What happens to a client.
@@ -18,7 +18,7 @@ enum What {
     ComesBack,
 }
 
-/// What happens to the clients of these indexes.
+/// The events, each with the index of its client.
 const HAPPENINGS: [(What, usize); 8] = [
     (What::Asks, 0),
     (What::Asks, 1),
@@ -30,7 +30,7 @@ const HAPPENINGS: [(What, usize); 8] = [
     (What::ComesBack, 1),
 ];
 
-/// Drops each client before each event in turn, and after the last.
+/// Drops each client before each event in turn, and after the last event.
 pub(crate) fn run_all(alloc: Global) -> Result<Tally, AllocError> {
     let mut tally = Tally { worlds: 0, same: 0 };
     for dropped in 0..2 {
@@ -41,7 +41,7 @@ pub(crate) fn run_all(alloc: Global) -> Result<Tally, AllocError> {
     Ok(tally)
 }
 
-/// How far the command of a client came.
+/// How far the command of a client has come.
 #[derive(Clone, Copy)]
 enum Stage {
     NotAsked,
@@ -50,7 +50,7 @@ enum Stage {
     Heard,
 }
 
-/// Whether a world shows what the replay says where this client is dropped at this place.
+/// Returns whether a world agrees with the replay if this client is dropped at this place.
 fn run(alloc: Global, dropped: usize, place: usize) -> Result<bool, AllocError> {
     let mut replay = Replay::new(alloc);
     match World::new(alloc, 2, Limits::standard(), BuildHasherDefault::new()) {
@@ -95,7 +95,7 @@ fn run_events(
     Ok(goes_well && shows(world, replay, stages))
 }
 
-/// Takes an event, and says whether this comes of it.
+/// Performs an event, and returns whether it has this outcome.
 fn is_done(world: &mut TestWorld, event: &Event, wanted: Outcome) -> bool {
     world.step(event) == Ok(wanted)
 }
@@ -109,7 +109,7 @@ fn event(alloc: Global, what: What, index: usize) -> Result<Event, AllocError> {
     })
 }
 
-/// What an event leaves of its client.
+/// Returns the stage of a client after an event.
 fn happen(
     replay: &mut Replay,
     what: What,
@@ -135,7 +135,7 @@ fn shows(world: &TestWorld, replay: &Replay, stages: [Stage; 2]) -> bool {
         && replay.answers(world, 2, heard(later))
 }
 
-/// How many replies a client heard.
+/// Returns the number of replies that a client has received.
 fn heard(stage: Stage) -> usize {
     match stage {
         Stage::Heard => 1,

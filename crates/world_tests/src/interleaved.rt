@@ -1,5 +1,5 @@
-//! Three clients with two commands each, each command in two parts: every interleaving of what
-//! comes at once, the second part of a command with the first of the next.
+//! Three clients with two commands each, and each command in two parts: every order of the
+//! arrivals. The second part of a command arrives together with the first part of the next command.
 
 use crate::Tally;
 use crate::replay::{Asked, Replay, TestWorld};
@@ -8,20 +8,20 @@ use resp_wire::{Event, World};
 use std::alloc::{AllocError, Global};
 use std::hash::BuildHasherDefault;
 
-/// What each client asks.
+/// The commands of each client.
 const ASKED: [[Asked; 2]; 3] = [
     [Asked::Set(b'a', b'1'), Asked::Get(b'b')],
     [Asked::Set(b'b', b'2'), Asked::Get(b'a')],
     [Asked::Delete(b'a'), Asked::Set(b'a', b'3')],
 ];
 
-/// Nine arrivals, each at one of three sessions.
+/// The number of sequences of nine arrivals, each at one of three sessions.
 const SEQUENCES: u64 = 19_683;
 
-/// How many arrivals each client has.
+/// The number of arrivals of each client.
 const ARRIVALS: usize = 3;
 
-/// Runs each sequence of clients in which each stands three times.
+/// Runs each sequence in which each client occurs three times.
 pub(crate) fn run_all(alloc: Global) -> Result<Tally, AllocError> {
     let mut tally = Tally { worlds: 0, same: 0 };
     for sequence in 0..SEQUENCES {
@@ -33,7 +33,7 @@ pub(crate) fn run_all(alloc: Global) -> Result<Tally, AllocError> {
     Ok(tally)
 }
 
-/// The clients of the arrivals, by the digits of a number to the base 3.
+/// Returns the clients of the arrivals, the digits of a number to the base 3.
 fn clients_of(sequence: u64) -> [usize; 9] {
     let mut clients = [0; 9];
     let mut rest = sequence;
@@ -44,7 +44,7 @@ fn clients_of(sequence: u64) -> [usize; 9] {
     clients
 }
 
-/// How often each client stands among these.
+/// Returns how often each client occurs among these.
 fn counts_of(clients: &[usize; 9]) -> [usize; 3] {
     let mut counts = [0usize; 3];
     for client in clients {
@@ -54,7 +54,7 @@ fn counts_of(clients: &[usize; 9]) -> [usize; 3] {
     counts
 }
 
-/// Whether a world shows what the replay of these arrivals says.
+/// Returns whether a world and the replay agree for these arrivals.
 fn run(alloc: Global, clients: &[usize]) -> Result<bool, AllocError> {
     let mut events = Vec::new(alloc);
     let mut replay = Replay::new(alloc);
@@ -74,7 +74,8 @@ fn ask(alloc: Global, events: &mut Vec<Event>) -> Result<(), AllocError> {
     Ok(())
 }
 
-/// What the clients sent arrives in this order, and the replay runs each command as it is whole.
+/// Lets the bytes of the clients arrive in this order. The replay runs each command when it is
+/// complete.
 fn arrive(
     clients: &[usize],
     events: &mut Vec<Event>,
@@ -98,7 +99,7 @@ fn arrive(
     Ok(())
 }
 
-/// All replies come back.
+/// Lets all replies reach the clients.
 fn come_back(events: &mut Vec<Event>) -> Result<(), AllocError> {
     for number in 1..=3 {
         events.push(Event::ToClient(number, 1_000))?;
@@ -106,7 +107,7 @@ fn come_back(events: &mut Vec<Event>) -> Result<(), AllocError> {
     Ok(())
 }
 
-/// Whether a world in which this happens shows what the replay says.
+/// Returns whether a world with these events agrees with the replay.
 fn is_replayed(alloc: Global, events: &[Event], replay: &Replay) -> Result<bool, AllocError> {
     match World::new(alloc, 3, Limits::standard(), BuildHasherDefault::new()) {
         Ok(mut world) => Ok(runs(&mut world, events) && shows(&world, replay)),
@@ -118,7 +119,7 @@ fn runs(world: &mut TestWorld, events: &[Event]) -> bool {
     world.run(events).is_ok()
 }
 
-/// Whether all that came back is what the replay says.
+/// Returns whether all replies received are those of the replay.
 fn shows(world: &TestWorld, replay: &Replay) -> bool {
     world.clients() == 3
         && replay.agrees(world)

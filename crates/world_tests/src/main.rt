@@ -1,7 +1,7 @@
-//! Runs worlds over memory in every order that matters, and compares what each shows with a replay
-//! that is written apart: one store, and the commands as they come whole.
+//! Runs worlds over memory in every order that matters, and compares each world with an independent
+//! replay: one store, and the commands in the order in which they become complete.
 //!
-//! It prints how many worlds there were, and of how many the replay says the same.
+//! Prints the number of worlds, and the number of worlds that agree with the replay.
 #![tactic(auto)]
 
 mod dropped;
@@ -11,7 +11,7 @@ mod replay;
 use anyhow::Result;
 use std::alloc::AllocError;
 
-/// How many worlds were run, and how many of them showed what the replay says.
+/// The number of worlds that were run, and the number of worlds that agreed with the replay.
 #[derive(Clone, Copy)]
 struct Tally {
     worlds: u64,

@@ -1,4 +1,4 @@
-//! The replay: commands one after another over one store.
+//! The replay: it runs one command after another on one store.
 
 use resp_value::command::Command;
 use resp_value::value::Value;
@@ -8,7 +8,7 @@ use std::hash::{BuildHasherDefault, FoldHasher};
 
 pub(crate) type TestWorld = World<MemoryLink, BuildHasherDefault<FoldHasher>>;
 
-/// A command of keys and values of one byte.
+/// A command with keys and values of one byte.
 #[derive(Clone, Copy)]
 pub(crate) enum Asked {
     Get(u8),
@@ -16,7 +16,7 @@ pub(crate) enum Asked {
     Delete(u8),
 }
 
-/// What a command is answered.
+/// The reply to a command.
 #[derive(Clone, Copy)]
 pub(crate) enum Answer {
     Fine,
@@ -26,7 +26,7 @@ pub(crate) enum Answer {
 }
 
 impl Asked {
-    /// The command with its words.
+    /// Returns the command with its words.
     pub(crate) fn command(self, alloc: Global) -> Result<Command, AllocError> {
         match self {
             Asked::Get(key) => command(alloc, &[b"GET", &[key]]),
@@ -35,7 +35,8 @@ impl Asked {
         }
     }
 
-    /// How many bytes its text has: a GET or a DEL of one key 20, and a SET of one byte 27.
+    /// Returns the number of bytes of its text: 20 for a GET or a DEL of one key, and 27 for a SET
+    /// of one byte.
     fn length(self) -> u64 {
         match self {
             Asked::Get(_) => 20,
@@ -44,18 +45,18 @@ impl Asked {
         }
     }
 
-    /// How many of them come first.
+    /// Returns the number of bytes that arrive first.
     pub(crate) fn begun(self) -> u64 {
         self.length() / 3
     }
 
-    /// How many come then.
+    /// Returns the number of bytes that arrive after them.
     pub(crate) fn rest(self) -> u64 {
         self.length().saturating_sub(self.begun())
     }
 }
 
-/// A command of these words.
+/// Makes a command of these words.
 fn command(alloc: Global, texts: &[&[u8]]) -> Result<Command, AllocError> {
     let mut words = Vec::new(alloc);
     for text in texts {
@@ -64,7 +65,7 @@ fn command(alloc: Global, texts: &[&[u8]]) -> Result<Command, AllocError> {
     Command::new(words).map_err(|_| AllocError)
 }
 
-/// The store, the clients in the order of their commands, and what each command was answered.
+/// The store, the clients in the order of their commands, and the reply to each command.
 #[derive(Drop)]
 pub(crate) struct Replay {
     store: Vec<(u8, u8)>,
@@ -103,7 +104,7 @@ impl Replay {
         Ok(())
     }
 
-    /// Whether a world shows this order and this store.
+    /// Returns whether a world shows this order and this store.
     pub(crate) fn agrees(&self, world: &TestWorld) -> bool {
         let mut count: usize = 0;
         for (key, value) in world.entries() {
@@ -120,8 +121,8 @@ impl Replay {
         count == self.store.len() && world.order() == self.order.as_slice()
     }
 
-    /// Whether the client of a number heard the first `count` replies of this replay to it, and no
-    /// others.
+    /// Returns whether the client of a number has received the first `count` replies of this replay
+    /// to it, and no others.
     pub(crate) fn answers(&self, world: &TestWorld, client: usize, count: usize) -> bool {
         client > 0
             && client <= world.clients()

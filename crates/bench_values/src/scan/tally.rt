@@ -1,11 +1,11 @@
-//! What is counted of a text. Only the number of parts depends on how it is cut into pieces.
+//! The counts of a text. Only the number of parts depends on how the text is cut into pieces.
 
 use resp_scan::event::{Event, Fault, ScanError, TextKind};
 use resp_scan::listener::Listener;
 use resp_scan::scanner::Scanner;
 use resp_value::kind::OpenKind;
 
-/// By which call a text is read.
+/// The call with which a text is read.
 #[derive(Clone, Copy)]
 pub(crate) enum Call {
     Step,
@@ -15,9 +15,9 @@ pub(crate) enum Call {
 
 #[derive(Drop)]
 pub(crate) struct Tally {
-    /// Values at the top.
+    /// Outermost values.
     pub(crate) replies: u64,
-    /// Values that were begun, those inside aggregates among them.
+    /// Values that have begun, including those inside aggregates.
     pub(crate) values: u64,
     /// Bytes of texts.
     pub(crate) content: u64,
@@ -41,7 +41,7 @@ impl Tally {
         }
     }
 
-    /// The number of all events.
+    /// Returns the number of all events.
     pub(crate) fn events(&self) -> u64 {
         self.replies
             .wrapping_add(self.values)
@@ -84,7 +84,7 @@ impl Tally {
         self.add_end();
     }
 
-    /// Counts an aggregate and its members, without a look into these.
+    /// Counts an aggregate and its members, without looking into the members.
     #[inline(always)]
     pub(crate) fn add_members(&mut self, members: usize) {
         self.values = self.values.wrapping_add(1).wrapping_add(members as u64);
@@ -103,7 +103,7 @@ impl Tally {
     }
 }
 
-/// It never stops.
+/// A listener that never stops.
 impl Listener for Tally {
     ghost Origin = { Unit {0} };
 
@@ -160,7 +160,7 @@ impl Listener for Tally {
     }
 }
 
-/// Scans the text in pieces of `size` bytes, by steps.
+/// Scans the text in pieces of `size` bytes, with steps.
 #[inline(never)]
 pub(crate) fn step_text(
     scanner: &mut Scanner,
@@ -188,7 +188,7 @@ fn step_piece(scanner: &mut Scanner, piece: &[u8], tally: &mut Tally) -> Result<
     Ok(())
 }
 
-/// Scans the text in pieces of `size` bytes, by the loop.
+/// Scans the text in pieces of `size` bytes, with the loop.
 #[inline(never)]
 pub(crate) fn scan_text(
     scanner: &mut Scanner,

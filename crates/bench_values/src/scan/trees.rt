@@ -1,5 +1,5 @@
-//! What is counted of a text that is decoded: of each value at the top what lies in itself, and how
-//! many members it has.
+//! The counts of a decoded text: of each outermost value its own content and the number of its
+//! members.
 
 use super::tally::Tally;
 use resp_decode::Decoder;

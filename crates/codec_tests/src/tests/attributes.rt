@@ -1,11 +1,11 @@
-//! A value without the attributes before it.
+//! A value without the attributes in front of it.
 
 use super::build::value;
 use super::check_equal;
 use std::process::Abort;
 
-/// That of the value that the first text spells the value of the second is left without the
-/// attributes before it.
+/// Checks that the value of the first text is the value of the second text once its attributes are
+/// removed.
 fn check_left<R: Abort + AllocGlobal>(rt: &R, text: &[u8], left: &[u8]) {
     let (value, left) = (&value(rt, text), &value(rt, left));
     check_equal(rt, value.without_attributes(), left);

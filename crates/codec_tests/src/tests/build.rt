@@ -1,4 +1,4 @@
-//! Values to test with. Where memory is refused the test fails, so that tests have no `?`.
+//! Values to test with. If an allocation fails the test fails, so tests need no `?`.
 
 use bytes::BytesMut;
 use resp_decode::decode_all;
@@ -8,7 +8,7 @@ use resp_value::value::Value;
 use resp_value::version::Version;
 use std::process::Abort;
 
-/// The bytes of a text.
+/// Returns the bytes of a text.
 pub fn vec<R: Abort + AllocGlobal>(rt: &R, text: &[u8]) -> Vec<u8> {
     text.to_vec(rt.alloc()).expect(rt, "out of memory")
 }
@@ -17,7 +17,7 @@ pub fn content<R: Abort + AllocGlobal>(rt: &R, bytes: &[u8]) -> Content {
     Content::new(vec(rt, bytes))
 }
 
-/// The values that a text of version 3 spells, with doubles.
+/// Returns the values encoded in a text of version 3, with doubles.
 pub fn values<R: Abort + AllocGlobal>(rt: &R, text: &[u8]) -> Vec<Value> {
     match decode_all(rt.alloc(), Version::Three, &limits_with_doubles(), text) {
         Ok(values) => values,
@@ -25,7 +25,7 @@ pub fn values<R: Abort + AllocGlobal>(rt: &R, text: &[u8]) -> Vec<Value> {
     }
 }
 
-/// The one value that a text of version 3 spells.
+/// Returns the one value encoded in a text of version 3.
 pub fn value<R: Abort + AllocGlobal>(rt: &R, text: &[u8]) -> Value {
     values(rt, text).pop().expect(rt, "no value")
 }
@@ -44,17 +44,17 @@ pub fn small_limits() -> Limits {
     Limits::new(4, 64, 256).unwrap().with_items(16).unwrap()
 }
 
-/// The standard limits, under which doubles are allowed.
+/// Returns the standard limits with doubles allowed.
 pub fn limits_with_doubles() -> Limits {
     Limits::standard().with_doubles(true)
 }
 
-/// A buffer that holds `kept`, without spare room.
+/// Returns a buffer that holds `kept`, without spare room.
 pub fn bare_buffer<R: Abort + AllocGlobal>(rt: &R) -> BytesMut {
     BytesMut::copy_from_slice(rt.alloc(), b"kept").expect(rt, "out of memory")
 }
 
-/// A buffer that holds `kept`, with spare room.
+/// Returns a buffer that holds `kept`, with spare room.
 pub fn roomy_buffer<R: Abort + AllocGlobal>(rt: &R) -> BytesMut {
     let mut buffer = BytesMut::with_capacity(rt.alloc(), 1024).expect(rt, "out of memory");
     buffer

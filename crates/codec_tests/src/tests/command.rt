@@ -1,11 +1,11 @@
-//! What a command keeps and refuses.
+//! The words that a command accepts and rejects.
 
 use super::build::words;
 use super::check_equal;
 use resp_value::command::{BadCommand, Command};
 use std::process::Abort;
 
-/// That a command keeps three words, and that a copy of it is equal.
+/// Checks that a command keeps three words, and that a copy of it is equal.
 fn check_kept<R: Abort + AllocGlobal>(rt: &R, command: &Command, wanted: [&[u8]; 3]) {
     let [first, second, third] = command.words() else {
         panic!(rt; "not three words");

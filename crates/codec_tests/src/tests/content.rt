@@ -1,4 +1,4 @@
-//! What content keeps.
+//! The bytes that content keeps.
 
 use super::build::content;
 use super::check_equal;

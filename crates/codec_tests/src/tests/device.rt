@@ -1,4 +1,5 @@
-//! What no clause says: that the calls succeed, and what a few runs give.
+//! Device tests that no contract covers: the calls succeed, and a few runs have their expected
+//! results.
 
 use super::check_equal;
 use resp_value::device::{
@@ -8,7 +9,7 @@ use std::io;
 use std::io::Read;
 use std::process::Abort;
 
-/// A reader that fails, and a writer that does.
+/// A reader and writer that fails.
 #[derive(Drop)]
 struct Broken;
 
@@ -28,7 +29,7 @@ impl io::Write for Broken {
     }
 }
 
-/// Reads to room for four bytes, and looks at the answer and at what stands there then.
+/// Reads into four bytes, and checks the result and the bytes.
 fn check_read<T: Source>(
     rt: &impl Abort,
     source: &mut T,

@@ -1,4 +1,4 @@
-//! What a big number keeps, and which texts are none.
+//! The sign and digits that a big number keeps, and texts that are not numbers.
 
 use super::build::vec;
 use super::check_equal;
@@ -24,7 +24,7 @@ fn keeps_sign_and_digits(rt: HostRuntime) {
     check_kept(&rt, b"-98765432109876543210", true, b"98765432109876543210");
 }
 
-/// Whether digits are taken as they are kept.
+/// Returns whether these digits are accepted without a change.
 fn is_kept<R: Abort + AllocGlobal>(rt: &R, is_negative: bool, digits: &[u8]) -> bool {
     Digits::of_kept(is_negative, vec(rt, digits)).is_some()
 }
@@ -39,7 +39,7 @@ fn takes_digits_as_they_are_kept(rt: HostRuntime) {
     check_equal(&rt, is_kept(&rt, false, b"-7"), false);
 }
 
-/// That each of these texts is no number.
+/// Checks that each of these texts is rejected.
 fn check_refused<R: Abort + AllocGlobal>(rt: &R, texts: &[&[u8]]) {
     for text in texts {
         let refused = Digits::new(rt.alloc(), text).err();

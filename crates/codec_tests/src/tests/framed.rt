@@ -1,5 +1,5 @@
-//! The codecs for tokio's framed streams, over buffers: values and commands at every cut, the end
-//! of the input, and what is written.
+//! The codecs for the framed streams of tokio, over buffers: values and commands at every cut, the
+//! end of the input, and encoding.
 
 use super::build::{value, values};
 use super::check_equal;
@@ -15,7 +15,7 @@ use tokio_util::codec::{Decoder, Encoder};
 /// Three values, one after another.
 const TEXT: &[u8] = b"+OK\r\n%1\r\n$1\r\na\r\n*2\r\n:1\r\n_\r\n#t\r\n";
 
-/// The values that a codec gives out of a buffer and what is added to it.
+/// Returns the values that a codec reads from a buffer after a piece was added to it.
 fn decode_all<R: Abort + AllocGlobal>(
     rt: &R,
     codec: &mut RespCodec,
@@ -52,7 +52,8 @@ fn values_come_however_they_are_cut(rt: HostRuntime) {
     }
 }
 
-/// What a codec of values in version 2 says of a text and, where it takes all of it, of its end.
+/// Returns the result of a codec of values in version 2 for a text, and for its end if the whole
+/// text was read.
 fn answer<R: Abort + AllocGlobal>(rt: &R, text: &[u8]) -> String {
     let mut codec = RespCodec::new(rt.alloc(), Version::Two, &Limits::standard());
     let mut buffer = BytesMut::new(rt.alloc());

@@ -1,5 +1,6 @@
-//! Parts are lent from the caller's piece, and live as long as it does. That no part lives longer
-//! is tested by `tests/lifetimes` at the top of the repository, which breaks lines of this file.
+//! Parts are borrowed from the caller's piece and live as long as the piece. `tests/lifetimes` at
+//! the top of the repository checks that no part lives longer: it changes lines of this file, and
+//! the changed file must not compile.
 
 use super::check_equal;
 use resp_scan::event::Fault;
@@ -14,7 +15,7 @@ fn step<'a>(scanner: &mut Scanner, rest: &'a [u8]) -> Result<Step<'a>, Fault> {
     scanner.step(rest)
 }
 
-/// Adds the parts of a piece, which is then used up, or `None` where it isn't.
+/// Adds the parts of a piece. Returns `None` if the piece is not used up.
 fn add_parts<'a>(scanner: &mut Scanner, piece: &'a [u8], kept: &mut Vec<&'a [u8]>) -> Option<()> {
     let mut from = 0;
     for _ in 0..100 {
@@ -31,7 +32,7 @@ fn add_parts<'a>(scanner: &mut Scanner, piece: &'a [u8], kept: &mut Vec<&'a [u8]
     None
 }
 
-/// The parts of a piece, kept while the scanner goes on.
+/// Returns the parts of a piece, which are kept while the scanner goes on.
 fn parts<'a, R: Abort + AllocGlobal>(
     rt: &R,
     scanner: &mut Scanner,
@@ -86,7 +87,7 @@ fn a_piece_changes_after_its_parts(rt: HostRuntime) -> Result<(), Fail> {
     Ok(())
 }
 
-/// Keeps a constant for each part, which itself lives no longer than the call.
+/// Keeps a constant for each part. The part itself lives only during the call.
 #[derive(Drop)]
 struct KeptConstant<'a> {
     length: usize,

@@ -1,4 +1,4 @@
-//! What limits keep, and their ranges.
+//! The numbers that limits keep, and their ranges.
 
 use super::check_equal;
 use resp_value::limits::{BadLimits, Limits};
@@ -15,7 +15,7 @@ fn check_limits(rt: &impl Abort, limits: Limits, numbers: [u64; 4], streamed: bo
     check_equal(rt, limits.streamed(), streamed);
 }
 
-/// That these limits allow doubles once they are told to, and until they are told not to.
+/// Checks that these limits can allow doubles and forbid them again.
 fn check_doubles(rt: &impl Abort, limits: Limits) {
     let allowed = limits.with_doubles(true);
     let refused = allowed.with_doubles(false);
@@ -52,7 +52,7 @@ fn limits_of([depth, length, total, items]: [u64; 4]) -> Result<Limits, BadLimit
     Limits::new(depth, length, total)?.with_items(items)
 }
 
-/// That each of these is taken, or that each is refused.
+/// Checks that each of these is accepted, or that each is rejected.
 fn check_taken(rt: &impl Abort, all: &[[u64; 4]], is_taken: bool) {
     for numbers in all {
         check_equal(rt, limits_of(*numbers).is_ok(), is_taken);

@@ -1,11 +1,11 @@
-//! What a line keeps and refuses.
+//! The bytes that a line accepts and rejects.
 
 use super::build::vec;
 use super::check_equal;
 use resp_value::line::{BadLine, Line};
 use std::process::Abort;
 
-/// That a line keeps these bytes, or hands them back.
+/// Checks that a line accepts these bytes, or returns them in its error.
 fn check_line<R: Abort + AllocGlobal>(rt: &R, bytes: &[u8], is_kept: bool) {
     match Line::new(vec(rt, bytes)) {
         Ok(line) => check_equal(rt, (line.text(), true), (bytes, is_kept)),

@@ -1,4 +1,4 @@
-//! Values that are refused, and those that are just taken.
+//! Values that the encoder rejects, and values just within the limits.
 
 use super::build::{limits_with_doubles, small_limits, value, values};
 use super::check_equal;
@@ -10,13 +10,13 @@ use resp_value::value::{Members, Value};
 use resp_value::version::Version;
 use std::process::Abort;
 
-/// That the value of a text has this size in a version.
+/// Checks that the value of a text has this size in a version.
 fn check_size<R: Abort + AllocGlobal>(rt: &R, version: Version, text: &[u8], wanted: Option<u64>) {
     let value = &value(rt, text);
     check_equal(rt, size(version, value), wanted);
 }
 
-/// That `encode` refuses the value of a text in version 2, where it has no size.
+/// Checks that `encode` rejects the value of a text in version 2, where it has no size.
 fn check_refused<R: Abort + AllocGlobal>(rt: &R, text: &[u8], error: EncodeError) {
     check_size(rt, Version::Two, text, None);
     let value = &value(rt, text);
@@ -29,7 +29,7 @@ fn types(rt: HostRuntime) {
     check_refused(&rt, b">0\r\n", EncodeError::NotInVersion);
 }
 
-/// That `encode` refuses an array with a push in it so, which then has no size.
+/// Checks that `encode` rejects an array with a push in it, which then has no size.
 fn check_nested<R: Abort + AllocGlobal>(rt: &R, version: Version, error: EncodeError) {
     let array = &Value::Array(Members::new(values(rt, b">0\r\n")));
     check_equal(rt, size(version, array), None);
@@ -42,8 +42,8 @@ fn nested_pushes(rt: HostRuntime) {
     check_nested(&rt, Version::Two, EncodeError::NotInVersion);
 }
 
-/// That `encode` refuses this value in both versions where doubles aren't allowed, since it has
-/// one.
+/// Checks that `encode` rejects this value in both versions if doubles are not allowed, because it
+/// holds a double.
 fn check_doubles<R: Abort + AllocGlobal>(rt: &R, value: &Value) {
     let limits = &Limits::standard();
     check_encode(rt, Version::Three, limits, value, Err(EncodeError::Double));
@@ -73,19 +73,19 @@ fn null_in_version_two_is_none_of_them(rt: HostRuntime) {
     check_size(&rt, Version::Two, b"*1\r\n_\r\n", Some(9));
 }
 
-/// That `encode` comes to this on the value of a text in version 2, under limits that are small.
+/// Checks the result of `encode` for the value of a text in version 2, under small limits.
 fn check_small<R: Abort + AllocGlobal>(rt: &R, text: &[u8], wanted: Result<&[u8], EncodeError>) {
     let value = &value(rt, text);
     check_encode(rt, Version::Two, &small_limits(), value, wanted);
 }
 
-/// That these limits refuse the value of a text by this one of them.
+/// Checks that the value of a text exceeds this limit.
 fn check_over<R: Abort + AllocGlobal>(rt: &R, text: &[u8], limit: Limit) {
     check_small(rt, text, Err(EncodeError::OverLimits(limit)));
 }
 
-/// Arrays in one another, and in the innermost a bulk string of 65 bytes, one more than the small
-/// limits let it be.
+/// Nested arrays with a bulk string of 65 bytes in the innermost, one byte more than the small
+/// limits allow.
 const DEEP: &[u8] = b"*1\r\n*1\r\n*1\r\n*1\r\n*1\r\n\
     $65\r\n0123456789abcdef0123456789abcdef0123456789abcdef0123456789abcdef0\r\n";
 
@@ -99,7 +99,7 @@ fn depth_is_named_before_length(rt: HostRuntime) {
     check_over(&rt, DEEP, Limit::Depth);
 }
 
-/// Seventeen members, one more than the small limits let there be items.
+/// Seventeen members, one more than the small limits allow.
 const MANY: &[u8] = b"*17\r\n:1\r\n:1\r\n:1\r\n:1\r\n:1\r\n:1\r\n:1\r\n:1\r\n:1\r\n\
     :1\r\n:1\r\n:1\r\n:1\r\n:1\r\n:1\r\n:1\r\n:1\r\n";
 
@@ -108,7 +108,7 @@ fn items(rt: HostRuntime) {
     check_over(&rt, MANY, Limit::Items);
 }
 
-/// Four bulk strings of 64 bytes, as long as the small limits let them be: 288 bytes.
+/// Four bulk strings of 64 bytes, as long as the small limits allow: 288 bytes.
 const FOUR: &[u8] = b"*4\r\n\
     $64\r\n0123456789abcdef0123456789abcdef0123456789abcdef0123456789abcdef\r\n\
     $64\r\n0123456789abcdef0123456789abcdef0123456789abcdef0123456789abcdef\r\n\

@@ -8,8 +8,8 @@ use resp_value::limits::Limits;
 use resp_value::version::Version;
 use std::process::Abort;
 
-/// That `encode_to` answers so of the value of a text in version 2, to a writer that takes at most
-/// `most` bytes a call and fails from a byte on, and that it then has written these bytes.
+/// Checks the result of `encode_to` for the value of a text in version 2, and the bytes written.
+/// The writer accepts at most `most` bytes in a write and fails from a byte on.
 fn check_sent<R: Abort + AllocGlobal>(
     rt: &R,
     text: &[u8],

@@ -9,7 +9,8 @@ use resp_value::value::Value;
 use resp_value::version::Version;
 use std::process::Abort;
 
-/// That `encode` appends this text, or refuses so, where there is room and where there is none.
+/// Checks that `encode` appends this text or fails with this error, with and without spare room in
+/// the buffer.
 pub fn check_encode<R: Abort + AllocGlobal>(
     rt: &R,
     version: Version,
@@ -21,7 +22,7 @@ pub fn check_encode<R: Abort + AllocGlobal>(
     check_into(rt, &mut roomy_buffer(rt), version, limits, value, wanted);
 }
 
-/// Encodes into a buffer that holds `kept`, which a refused call has to leave as it is.
+/// Encodes into a buffer that holds `kept`. A failed call has to leave the buffer unchanged.
 fn check_into(
     rt: &impl Abort,
     buffer: &mut BytesMut,
@@ -38,7 +39,7 @@ fn check_into(
     }
 }
 
-/// That of the value that the first text spells the second is the text in version 3, and that a
+/// Checks that the value encoded in the first text has the second text in version 3, and that a
 /// copy of the value is equal to it.
 fn check_text<R: Abort + AllocGlobal>(rt: &R, spelling: &[u8], text: &[u8]) {
     let value = &value(rt, spelling);
@@ -52,7 +53,7 @@ fn check_copy<R: Abort + AllocGlobal>(rt: &R, value: &Value) {
     check_equal(rt, copy, value);
 }
 
-/// That each of these is the text of its value.
+/// Checks that each of these is the canonical text of its value.
 fn check_texts<R: Abort + AllocGlobal>(rt: &R, texts: &[&[u8]]) {
     for text in texts {
         check_text(rt, text, text);
@@ -66,7 +67,7 @@ fn nulls(rt: HostRuntime) {
     check_text(&rt, b"$-1\r\n", b"_\r\n");
 }
 
-/// Texts that values have in version 3 as they are spelled here.
+/// Canonical texts of values in version 3.
 const TEXTS: [&[u8]; 25] = [
     b"_\r\n",
     b"#t\r\n",

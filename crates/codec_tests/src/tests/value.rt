@@ -1,21 +1,21 @@
-//! Which values are equal, and what lists keep.
+//! Equality of values, and the contents of lists.
 
 use super::build::{value, values};
 use super::check_equal;
 use resp_value::value::{Members, PairList, Value};
 use std::process::Abort;
 
-/// Seventeen scalars, of which no two are equal.
+/// Seventeen scalars, no two of them equal.
 const SCALARS: &[u8] = b"_\r\n#f\r\n#t\r\n:7\r\n:-7\r\n+7\r\n+\r\n-7\r\n$1\r\n7\r\n$2\r\n7\r\r\n\
     !1\r\n7\r\n=5\r\ntxt:7\r\n=5\r\nmkd:7\r\n(7\r\n(-7\r\n,7\r\n,7.0\r\n";
 
-/// Fifteen aggregates, of which no two are equal.
+/// Fifteen aggregates, no two of them equal.
 const AGGREGATES: &[u8] = b"*0\r\n*1\r\n:1\r\n*2\r\n:1\r\n:2\r\n*2\r\n:2\r\n:1\r\n\
     *1\r\n*2\r\n:1\r\n:2\r\n~2\r\n:1\r\n:2\r\n~2\r\n:2\r\n:1\r\n>2\r\n:1\r\n:2\r\n%1\r\n:1\r\n:2\r\n\
     %2\r\n:1\r\n:2\r\n:3\r\n:4\r\n%2\r\n:3\r\n:4\r\n:1\r\n:2\r\n%2\r\n:1\r\n:2\r\n:1\r\n:2\r\n\
     |1\r\n:1\r\n:2\r\n:3\r\n|1\r\n:1\r\n:2\r\n:4\r\n|0\r\n:3\r\n";
 
-/// That each of the values that a text spells, of which there are `count`, equals itself alone.
+/// Checks that each of the `count` values encoded in a text equals only itself.
 fn check_each_equals_itself_alone<R: Abort + AllocGlobal>(rt: &R, text: &[u8], count: usize) {
     let (values, again) = (&values(rt, text), &values(rt, text));
     check_equal(rt, (values.len(), again.len()), (count, count));

@@ -1,4 +1,4 @@
-//! What a value asks of a session.
+//! The request that a value makes of a session.
 
 use super::build::value;
 use super::check_equal;
@@ -16,7 +16,7 @@ fn check_words(rt: &impl Abort, mut words: Words) {
     check_equal(rt, words.pop().is_none(), true);
 }
 
-/// That this is the last word, which is taken away.
+/// Checks that this is the last word, and removes it.
 fn check_popped(rt: &impl Abort, words: &mut Words, wanted: &[u8]) {
     match words.pop() {
         Some(word) => check_equal(rt, word.list(), wanted),
@@ -24,7 +24,8 @@ fn check_popped(rt: &impl Abort, words: &mut Words, wanted: &[u8]) {
     }
 }
 
-/// That the value of a text asks for the command `GET` of one word, asks nothing, or is none.
+/// Checks that the value of a text is the command `GET` with one word, makes no request, or is not
+/// a command.
 fn check_asked<R: Abort + AllocGlobal>(rt: &R, text: &[u8], wanted: &str) {
     let word = match asked_by(value(rt, text)) {
         Asked::Command(words) => {

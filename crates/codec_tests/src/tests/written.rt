@@ -7,7 +7,7 @@ use resp_value::cause::Limit;
 use resp_value::value::Value;
 use std::process::Abort;
 
-/// That `encode_push` appends this text of these items to a buffer that holds `kept`.
+/// Checks that `encode_push` appends this text of these items to a buffer that holds `kept`.
 fn check_push<R: Abort + AllocGlobal>(rt: &R, items: &[Value], text: &[u8]) {
     let mut buffer = bare_buffer(rt);
     let answer = encode_push(&small_limits(), items, &mut buffer);
@@ -20,8 +20,8 @@ fn pushes(rt: HostRuntime) {
     check_push(&rt, &[Value::Int(1)], b"kept>1\r\n:1\r\n");
 }
 
-/// That `check_words` and `encode_words` answer so of these words, and that the buffer, which held
-/// `kept`, then holds this text.
+/// Checks the results of `check_words` and `encode_words` for these words, and the text of the
+/// buffer, which held `kept` before.
 fn check_written<R: Abort + AllocGlobal>(
     rt: &R,
     words: &[Vec<u8>],

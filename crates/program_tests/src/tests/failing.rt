@@ -1,4 +1,4 @@
-//! Readers and writers that fail in the midst of a stream.
+//! Readers and writers that fail in the middle of a stream.
 
 use super::check_equal;
 use super::streams::{STREAM, run};
@@ -8,12 +8,14 @@ use resp_value::device::{MemorySink, MemorySource};
 use resp_value::version::Version;
 use std::process::Abort;
 
-/// A writer that takes at most `most` bytes at once, and fails from byte `fails_from` on.
+/// Makes a writer that accepts at most `most` bytes in a write, and fails from byte `fails_from`
+/// on.
 fn sink<R: Abort + AllocGlobal>(rt: &R, most: usize, fails_from: usize) -> MemorySink {
     MemorySink::new(rt.alloc(), most, fails_from).expect(rt, "out of memory")
 }
 
-/// That a task by reads of `piece` bytes stops so, and has written this.
+/// Checks that a task with reads of `piece` bytes stops with this error, and has written these
+/// bytes.
 fn check_stop<R: Abort + AllocGlobal>(
     rt: &R,
     task: Task,
@@ -49,7 +51,7 @@ fn a_failing_reader_stops_the_task(rt: HostRuntime) {
 #[test]
 fn a_failing_writer_stops_the_task(rt: HostRuntime) {
     let lines = b"simple \"OK\" 2\nint 7\n".as_slice();
-    // One that takes nothing fails too.
+    // A writer that accepts no byte fails too.
     for (most, written) in [(1, lines), (4_096, lines), (0, b"")] {
         let reader = MemorySource::new(STREAM, 4_096);
         let writer = sink(&rt, most, 20);

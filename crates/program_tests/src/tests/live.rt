@@ -1,4 +1,4 @@
-//! Live streams: what was sent by each read.
+//! Live streams: the bytes that were written before each read.
 
 use super::check_equal;
 use resp_tool::canon::canon;
@@ -13,7 +13,7 @@ use resp_value::version::Version;
 use std::alloc::Global;
 use std::process::Abort;
 
-/// A source that keeps how many bytes had been sent at each read.
+/// A source that records at each read how many bytes were written before.
 #[derive(Drop)]
 struct Watcher<'a> {
     input: MemorySource<'a>,
@@ -44,13 +44,13 @@ impl LiveSource<Gathering<MemorySink>> for Watcher<'_> {
         into: &mut [u8],
         writer: &Gathering<MemorySink>,
     ) -> Result<usize, DeviceFault> {
-        // A read that isn't kept is missed below.
+        // A read that is not recorded is noticed below.
         let _ = self.sent.push(writer.inner().bytes().len());
         self.input.read(into)
     }
 }
 
-/// Runs a task by reads of five bytes.
+/// Runs a task with reads of five bytes.
 fn run(
     alloc: Global,
     task: Task,
@@ -65,7 +65,8 @@ fn run(
     }
 }
 
-/// That a task over a stream, by reads of five bytes, has sent `sent` bytes at each of them.
+/// Checks that a task over a stream, with reads of five bytes, has written `sent` bytes before each
+/// of them.
 fn check_sent<R: Abort + AllocGlobal>(rt: &R, task: Task, stream: &[u8], sent: &[usize]) {
     let mut reader = Watcher {
         input: MemorySource::new(stream, 5),
@@ -80,7 +81,7 @@ fn check_sent<R: Abort + AllocGlobal>(rt: &R, task: Task, stream: &[u8], sent: &
 
 #[test]
 fn what_is_due_is_sent_before_each_read(rt: HostRuntime) {
-    // The reads give `+OK\r\n`, `:1\r\n$`, `3\r\nfo`, `o\r\n` and the end.
+    // The reads return `+OK\r\n`, `:1\r\n$`, `3\r\nfo`, `o\r\n` and the end.
     let stream = b"+OK\r\n:1\r\n$3\r\nfoo\r\n".as_slice();
     for (task, sent) in [
         (Task::Show, [0, 14, 20, 28, 33].as_slice()),

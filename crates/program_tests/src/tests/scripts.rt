@@ -1,4 +1,4 @@
-//! Scripts of `loop` over memory: how long they may be, and what stops the play of one.
+//! Scripts of `loop` over memory: their greatest length, and errors that stop a script.
 
 use super::check_equal;
 use resp_script::play::{PlayError, play};
@@ -22,12 +22,12 @@ commands 2 keys 1\n";
 
 type TestHasher = BuildHasherDefault<FoldHasher>;
 
-/// The script that a text spells.
+/// Parses a script.
 fn script<R: Abort + AllocGlobal>(rt: &R, text: &[u8]) -> Script {
     read_script(rt.alloc(), text).expect(rt, "no script")
 }
 
-/// A script with as many bytes as one may have, in 256 lines, of which the last has no end.
+/// Returns a script of the greatest number of bytes, in 256 lines. The last line has no LF.
 fn longest_text<R: Abort + AllocGlobal>(rt: &R) -> Vec<u8> {
     let mut text = b"clients 1\n"
         .to_vec(rt.alloc())
@@ -54,7 +54,8 @@ fn a_byte_too_many_is_refused(rt: HostRuntime) {
     check_equal(&rt, read_script(rt.alloc(), text.as_slice()), refused);
 }
 
-/// That the play of a script answers so, and writes this to a writer that fails from a byte on.
+/// Checks the result of playing a script, and the bytes written to a writer that fails from a byte
+/// on.
 fn check_play<R: Abort + AllocGlobal, L: Link + Drop>(
     rt: &R,
     script: &Script,
@@ -81,7 +82,7 @@ fn a_failing_writer_stops_the_play(rt: HostRuntime) {
     }
 }
 
-/// A link that carries nothing, and counts that it failed.
+/// A link that carries nothing, and counts its failures.
 #[derive(Drop)]
 struct CutLink {
     failures: u64,
@@ -100,7 +101,7 @@ impl Link for CutLink {
     }
 }
 
-/// What is said where a link failed at an event of the fourth line.
+/// The error if a link fails at an event of the fourth line.
 const STOPPED: PlayError = PlayError::Stopped {
     line: 4,
     cause: Cause::Read,

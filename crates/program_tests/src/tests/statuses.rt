@@ -1,4 +1,4 @@
-//! What is said of a fault, and the statuses.
+//! The lines and statuses of faults.
 
 use super::check_equal;
 use resp_tool::command_line::command;
@@ -6,12 +6,12 @@ use resp_tool::tool_error::ToolError;
 use resp_value::device::{MemorySink, MemorySource};
 use std::process::Abort;
 
-/// A writer that fails from a byte on.
+/// Makes a writer that fails from a byte on.
 fn sink<R: Abort + AllocGlobal>(rt: &R, fails_from: usize) -> MemorySink {
     MemorySink::new(rt.alloc(), 4_096, fails_from).expect(rt, "out of memory")
 }
 
-/// That a fault has this line and this status.
+/// Checks that a fault has this line and this status.
 fn check_fault<R: Abort + AllocGlobal>(rt: &R, fault: ToolError, line: &str, status: u8) {
     let mut writer = sink(rt, 64);
     let said = fault.line(&mut writer).is_ok();

@@ -1,4 +1,4 @@
-//! Streams that are read by pieces of several sizes, by readers that give few bytes.
+//! Streams that are read in pieces of several sizes, from readers that return few bytes.
 
 use super::check_equal;
 use resp_tool::canon::canon;
@@ -45,15 +45,15 @@ const ATTRIBUTE: &[u8] = b"|1\r\n+ttl\r\n:3600\r\n";
 
 const ATTRIBUTE_LINES: &[u8] = b"attr\n  simple \"ttl\" 3\n  int 3600\n";
 
-/// What a task over a stream answers, and what it writes.
+/// The result of a task over a stream, and the bytes that it writes.
 type Run<'a> = (Task, Version, &'a [u8], Result<(), ToolError>, &'a [u8]);
 
-/// A value that is refused.
+/// Returns the error of a rejected value.
 fn refused(value: u64, cause: Cause, at: u64) -> Result<(), ToolError> {
     Err(ToolError::Refused { value, cause, at })
 }
 
-/// Runs a task by reads of at most `piece` bytes, and of at least one.
+/// Runs a task with reads of at most `piece` bytes, at least one.
 pub fn run(
     alloc: Global,
     task: Task,
@@ -71,8 +71,8 @@ pub fn run(
     }
 }
 
-/// That this comes of a task, by reads of `piece` bytes of which at most `most` come, and by writes
-/// that take as many.
+/// Checks the result of a task with reads of `piece` bytes, of which at most `most` bytes come, and
+/// with writes that accept as many.
 fn check_run<R: Abort + AllocGlobal>(rt: &R, wanted: Run<'_>, piece: usize, most: usize) {
     let (task, version, stream, answer, written) = wanted;
     let mut reader = MemorySource::new(stream, most.max(1));
@@ -82,7 +82,7 @@ fn check_run<R: Abort + AllocGlobal>(rt: &R, wanted: Run<'_>, piece: usize, most
     check_equal(rt, writer.bytes(), written);
 }
 
-/// That this comes of a task at each cut of the stream.
+/// Checks the result of a task at each cut of the stream.
 fn check_cuts<R: Abort + AllocGlobal>(rt: &R, wanted: Run<'_>) {
     for piece in [1, 2, 3, 4_096] {
         for most in [1, 2, 3, 4_096] {

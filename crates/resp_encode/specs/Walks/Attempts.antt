@@ -1,4 +1,4 @@
--- What a walk that writes as it goes has found, and what it has written.
+-- The result of encoding a value in one pass that writes as it goes.
 use Rattle.std.specs.Prelude.{◌≡◌, ℕ, ◌-◌, ◌<◌, ◌≤◌, Bool, false, List, ◌∷◌, ◌++◌, length}
 use Rattle.std.specs.Bool.{OnTrue}
 use Rattle.std.specs.Str.{byte}
@@ -13,7 +13,7 @@ use Rattle.resp_value.specs.declared.version.Version.{Version}
 use Rattle.resp_value.specs.declared.version.Version.TheVariants.{Two, Three}
 use Rattle.resp_encode.specs.Walks.Writings.{Fills}
 
--- the version has the kind
+-- the version has this kind of aggregate
 abbrev pub HasKind : Version → Kind → Type 0
 HasKind Two k = IsKindInTwo k
 HasKind Three k = Unit {0}
@@ -23,7 +23,7 @@ abbrev pub HaveTypes : Version → Data → Type 0
 HaveTypes Two xs = AreInTwo xs
 HaveTypes Three xs = Unit {0}
 
--- nothing of the value is refused but for its total, where this many aggregates may stand inside one another
+-- the value has no fault, apart from the limit of total, if this many aggregates may be nested in it
 pub record Suits (version : Version) (bounds : Bounds) (deeper : ℕ) (x : Datum) : Type 0 where
   pub allows_doubles : AllowsDoubles bounds x
   pub has_types : HasTypes version x
@@ -33,7 +33,7 @@ pub record Suits (version : Version) (bounds : Bounds) (deeper : ℕ) (x : Datum
   pub within_items : most_items x ≤ bounds.items
   pub is_value : IsValue x
 
--- nothing of the members is refused but for the total, and none of them is a push
+-- the members have no fault, apart from the limit of total, and no member is a push
 pub record SuitEach (version : Version) (bounds : Bounds) (deeper : ℕ) (xs : Data) : Type 0 where
   pub no_double : bounds.doubles ≡ false → HaveNoDouble xs
   pub have_types : HaveTypes version xs
@@ -43,22 +43,21 @@ pub record SuitEach (version : Version) (bounds : Bounds) (deeper : ℕ) (xs : D
   pub within_items : most_items_among xs ≤ bounds.items
   pub are_values : AreValues xs
 
--- where it is done, the value suits and its text was appended; else it may be that only a part was
+-- on success the value suits and its text was appended; otherwise perhaps a part of it was
 pub record Attempt (version : Version) (bounds : Bounds) (deeper : ℕ) (x : Datum) (old new : Filled)
     (done : Bool) : Type 0 where
   pub whole : OnTrue done (Fills old new (canonical_text version x))
   pub suits : OnTrue done (Suits version bounds deeper x)
   pub part : (text : List ℕ) × Fills old new text
 
--- where it is done, the members suit and their texts were appended; else it may be that only a part was
+-- on success the members suit and their texts were appended; otherwise perhaps a part of them was
 pub record AttemptEach (version : Version) (bounds : Bounds) (deeper : ℕ) (xs : Data) (old new : Filled)
     (done : Bool) : Type 0 where
   pub whole : OnTrue done (Fills old new (texts (canonical_trees version xs)))
   pub suits : OnTrue done (SuitEach version bounds deeper xs)
   pub part : (text : List ℕ) × Fills old new text
 
--- where it is done, the head of an attribute with this number was appended, and the texts of its keys and values in
--- turn
+-- on success the head of an attribute with this number was appended, and the texts of its keys and values in turn
 pub record AttemptAttributePairs (version : Version) (bounds : Bounds) (deeper items : ℕ) (xs : Data) (old new : Filled)
     (done : Bool) : Type 0 where
   pub whole : OnTrue done (Fills old new (byte "|" ∷ decimal items ++ crlf (texts (canonical_trees version xs))))
@@ -68,7 +67,7 @@ pub record AttemptAttributePairs (version : Version) (bounds : Bounds) (deeper i
   pub suits : OnTrue done (SuitEach version bounds (deeper - 1) xs)
   pub part : (text : List ℕ) × Fills old new text
 
--- nothing of a value without members is refused but for its total, and this much room holds its text
+-- a value without members has no fault, apart from the limit of total, and this much room holds its text
 pub record FitsSpare (version : Version) (bounds : Bounds) (spare : ℕ) (x : Datum) : Type 0 where
   pub allows_doubles : AllowsDoubles bounds x
   pub has_types : HasTypes version x

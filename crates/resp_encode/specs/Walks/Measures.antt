@@ -1,4 +1,4 @@
--- What the measure of a value says of it.
+-- The meaning of a value's measure.
 use Rattle.std.specs.Prelude.{◌≡◌, ◌↔◌, length, IsTrue}
 use Rattle.resp_value.specs.Data.{Datum, Data, depth, greatest_depth, longest, longest_among, most_items, most_items_among}
 use Rattle.resp_value.specs.Trees.{texts}

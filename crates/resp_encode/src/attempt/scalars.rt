@@ -1,5 +1,6 @@
-//! Values without members: each is written where it has no fault but perhaps its total and there is
-//! room, and else the buffer is left.
+//! Encodes values without members. Each function appends the text and returns true, or leaves the
+//! buffer unchanged and returns false if the value has a fault or there is no room. The limit of
+//! total is not checked here.
 
 ghost use Rattle.std.specs.Prelude.{◌+◌, ℕ};
 ghost use Rattle.std.specs.Bool.{OnTrue};
@@ -28,8 +29,8 @@ use resp_value::limits::Limits;
 use resp_value::line::Line;
 use resp_value::version::Version;
 
-/// Whether a value without members has no fault but perhaps its total, and there is room for its
-/// text.
+/// Returns whether a value without members has no fault, apart from the limit of total, and there
+/// is room for its text.
 #[inline(always)]
 fn suits(found: &Measure, version: Version, limits: &Limits, out: &BytesMut) -> bool
     ensures { (x : Datum) → Describes version x found.now →
@@ -47,7 +48,7 @@ fn suits(found: &Measure, version: Version, limits: &Limits, out: &BytesMut) -> 
     }
 }
 
-/// Appends Null as the version writes it, or leaves the buffer where there is no room.
+/// Appends Null in the form of the version. Leaves the buffer unchanged if there is no room.
 #[inline(always)]
 pub(super) fn attempt_null(version: Version, limits: &Limits, out: &mut BytesMut) -> bool
     ensures { (deeper : ℕ) → Attempt version limits.now deeper (scalar d.Null) out.old out.new
@@ -61,7 +62,7 @@ pub(super) fn attempt_null(version: Version, limits: &Limits, out: &mut BytesMut
     true
 }
 
-/// Appends a truth value, or leaves the buffer in version 2 or without room.
+/// Appends a boolean. Leaves the buffer unchanged in version 2 or if there is no room.
 #[inline(always)]
 pub(super) fn attempt_bool(
     truth: bool,
@@ -80,7 +81,7 @@ pub(super) fn attempt_bool(
     true
 }
 
-/// Appends an integer, or leaves the buffer where there is no room for its digits and a minus.
+/// Appends an integer. Leaves the buffer unchanged if there is no room for its digits and a minus.
 #[inline(always)]
 pub(super) fn attempt_int(number: &i64, out: &mut BytesMut) -> bool
     ensures { (version : Version) (bounds : Bounds) (deeper : ℕ) →
@@ -93,7 +94,8 @@ pub(super) fn attempt_int(number: &i64, out: &mut BytesMut) -> bool
     true
 }
 
-/// Appends a simple string, or leaves the buffer where it is over length or there is no room.
+/// Appends a simple string. Leaves the buffer unchanged if it exceeds the limit of length or there
+/// is no room.
 #[inline(always)]
 pub(super) fn attempt_simple(
     line: &Line,
@@ -113,7 +115,8 @@ pub(super) fn attempt_simple(
     true
 }
 
-/// Appends a simple error, or leaves the buffer where it is over length or there is no room.
+/// Appends a simple error. Leaves the buffer unchanged if it exceeds the limit of length or there
+/// is no room.
 #[inline(always)]
 pub(super) fn attempt_error(
     line: &Line,
@@ -133,8 +136,8 @@ pub(super) fn attempt_error(
     true
 }
 
-/// Appends a double, or leaves the buffer where doubles aren't allowed, in version 2, over length
-/// or without room.
+/// Appends a double. Leaves the buffer unchanged if doubles are not allowed, in version 2, if it
+/// exceeds the limit of length, or if there is no room.
 #[inline(never)]
 pub(super) fn attempt_double(
     line: &Line,
@@ -154,7 +157,8 @@ pub(super) fn attempt_double(
     true
 }
 
-/// Appends a bulk string, or leaves the buffer where it is over length or there is no room.
+/// Appends a bulk string. Leaves the buffer unchanged if it exceeds the limit of length or there is
+/// no room.
 #[inline(always)]
 pub(super) fn attempt_bulk(content: &Content, limits: &Limits, out: &mut BytesMut) -> bool
     ensures { (version : Version) (deeper : ℕ) →
@@ -170,7 +174,8 @@ pub(super) fn attempt_bulk(content: &Content, limits: &Limits, out: &mut BytesMu
     true
 }
 
-/// Appends a bulk error, or leaves the buffer in version 2, over length or without room.
+/// Appends a bulk error. Leaves the buffer unchanged in version 2, if it exceeds the limit of
+/// length, or if there is no room.
 #[inline(never)]
 pub(super) fn attempt_bulk_error(
     content: &Content,
@@ -190,7 +195,8 @@ pub(super) fn attempt_bulk_error(
     true
 }
 
-/// Appends a verbatim string, or leaves the buffer in version 2, over length or without room.
+/// Appends a verbatim string. Leaves the buffer unchanged in version 2, if it exceeds the limit of
+/// length, or if there is no room.
 #[inline(never)]
 pub(super) fn attempt_verbatim(
     format: &[u8; 3],
@@ -211,7 +217,8 @@ pub(super) fn attempt_verbatim(
     true
 }
 
-/// Appends a big number, or leaves the buffer in version 2, over length or without room.
+/// Appends a big number. Leaves the buffer unchanged in version 2, if it exceeds the limit of
+/// length, or if there is no room.
 #[inline(never)]
 pub(super) fn attempt_big(
     digits: &Digits,

@@ -1,4 +1,4 @@
--- What each token has of the value that it is in: the bytes begun, and the events given of them.
+-- For each token, the unfinished bytes of the value, and the events given of them.
 use Rattle.std.specs.Prelude.{codes, ◌≡◌, ◌⊎◌, ℕ, ◌+◌, ◌-◌, ◌<◌, ◌≤◌, Bool, true, false, List, [], ◌∷◌, ◌++◌, length}
 use Rattle.std.specs.List.{AllByRecursion}
 use Rattle.std.specs.Str.{byte}
@@ -23,7 +23,7 @@ use Rattle.resp_fronts.specs.Tokens.{HasStreamed, IsContentToken, IsCountReturne
 
 -- Lines and numbers.
 
--- a line's text so far, of which length leaves this many bytes
+-- the text of a line so far, for which the limit of length leaves this many bytes
 pub record LineBegun (r : Rules) (room : ℕ) (level : ℕ) (bytes : List ℕ) (shown : List Event) : Type 0 where
   pub kind : LineKind
   pub size : ℕ
@@ -31,21 +31,21 @@ pub record LineBegun (r : Rules) (room : ℕ) (level : ℕ) (bytes : List ℕ) (
   pub leaves : room + size ≡ r.limits.length
   pub told : shown ≡ e.Text (e.line_text_kind kind) ∷ content_events token.content
 
--- a leaf's line and its CR, and all of its events but the end of its text; a big zero isn't one, whose text begins at
--- its LF
+-- the line of a leaf and its CR, and all of its events except the end of its text; a zero big number is not included,
+-- because its text begins at its LF
 pub record TextReturned (r : Rules) (level : ℕ) (bytes : List ℕ) (shown : List Event) : Type 0 where
   pub leaf : Leaf
   pub returned : IsReturned r leaf level bytes
   pub told : without_places (leaf_events 0 leaf) ≡ shown ++ e.TextEnd ∷ []
   pub begun : (negative : Bool) → shown ≡ e.Text (e.Big negative) ∷ [] → ⊥
 
--- a type byte, and a sign of this kind
+-- a type byte, with a sign of this kind
 abbrev pub IsSigned : Bool → Sign → Type 0
 IsSigned negative Unsigned = ⊥
 IsSigned negative Plus = negative ≡ false
 IsSigned negative Minus = negative ≡ true
 
--- a number of which the type byte and a sign have come
+-- a number of which the type byte and a sign were read
 pub record SignBegun (r : Rules) (k : t.NumberKind) (negative : Bool) (level : ℕ) (bytes : List ℕ)
     (shown : List Event) : Type 0 where
   pub sign : Sign
@@ -73,7 +73,7 @@ pub record IntReturned (r : Rules) (negative : Bool) (n : ℕ) (level : ℕ) (by
     pub valued : signed_value sign digits ≡ machine.with_sign negative n
     pub told : shown ≡ []
 
--- a big number's digits so far, of which these are left without leading zeros
+-- the digits of a big number so far; without leading zeros they are these
 pub record BigBegun (r : Rules) (negative : Bool) (kept : List ℕ) (level : ℕ) (bytes : List ℕ) : Type 0 where
   pub sign : Sign
   pub first : ℕ
@@ -83,14 +83,14 @@ pub record BigBegun (r : Rules) (negative : Bool) (kept : List ℕ) (level : ℕ
   pub left : significant_digits (first ∷ digits) ≡ kept
   pub zero : number (first ∷ digits) ≡ 0 → kept ≡ []
 
--- its first digit that isn't zero is owed as a part
+-- its first digit other than zero is due as a part
 pub record BigDigitOwed (r : Rules) (digit room : ℕ) (level : ℕ) (bytes : List ℕ) (shown : List Event) : Type 0 where
   pub negative : Bool
   pub token : BigBegun r negative (digit ∷ []) level bytes
   pub leaves : room + 1 ≡ r.limits.length
   pub told : shown ≡ e.Text (e.Big negative) ∷ []
 
--- its digits from that one on, of which length leaves this many
+-- its digits from that digit on, for which the limit of length leaves this many
 pub record BigShown (r : Rules) (room : ℕ) (level : ℕ) (bytes : List ℕ) (shown : List Event) : Type 0 where
   pub negative : Bool
   pub digit : ℕ
@@ -99,7 +99,7 @@ pub record BigShown (r : Rules) (room : ℕ) (level : ℕ) (bytes : List ℕ) (s
   pub leaves : room + length (digit ∷ digits) ≡ r.limits.length
   pub told : shown ≡ e.Text (e.Big negative) ∷ content_events (digit ∷ digits)
 
--- the line of a big zero and its CR
+-- the line of a zero big number and its CR
 pub record ZeroReturned (r : Rules) (level : ℕ) (bytes : List ℕ) (shown : List Event) : Type 0 where
   pub sign : Sign
   pub digits : List ℕ
@@ -107,7 +107,7 @@ pub record ZeroReturned (r : Rules) (level : ℕ) (bytes : List ℕ) (shown : Li
   pub left : significant_digits digits ≡ []
   pub told : shown ≡ []
 
--- a leaf whose text's end is owed
+-- a leaf whose end of text is due
 pub record TextWhole (r : Rules) (level : ℕ) (bytes : List ℕ) (shown : List Event) : Type 0 where
   pub leaf : Leaf
   pub is_leaf : IsLeaf leaf
@@ -119,7 +119,7 @@ pub record TextWhole (r : Rules) (level : ℕ) (bytes : List ℕ) (shown : List 
 abbrev pub IsNullBegun : List ℕ → Type 0
 IsNullBegun bytes = (bytes ≡ codes "$-") ⊎ (bytes ≡ codes "*-")
 
--- the line of a null, or of a truth value, whose event comes at its end
+-- the line of a null or a boolean, whose event comes at its end
 pub record NullLine (r : Rules) (level : ℕ) (bytes : List ℕ) (shown : List Event) : Type 0 where
   pub form : NullForm
   pub token : IsLineOf r (null form) level bytes
@@ -133,7 +133,7 @@ pub record NullReturned (r : Rules) (level : ℕ) (bytes : List ℕ) (shown : Li
 
 -- Strings.
 
--- the kind of text that a counted string is
+-- the kind of text of a counted string
 abbrev pub string_text_kind : StringKind → TextKind
 string_text_kind t.Bulk = e.Bulk
 string_text_kind t.BulkError = e.BulkError
@@ -155,7 +155,7 @@ pub record LengthReturned (r : Rules) (k : StringKind) (n : ℕ) (level : ℕ) (
   pub length : LengthBegun r k n level before shown
   pub returned : bytes ≡ before ++ codes "\r"
 
--- of a verbatim string's payload these bytes have come, and this many are left
+-- these bytes of a verbatim string's payload were read, and this many are left
 pub record FormatBegun (r : Rules) (format begun : List ℕ) (n : ℕ) (level : ℕ) (bytes : List ℕ)
     (shown : List Event) : Type 0 where
   pub first : ℕ
@@ -163,7 +163,7 @@ pub record FormatBegun (r : Rules) (format begun : List ℕ) (n : ℕ) (level : 
   pub token : IsContentToken r (t.Verbatim format) first digits begun n level bytes
   pub told : shown ≡ []
 
--- content so far, and this many bytes left
+-- content so far, with this many bytes left
 pub record ContentBegun (r : Rules) (n : ℕ) (level : ℕ) (bytes : List ℕ) (shown : List Event) : Type 0 where
   pub kind : StringKind
   pub first : ℕ
@@ -172,7 +172,7 @@ pub record ContentBegun (r : Rules) (n : ℕ) (level : ℕ) (bytes : List ℕ) (
   pub token : IsContentToken r kind first digits (payload kind part) n level bytes
   pub told : shown ≡ e.Text (string_text_kind kind) ∷ content_events part
 
--- whole content and its CR
+-- complete content and its CR
 pub record ContentReturned (r : Rules) (level : ℕ) (bytes : List ℕ) (shown : List Event) : Type 0 where
   pub before : List ℕ
   pub content : ContentBegun r 0 level before shown
@@ -180,7 +180,7 @@ pub record ContentReturned (r : Rules) (level : ℕ) (bytes : List ℕ) (shown :
 
 -- Streamed strings.
 
--- whole chunks, of whose string length leaves this many bytes, and then these bytes
+-- complete chunks, of a string for which the limit of length leaves this many bytes, and then these bytes
 pub record ChunksBegun (r : Rules) (room : ℕ) (begun : List ℕ) (level : ℕ) (bytes : List ℕ) (shown : List Event) : Type
     0 where
   pub chunks : List Chunk
@@ -190,7 +190,7 @@ pub record ChunksBegun (r : Rules) (room : ℕ) (begun : List ℕ) (level : ℕ)
   pub are : bytes ≡ byte "$" ∷ byte "?" ∷ crlf (chunks_text chunks begun)
   pub told : shown ≡ e.Text e.Bulk ∷ content_events (joined_content chunks)
 
--- whole chunks and the digits of one, and bytes after them
+-- complete chunks and the digits of a chunk, and bytes after them
 pub record ChunkLength (r : Rules) (room n : ℕ) (beyond : List ℕ) (level : ℕ) (bytes : List ℕ)
     (shown : List Event) : Type 0 where
   pub digits : List ℕ
@@ -199,7 +199,8 @@ pub record ChunkLength (r : Rules) (room n : ℕ) (beyond : List ℕ) (level : �
   pub fits : n ≤ room
   pub chunks : ChunksBegun r room ((byte ";" ∷ digits) ++ beyond) level bytes shown
 
--- whole chunks, and one that is begun, of which this many bytes are left; length leaves this many after it
+-- complete chunks and an unfinished chunk of which this many bytes are left; the limit of length leaves this many after
+-- it
 pub record ChunkBegun (r : Rules) (room n : ℕ) (beyond : List ℕ) (level : ℕ) (bytes : List ℕ)
     (shown : List Event) : Type 0 where
   pub digits : List ℕ
@@ -214,7 +215,7 @@ pub record ChunkBegun (r : Rules) (room n : ℕ) (beyond : List ℕ) (level : �
 
 -- Aggregates.
 
--- the type byte of an aggregate of version 3, where one may begin
+-- the type byte of an aggregate of version 3, at a place where it may begin
 pub record AggregateBegun (r : Rules) (k : Kind) (level : ℕ) (bytes : List ℕ) (shown : List Event) : Type 0 where
   pub no_two : r.version ≡ Two → ⊥
   pub no_push : IsNoPushBelow level k
@@ -238,7 +239,7 @@ pub record CountReturned (r : Rules) (k : Kind) (n : ℕ) (level : ℕ) (bytes :
   pub valued : number (first ∷ digits) ≡ n
   pub told : shown ≡ []
 
--- the head of a streamed aggregate, up to these bytes of its line's end
+-- the head of a streamed aggregate, up to these bytes of its line end
 pub record StreamBegun (r : Rules) (k : Kind) (beyond : List ℕ) (level : ℕ) (bytes : List ℕ) (shown : List Event) : Type
     0 where
   pub has_streamed : HasStreamed r
@@ -286,7 +287,7 @@ HeadReturned r head.Map n level bytes shown = CountReturned r d.Map n level byte
 HeadReturned r head.Attr n level bytes shown = CountReturned r d.Attr n level bytes shown
 HeadReturned r head.Push n level bytes shown = CountReturned r d.Push n level bytes shown
 
--- what a token inside a value has of it, on a level; between values and after a close there is none
+-- the meaning of a token inside a value, on a level; there is none between values and after a close
 abbrev pub TokenHas : Rules → Token → ℕ → List ℕ → List Event → Type 0
 TokenHas r AtStart level bytes shown = ⊥
 TokenHas r AtEnd level bytes shown = ⊥

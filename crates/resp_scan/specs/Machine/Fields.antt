@@ -1,4 +1,4 @@
--- What the fields of a machine stand for.
+-- The meaning of the fields of a machine.
 use Rattle.std.specs.Prelude.{ℕ, ◌+◌, reverse, slice_index, Some, None}
 use Rattle.resp_scan.specs.declared.machine.State.{State}
 use Rattle.resp_scan.specs.declared.machine.State.TheVariants as state
@@ -57,7 +57,7 @@ token_at state.CloseCr m = AtCloseCr
 token_at state.CloseLf m = AtCloseLf
 token_at state.Failed m = Dead m.cause
 
--- where a machine stands
+-- the place of a machine
 abbrev pub place_of : Machine → Place
 place_of m = record {
   token = token_at m.state m;
@@ -69,7 +69,7 @@ place_of m = record {
   frames_need = m.frames_need;
 }
 
--- what an answer of this tag says, with this many bytes used
+-- the meaning of a result with this tag, with this many bytes used
 abbrev pub out_by : EventTag → ℕ → Machine → Out
 out_by tag.More n m = More n (place_of m)
 out_by tag.Failed n m = Bad n m.cause (place_of m)
@@ -92,6 +92,6 @@ out_by tag.OpenStreamed n m = Gave n (Open m.kind None) (place_of m)
 out_by tag.Close n m = Gave n Close (place_of m)
 out_by tag.Done n m = Whole (record (place_of m) { taken = m.taken + n })
 
--- what an answer and the machine after it say
+-- the meaning of a result and of the machine after it
 abbrev pub out_of : Taken → Machine → Out
 out_of g m = out_by g.tag g.used m

@@ -1,4 +1,4 @@
--- A value's first byte, by the form that it begins.
+-- The first byte of a value, given the form that it begins.
 use Rattle.std.specs.Prelude.{ℕ, List, Option, None, Some}
 use Rattle.resp_value.specs.declared.cause.Cause.TheVariants as cause
 use Rattle.resp_scan.specs.declared.machine.Head.TheVariants as head
@@ -8,11 +8,11 @@ use Rattle.resp_scan.specs.Machine.Tokens.{Place, Move, Refuse, AtNullCr, AtBool
 use Rattle.resp_scan.specs.Machine.Moves.{begin_move, aggregate_move, push_move, move_in_three}
 use Rattle.resp_scan.specs.Machine.Scan.{Out, answer, scan, content}
 
--- what comes of a first byte's move, and the bytes after it
+-- the result of a first byte's move, and of the bytes after it
 abbrev pub after_first : Move → Place → List ℕ → Out
 after_first v s p = answer v 0 s (λ t. scan 1 t p) (λ t. content 1 t p)
 
--- what the first byte of a form of version 3 alone does
+-- the effect of the first byte of a form that only version 3 has
 abbrev pub first_move : Place → First → Move
 first_move s Null = begin_move s 2 AtNullCr
 first_move s Bool = begin_move s 3 AtBool
@@ -24,7 +24,7 @@ first_move s Map = aggregate_move s head.Map
 first_move s Attr = aggregate_move s head.Attr
 first_move s Push = push_move s s.frames
 
--- what a first byte does, by the form of version 3 alone that it begins, if it begins one
+-- the effect of a first byte, given the form of version 3 that it begins, if it begins one
 abbrev pub by_first : Place → Option First → Move
 by_first s None = Refuse cause.Syntax
 by_first s (Some f) = move_in_three s.version (first_move s f)

@@ -13,7 +13,7 @@ use Rattle.resp_scan.specs.declared.machine.Head.TheVariants.{Bulk, BulkError, V
 use Rattle.resp_scan.specs.Machine.Tokens.{Place, Move, Go, Give, Text, TextEnd, Open, at, at_boundary, InContent, AtContentCr, AtFormat, InChunk, AtChunkCr}
 use Rattle.resp_scan.specs.Machine.Room.{over_total, is_full}
 
--- the greatest number that length or items allow
+-- the greatest number that the limit of length or items allows
 abbrev pub greatest_number : Place → Head → ℕ
 greatest_number s Bulk = s.bounds.length
 greatest_number s BulkError = s.bounds.length
@@ -21,7 +21,7 @@ greatest_number s Verbatim = s.bounds.length
 greatest_number s (Chunk room) = room
 greatest_number s _ = s.bounds.items
 
--- the cause where the number is greater
+-- the cause if the number is greater
 abbrev pub number_cause : Head → Cause
 number_cause Bulk = cause.Length
 number_cause BulkError = cause.Length
@@ -33,11 +33,11 @@ number_cause _ = cause.Items
 abbrev pub verbatim_needed : ℕ → ℕ
 verbatim_needed n = cond (eqb n 0) 9 (cond (nat_lt n 4) (n * 10 + 5) (n + 4))
 
--- the line of a chunk without bytes ends the string
+-- the line of an empty chunk ends the string
 abbrev pub chunk_needed : ℕ → ℕ
 chunk_needed n = cond (eqb n 0) 2 (n + 8)
 
--- the fewest bytes that complete a value, or a streamed string, after a head's digits
+-- the least number of bytes that complete a value, or a streamed string, after the digits of a head
 abbrev pub head_needed : Head → ℕ → ℕ
 head_needed Bulk n = n + 4
 head_needed BulkError n = n + 4
@@ -47,7 +47,7 @@ head_needed Map n = n * 6 + 2
 head_needed Attr n = n * 6 + 5
 head_needed _ n = n * 3 + 2
 
--- the fewest bytes that complete it before a head's first digit
+-- the least number of bytes that complete it before the first digit of a head
 abbrev pub first_needed : Head → ℕ
 first_needed Bulk = 4
 first_needed BulkError = 5
@@ -55,7 +55,7 @@ first_needed Verbatim = 9
 first_needed Attr = 6
 first_needed _ = 3
 
--- what refuses a digit that makes the number n: length or items, and then total
+-- the cause of rejecting a digit that makes the number n: length or items, and then total
 abbrev pub over : Place → ℕ → Head → ℕ → Option Cause
 over s used h n = cond (nat_lt (greatest_number s h) n) (Some (number_cause h)) (over_total s used (head_needed h n))
 
@@ -71,16 +71,16 @@ streamed_kind Set = Some kind.Set
 streamed_kind Map = Some kind.Map
 streamed_kind _ = None
 
--- the version refuses it, or else this cause
+-- the version rejects it, or otherwise this cause
 abbrev pub cause_in_three : Version → Option Cause → Option Cause
 cause_in_three version.Two other = Some cause.Version
 cause_in_three version.Three other = other
 
--- what refuses the `?` of a streamed string
+-- the cause of rejecting the `?` of a streamed string
 abbrev pub string_cause : Place → ℕ → Option Cause
 string_cause s used = cause_in_three s.version (cond s.bounds.streamed (over_total s used 6) (Some cause.Streamed))
 
--- what refuses the `?` of a streamed aggregate
+-- the cause of rejecting the `?` of a streamed aggregate
 abbrev pub aggregate_cause : Place → ℕ → Option Cause
 aggregate_cause s used = cause_in_three s.version
     (cond s.bounds.streamed (cond (is_full s) (Some cause.Depth) (over_total s used 5)) (Some cause.Streamed))
@@ -101,11 +101,12 @@ after_streamed_open s k = at_boundary (record s {
       s.frames_need + 3;
 })
 
--- counted content begins, or its end where it has none
+-- counted content begins, or ends if it is empty
 abbrev pub content_at : ℕ → Place → Place
 content_at n s = at s (cond (eqb n 0) AtContentCr (InContent n))
 
--- a chunk's content begins, or its end where it has none, of a string of which length leaves this many bytes
+-- the content of a chunk begins, or ends if it is empty, in a string for which the limit of length leaves this many
+-- bytes
 abbrev pub chunk_at : ℕ → ℕ → Place → Place
 chunk_at room n s = at s (cond (eqb n 0) (AtChunkCr room) (InChunk room n))
 
@@ -117,11 +118,11 @@ is_aggregate Verbatim = false
 is_aggregate (Chunk room) = false
 is_aggregate _ = true
 
--- the frames have room for one more, where the head opens one
+-- the frames have room for one more, if the head opens one
 abbrev pub HasFrame : Place → Head → Type 0
 HasFrame s h = is_aggregate h ≡ true → length s.frames < 128
 
--- what stands after a head
+-- the move after a head
 abbrev pub head_move : Place → Head → ℕ → Move
 head_move s Bulk n = Give (Text text.Bulk) (content_at n s)
 head_move s BulkError n = Give (Text text.BulkError) (content_at n s)

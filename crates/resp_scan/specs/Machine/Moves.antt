@@ -1,4 +1,4 @@
--- The machine by bytes: what one byte more makes of a place.
+-- The machine, byte by byte: the place after one more byte.
 use Rattle.std.specs.Prelude.{ℕ, ◌+◌, ◌-◌, ◌*◌, ◌%◌, Bool, true, false, ◌&&◌, ℤ, pos, cond, eqb, nat_le, List, [], ◌∷◌, Option, None, Some}
 use Rattle.std.specs.Str.{byte}
 use Rattle.std.proofs.Common.{neg_ℤ}
@@ -19,7 +19,7 @@ use Rattle.resp_scan.specs.Machine.Tokens.{Token, Place, Happening, Move, Go, By
 use Rattle.resp_scan.specs.Machine.Room.{has_total_room, over_total, is_full, after_begin, begin_cause, with_shape}
 use Rattle.resp_scan.specs.Machine.Heads.{over, may_end, streamed_kind, string_cause, aggregate_cause, after_streamed_open, content_at, chunk_at, head_move, first_needed}
 
--- the integer of this size, with a minus or without
+-- the integer of this magnitude, with or without a minus
 abbrev pub with_sign : Bool → ℕ → ℤ
 with_sign true n = neg_ℤ (pos n)
 with_sign false n = pos n
@@ -28,18 +28,18 @@ with_sign false n = pos n
 abbrev pub is_digit : ℕ → Bool
 is_digit b = nat_le (byte "0") b && nat_le b (byte "9")
 
--- a move, unless a cause refuses it
+-- a move, unless a cause rejects it
 abbrev pub move_unless : Option Cause → Move → Move
 move_unless None v = v
 move_unless (Some c) v = Refuse c
 
--- one byte alone goes on
+-- only this byte may follow
 abbrev pub only_byte : ℕ → ℕ → Move → Move
 only_byte x b v = cond (eqb b x) v (Refuse cause.Syntax)
 
 -- Digits and lines.
 
--- an integer's digit, which makes its size n: in range, and then within total
+-- a digit of an integer that makes its magnitude n: in range, and then within total
 abbrev pub int_digit : Place → ℕ → Bool → ℕ → Move
 int_digit s used negative n = cond (nat_le n (greatest_magnitude negative))
     (cond (has_total_room s used 2) (Go (at s (InInt negative n))) (Refuse cause.Total)) (Refuse cause.Range)
@@ -48,7 +48,7 @@ int_digit s used negative n = cond (nat_le n (greatest_magnitude negative))
 abbrev pub int_first : Place → Bool → ℕ → Move
 int_first s negative b = cond (is_digit b) (Go (at s (InInt negative (b - byte "0")))) (Refuse cause.Syntax)
 
--- a digit that isn't zero begins the text
+-- a digit other than zero begins the text
 abbrev pub big_digit : Place → Bool → ℕ → Move
 big_digit s negative b = cond (eqb b (byte "0")) (Go (at s (InBigZeros negative)))
     (Give (Text (text.Big negative)) (at s (AtBigDigit b (s.bounds.length - 1))))
@@ -57,7 +57,7 @@ big_digit s negative b = cond (eqb b (byte "0")) (Go (at s (InBigZeros negative)
 abbrev pub big_first : Place → Bool → ℕ → Move
 big_first s negative b = cond (is_digit b) (big_digit s negative b) (Refuse cause.Syntax)
 
--- a byte of content of which length leaves this many, unless length or total refuses it
+-- a byte of content for which the limit of length leaves this many bytes, unless length or total rejects it
 abbrev pub content_byte : Place → ℕ → ℕ → (ℕ → Token) → Move
 content_byte s used room token = cond (eqb room 0) (Refuse cause.Length)
     (cond (has_total_room s used 2) (Byte (at s (token (room - 1)))) (Refuse cause.Total))
@@ -69,7 +69,7 @@ abbrev pub streamed_move : Place → ℕ → Option OpenKind → Move
 streamed_move s used None = Refuse cause.Syntax
 streamed_move s used (Some k) = move_unless (aggregate_cause s used) (Go (at s (AtOpenCr k)))
 
--- a head's digit, which makes its number n
+-- a digit of a head that makes its number n
 abbrev pub head_digit : Place → ℕ → Head → ℕ → Move
 head_digit s used h n = move_unless (over s used h n) (Go (at s (InHead h n)))
 
@@ -85,12 +85,12 @@ bulk_head s used b =
     cond (eqb b (byte "-")) (Go (at s AtNullOne))
     (cond (eqb b (byte "?")) (move_unless (string_cause s used) (Go (at s AtStreamCr))) (head_first s used head.Bulk b))
 
--- what refuses the `?` of an array that would be a level too deep
+-- the cause of rejecting the `?` of an array that exceeds the limit of depth
 abbrev pub full_streamed : Version → Bool → Cause
 full_streamed version.Two streamed = cause.Version
 full_streamed version.Three streamed = cond streamed cause.Depth cause.Streamed
 
--- what refuses a byte, other than `-`, after the `*` of an array that would be a level too deep
+-- the cause of rejecting a byte, other than `-`, after the `*` of an array that exceeds the limit of depth
 abbrev pub full_cause : Place → ℕ → Cause
 full_cause s b = cond (eqb b (byte "?")) (full_streamed s.version s.bounds.streamed)
     (cond (is_digit b) cause.Depth cause.Syntax)
@@ -103,7 +103,7 @@ array_head s used b =
 
 -- A value's first byte.
 
--- a member begins that needs this many bytes after this one
+-- a member begins that needs this many bytes after this byte
 abbrev pub begin_move : Place → ℕ → Token → Move
 begin_move s needed t = move_unless (begin_cause s needed) (Go (at (after_begin s) t))
 
@@ -111,16 +111,16 @@ begin_move s needed t = move_unless (begin_cause s needed) (Go (at (after_begin 
 abbrev pub line_move : Place → Happening → Move
 line_move s e = move_unless (begin_cause s 2) (Give e (at (after_begin s) (InLine s.bounds.length)))
 
--- an aggregate of version 3 begins, unless it would be a level too deep
+-- an aggregate of version 3 begins, unless it exceeds the limit of depth
 abbrev pub aggregate_move : Place → Head → Move
 aggregate_move s h = cond (is_full s) (Refuse cause.Depth) (begin_move s (first_needed h) (AtHead h))
 
--- a push begins, at the top alone
+-- a push begins, only as the outermost value
 abbrev pub push_move : Place → List Frame → Move
 push_move s [] = aggregate_move s head.Push
 push_move s (f ∷ fs) = Refuse cause.NestedPush
 
--- a form that version 3 alone has
+-- a form that only version 3 has
 abbrev pub move_in_three : Version → Move → Move
 move_in_three version.Two v = Refuse cause.Version
 move_in_three version.Three v = v
@@ -136,11 +136,11 @@ abbrev pub may_close : List Frame → Bool
 may_close [] = false
 may_close (f ∷ fs) = may_close_of f.kind f.shape
 
--- a double begins, where doubles are allowed
+-- a double begins, if doubles are allowed
 abbrev pub double_move : Place → Move
 double_move s = cond s.bounds.doubles (move_in_three s.version (line_move s (Text text.Double))) (Refuse cause.Double)
 
--- a streamed aggregate closes, a map between whole pairs
+-- a streamed aggregate closes, and a map only between whole pairs
 abbrev pub close_move : Place → Move
 close_move s = cond (may_close s.frames) (Go (record s {
   token = AtCloseCr;
@@ -149,7 +149,7 @@ close_move s = cond (may_close s.frames) (Go (record s {
   frames_need = s.frames_need - 3;
 })) (Refuse cause.Syntax)
 
--- a first byte that version 3 alone has
+-- a first byte that only version 3 has
 abbrev pub start_three : Place → ℕ → Move
 start_three s b =
     cond (eqb b (byte "_")) (move_in_three s.version (begin_move s 2 AtNullCr))
@@ -180,7 +180,7 @@ abbrev pub without_first : List Frame → List Frame
 without_first [] = []
 without_first (f ∷ fs) = fs
 
--- One line a token, or a few.
+-- One line for a token, or a few.
 abbrev pub next_in : Token → Place → ℕ → ℕ → Move
 next_in AtStart s used b = start_next s b
 next_in AtEnd s used b = Refuse cause.Syntax
@@ -243,6 +243,6 @@ next_in AtCloseLf s used b = only_byte (byte "\n") b
     (Give Close (at_boundary (record s { frames = without_first s.frames })))
 next_in (Dead c) s used b = Refuse c
 
--- what one byte more does, the last of this many of the piece
+-- the effect of one more byte, the last of this many bytes of the piece
 abbrev pub next : Place → ℕ → ℕ → Move
 next s used b = next_in s.token s used b

@@ -1,4 +1,4 @@
--- What the machine answers to a step into a slot.
+-- The results of the machine for a step into a slot.
 use Rattle.std.specs.Prelude.{◌≡◌, ◌⊎◌, ℕ, ◌≤◌, List, ◌++◌, length, take, Option, None, Some, Result, Ok, Err, IfOk, IfErr}
 use Rattle.resp_scan.specs.declared.event.Event.{Event}
 use Rattle.resp_scan.specs.declared.event.Fault.{Fault}
@@ -16,14 +16,14 @@ use Rattle.resp_scan.specs.Parts.{IsOfPiece}
 use Rattle.resp_scan.specs.Reading.{Events, HasRead, IsFaulted}
 use Rattle.resp_scan.specs.Slots.{IsTextOfPiece, TextComesInTime}
 
--- the answer of a step, and the machine after it
+-- the result of a step, with the machine after it
 pub record StepAnswers (s : Place) (m : Machine) (piece : List ℕ) (result : Result Step Fault) : Type 0 where
   pub heard : out_of_step s.taken result (place_of m) ≡ after_step (out_from s piece)
   pub within : IfOk result (λ step. step.used ≤ length piece)
   pub lent : IfOk result (λ step. IsOfPiece piece step)
   pub counted : IfErr result (λ fault. fault.at ≡ m.taken)
 
--- a text told whole leads from one place to another
+-- a text passed in one call leads from one place to another
 pub record TellsText (s t : Place) (piece : List ℕ) (used : ℕ) (kind : TextKind) (bytes : List ℕ) : Type 0 where
   pub sound : IsSound t
   pub rules : rules_of t ≡ rules_of s
@@ -33,13 +33,13 @@ pub record TellsText (s t : Place) (piece : List ℕ) (used : ℕ) (kind : TextK
       HasRead t (front ++ take used piece) (given ++ whole_text_events kind bytes)
   pub in_time : (front : List ℕ) (given : Events) → HasRead s front given → TextComesInTime front given piece used bytes
 
--- the event that a step answers is shown
+-- the event of a step was passed to the slot
 pub record FillsEvent (Shows : Event → Type 0) (s : Place) (m : Machine) (piece : List ℕ) (used : ℕ) : Type 0 where
   pub event : Event
   pub shows : Shows event
   pub answers : StepAnswers s m piece (Ok (record { used = used; event = Some event }))
 
--- a text told whole is shown
+-- a text was passed to the slot in one call
 pub record FillsText (Shows : TextKind → List ℕ → Type 0) (s : Place) (m : Machine) (piece : List ℕ) (used : ℕ) :
     Type 0 where
   pub kind : TextKind
@@ -47,7 +47,7 @@ pub record FillsText (Shows : TextKind → List ℕ → Type 0) (s : Place) (m :
   pub shows : Shows kind bytes
   pub tells : TellsText s (place_of m) piece used kind bytes
 
--- what a step into a slot comes to
+-- the result of a step into a slot
 abbrev pub FillsSlot : (Event → Type 0) → (TextKind → List ℕ → Type 0) → Place → Machine → List ℕ →
     Result (Option ℕ) Fault → Type 0
 FillsSlot Shows ShowsText s m piece (Ok (Some used)) =

@@ -1,4 +1,4 @@
--- What stands of every place that a scanner comes to.
+-- The conditions that hold at every place of a scanner.
 use Rattle.std.specs.Prelude.{◌≡◌, ◌<◌, ◌≤◌, ℕ, ◌+◌, ◌-◌, ◌*◌, ◌%◌, true, cond, eqb, nat_le, List, [], ◌∷◌, length}
 use Rattle.resp_value.specs.Bounds.{AreBounds}
 use Rattle.resp_value.specs.declared.kind.OpenKind.{OpenKind}
@@ -21,22 +21,23 @@ abbrev pub need_of_streamed : OpenKind → ℕ → ℕ
 need_of_streamed Map n = cond (eqb (n % 2) 0) 3 6
 need_of_streamed _ n = 3
 
--- the fewest bytes by which one frame ends
+-- the least number of bytes that close one frame
 abbrev pub need_of_frame : OpenKind → Shape → ℕ
 need_of_frame k (Left n) = n * 3
 need_of_frame k (Begun n) = need_of_streamed k n
 
--- the fewest bytes by which frames end: members of three bytes, a map's value after its key, and streamed ones' closes
+-- the least number of bytes that close frames: members of three bytes, a map's value after its key, and the closes of
+-- streamed aggregates
 abbrev pub need_of_frames : List Frame → ℕ
 need_of_frames [] = 0
 need_of_frames (f ∷ fs) = need_of_frame f.kind f.shape + need_of_frames fs
 
--- at the top a value has to begin, and within an aggregate its frame says so
+-- at the top level a value has to begin, and inside an aggregate its frame decides
 abbrev pub start_needed : List Frame → ℕ
 start_needed [] = 3
 start_needed (f ∷ fs) = 0
 
--- the fewest bytes that complete the token, within these frames at this depth
+-- the least number of bytes that complete the token, within these frames at this depth
 abbrev pub token_needed : Token → ℕ → List Frame → ℕ
 token_needed AtStart depth fs = start_needed fs
 token_needed AtEnd depth fs = 0
@@ -83,44 +84,44 @@ token_needed AtCloseCr depth fs = 2
 token_needed AtCloseLf depth fs = 1
 token_needed (Dead c) depth fs = 0
 
--- the fewest bytes that complete the value
+-- the least number of bytes that complete the value
 abbrev pub needed : Place → ℕ
 needed s = token_needed s.token s.bounds.depth s.frames + s.frames_need
 
--- What holds of the frames.
+-- The conditions of the frames.
 
--- in each as many members have begun as items lets
+-- each frame has at most as many members as the limit of items allows
 abbrev pub AreCounted : ℕ → List Frame → Type 0
 AreCounted items [] = Unit {0}
 AreCounted items (f ∷ fs) = (begun_count f.shape ≤ items * 2) × AreCounted items fs
 
--- a member more may begin
+-- one more member may begin
 abbrev pub IsOpenShape : Shape → Type 0
 IsOpenShape (Left n) = 0 < n
 IsOpenShape (Begun n) = Unit {0}
 
--- the innermost aggregate may have a member more
+-- the innermost aggregate may have one more member
 abbrev pub MayHaveMore : List Frame → Type 0
 MayHaveMore [] = Unit {0}
 MayHaveMore (f ∷ fs) = IsOpenShape f.shape
 
--- or has all
+-- the innermost aggregate has all its members
 abbrev pub IsClosed : List Frame → Type 0
 IsClosed [] = Unit {0}
 IsClosed (f ∷ fs) = f.shape ≡ Left 0
 
--- What holds of the token within them.
+-- The conditions of the token within the frames.
 
 -- a head that opens an aggregate has room for its frame
 abbrev pub HasLevel : Head → ℕ → List Frame → Type 0
 HasLevel h depth fs = is_aggregate h ≡ true → length fs < depth
 
--- a chunk has no more bytes than length leaves
+-- a chunk has at most as many bytes as the limit of length leaves
 abbrev pub IsWithinRoom : Head → ℕ → Type 0
 IsWithinRoom (head.Chunk room) n = n ≤ room
 IsWithinRoom _ n = Unit {0}
 
--- what holds of a token within these frames, at this depth
+-- the condition of a token within these frames, at this depth
 abbrev pub IsTokenSound : Token → ℕ → List Frame → Type 0
 IsTokenSound AtStart depth fs = MayHaveMore fs
 IsTokenSound AtEnd depth fs = IsClosed fs
@@ -142,13 +143,13 @@ IsTokenSound AtCloseCr depth fs = IsClosed fs
 IsTokenSound AtCloseLf depth fs = IsClosed fs
 IsTokenSound _ depth fs = Unit {0}
 
--- where this many bytes of a piece are used
+-- the conditions of a place when this many bytes of a piece are used
 pub record IsSoundBy (used : ℕ) (s : Place) : Type 0 where
   pub bounds : AreBounds s.bounds
   pub nested : length s.frames ≤ s.bounds.depth
   pub counted : AreCounted s.bounds.items s.frames
   pub frames_need : s.frames_need ≡ need_of_frames s.frames
-  -- total has room for what is needed
+  -- total has room for the bytes that are needed
   pub total : s.taken + used + token_needed s.token s.bounds.depth s.frames + s.frames_need ≤ s.bounds.total
   pub token : IsTokenSound s.token s.bounds.depth s.frames
 

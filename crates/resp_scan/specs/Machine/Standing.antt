@@ -1,5 +1,5 @@
--- What a scanner has taken and given since a value began: the heads of the open aggregates, each with its whole
--- members, and then the bytes begun since, within every rule but total.
+-- The bytes that a scanner has read and the events that it has given since a value began: the heads of the open
+-- aggregates, each with its complete members, and then the bytes of an unfinished part, within every rule except total.
 use Rattle.std.specs.Prelude.{codes, ◌≡◌, ℕ, ◌+◌, ◌-◌, ◌<◌, List, [], ◌∷◌, ◌++◌, length}
 use Rattle.resp_value.specs.Trees.{Tree, IsTree, close, text, count}
 use Rattle.resp_value.specs.Rules.{Rules, WithinItems}
@@ -28,7 +28,7 @@ abbrev pub waiting_shape : Shape → level.Shape
 waiting_shape (Left n) = to_come n
 waiting_shape (Begun n) = so_far n
 
--- an aggregate whose open member is counted already
+-- an aggregate whose open member is already counted
 abbrev pub busy_shape : Shape → level.Shape
 busy_shape (Left n) = to_come (n + 1)
 busy_shape (Begun n) = so_far (n - 1)
@@ -60,7 +60,7 @@ OuterBegun (f ∷ fs) = HaveBegun fs
 
 -- Places.
 
--- within a value, of which T tells the bytes begun and the events given
+-- inside a value; T describes the unfinished bytes and the events given
 pub record IsInside (r : Rules) (T : ℕ → List ℕ → List Event → Type 0) (fs : List Frame) (front : List ℕ)
     (es : List Event) : Type 0 where
   pub frames : List opened.Frame
@@ -73,7 +73,7 @@ pub record IsInside (r : Rules) (T : ℕ → List ℕ → List Event → Type 0)
   pub whole : front ≡ text_around frames bytes
   pub told : es ≡ without_places (events_around frames) ++ shown
 
--- where a member may begin
+-- before a member
 pub record AwaitsMember (r : Rules) (fs : List Frame) (front : List ℕ) (es : List Event) : Type 0 where
   pub frames : List opened.Frame
   pub begun : OuterBegun fs
@@ -82,7 +82,7 @@ pub record AwaitsMember (r : Rules) (fs : List Frame) (front : List ℕ) (es : L
   pub whole : front ≡ text_around frames []
   pub told : es ≡ without_places (events_around frames)
 
--- a whole value at the top, whose end is owed
+-- a complete outermost value, whose end is due
 pub record IsWholeValue (r : Rules) (front : List ℕ) (es : List Event) : Type 0 where
   pub tree : Tree
   pub is_tree : IsTree tree
@@ -90,8 +90,8 @@ pub record IsWholeValue (r : Rules) (front : List ℕ) (es : List Event) : Type 
   pub whole : front ≡ text tree
   pub told : es ≡ without_places (events 0 tree)
 
--- an aggregate with all of its members, of whose close these bytes have come and those are still to come: of a counted
--- one there are none
+-- an aggregate with all of its members; of its close these bytes were read and those are still to come; a counted
+-- aggregate has no close
 pub record IsBeingClosed (r : Rules) (k : OpenKind) (fs : List Frame) (last rest front : List ℕ) (es : List Event) :
     Type 0 where
   pub frame : opened.Frame
@@ -115,7 +115,7 @@ abbrev pub HasEnded : Rules → List Frame → List ℕ → List Event → Type 
 HasEnded r [] front es = IsWholeValue r front es
 HasEnded r (f ∷ fs) front es = IsBeingClosed r f.kind fs [] [] front es
 
--- what the bytes taken and the events given are, at a token
+-- the meaning of the bytes read and the events given, at a token
 abbrev pub StandsAfterAt : Rules → Token → List Frame → List ℕ → List Event → Type 0
 StandsAfterAt r AtStart fs front es = AwaitsMember r fs front es
 StandsAfterAt r AtEnd fs front es = HasEnded r fs front es
@@ -123,18 +123,18 @@ StandsAfterAt r AtCloseCr fs front es = IsClosingIn r fs (codes ".") (codes "\r\
 StandsAfterAt r AtCloseLf fs front es = IsClosingIn r fs (codes ".\r") (codes "\n") front es
 StandsAfterAt r token fs front es = IsInside r (b.TokenHas r token) fs front es
 
--- what the bytes taken and the events given are at a place
+-- the meaning of the bytes read and the events given, at a place
 abbrev pub StandsAfter : Place → List ℕ → List Event → Type 0
 StandsAfter s front es = StandsAfterAt (rules_of s) s.token s.frames front es
 
 -- Bytes.
 
--- the numbers that a place keeps are those of the front, of which this many bytes are the piece's
+-- the numbers of a place are those of the front, of which this many bytes belong to the piece
 pub record HasCountsOf (s : Place) (used : ℕ) (front : List ℕ) : Type 0 where
   pub sound : IsSoundBy used s
   pub taken : length front ≡ s.taken + used
 
--- what one byte more makes of it
+-- the effect of one more byte
 abbrev pub Leads : Place → List ℕ → List Event → ℕ → Move → Type 0
 Leads s front es byte (Go t) = StandsAfter t (front ++ byte ∷ []) es
 Leads s front es byte (Byte t) = StandsAfter t (front ++ byte ∷ []) (es ++ e.Byte byte ∷ [])

@@ -1,4 +1,4 @@
--- Where a scanner stands: a token within open frames, under limits.
+-- The place of a scanner: a token within open frames, under limits.
 use Rattle.std.specs.Prelude.{ℕ, Bool, cond, eqb, ℤ, List, [], ◌∷◌, Option}
 use Rattle.resp_value.specs.Bounds.{Bounds}
 use Rattle.resp_value.specs.declared.cause.Cause.{Cause}
@@ -10,17 +10,17 @@ use Rattle.resp_scan.specs.declared.frame.Shape.{Shape}
 use Rattle.resp_scan.specs.declared.frame.Shape.TheVariants.{Left, Begun}
 use Rattle.resp_scan.specs.declared.machine.Head.{Head}
 
--- what the bytes since the last event that ended something are
+-- the meaning of the bytes since the last event that ended something
 pub data Token : Type 0 where
-  -- a value's first byte, or a close
+  -- before a value's first byte, or before a close
   AtStart : Token
-  -- an aggregate's close, or the value's end, is owed
+  -- an aggregate's close or the end of the value is due
   AtEnd : Token
-  -- a line, of which length leaves this many bytes
+  -- a line for which the limit of length leaves this many bytes
   InLine : ℕ → Token
   AtLineLf : Token
   AtIntSign : Token
-  -- an integer of this sign, and the digits so far
+  -- an integer of this sign, with the digits so far
   AtIntFirst : Bool → Token
   InInt : Bool → ℕ → Token
   AtIntLf : Bool → ℕ → Token
@@ -28,10 +28,10 @@ pub data Token : Type 0 where
   AtBigFirst : Bool → Token
   InBigZeros : Bool → Token
   AtBigZeroLf : Token
-  -- a digit is owed as a part; length leaves this many more
+  -- a digit is due as a part; the limit of length leaves this many more
   AtBigDigit : ℕ → ℕ → Token
   InBig : ℕ → Token
-  -- a text's end is owed
+  -- the end of a text is due
   AtTextEnd : Token
   AtNullOne : Token
   AtNullCr : Token
@@ -41,11 +41,11 @@ pub data Token : Type 0 where
   AtBoolLf : Bool → Token
   AtBulkHead : Token
   AtArrayHead : Token
-  -- a head, and its number so far
+  -- a head, with its number so far
   AtHead : Head → Token
   InHead : Head → ℕ → Token
   AtHeadLf : Head → ℕ → Token
-  -- a verbatim string's format so far, and the bytes that come with its front
+  -- a verbatim string's format so far, and the number of bytes that its head counts
   AtFormat : ℕ → Token
   AtFormatSecond : ℕ → ℕ → Token
   AtFormatThird : ℕ → ℕ → ℕ → Token
@@ -56,7 +56,7 @@ pub data Token : Type 0 where
   AtContentLf : Token
   AtStreamCr : Token
   AtStreamLf : Token
-  -- a streamed string, of which length leaves this many bytes, and the bytes to come of a chunk
+  -- a streamed string for which the limit of length leaves this many bytes, and the bytes to come of a chunk
   AtChunk : ℕ → Token
   InChunk : ℕ → ℕ → Token
   AtChunkCr : ℕ → Token
@@ -67,19 +67,19 @@ pub data Token : Type 0 where
   AtCloseLf : Token
   Dead : Cause → Token
 
--- where a scanner stands
+-- the place of a scanner
 pub record Place : Type 0 where
   pub token : Token
   -- the innermost first
   pub frames : List Frame
   pub version : Version
   pub bounds : Bounds
-  -- the bytes of the value at the top that were taken before the piece
+  -- the number of bytes of the outermost value that were read before the piece
   pub taken : ℕ
-  -- the fewest bytes by which the frames end once the token has ended
+  -- the least number of bytes that close the frames after the token has ended
   pub frames_need : ℕ
 
--- what an event says, its bytes aside
+-- the content of an event, apart from its bytes
 pub data Happening : Type 0 where
   Null : Happening
   Truth : Bool → Happening
@@ -91,7 +91,7 @@ pub data Happening : Type 0 where
   Open : OpenKind → Option ℕ → Happening
   Close : Happening
 
--- what one byte does
+-- the effect of one byte
 pub data Move : Type 0 where
   Go : Place → Move
   -- the byte is content
@@ -103,16 +103,16 @@ pub data Move : Type 0 where
 abbrev pub at : Place → Token → Place
 at s t = record s { token = t }
 
--- after a member of a counted aggregate its close may be owed
+-- after a member of a counted aggregate its close may be due
 abbrev pub token_in_shape : Shape → Token
 token_in_shape (Left n) = cond (eqb n 0) AtEnd AtStart
 token_in_shape (Begun n) = AtStart
 
--- where a value has ended, or an aggregate has opened, within these frames
+-- the token after a value has ended or an aggregate has opened, within these frames
 abbrev pub token_at_boundary : List Frame → Token
 token_at_boundary [] = AtEnd
 token_at_boundary (f ∷ fs) = token_in_shape f.shape
 
--- the place after a value's end or an aggregate's head
+-- the place after the end of a value or the head of an aggregate
 abbrev pub at_boundary : Place → Place
 at_boundary s = record s { token = token_at_boundary s.frames }

@@ -1,4 +1,4 @@
--- What one turn of the loop comes to, for every front that was read and all events that the listener has heard.
+-- The result of one turn of the loop, for every front that was read and all events that the listener has received.
 use Rattle.std.specs.Str.{byte}
 use Rattle.std.specs.Prelude.{◌≡◌, ◌⊎◌, ◌+◌, ◌-◌, ◌*◌, get_or, Bool, true, false, ℕ, ◌<◌, ◌≤◌, List, ◌++◌, length, take}
 use Rattle.resp_value.specs.Rules.{Rules, WithinTotal}
@@ -19,20 +19,20 @@ use Rattle.resp_scan.specs.Machine.Owed.{events_owed}
 use Rattle.resp_scan.specs.Machine.Sound.{IsSound}
 use Rattle.resp_scan.specs.Reading.{BeginDue, EndsValue, Events, HasRead, IsFaulted, IsRefused, UsesUp}
 
--- the bytes used were read, and the listener was told more events and has heard these too
+-- the bytes used were read, and the listener has received their events too
 pub record GoesOn (t : Place) (HasHeard : Events → Type 0) (front : List ℕ) (given : Events) (piece : List ℕ)
     (used : ℕ) : Type 0 where
   pub told : Events
   pub reads : HasRead t (front ++ take used piece) (given ++ told)
   pub heard : HasHeard (given ++ told)
 
--- a byte was refused, and the fault stands
+-- a byte was rejected, and the fault is final
 pub record LeadsToFault (r : Rules) (t : Place) (front : List ℕ) (given : Events) (piece : List ℕ) : Type 0 where
   pub fault : Fault
   pub kept : IsFaulted t fault
   pub refused : IsRefused r front given piece fault
 
--- the listener has stopped, told events that are the first of those due of the bytes taken
+-- the listener has stopped, after the first of the events of the bytes read
 pub record Stops (r : Rules) (t : Place) (HasStopped : Events → Type 0) (front piece : List ℕ) (used : ℕ) : Type 0 where
   pub told : Events
   pub has_stopped : HasStopped told
@@ -40,7 +40,7 @@ pub record Stops (r : Rules) (t : Place) (HasStopped : Events → Type 0) (front
   pub viable : IsViable r WithinTotal (front ++ take used piece)
   pub taken : t.taken ≡ length (front ++ take used piece)
 
--- what one turn comes to
+-- the result of one turn
 abbrev pub OutcomeOfTurn : Place → Place → (Events → Type 0) → (Events → Type 0) → List ℕ → Events → List ℕ → ℕ → Turn →
     Type 0
 OutcomeOfTurn s t HasHeard HasStopped front given piece used On = GoesOn t HasHeard front given piece used
@@ -51,7 +51,7 @@ OutcomeOfTurn s t HasHeard HasStopped front given piece used Failed = LeadsToFau
     HasHeard given
 OutcomeOfTurn s t HasHeard HasStopped front given piece used Stopped = Stops (rules_of s) t HasStopped front piece used
 
--- A turn leads from one sound place to another. One that uses no byte gives an event of those owed, so that turns end.
+-- A turn leads from one sound place to another. A turn that uses no byte gives an event that is due, so the turns end.
 pub record IsTurn (O : Type 0) (s t : Place) (HadHeard HasHeard HasStopped : O → Events → Type 0) (piece : List ℕ)
     (turned : Turned) : Type 0 where
   pub sound : IsSound t
@@ -63,7 +63,7 @@ pub record IsTurn (O : Type 0) (s t : Place) (HadHeard HasHeard HasStopped : O �
   pub outcome : (since : O) (front : List ℕ) (given : Events) → HasRead s front given → HadHeard since given →
       OutcomeOfTurn s t (HasHeard since) (HasStopped since) front given piece turned.used turned.turn
 
--- what comes of a listener's answer
+-- the result of a listener's decision
 abbrev pub turn_of : Bool → Turn
 turn_of true = On
 turn_of false = Stopped
@@ -75,17 +75,17 @@ IsLineTag tag.Error kind = kind ≡ text.Error
 IsLineTag tag.Double kind = kind ≡ text.Double
 IsLineTag _ kind = ⊥
 
--- CR LF stand at this index of the piece
+-- CR LF is at this index of the piece
 pub record EndsAt (piece : List ℕ) (at : ℕ) : Type 0 where
   pub within : at + 2 ≤ length piece
   pub cr : get_or piece at 0 ≡ byte "\r"
   pub lf : get_or piece (at + 1) 0 ≡ byte "\n"
 
--- a digit stands at this index of the piece
+-- a digit is at this index of the piece
 abbrev pub HasDigitAt : List ℕ → ℕ → Type 0
 HasDigitAt piece at = (byte "0" ≤ get_or piece at 0) × (get_or piece at 0 ≤ byte "9")
 
--- after the first byte of the piece one digit stands, this number, and CR LF, which the head ends with
+-- the first byte of the piece is followed by one digit, this number, and by CR LF, which end the head
 pub record HasOneDigit (piece : List ℕ) (head n : ℕ) : Type 0 where
   pub ends : head ≡ 4
   pub digit : HasDigitAt piece 1
@@ -102,11 +102,11 @@ pub record HasTwoDigits (piece : List ℕ) (head n : ℕ) : Type 0 where
   pub lf : get_or piece 4 0 ≡ byte "\n"
   pub valued : n ≡ (get_or piece 1 0 - byte "0") * 10 + (get_or piece 2 0 - byte "0")
 
--- after the first byte of the piece this number stands, in one digit or two
+-- the first byte of the piece is followed by this number, in one or two digits
 abbrev pub HasShortNumber : List ℕ → ℕ → ℕ → Type 0
 HasShortNumber piece head n = HasOneDigit piece head n ⊎ HasTwoDigits piece head n
 
--- how many bytes of counted content are still to come in this state, which has such a count
+-- the number of bytes of counted content still to come, in a state that has such a count
 abbrev pub LeavesContent : State → ℕ → ℕ → Type 0
 LeavesContent state.Content count left = left ≡ count
 LeavesContent state.ContentCr count left = left ≡ 0

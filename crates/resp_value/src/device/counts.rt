@@ -1,12 +1,14 @@
-//! How a device counts its calls, and those of them that failed.
+//! The counts of a device: its calls, and the calls that failed.
 
 ghost use Rattle.std.specs.Prelude.{◌≡◌};
 ghost use Rattle.resp_value.specs.Devices.{count_after};
 
-/// Two counts, each of which stays at its last value.
+/// Two counts. A count that has reached its greatest value stays there.
 #[derive(Clone, Copy, Debug, Default)]
 pub struct Counts {
+    /// The number of calls.
     pub calls: u64,
+    /// The number of calls that failed.
     pub failures: u64,
 }
 

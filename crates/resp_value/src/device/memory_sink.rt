@@ -1,4 +1,4 @@
-//! A sink in memory: each byte that it takes is known, and it fails from a set byte on.
+//! A sink in memory that can be made to fail.
 
 ghost use Rattle.std.specs.Prelude.{◌≡◌, ◌+◌, ◌≤◌, ◌↔◌, [], length, Some, IfOk, IsOk, IsErr, OnErr, vec_len, vec_capacity};
 ghost use Rattle.resp_value.specs.Devices.{count_after, Writes, write_fails, failures_after, SinkState, write_count, after_write, after_failed_write};
@@ -8,12 +8,13 @@ use super::{DeviceFault, Sink};
 use std::alloc::{AllocError, Global};
 use std::marker::Model;
 
-/// Holds what is written to it, at most a set number of bytes a call, and fails from a set byte on.
+/// A sink that holds the bytes written to it. A write moves at most a set number of bytes, and
+/// writes fail from a set byte on.
 #[derive(Debug, Drop)]
 pub struct MemorySink {
     held: Vec<u8>,
     most: usize,
-    // How many bytes may still be written before writes fail.
+    // The number of bytes that may still be written before writes fail.
     sound: usize,
     counts: Counts,
 }
@@ -29,15 +30,20 @@ impl Model for MemorySink {
       failures = s.counts.failures;
     } };
 
-    // The room for what may still be written is there, so no write takes memory.
+    // The buffer has room for all bytes that may still be written, so no write allocates.
     ghost invariant = { λ s. vec_len s.held + s.sound ≤ vec_capacity s.held };
 }
 
 impl MemorySink {
-    /// An empty sink, that moves at most `most` bytes a call and fails from byte `fails_from` on: a
-    /// write that begins before that byte stops there, and one that begins there fails. With 0 for
-    /// `most` each write before it takes no byte. The room for all that it may take is made here,
-    /// so no write takes memory.
+    /// Makes an empty sink that moves at most `most` bytes in a write and fails from byte
+    /// `fails_from` on. A write that begins before byte `fails_from` stops there, and a write that
+    /// begins at that byte fails. If `most` is 0, each write before that byte writes no byte.
+    ///
+    /// The room for all `fails_from` bytes is allocated here, so no write allocates.
+    ///
+    /// # Errors
+    ///
+    /// `AllocError` if the allocation fails. With `fails_from` 0 it never fails.
     pub fn new(alloc: Global, most: usize, fails_from: usize) -> Result<Self, AllocError>
         ensures ok { IfOk result (λ sink. sink ≡ record {
           held = [];
@@ -56,14 +62,14 @@ impl MemorySink {
         })
     }
 
-    /// The bytes that were written.
+    /// Returns the bytes that were written.
     pub fn bytes(&self) -> &[u8]
         ensures { result.now ≡ self.now.held }
     {
         self.held.as_slice()
     }
 
-    /// The bytes that were written.
+    /// Returns the bytes that were written, as a `Vec`.
     pub fn into_vec(self) -> Vec<u8>
         ensures { result.items ≡ self.held }
     {
@@ -71,14 +77,15 @@ impl MemorySink {
         held
     }
 
-    /// How many writes were made.
+    /// Returns the number of writes that were made. The count stops at the greatest `u64`.
     pub fn calls(&self) -> u64
         ensures { result ≡ self.now.calls }
     {
         self.counts.calls
     }
 
-    /// How many writes failed, or took no byte.
+    /// Returns the number of writes that failed or wrote no byte. The count stops at the greatest
+    /// `u64`.
     pub fn failures(&self) -> u64
         ensures { result ≡ self.now.failures }
     {
@@ -100,11 +107,11 @@ impl Sink for MemorySink {
         ensures failures { self.new.failures ≡
             failures_after (write_fails result) self.old.failures }
 
-        // It fails exactly where no byte may be written any more.
+        // It fails if and only if no further byte may be written.
         ensures fails { IsErr result ↔ (self.old.sound ≡ 0) }
         ensures refused { OnErr result (self.new ≡ after_failed_write self.old) }
 
-        // Else it moves as many bytes as may be.
+        // Otherwise it moves as many bytes as it may.
         ensures count { IfOk result (λ n. n ≡ write_count self.old from.now) }
         ensures after { IfOk result (λ n. self.new ≡ after_write self.old from.now n) }
     {

@@ -1,4 +1,4 @@
-//! A source over a slice: each byte that it gives is known, and it can be made to fail.
+//! A source over a slice that can be made to fail.
 
 ghost use Rattle.std.specs.Prelude.{◌≡◌, ◌<◌, ◌≤◌, ◌↔◌, ◌++◌, length, take, drop, Some, IfOk, IsErr, OnErr};
 ghost use Rattle.resp_value.specs.Devices.{count_after, Reads, read_fails, failures_after, SourceState, read_count, after_read, after_failed_read};
@@ -7,13 +7,13 @@ use super::counts::Counts;
 use super::{DeviceFault, Source};
 use std::marker::Model;
 
-/// Reads from a slice, at most a set number of bytes a call. It can be made to fail from a set byte
-/// on.
+/// A source that reads from a slice. A read moves at most a set number of bytes, and reads can be
+/// made to fail from a set byte on.
 #[derive(Debug, Drop)]
 pub struct MemorySource<'a> {
     left: &'a [u8],
     most: usize,
-    // How many bytes may still be read before reads fail, if reads fail at all.
+    // The number of bytes that may still be read before reads fail, or `None` if reads do not fail.
     sound: Option<usize>,
     counts: Counts,
 }
@@ -29,13 +29,28 @@ impl<'a> Model for MemorySource<'a> {
       failures = s.counts.failures;
     } };
 
-    // A source that moves no byte would seem to be at its end.
+    // A source that moves no byte would look as if it were at its end.
     ghost invariant = { λ s. 0 < s.most };
 }
 
 impl<'a> MemorySource<'a> {
-    /// A source of these bytes, that moves at most `most` bytes a call, one at least, and never
-    /// fails. Takes no memory.
+    /// Makes a source of these bytes that moves at most `most` bytes in a read, at least 1, and
+    /// never fails. Does not allocate.
+    ///
+    /// # Examples
+    ///
+    /// From [samples](../../../samples/src/values.rt):
+    ///
+    /// ```rust
+    /// let mut source = MemorySource::new(b"+OK\r\n", 3);
+    /// let mut buffer = [0; 16];
+    /// let first = source.read(&mut buffer)?;
+    /// let second = source.read(&mut buffer)?;
+    /// let end = source.read(&mut buffer)?;
+    /// println!(rt; "{first} {second} {end}")?;
+    /// ```
+    ///
+    /// This prints `3 2 0`.
     pub fn new(bytes: &'a [u8], most: usize) -> Self
         requires { 0 < most }
         ensures { result ≡ record {
@@ -54,9 +69,9 @@ impl<'a> MemorySource<'a> {
         }
     }
 
-    /// The same source, but it fails from this byte on, counted from 0 at the next byte that it
-    /// reads: a read that begins before that byte stops there, and one that begins there fails, at
-    /// the end of the bytes too.
+    /// Makes reads fail from this byte on, counted from 0 at the next byte to be read. A read that
+    /// begins before that byte stops there. A read that begins at that byte fails, even if it is
+    /// the end of the bytes.
     pub fn failing_from(self, byte: usize) -> Self
         ensures { result ≡ record self.entry { sound = Some byte } }
     {
@@ -66,14 +81,14 @@ impl<'a> MemorySource<'a> {
         }
     }
 
-    /// How many reads were made: at the last value of 64 bits the count stays.
+    /// Returns the number of reads that were made. The count stops at the greatest `u64`.
     pub fn calls(&self) -> u64
         ensures { result ≡ self.now.calls }
     {
         self.counts.calls
     }
 
-    /// How many reads failed, counted likewise.
+    /// Returns the number of reads that failed. The count stops at the greatest `u64`.
     pub fn failures(&self) -> u64
         ensures { result ≡ self.now.failures }
     {
@@ -95,12 +110,12 @@ impl Source for MemorySource<'_> {
         ensures failures { self.new.failures ≡
             failures_after (read_fails result) self.old.failures }
 
-        // It fails exactly where no byte may be read any more.
+        // It fails if and only if no further byte may be read.
         ensures fails { IsErr result ↔ (self.old.sound ≡ Some 0) }
         ensures refused { OnErr result (self.new ≡ after_failed_read self.old) }
         ensures untouched { OnErr result (into.new ≡ into.old) }
 
-        // Else it moves as many bytes as may be.
+        // Otherwise it moves as many bytes as it may.
         ensures count { IfOk result (λ n. n ≡ read_count self.old (length into.old)) }
         ensures moved { IfOk result (λ n. into.new ≡ take n self.old.left ++ drop n into.old) }
         ensures after { IfOk result (λ n. self.new ≡ after_read self.old n) }

@@ -9,8 +9,8 @@ use super::{DeviceFault, Sink, Source};
 use std::io::{Read, Write};
 use std::marker::Model;
 
-/// A reader or a writer of std, whose calls and failures are counted. As a device it claims nothing
-/// of its bytes.
+/// A reader or writer of std with counts of its calls and failures. As a device it states nothing
+/// about its bytes.
 #[derive(Debug, Drop)]
 pub struct Device<T> {
     inner: T,
@@ -28,7 +28,7 @@ impl<T> Model for Device<T> {
 }
 
 impl<T> Device<T> {
-    /// A device over `inner`, of which no call was made.
+    /// Makes a device over `inner`, with both counts 0.
     pub fn new(inner: T) -> Self
         ensures { result ≡ record { inner = inner; calls = 0; failures = 0 } }
     {
@@ -38,7 +38,7 @@ impl<T> Device<T> {
         }
     }
 
-    /// Gives back the reader or the writer that it is over.
+    /// Returns the reader or writer that the device wraps.
     pub fn into_inner(self) -> T
         ensures { result ≡ self.inner }
     {
@@ -46,14 +46,15 @@ impl<T> Device<T> {
         inner
     }
 
-    /// How many reads or writes were made.
+    /// Returns the number of reads or writes that were made. The count stops at the greatest `u64`.
     pub fn calls(&self) -> u64
         ensures { result ≡ self.now.calls }
     {
         self.counts.calls
     }
 
-    /// How many reads failed, or how many writes failed or took no byte.
+    /// Returns the number of reads that failed, or of writes that failed or wrote no byte. The
+    /// count stops at the greatest `u64`.
     pub fn failures(&self) -> u64
         ensures { result ≡ self.now.failures }
     {
@@ -75,7 +76,7 @@ impl<R: Read> Source for Device<R> {
         ensures failures { self.new.failures ≡
             failures_after (read_fails result) self.old.failures }
 
-        // The bytes are those that `inner` gives, where it tells them.
+        // The bytes are those that `inner` reads, if the contract of `inner` describes them.
         ensures inner { ReadConsumes (R.remaining self.old.inner) (R.remaining self.new.inner)
             result into.new }
     {
@@ -104,7 +105,7 @@ impl<W: Write> Sink for Device<W> {
         ensures failures { self.new.failures ≡
             failures_after (write_fails result) self.old.failures }
 
-        // The bytes go to `inner`, where it tells them.
+        // The bytes go to `inner`, if the contract of `inner` describes them.
         ensures inner { WriteAppends (W.contents self.old.inner) (W.contents self.new.inner) result
             from.now }
     {

@@ -1,4 +1,4 @@
-//! A value and the attributes that stand before it.
+//! The value behind attributes.
 
 ghost use Rattle.std.specs.Prelude.{◌≡◌};
 ghost use Rattle.resp_value.specs.Attributes.{without_attributes};
@@ -7,8 +7,19 @@ ghost use Rattle.resp_value.specs.Values.{datum_of};
 use super::Value;
 
 impl Value {
-    /// The value that is left once the attributes before it are taken away, however many there are;
-    /// without any, the value itself. Takes no memory.
+    /// Returns the value without the attributes in front of it, however many there are. Returns the
+    /// value itself if it has no attribute. Does not allocate.
+    ///
+    /// # Examples
+    ///
+    /// From [samples](../../../samples/src/values.rt):
+    ///
+    /// ```rust
+    /// let annotated = Value::Attr(PairList::new(pairs), Box::new(alloc, Value::Int(7))?);
+    /// println!(rt; "{:?}", annotated.without_attributes())?;
+    /// ```
+    ///
+    /// This prints `Int(7)`.
     pub fn without_attributes(&self) -> &Value
         ensures { datum_of result.now ≡ without_attributes (datum_of self.now) }
     {

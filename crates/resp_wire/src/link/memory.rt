@@ -4,7 +4,7 @@ ghost use Rattle.std.specs.Prelude.{◌≡◌, ◌≤◌, length, IsOk};
 
 use super::{Carried, Direction, Link};
 
-/// A link over memory, which never fails and takes no memory.
+/// A link over memory. It never fails and does not allocate.
 #[derive(Clone, Copy, Debug, Default, PartialEq, Eq, Drop)]
 pub struct MemoryLink;
 

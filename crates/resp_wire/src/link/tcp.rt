@@ -10,15 +10,16 @@ use resp_value::device::{Device, Sink, Source};
 use std::io;
 use std::net::{Net, TcpListener, TcpStream};
 
-/// How many reads and writes one carry may take.
+/// The number of reads and writes that one carry may make.
 const TURNS: u64 = 65_536;
 
-/// Both ends of a connection of this machine to itself, in one thread. It gives the bytes that it
-/// takes, since it compares them.
+/// Both ends of a TCP connection of this machine to itself, in one thread. The link compares the
+/// bytes received with the bytes sent, so a carry that succeeds delivers exactly the bytes sent.
 ///
-/// It carries by at most 65,536 reads and writes, and refuses by TooManyTurns where these are used
-/// up, by Write where a write fails or takes no byte, and by Read where a read fails, the input
-/// ends before the piece has come, or other bytes came than were written.
+/// A carry makes at most 65,536 reads and writes. It fails with `TooManyTurns` if these are used
+/// up, with `Write` if a write fails or writes no byte, and with `Read` if a read fails, if the
+/// input ends before the whole piece was received, or if the bytes received differ from the bytes
+/// written.
 #[derive(Debug, Drop)]
 pub struct TcpLink {
     client_end: Device<TcpStream>,
@@ -27,8 +28,11 @@ pub struct TcpLink {
 }
 
 impl TcpLink {
-    /// Connects to 127.0.0.1 at a port that the machine picks. Refuses with the error of the call
-    /// that failed, as where no descriptor or no port is left.
+    /// Connects to 127.0.0.1, at a port that the system chooses.
+    ///
+    /// # Errors
+    ///
+    /// The error of the call that failed, for example if no descriptor or no port is left.
     pub fn connect(net: &impl Net<Listener = TcpListener, Stream = TcpStream>) -> io::Result<Self>
         ensures unused { IfOk result (λ link. link.client_end.calls + link.server_end.calls ≡ 0) }
         ensures none_failed { IfOk result (λ link. link.failures ≡ 0) }
@@ -43,7 +47,7 @@ impl TcpLink {
 }
 
 impl TcpLink {
-    /// Writes a piece at the end that it comes from, and reads it at the other.
+    /// Writes a piece at one end, and reads it at the other.
     fn pass_along(&mut self, direction: Direction, piece: &[u8], into: &mut [u8]) -> Carried
         ensures refusal { IfErr result (λ fault. IsLinkCause fault.cause) }
         ensures calls { self.new.client_end.calls + self.new.server_end.calls ≤
@@ -57,7 +61,7 @@ impl TcpLink {
     }
 }
 
-/// The end that connects, and the end that is connected to.
+/// Returns the end that connects and the end that accepts.
 fn connect(
     net: &impl Net<Listener = TcpListener, Stream = TcpStream>,
 ) -> io::Result<(TcpStream, TcpStream)> {
@@ -88,7 +92,7 @@ impl Link for TcpLink {
     }
 }
 
-/// Whether the bytes that came are those that were written. Refuses by Read where they aren't.
+/// Checks that the bytes received are those that were written. Fails with `Read` if they are not.
 fn compare(written: &[u8], came: &[u8]) -> Carried
     ensures same { OnOk result (came.now ≡ written.now) }
     ensures refusal { IfErr result (λ fault. IsLinkCause fault.cause) }
@@ -99,7 +103,7 @@ fn compare(written: &[u8], came: &[u8]) -> Carried
     Ok(())
 }
 
-/// Writes a piece at one end, and reads as many bytes at the other as there is room for.
+/// Writes a piece at one end, and reads at the other end as many bytes as there is room for.
 fn pass<W: Sink, R: Source>(from: &mut W, to: &mut R, piece: &[u8], into: &mut [u8]) -> Carried
     ensures refusal { IfErr result (λ fault. IsLinkCause fault.cause) }
     ensures calls { W.calls from.new + R.calls to.new ≤ W.calls from.old + R.calls to.old + TURNS }
@@ -119,7 +123,7 @@ fn pass<W: Sink, R: Source>(from: &mut W, to: &mut R, piece: &[u8], into: &mut [
     Ok(())
 }
 
-/// Why a link stops, where a read or a write moved no byte.
+/// Returns the error of the link for a read or write that moved no byte.
 fn stop(halt: Halt, failed: Cause) -> LinkFault
     ensures { IsLinkCause failed → IsLinkCause result.cause }
 {

@@ -1,11 +1,11 @@
-//! Rows of what a client hears.
+//! Rows of the replies and pushes that a client receives.
 
 use crate::spelling::{add_fault, add_final_fault, add_members, add_pushes, add_value, is_refused};
 use anyhow::Result;
 use resp_client::{Client, Fault, Heard, PushList, PushSink, What};
 use std::alloc::{AllocError, Global};
 
-/// `hear TEXT` says each reply and each push of a text, and the fault where it is refused.
+/// `hear TEXT` prints each reply and each push of a text, and the fault if there is one.
 pub(crate) fn hear(client: &mut Client, pieces: &[&[u8]], said: &mut String) -> Result<()> {
     for piece in pieces {
         if !hear_piece(client, piece, said)? {
@@ -15,7 +15,7 @@ pub(crate) fn hear(client: &mut Client, pieces: &[&[u8]], said: &mut String) -> 
     Ok(())
 }
 
-/// `taken` says how many bytes of a value were taken, and the fault that stands.
+/// `taken` prints the number of bytes read of a value, and the fault if there was one.
 pub(crate) fn taken(client: &Client, said: &mut String) -> Result<()> {
     writeln!(said, "taken {}", client.taken())?;
     if let Some(fault) = client.fault() {
@@ -24,7 +24,7 @@ pub(crate) fn taken(client: &Client, said: &mut String) -> Result<()> {
     Ok(())
 }
 
-/// `show TEXT` is as `hear TEXT` with a sink, and says at its end the pushes that this was shown.
+/// `show TEXT` is `hear TEXT` with a sink, and finally prints the pushes that the sink has stored.
 pub(crate) fn show(
     alloc: Global,
     client: &mut Client,
@@ -52,7 +52,7 @@ pub(crate) fn show(
     Ok(add_pushes(said, sink.shown())?)
 }
 
-/// Says what is heard in a piece. Whether the client goes on.
+/// Prints the replies and pushes of a piece. Returns whether the client continues.
 fn hear_piece(client: &mut Client, piece: &[u8], said: &mut String) -> Result<bool, AllocError> {
     let mut rest = piece;
     for _ in 0..=piece.len() {
@@ -69,7 +69,7 @@ fn hear_piece(client: &mut Client, piece: &[u8], said: &mut String) -> Result<bo
     Ok(true)
 }
 
-/// Says a fault, and where it isn't answered again.
+/// Prints a fault, and a line if it is not returned again.
 fn say_refusal(
     client: &mut Client,
     rest: &[u8],
@@ -81,7 +81,8 @@ fn say_refusal(
     Ok(false)
 }
 
-/// `feed TEXT` is one call, and says how many bytes it used and what ended with them.
+/// `feed TEXT` makes one call, and prints the number of bytes used and the reply or push that ended
+/// with them.
 pub(crate) fn feed(client: &mut Client, text: &[u8], said: &mut String) -> Result<()> {
     say_heard(client.feed(text), said)?;
     Ok(())
@@ -100,7 +101,7 @@ fn say_heard(heard: Result<Heard, Fault>, said: &mut String) -> Result<(), Alloc
     }
 }
 
-/// Says what has ended. Whether anything has.
+/// Prints the reply or push that has ended. Returns whether there is one.
 fn say_what(what: What, said: &mut String) -> Result<bool, AllocError> {
     match what {
         What::Reply { number, value } => {

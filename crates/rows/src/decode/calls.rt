@@ -1,4 +1,4 @@
-//! The calls of a decoder, and what is said of their answers.
+//! The calls of a decoder, and the lines printed for their results.
 
 use crate::cut::{Cut, pieces};
 use crate::spelling::{add_fault, add_final_fault, add_value, add_values, is_refused};
@@ -9,7 +9,7 @@ use resp_scan::event::Fault;
 use resp_value::{Limits, Value};
 use std::alloc::{AllocError, Global};
 
-/// What is said of a value.
+/// How a value is printed.
 #[derive(Clone, Copy)]
 pub(crate) enum Says {
     /// The value.
@@ -18,7 +18,7 @@ pub(crate) enum Says {
     Size,
 }
 
-/// Says each value of a text, and the fault where it is refused.
+/// Prints each value of a text, and the fault if there is one.
 pub(crate) fn decode(
     alloc: Global,
     decoder: &mut Decoder,
@@ -36,7 +36,7 @@ pub(crate) fn decode(
     Ok(())
 }
 
-/// Says each value that ends in a piece. Whether the decoder goes on.
+/// Prints each value that ends in a piece. Returns whether the decoder continues.
 fn decode_piece(
     decoder: &mut Decoder,
     piece: &[u8],
@@ -58,7 +58,8 @@ fn decode_piece(
     Ok(true)
 }
 
-/// Says a value, and where the decoder holds what it shouldn't. Whether there is a value.
+/// Prints a value, and a line if the decoder holds more than it should. Returns whether there is a
+/// value.
 fn say_answer(
     decoder: &Decoder,
     value: Option<Value>,
@@ -78,7 +79,7 @@ fn say_answer(
     Ok(true)
 }
 
-/// Says a fault, and where it isn't answered again, or where anything is held after it.
+/// Prints a fault, and a line if it is not returned again or if the decoder still holds anything.
 fn say_refusal(
     decoder: &mut Decoder,
     rest: &[u8],
@@ -93,7 +94,7 @@ fn say_refusal(
     Ok(false)
 }
 
-/// Is one call, and says how many bytes it used and what value ended with them.
+/// Makes one call, and prints the number of bytes used and the value that ended with them.
 pub(crate) fn feed(
     alloc: Global,
     decoder: &mut Decoder,
@@ -119,7 +120,7 @@ fn say_fed(fed: Result<Fed, Fault>, says: Says, said: &mut String) -> Result<(),
     }
 }
 
-/// Says how many bytes were taken of a value, and how much is held of it.
+/// Prints the number of bytes read of a value, and the weight held of it.
 pub(crate) fn held(decoder: &Decoder, said: &mut String) -> Result<()> {
     say_held(decoder, said)?;
     Ok(())
@@ -134,7 +135,7 @@ fn say_held(decoder: &Decoder, said: &mut String) -> Result<(), AllocError> {
     )
 }
 
-/// Ends the input, and says where that is refused.
+/// Ends the input, and prints the error if there is one.
 pub(crate) fn finish(decoder: &Decoder, said: &mut String) -> Result<()> {
     match decoder.finish() {
         Ok(()) => said.push_str("whole\n")?,
@@ -143,7 +144,7 @@ pub(crate) fn finish(decoder: &Decoder, said: &mut String) -> Result<()> {
     Ok(())
 }
 
-/// Changes the version, and says where that is refused.
+/// Changes the version, and prints the error if there is one.
 pub(crate) fn set_version(decoder: &mut Decoder, given: &str, said: &mut String) -> Result<()> {
     if let Err(busy) = decoder.set_version(version(given)?) {
         writeln!(said, "refused: {busy:?}")?;
@@ -151,7 +152,7 @@ pub(crate) fn set_version(decoder: &mut Decoder, given: &str, said: &mut String)
     Ok(())
 }
 
-/// Says the values of a whole input, or the number of the one that is refused and why.
+/// Prints the values of a complete input, or the number of the value with a fault and the fault.
 pub(crate) fn all(alloc: Global, given: &str, said: &mut String) -> Result<()> {
     let (number, text) = split(given);
     let text = bytes(alloc, text)?;
@@ -175,7 +176,7 @@ fn say_value(value: &Value, says: Says, said: &mut String) -> Result<(), AllocEr
     said.push_str("\n")
 }
 
-/// Adds an aggregate's kind and the number of its members or pairs, and any other value.
+/// Adds the kind of an aggregate with the number of its members or pairs, or any other value.
 fn add_size(value: &Value, said: &mut String) -> Result<(), AllocError> {
     let (kind, size) = match value {
         Value::Array(members) => ("array", members.list().len()),

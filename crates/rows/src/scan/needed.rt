@@ -1,12 +1,12 @@
-//! Rows of what is needed before the first byte of a text and after each of its bytes.
+//! Rows of the number of bytes needed, before the first byte of a text and after each byte.
 
 use super::reader::Reader;
 use super::story::Story;
 use resp_scan::Event;
 
-/// Says what is needed before the first byte of a text and after each one; after the last byte of a
-/// value 0, until its end was told. Says too where another number or a wrong end is answered, byte
-/// by byte and at each cut of the text.
+/// Prints the number of bytes needed before the first byte of a text and after each byte. After the
+/// last byte of a value it is 0 until the end was given. Also prints if another number or a wrong
+/// end is returned, byte by byte and at each cut of the text.
 pub(crate) fn say_needed(reader: &mut Reader, text: &[u8], story: &mut Story) {
     story.turn_to_needed();
     keep_needed(reader, text, story);
@@ -19,7 +19,7 @@ pub(crate) fn say_needed(reader: &mut Reader, text: &[u8], story: &mut Story) {
     }
 }
 
-/// Keeps what is needed, by steps over single bytes.
+/// Records the numbers of bytes needed, with steps over single bytes.
 fn keep_needed(reader: &mut Reader, text: &[u8], story: &mut Story) {
     reader.renew();
     reader.read_by_steps(b"", story);
@@ -28,7 +28,7 @@ fn keep_needed(reader: &mut Reader, text: &[u8], story: &mut Story) {
     }
 }
 
-/// Reads single bytes and after each one an empty piece.
+/// Reads single bytes, with an empty piece after each byte.
 fn read_by_bytes(reader: &mut Reader, text: &[u8], story: &mut Story) {
     reader.renew();
     read_to(reader, b"", 0, story);
@@ -38,8 +38,8 @@ fn read_by_bytes(reader: &mut Reader, text: &[u8], story: &mut Story) {
     }
 }
 
-/// Reads a piece, with which this many bytes of the text were given, and says where it is refused
-/// and where the end is answered wrongly.
+/// Reads a piece, after which this many bytes of the text were read, and prints if it is rejected
+/// or if the end is wrong.
 fn read_to(reader: &mut Reader, piece: &[u8], size: usize, story: &mut Story) {
     if let Some(fault) = reader.read(piece, story) {
         story.fault("refused: ", fault);
@@ -54,8 +54,8 @@ fn read_to(reader: &mut Reader, piece: &[u8], size: usize, story: &mut Story) {
     }
 }
 
-/// Says how many events of a value are told after all its bytes were taken and before its end is.
-/// Says too where nothing is needed before that or anything then.
+/// Prints the number of events of a value that are given after all its bytes were read and before
+/// its end. Also prints if nothing is needed before all bytes were read, or anything after.
 pub(crate) fn say_owed(reader: &mut Reader, value: &[u8], story: &mut Story) {
     reader.renew();
     let mut rest = value;

@@ -1,14 +1,14 @@
-//! Scanners, and the calls by which they read.
+//! Scanners, and the calls with which they read.
 
 use super::story::Story;
 use resp_scan::{Busy, Event, Fault, Listener, ScanError, Scanner};
 use resp_value::{Cause, Limits, Version};
 use std::alloc::Global;
 
-/// More calls than the events of any piece.
+/// More calls than any piece has events.
 const CALLS: usize = 100_000;
 
-/// By which call a scanner reads.
+/// The call with which a scanner reads.
 #[derive(Clone, Copy)]
 pub(crate) enum Call {
     /// [`Scanner::step`].
@@ -17,7 +17,7 @@ pub(crate) enum Call {
     Scan,
 }
 
-/// A scanner, its rules, and the call by which it reads.
+/// A scanner with its rules, and the call with which it reads.
 #[derive(Drop)]
 pub(crate) struct Reader {
     call: Call,
@@ -27,7 +27,7 @@ pub(crate) struct Reader {
 }
 
 impl Reader {
-    /// A new scanner of this version within these limits.
+    /// Makes a new scanner of this version with these limits.
     pub(crate) fn new(call: Call, version: Version, limits: Limits) -> Reader {
         Reader {
             call,
@@ -37,7 +37,7 @@ impl Reader {
         }
     }
 
-    /// Takes a new scanner of the same rules.
+    /// Replaces the scanner with a new scanner of the same rules.
     pub(crate) fn renew(&mut self) {
         self.scanner = Scanner::new(self.version, &self.limits);
     }
@@ -47,7 +47,7 @@ impl Reader {
         self.scanner.set_version(version)
     }
 
-    /// One step: the rest of the piece, and the event.
+    /// Makes one step. Returns the rest of the piece and the event.
     pub(crate) fn step<'a>(
         &mut self,
         piece: &'a [u8],
@@ -56,7 +56,7 @@ impl Reader {
         Ok((&piece[step.used..], step.event))
     }
 
-    /// One call over a piece: the rest of it, and whether a value has ended.
+    /// Makes one call over a piece. Returns the rest of the piece and whether a value has ended.
     pub(crate) fn scan<'a, L: Listener>(
         &mut self,
         piece: &'a [u8],
@@ -66,12 +66,12 @@ impl Reader {
         Ok((&piece[scanned.used..], scanned.is_whole))
     }
 
-    /// The number of bytes taken, and the least number of those that are needed.
+    /// Returns the number of bytes read, and the least number of bytes needed.
     pub(crate) fn taken_and_needed(&self) -> (u64, u64) {
         (self.scanner.taken(), self.scanner.needed())
     }
 
-    /// Reads a piece by its call. The fault, where it is refused.
+    /// Reads a piece with its call. Returns the fault, if there is one.
     pub(crate) fn read(&mut self, piece: &[u8], story: &mut Story) -> Option<Fault> {
         match self.call {
             Call::Step => self.read_by_steps(piece, story),
@@ -79,7 +79,7 @@ impl Reader {
         }
     }
 
-    /// Reads a piece by [`Scanner::step`]. The fault, where it is refused.
+    /// Reads a piece with [`Scanner::step`]. Returns the fault, if there is one.
     pub(crate) fn read_by_steps(&mut self, piece: &[u8], story: &mut Story) -> Option<Fault> {
         let mut rest = piece;
         for _ in 0..CALLS {
@@ -101,7 +101,7 @@ impl Reader {
         None
     }
 
-    /// Reads a piece by [`Scanner::scan`]. The fault, where it is refused.
+    /// Reads a piece with [`Scanner::scan`]. Returns the fault, if there is one.
     fn read_by_scan(&mut self, piece: &[u8], story: &mut Story) -> Option<Fault> {
         let mut rest = piece;
         for _ in 0..CALLS {
@@ -127,8 +127,8 @@ impl Reader {
         None
     }
 
-    /// Says whether the input may end, and where it doesn't stand between two values the bytes
-    /// taken, the bytes needed and the depth.
+    /// Prints whether the input may end. Inside a value, also prints the bytes read, the bytes
+    /// needed and the depth.
     pub(crate) fn say_end(&self, story: &mut Story) {
         match self.scanner.finish() {
             Ok(()) => story.item("whole"),
@@ -143,8 +143,8 @@ impl Reader {
         }
     }
 
-    /// Whether the end of the input is that of a value of which this many bytes were taken, or that
-    /// between two values where it is 0.
+    /// Returns whether the end of the input is the end inside a value of which this many bytes were
+    /// read, or the end between two values if the number is 0.
     pub(crate) fn ends_at(&mut self, at: u64) -> bool {
         let cause = Cause::Truncated;
         let (taken, _) = self.taken_and_needed();
@@ -155,7 +155,7 @@ impl Reader {
         taken == at && self.scanner.finish() == wanted && (at == 0 || self.is_busy())
     }
 
-    /// Whether the version can't be changed to another one.
+    /// Returns whether the version cannot be changed.
     fn is_busy(&mut self) -> bool {
         let other = match self.version {
             Version::Two => Version::Three,
@@ -164,7 +164,7 @@ impl Reader {
         self.set_version(other) == Err(Busy)
     }
 
-    /// Whether every later call answers this fault, and tells nothing.
+    /// Returns whether every later call returns this fault and gives no event.
     pub(crate) fn is_refused_for_good(
         &mut self,
         alloc: Global,
@@ -181,7 +181,7 @@ impl Reader {
             && self.is_busy()
     }
 
-    /// Whether [`Scanner::scan`] answers this fault, and tells nothing.
+    /// Returns whether [`Scanner::scan`] returns this fault and gives no event.
     fn is_scanned_with(&mut self, alloc: Global, piece: &[u8], fault: Fault) -> bool {
         let mut story = Story::new(alloc, 1);
         let scanned = self.scan(piece, &mut story).err();

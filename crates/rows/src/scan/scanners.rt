@@ -1,4 +1,4 @@
-//! The scanners of a conversation, and what their rows ask of them.
+//! The scanners of a conversation, and the calls of their rows.
 
 use super::reader::{Call, Reader};
 use super::story::Story;
@@ -11,8 +11,8 @@ use anyhow::{Context, Result};
 use resp_value::Version;
 use std::alloc::Global;
 
-/// Scanners, which have to say the same: of each of their rules one that reads by `step` and one
-/// that reads by `scan`.
+/// Scanners that have to print the same. For each set of rules there is a scanner that reads with
+/// `step` and a scanner that reads with `scan`.
 #[derive(Drop)]
 pub(crate) struct Scanners {
     alloc: Global,
@@ -45,7 +45,7 @@ impl Subject for Scanners {
 }
 
 impl Scanners {
-    /// Adds two scanners of a version under limits, as `3 depth=4`.
+    /// Adds two scanners of a version and limits, written as `3 depth=4`.
     fn add(&mut self, given: &str) -> Result<()> {
         let (number, limits) = given.split_once(' ').unwrap_or((given, ""));
         let version = version(number.as_bytes()).context("an unknown version")?;
@@ -55,7 +55,7 @@ impl Scanners {
         Ok(())
     }
 
-    /// Says on a line what the scanners answer to a row.
+    /// Prints on a line the results of the scanners for a row.
     fn ask(&mut self, name: &str, text: &[u8], cut: Cut, said: &mut String) -> Result<()> {
         let pieces = pieces(self.alloc, text, cut)?;
         let row = Row {
@@ -72,7 +72,7 @@ impl Scanners {
     }
 }
 
-/// A row that each scanner is asked.
+/// A row that is run on each scanner.
 #[derive(Clone, Copy)]
 struct Row<'a> {
     alloc: Global,
@@ -110,7 +110,7 @@ impl Row<'_> {
         }
     }
 
-    /// Says the events of a whole input, and where it is refused or else how it ends.
+    /// Prints the events of a complete input, and the fault or else the end.
     fn input(self, reader: &mut Reader, story: &mut Story) {
         reader.renew();
         if self.scan(reader, story) {
@@ -118,18 +118,19 @@ impl Row<'_> {
         }
     }
 
-    /// Says the events of a text, and where it is refused. Whether it isn't.
+    /// Prints the events of a text, and the fault if there is one. Returns whether there is no
+    /// fault.
     fn scan(self, reader: &mut Reader, story: &mut Story) -> bool {
         for piece in self.pieces {
             if !self.read(reader, piece, story) {
                 return false;
             }
         }
-        // After a text in one piece an empty one comes.
+        // A text in one piece is followed by an empty piece.
         self.pieces.len() > 1 || self.read(reader, b"", story)
     }
 
-    /// Reads a piece. Whether it isn't refused.
+    /// Reads a piece. Returns whether there is no fault.
     fn read(self, reader: &mut Reader, piece: &[u8], story: &mut Story) -> bool {
         let Some(fault) = reader.read(piece, story) else {
             return true;
@@ -142,7 +143,7 @@ impl Row<'_> {
     }
 }
 
-/// Says how many bytes one step uses and its event, or that it is refused.
+/// Prints the number of bytes used by one step and its event, or the fault.
 fn step(reader: &mut Reader, piece: &[u8], story: &mut Story) {
     match reader.step(piece) {
         Ok((rest, event)) => {
@@ -156,7 +157,7 @@ fn step(reader: &mut Reader, piece: &[u8], story: &mut Story) {
     }
 }
 
-/// Changes the version, and says where that is refused.
+/// Changes the version, and prints the error if there is one.
 fn set_version(reader: &mut Reader, number: &[u8], story: &mut Story) {
     match version(number) {
         Some(version) => {
@@ -168,7 +169,7 @@ fn set_version(reader: &mut Reader, number: &[u8], story: &mut Story) {
     }
 }
 
-/// The version of this number.
+/// Returns the version of this number.
 fn version(number: &[u8]) -> Option<Version> {
     match number {
         b"2" => Some(Version::Two),

@@ -1,5 +1,5 @@
-//! Rows of a listener that stops, and of one that is told whole texts. The pieces of the value are
-//! parted by `^`.
+//! Rows of a listener that stops, and of a listener that receives whole texts. The pieces of the
+//! value are separated by `^`.
 
 use super::reader::Reader;
 use super::story::Story;
@@ -7,8 +7,8 @@ use resp_scan::{Event, Fault, Listener, OpenKind, ScanError, TextKind};
 use resp_value::Cause;
 use std::alloc::Global;
 
-/// Says for each event of a value how many bytes were taken where a listener stops at it, and where
-/// a later call answers anything else. Then the listener stops at none.
+/// Prints for each event of a value the number of bytes read when a listener stops at this event,
+/// and prints if a later call returns anything else. Then runs a listener that does not stop.
 pub(crate) fn say_stops(alloc: Global, reader: &mut Reader, value: &[u8], story: &mut Story) {
     for number in 1..=value.len() {
         let mut heard = Story::new(alloc, number);
@@ -24,7 +24,7 @@ pub(crate) fn say_stops(alloc: Global, reader: &mut Reader, value: &[u8], story:
     reader.say_end(story);
 }
 
-/// How many bytes of a value were taken where a listener stops, if it does.
+/// Returns the number of bytes of a value that were read when a listener stopped, if it stops.
 fn stop(reader: &mut Reader, value: &[u8], heard: &mut Story) -> Option<u64> {
     reader.renew();
     for piece in value.split(is_mark) {
@@ -35,12 +35,12 @@ fn stop(reader: &mut Reader, value: &[u8], heard: &mut Story) -> Option<u64> {
     None
 }
 
-/// Whether a byte parts two pieces.
+/// Returns whether a byte separates two pieces.
 fn is_mark(byte: &u8) -> bool {
     *byte == b'^'
 }
 
-/// Whether every later call answers that memory was out at this byte.
+/// Returns whether every later call returns `OutOfMemory` at this byte.
 fn is_stopped_for_good(alloc: Global, reader: &mut Reader, at: u64) -> bool {
     let cause = Cause::OutOfMemory;
     let fault = Fault { cause, at };
@@ -48,7 +48,7 @@ fn is_stopped_for_good(alloc: Global, reader: &mut Reader, at: u64) -> bool {
         && reader.is_refused_for_good(alloc, b"", fault)
 }
 
-/// Hears a text that lies whole in the piece by one call, and all else as [`Story`].
+/// Receives a text that lies completely in the piece in one call, and everything else as [`Story`].
 #[derive(Drop)]
 struct WholeTexts<'a> {
     story: &'a mut Story,
@@ -99,7 +99,7 @@ impl<'a> Listener for WholeTexts<'a> {
     }
 }
 
-/// Says what a listener is told that is told whole texts.
+/// Prints the events that a listener of whole texts receives.
 pub(crate) fn say_whole_texts(reader: &mut Reader, value: &[u8], story: &mut Story) {
     reader.renew();
     for piece in value.split(is_mark) {

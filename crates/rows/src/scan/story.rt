@@ -1,10 +1,10 @@
-//! What a scanner says of a row, in words.
+//! The line printed for a row of scanners.
 
 use anyhow::{Result, bail};
 use resp_scan::{Event, Fault, Listener, OpenKind, TextKind};
 use std::alloc::Global;
 
-/// An event other than those of a text, or a text without bytes.
+/// An event that is not part of a text, or a text without bytes.
 #[derive(Clone, Copy, PartialEq)]
 enum Told {
     Null,
@@ -16,28 +16,29 @@ enum Told {
     Done,
 }
 
-/// What a scanner says of a row: items with a comma between two. As a listener it hears events.
+/// The line printed for a row of scanners: items separated by commas. It is also a listener of
+/// events.
 ///
-/// Where memory is out it goes on without words, and its end says so.
+/// When out of memory it goes on without adding words, and its end reports that.
 #[derive(Drop)]
 pub(crate) struct Story {
     said: String,
     is_out_of_memory: bool,
-    /// Whether it keeps what is needed and tells no events.
+    /// Whether it records the number of bytes needed and prints no events.
     is_of_needed: bool,
-    /// The last event, which wasn't said yet, and how many times it came.
+    /// The last event, which has not been printed, and how many times it occurred.
     last: Option<Told>,
     times: u64,
-    /// The kind of a text that has begun, until its first byte comes.
+    /// The kind of a text that has begun, until its first byte is received.
     begun: Option<TextKind>,
-    /// Numbers that are said together.
+    /// Numbers that are printed together.
     numbers: Vec<u64>,
-    /// How many events it hears before it stops.
+    /// The number of events that it receives before it stops.
     left: usize,
 }
 
 impl Story {
-    /// One that stops as a listener at the event of this number.
+    /// Makes a listener that stops at the event of this number.
     pub(crate) fn new(alloc: Global, left: usize) -> Story {
         Story {
             said: String::new(alloc),
@@ -51,12 +52,12 @@ impl Story {
         }
     }
 
-    /// From here on it keeps what is needed and tells no events.
+    /// From here on it records the number of bytes needed and prints no events.
     pub(crate) fn turn_to_needed(&mut self) {
         self.is_of_needed = true;
     }
 
-    /// Adds what the scanner of this number says, where those before it said another thing.
+    /// Adds the line of the scanner of this number, if the scanners before it have another line.
     pub(crate) fn join(&mut self, number: usize, other: &mut Story) {
         other.say_told();
         self.is_out_of_memory |= other.is_out_of_memory;
@@ -68,7 +69,7 @@ impl Story {
         }
     }
 
-    /// All that was said.
+    /// Returns the whole line.
     pub(crate) fn finish(mut self) -> Result<String> {
         self.say_told();
         if self.is_out_of_memory {
@@ -77,7 +78,7 @@ impl Story {
         Ok(self.said)
     }
 
-    /// Whether nothing was said and no event was told.
+    /// Returns whether nothing was printed and no event was received.
     pub(crate) fn is_empty(&self) -> bool {
         self.said.is_empty() && self.last.is_none() && self.begun.is_none()
     }
@@ -114,20 +115,20 @@ impl Story {
         }
     }
 
-    /// An item that begins with these words.
+    /// Adds an item that begins with these words.
     pub(crate) fn item(&mut self, words: &str) {
         self.say_told();
         self.add_comma();
         self.add(words);
     }
 
-    /// An item of words and a number.
+    /// Adds an item of words and a number.
     pub(crate) fn number(&mut self, words: &str, number: u64) {
         self.item(words);
         self.add_number(number);
     }
 
-    /// An item of words, the name of a cause and its place.
+    /// Adds an item of words, the name of a cause and its place.
     pub(crate) fn fault(&mut self, words: &str, fault: Fault) {
         self.item(words);
         self.add(fault.cause.name());
@@ -164,7 +165,7 @@ impl Story {
         self.add_bytes(part);
     }
 
-    /// Adds a text that is told by one call.
+    /// Adds a text that was received in one call.
     pub(crate) fn tell_whole_text(&mut self, kind: TextKind, bytes: &[u8]) {
         self.begun = Some(kind);
         self.say_told();
@@ -172,7 +173,7 @@ impl Story {
         self.add("\" in one call");
     }
 
-    /// Says the last event, and the beginning of a text of which nothing was said.
+    /// Prints the last event, and the beginning of a text of which nothing was printed.
     fn say_told(&mut self) {
         self.say_last();
         if let Some(kind) = self.begun.take() {
@@ -181,7 +182,7 @@ impl Story {
         }
     }
 
-    /// Counts an event that is as the last one, and says the last one before another.
+    /// Counts an event that equals the last event. Prints the last event before a different event.
     fn count(&mut self, told: Told) {
         if self.last != Some(told) {
             self.say_last();
@@ -190,7 +191,7 @@ impl Story {
         self.times = self.times.saturating_add(1);
     }
 
-    /// Says the last event, and how many times it came.
+    /// Prints the last event, and how many times it occurred.
     fn say_last(&mut self) {
         let Some(told) = self.last.take() else {
             return;
@@ -253,19 +254,19 @@ impl Story {
         }
     }
 
-    /// Keeps a number, which is said with the others.
+    /// Records a number, which is printed with the others.
     pub(crate) fn keep(&mut self, number: u64) {
         if self.numbers.push(number).is_err() {
             self.is_out_of_memory = true;
         }
     }
 
-    /// The number kept at this place.
+    /// Returns the recorded number at this index.
     pub(crate) fn kept(&self, place: usize) -> Option<u64> {
         self.numbers.get(place).copied()
     }
 
-    /// An item of the numbers kept.
+    /// Adds an item of the recorded numbers.
     pub(crate) fn say_kept(&mut self) {
         self.item("");
         for place in 0..self.numbers.len() {
@@ -278,8 +279,8 @@ impl Story {
         }
     }
 
-    /// After this number of bytes this number is needed. Keeps it, where it is the first, or says
-    /// where it is another than the one kept.
+    /// Records the number needed after this number of bytes if it is the first record, and prints
+    /// it if it differs from the record.
     pub(crate) fn note(&mut self, taken: u64, needed: u64) {
         if !self.is_of_needed || self.kept(taken as usize) == Some(needed) {
             return;
@@ -291,7 +292,7 @@ impl Story {
         }
     }
 
-    /// Hears an event. Whether to go on.
+    /// Receives an event. Returns whether to continue.
     fn hear(&mut self, event: Event) -> bool {
         self.tell(event);
         self.left = self.left.saturating_sub(1);

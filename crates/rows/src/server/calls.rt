@@ -1,4 +1,4 @@
-//! Rows that call what changes a hub.
+//! Rows that change a hub.
 
 use super::TestHub;
 use crate::cut::{Cut, pieces};
@@ -12,7 +12,7 @@ use resp_value::value::Value;
 use resp_value::version::Version;
 use std::alloc::{AllocError, Global};
 
-/// Opens one session, or the given number of them, and says the id of the last.
+/// Opens one session, or the given number of sessions, and prints the id of the last.
 pub(crate) fn open(hub: &mut TestHub, given: &str, said: &mut String) -> Result<()> {
     let count = if given.is_empty() { 1 } else { number(given)? };
     add_answer(said, "session ", "", open_each(hub, count))?;
@@ -27,7 +27,7 @@ fn open_each(hub: &mut TestHub, count: u64) -> Result<u64, OpenError> {
     Ok(last)
 }
 
-/// Sends a text to a session by pieces, and says how many commands were run.
+/// Sends a text to a session in pieces, and prints the number of commands that were run.
 pub(crate) fn bytes(
     alloc: Global,
     hub: &mut TestHub,
@@ -43,7 +43,7 @@ pub(crate) fn bytes(
     Ok(())
 }
 
-/// Sends commands to a session, whose words are given, and says how many were run.
+/// Sends commands of the given words to a session, and prints the number of commands that were run.
 pub(crate) fn run(alloc: Global, hub: &mut TestHub, given: &str, said: &mut String) -> Result<()> {
     let (id, commands) = split(given);
     let mut text = Vec::new(alloc);
@@ -55,7 +55,7 @@ pub(crate) fn run(alloc: Global, hub: &mut TestHub, given: &str, said: &mut Stri
     Ok(())
 }
 
-/// Adds the spelling of a command of these words.
+/// Adds the text of a command of these words.
 fn spell(alloc: Global, words: Vec<Vec<u8>>, text: &mut Vec<u8>) -> Result<(), AllocError> {
     add_line(alloc, text, '*', words.len())?;
     for word in words.as_slice() {
@@ -72,7 +72,7 @@ fn add_line(alloc: Global, text: &mut Vec<u8>, mark: char, size: usize) -> Resul
     text.extend_from_slice(head.as_bytes())
 }
 
-/// How many commands were run of these pieces.
+/// Returns the number of commands that were run for these pieces.
 fn feed(hub: &mut TestHub, id: u64, pieces: &[&[u8]]) -> Result<u64, HubError> {
     let mut count = 0u64;
     for piece in pieces {
@@ -82,7 +82,7 @@ fn feed(hub: &mut TestHub, id: u64, pieces: &[&[u8]]) -> Result<u64, HubError> {
     Ok(count)
 }
 
-/// Drops the given number of bytes as sent, or all that wait.
+/// Removes the given number of waiting bytes, or all of them.
 pub(crate) fn sent(hub: &mut TestHub, given: &str, said: &mut String) -> Result<()> {
     let (id, count) = split(given);
     let dropped = drop_sent(hub, number(id)?, number(count)?);
@@ -96,7 +96,7 @@ fn drop_sent(hub: &mut TestHub, id: u64, count: u64) -> Result<u64, NoSession> {
     Ok(count as u64)
 }
 
-/// Queues a push of the values that a text of version 3 spells.
+/// Queues a push of the values encoded in a text of version 3.
 pub(crate) fn push(alloc: Global, hub: &mut TestHub, given: &str, said: &mut String) -> Result<()> {
     let (id, text) = split(given);
     let items = values(alloc, text)?;
@@ -107,7 +107,7 @@ pub(crate) fn push(alloc: Global, hub: &mut TestHub, given: &str, said: &mut Str
     Ok(())
 }
 
-/// The values that a text spells, which may be deeper than a hub takes.
+/// Returns the values encoded in a text. They may be nested deeper than a hub allows.
 fn values(alloc: Global, text: &str) -> Result<Vec<Value>> {
     let text = text::bytes(alloc, text)?;
     let limits = Limits::new(128, 1_073_741_824, 1_099_511_627_776)?.with_doubles(true);

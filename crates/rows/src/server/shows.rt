@@ -1,4 +1,4 @@
-//! Rows that look at a hub.
+//! Rows that print the state of a hub.
 
 use super::TestHub;
 use crate::spelling::add_quoted;
@@ -8,7 +8,7 @@ use resp_server::NoSession;
 use resp_value::version::Version;
 use std::alloc::Global;
 
-/// Says what waits to be sent.
+/// Prints the bytes that wait to be written.
 pub(crate) fn out(hub: &TestHub, given: &str, said: &mut String) -> Result<()> {
     match hub.out(number(given)?) {
         Ok(text) => add_quoted(said, "", text)?,
@@ -35,7 +35,7 @@ pub(crate) fn version(hub: &TestHub, given: &str, said: &mut String) -> Result<(
     Ok(())
 }
 
-/// Says the value of a key.
+/// Prints the value of a key.
 pub(crate) fn get(alloc: Global, hub: &TestHub, given: &str, said: &mut String) -> Result<()> {
     let key = bytes(alloc, given)?;
     match hub.get(key.as_slice()) {
@@ -45,7 +45,7 @@ pub(crate) fn get(alloc: Global, hub: &TestHub, given: &str, said: &mut String) 
     Ok(())
 }
 
-/// Says each key of the store and its value, and at the end how many there are.
+/// Prints each key of the store with its value, and then their number.
 pub(crate) fn entries(hub: &TestHub, said: &mut String) -> Result<()> {
     let mut count = 0u64;
     for (key, value) in hub.entries() {

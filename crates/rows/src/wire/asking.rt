@@ -1,4 +1,4 @@
-//! Rows that ask by a client.
+//! Rows that call `ask` with a client.
 
 use super::devices::{Calls, Devices, Ending};
 use crate::bounds;
@@ -13,7 +13,7 @@ use resp_wire::ask::ask;
 use resp_wire::{AskError, Asked, Request};
 use std::alloc::{AllocError, Global};
 
-/// A client, and the requests that it asks next.
+/// A client with the requests of the next call.
 #[derive(Drop)]
 pub(crate) struct Asking {
     client: Client,
@@ -24,7 +24,7 @@ fn new_client(alloc: Global) -> Client {
     Client::new(alloc, &Limits::standard())
 }
 
-/// Asks over a reader of this text, and answers how many reads were made.
+/// Calls `ask` over a reader of this text, and returns the number of reads.
 fn ask_once(
     devices: Devices,
     cut: Cut,
@@ -47,27 +47,28 @@ impl Asking {
         }
     }
 
-    /// Takes a new client of these limits.
+    /// Replaces the client with a new client with these limits.
     pub(crate) fn renew(&mut self, alloc: Global, limits: &str) -> Result<()> {
         self.client = Client::new(alloc, &bounds::limits(limits)?);
         Ok(())
     }
 
-    /// Adds a command of these words to the next requests.
+    /// Adds a command of these words to the requests.
     pub(crate) fn queue(&mut self, alloc: Global, words: &str) -> Result<()> {
         self.requests
             .push(Request::Command(command(alloc, words)?))?;
         Ok(())
     }
 
-    /// Adds a HELLO to the next requests.
+    /// Adds a HELLO to the requests.
     pub(crate) fn queue_hello(&mut self, version: &str) -> Result<()> {
         self.requests
             .push(Request::Hello(version_if_any(version)?))?;
         Ok(())
     }
 
-    /// Asks the requests, and says what was written, what was heard and how it ended.
+    /// Calls `ask` with the requests, and prints the bytes written, the replies and pushes
+    /// received, and the result.
     pub(crate) fn ask(
         &mut self,
         alloc: Global,
@@ -97,7 +98,8 @@ impl Asking {
         Ok(())
     }
 
-    /// Says how many commands wait for a reply, the version and what waits to be written.
+    /// Prints the number of commands that wait for a reply, the version, and the bytes that wait to
+    /// be written.
     pub(crate) fn say_waiting(&self, said: &mut String) -> Result<()> {
         let waiting = self.client.waiting();
         let version = version_number(self.client.version());
@@ -106,7 +108,7 @@ impl Asking {
         Ok(())
     }
 
-    /// Asks the requests with a new client, and says shortly what came of it.
+    /// Calls `ask` with the requests on a new client, and prints a short result.
     pub(crate) fn ask_one(
         &self,
         alloc: Global,
@@ -138,7 +140,7 @@ impl Asking {
     }
 }
 
-/// Says what was written, the replies, the pushes and how it ended.
+/// Prints the bytes written, the replies, the pushes and the result.
 fn say(
     said: &mut String,
     answer: Result<(), AskError>,
@@ -163,8 +165,8 @@ fn add_end(said: &mut String, answer: Result<(), AskError>) -> Result<(), AllocE
     }
 }
 
-/// Says on one line how it ended, how many replies were heard, what was written, what still waits
-/// to be written, and whether a turn is left.
+/// Prints on one line the result, the number of replies, the bytes written, the bytes that still
+/// wait to be written, and whether a turn is left.
 fn say_shortly(
     said: &mut String,
     answer: Result<(), AskError>,

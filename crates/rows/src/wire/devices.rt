@@ -6,23 +6,24 @@ use anyhow::{Context, Result, bail};
 use resp_value::device::{MemorySink, MemorySource};
 use std::alloc::{AllocError, Global};
 
-/// What the reader and the writer of a call are like, and how many turns it has.
+/// The reader and the writer of a call, and the number of its turns.
 #[derive(Clone, Copy)]
 pub(crate) struct Devices {
-    /// The most bytes that a read gives; where none is named, the cut says it.
+    /// The most bytes that a read returns. If it is not set, the cut decides.
     reads: Option<usize>,
     /// The byte from which on reads fail.
     read_fails: Option<usize>,
-    /// The most bytes that a write takes.
+    /// The most bytes that a write accepts.
     writes: usize,
     /// The byte from which on writes fail.
     write_fails: usize,
-    /// How many reads and writes may be made.
+    /// The number of reads and writes that may be made.
     pub(crate) turns: u64,
 }
 
 impl Devices {
-    /// A reader and a writer that never fail, and a writer that takes all at once.
+    /// Returns a reader that never fails, and a writer that never fails and accepts all bytes at
+    /// once.
     pub(crate) fn new() -> Devices {
         Devices {
             reads: None,
@@ -33,7 +34,7 @@ impl Devices {
         }
     }
 
-    /// Sets what a text says, as `reads=1 read-fails=3 writes=2 write-fails=5`.
+    /// Sets the numbers in a text, as `reads=1 read-fails=3 writes=2 write-fails=5`.
     pub(crate) fn set_all(&mut self, text: &str) -> Result<()> {
         for word in text.split_whitespace() {
             let (name, value) = word.split_once('=').context("no number")?;
@@ -55,7 +56,8 @@ impl Devices {
         Ok(())
     }
 
-    /// A reader of this text. Cut in two, the text is read by pieces as long as the first.
+    /// Returns a reader of this text. If the text is cut in two, it is read in pieces as long as
+    /// the first piece.
     pub(crate) fn reader<'a>(&self, text: &'a [u8], cut: Cut) -> MemorySource<'a> {
         let most = match (self.reads, cut) {
             (Some(most), _) => most,
@@ -75,7 +77,7 @@ impl Devices {
     }
 }
 
-/// How many calls of the devices were made.
+/// The number of calls of the devices.
 #[derive(Clone, Copy, Default)]
 pub(crate) struct Calls {
     pub(crate) reads: u64,
@@ -89,7 +91,8 @@ impl Calls {
     }
 }
 
-/// What a writer took in the end, what still waited to be written, and whether a turn was left.
+/// The bytes that a writer received, the bytes that still waited to be written, and whether a turn
+/// was left.
 #[derive(Clone, Copy)]
 pub(crate) struct Ending<'a> {
     pub(crate) written: &'a [u8],
@@ -99,13 +102,13 @@ pub(crate) struct Ending<'a> {
 }
 
 impl Ending<'_> {
-    /// Adds the two texts as one.
+    /// Adds the two texts as one text.
     pub(crate) fn add_texts(self, said: &mut String) -> Result<(), AllocError> {
         let (written, waits) = (self.written.escape_ascii(), self.waits.escape_ascii());
         write!(said, ", \"{written}{waits}\"")
     }
 
-    /// Adds that no turn is left, where it is so, and ends the line.
+    /// Adds that no turn is left, if that is true, and ends the line.
     pub(crate) fn add_turns(self, said: &mut String) -> Result<(), AllocError> {
         let Calls { reads, writes } = self.calls;
         said.push_str(if reads.saturating_add(writes) == self.turns {

@@ -1,4 +1,4 @@
-//! Rows that are run for each value of a number, and say once what several say alike.
+//! Rows that run for each value of a number. Equal results of consecutive values are printed once.
 
 use super::asking::Asking;
 use super::devices::Devices;
@@ -10,14 +10,14 @@ use std::alloc::{AllocError, Global};
 /// The end of a connection that is run.
 #[derive(Clone, Copy)]
 pub(crate) enum End<'a> {
-    /// That of a new client, with the requests that it asks.
+    /// The end of a new client, with its requests.
     Client(&'a Asking),
-    /// That of a server, with a new session.
+    /// The end of a server, with a new session.
     Server,
 }
 
 /// Runs an end for each value of a number, from 0. A row gives the name of the number, its last
-/// value and what is read.
+/// value, and the bytes to be read.
 pub(crate) fn run(
     alloc: Global,
     end: End<'_>,
@@ -40,7 +40,7 @@ pub(crate) fn run(
     Ok(())
 }
 
-/// What is said of one run.
+/// Returns the result of one run.
 fn run_once(alloc: Global, end: End<'_>, devices: Devices, text: &[u8]) -> Result<String> {
     let mut line = String::new(alloc);
     match end {
@@ -50,7 +50,7 @@ fn run_once(alloc: Global, end: End<'_>, devices: Devices, text: &[u8]) -> Resul
     Ok(line)
 }
 
-/// What was said of the values from one on, which is the same for each.
+/// The result that is the same for consecutive values, from one value on.
 #[derive(Drop)]
 struct Alike {
     from: usize,
@@ -58,7 +58,7 @@ struct Alike {
 }
 
 impl Alike {
-    /// Nothing was said.
+    /// Makes an empty state.
     fn new(alloc: Global) -> Alike {
         Alike {
             from: 0,
@@ -66,7 +66,7 @@ impl Alike {
         }
     }
 
-    /// Adds what is said of the next value, and says what was said before where it is another.
+    /// Adds the result of the next value. Prints the earlier result if the new result differs.
     fn add(&mut self, value: usize, line: String, said: &mut String) -> Result<(), AllocError> {
         if line.as_str() != self.line.as_str() {
             self.end(value, said)?;
@@ -76,7 +76,7 @@ impl Alike {
         Ok(())
     }
 
-    /// Says what was said of the values before this one.
+    /// Prints the result of the values before this value.
     fn end(&self, value: usize, said: &mut String) -> Result<(), AllocError> {
         if self.from < value {
             write!(said, "{} to {}: {}", self.from, value - 1, self.line)?;

@@ -7,7 +7,7 @@ use anyhow::{Result, bail};
 use resp_wire::{Direction, Link, MemoryLink};
 use std::alloc::Global;
 
-/// Carries a text by pieces, and says what came.
+/// Carries a text in pieces, and prints the bytes received.
 pub(crate) fn carry(
     alloc: Global,
     direction: Direction,
@@ -24,7 +24,7 @@ pub(crate) fn carry(
     Ok(())
 }
 
-/// Carries a piece of at most 1,024 bytes, and adds what came.
+/// Carries a piece of at most 1,024 bytes, and adds the bytes received.
 fn carry_piece(
     alloc: Global,
     direction: Direction,

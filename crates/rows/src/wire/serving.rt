@@ -12,7 +12,7 @@ use resp_wire::ServeError;
 use resp_wire::serve::{Served, serve};
 use std::alloc::{AllocError, Global};
 
-/// Serves a session over a reader of this text, and answers how many reads were made.
+/// Serves a session over a reader of this text, and returns the number of reads.
 fn serve_once(
     devices: Devices,
     cut: Cut,
@@ -26,13 +26,13 @@ fn serve_once(
     (answer, reader.calls())
 }
 
-/// Opens a session and says its id.
+/// Opens a session and prints its id.
 pub(crate) fn open(hub: &mut TestHub, said: &mut String) -> Result<()> {
     add_answer(said, "session ", "", hub.open())?;
     Ok(())
 }
 
-/// Serves a session, and says what was written and how it ended.
+/// Serves a session, and prints the bytes written and the result.
 pub(crate) fn serve_session(
     alloc: Global,
     devices: Devices,
@@ -55,7 +55,7 @@ pub(crate) fn serve_session(
     Ok(())
 }
 
-/// Says the version of a session, and what waits to be written to it.
+/// Prints the version of a session, and the bytes that wait to be written to its client.
 pub(crate) fn say_session(hub: &TestHub, id: &str, said: &mut String) -> Result<()> {
     let id = number(id)?;
     match (hub.version(id), hub.out(id)) {
@@ -68,7 +68,7 @@ pub(crate) fn say_session(hub: &TestHub, id: &str, said: &mut String) -> Result<
     Ok(())
 }
 
-/// Serves session 1 of a new hub, and says what came of it.
+/// Serves session 1 of a new hub, and prints the result.
 pub(crate) fn serve_one(
     alloc: Global,
     devices: Devices,
@@ -97,8 +97,8 @@ fn add_end(said: &mut String, answer: Result<Served, ServeError>) -> Result<(), 
     }
 }
 
-/// Says on one line how it ended, what was written and what still waits to be written, and whether
-/// a turn is left.
+/// Prints on one line the result, the bytes written, the bytes that still wait to be written, and
+/// whether a turn is left.
 fn say_shortly(
     said: &mut String,
     answer: Result<Served, ServeError>,

@@ -1,4 +1,4 @@
-//! Rows of a world over memory: an event each, and what the world shows.
+//! Rows of a world over memory: an event each, and the state that the world shows.
 
 use crate::spelling::{add_pushes, add_values};
 use crate::text::{self, number, split, version_if_any};
@@ -12,14 +12,14 @@ use std::hash::{BuildHasherDefault, FoldHasher};
 
 pub(crate) type Memory = World<MemoryLink, BuildHasherDefault<FoldHasher>>;
 
-/// Takes a world of this many clients.
+/// Makes a world of this many clients.
 pub(crate) fn renew(alloc: Global, world: &mut Option<Memory>, count: &str) -> Result<()> {
     let (count, hasher) = (number(count)? as usize, BuildHasherDefault::new());
     *world = Some(World::new(alloc, count, Limits::standard(), hasher)?);
     Ok(())
 }
 
-/// Runs an event or says what the world shows.
+/// Runs an event, or prints a part of the state that the world shows.
 pub(crate) fn run(
     alloc: Global,
     world: &mut Memory,
@@ -35,7 +35,7 @@ pub(crate) fn run(
     }
 }
 
-/// The event of a row, which is spelled as in a script.
+/// Returns the event of a row, which is written as in a script.
 fn event(alloc: Global, name: &str, given: &str) -> Result<Event> {
     let (first, rest) = split(given);
     let client = number(first)? as usize;
@@ -50,7 +50,7 @@ fn event(alloc: Global, name: &str, given: &str) -> Result<Event> {
     })
 }
 
-/// The items of a push of these words.
+/// Returns the items of a push of these words.
 fn items(alloc: Global, words: &str) -> Result<Members> {
     let mut items = Vec::new(alloc);
     for word in text::words(alloc, words)? {
@@ -63,14 +63,14 @@ fn step(world: &mut Memory, event: &Event) -> Result<Outcome, Stop> {
     world.step(event)
 }
 
-/// Takes an event, and says what came of it.
+/// Performs an event, and prints its outcome.
 fn say_step(world: &mut Memory, event: &Event, said: &mut String) -> Result<()> {
     let outcome = step(world, event)?;
     writeln!(said, "{outcome:?}")?;
     Ok(())
 }
 
-/// Says whose command was run, in the order in which commands were run.
+/// Prints the client of each command, in the order in which the commands were run.
 fn say_order(world: &Memory, said: &mut String) -> Result<()> {
     said.push_str("clients")?;
     for number in world.order() {
@@ -80,7 +80,7 @@ fn say_order(world: &Memory, said: &mut String) -> Result<()> {
     Ok(())
 }
 
-/// Says the keys of the store and their values.
+/// Prints the keys of the store with their values.
 fn say_keys(world: &Memory, said: &mut String) -> Result<()> {
     said.push_str("keys")?;
     for (key, value) in world.entries() {
@@ -90,7 +90,7 @@ fn say_keys(world: &Memory, said: &mut String) -> Result<()> {
     Ok(())
 }
 
-/// Says what a client has queued, the replies that it heard, or the pushes.
+/// Prints the requests that a client has queued, or the replies or the pushes that it has received.
 fn say_client(world: &Memory, name: &str, number: usize, said: &mut String) -> Result<()> {
     if number == 0 || number > world.clients() {
         bail!("no client");

@@ -1,0 +1,30 @@
+//! The samples of the crates' doc comments. Each function is a sample that a comment shows, and
+//! prints its result. tests/pages checks that the comments show these lines.
+#![tactic(auto)]
+
+mod decoding;
+mod encoding;
+mod framing;
+mod pipelining;
+mod scanning;
+mod serving;
+mod sessions;
+mod values;
+mod wire;
+mod worlds;
+
+use anyhow::Result;
+
+fn main(rt: HostRuntime) -> Result<()> {
+    let alloc = rt.alloc();
+    values::run(&rt, alloc)?;
+    sessions::run(&rt, alloc)?;
+    encoding::run(&rt, alloc)?;
+    scanning::run(&rt)?;
+    decoding::run(&rt, alloc)?;
+    pipelining::run(&rt, alloc)?;
+    serving::run(&rt, alloc)?;
+    wire::run(&rt, alloc)?;
+    worlds::run(&rt, alloc)?;
+    framing::run(&rt, alloc)
+}
