@@ -117,14 +117,7 @@ impl<W: Sink, C: Clock> Seeing<'_, W, C> {
             return;
         }
         let now = self.timing.now(self.clock);
-        watch(
-            self.tap,
-            self.client,
-            self.side,
-            piece,
-            now,
-            self.writer,
-        );
+        watch(self.tap, self.client, self.side, piece, now, self.writer);
     }
 }
 

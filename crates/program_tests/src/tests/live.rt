@@ -1,9 +1,9 @@
 //! Live streams: the bytes that were written before each read.
 
 use super::check_equal;
+use resp_print::live::{Gathering, LiveSource};
 use resp_tool::canon::canon;
 use resp_tool::check::check;
-use resp_print::live::{Gathering, LiveSource};
 use resp_tool::options::Task;
 use resp_tool::show::show;
 use resp_tool::tool_error::ToolError;
