@@ -210,13 +210,23 @@ impl Window {
     fn place(&mut self, net: &impl Net, client: TcpStream, number: u64) -> io::Result<()> {
         let mut client = client;
         let mut server = TcpStream::connect(net, self.server)?;
+        self.register(&mut client, &mut server)?;
+        self.insert(client, server, number)
+    }
+
+    /// Sets the options of both sockets, and registers them under the tokens of the next free place.
+    fn register(&self, client: &mut TcpStream, server: &mut TcpStream) -> io::Result<()> {
         client.set_nodelay(true)?;
         server.set_nodelay(true)?;
         let first = self.connections.vacant_key().saturating_mul(2);
         let both = Interest::READABLE | Interest::WRITABLE;
         let registry = self.poll.registry();
-        registry.register(&mut client, Token(first.saturating_add(1)), both)?;
-        registry.register(&mut server, Token(first.saturating_add(2)), both)?;
+        registry.register(client, Token(first.saturating_add(1)), both)?;
+        registry.register(server, Token(first.saturating_add(2)), both)
+    }
+
+    /// Puts a connection with these sockets into the next free place.
+    fn insert(&mut self, client: TcpStream, server: TcpStream, number: u64) -> io::Result<()> {
         let Ok(tapped) = Tapped::new(self.alloc, client, server, &self.limits, number) else {
             return Err(ErrorKind::OutOfMemory.into());
         };
