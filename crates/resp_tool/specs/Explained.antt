@@ -41,27 +41,27 @@ pub record IsPlace (r : Rules) (bytes : List ℕ) (value at place : ℕ) : Type 
 
 -- what reads a double
 abbrev pub double_text : Version → List ℕ
-double_text Two = codes "a double; --doubles and --proto 3 read it"
-double_text Three = codes "a double; --doubles reads it"
+double_text Two = codes "a double; accepted with --doubles and --proto 3"
+double_text Three = codes "a double; accepted with --doubles"
 
 -- why a byte was refused, and which option lets it through
 abbrev pub cause_text : Rules → ℕ → Cause → List ℕ
 cause_text r missing cause.Double = double_text r.version
-cause_text r missing cause.Version = codes "version 2 doesn't have this; --proto 3 reads it"
-cause_text r missing cause.NestedPush = codes "a push stands at the top alone"
+cause_text r missing cause.Version = codes "version 2 doesn't have this; try --proto 3"
+cause_text r missing cause.NestedPush = codes "a push cannot be inside another value"
 cause_text r missing cause.Range = codes "the integer doesn't fit into 64 bits"
 cause_text r missing cause.Depth =
-    codes "over --depth " ++ decimal r.limits.depth ++ codes ": aggregates inside one another"
+    codes "aggregates are nested deeper than --depth " ++ decimal r.limits.depth ++ codes " allows"
 cause_text r missing cause.Length =
-    codes "over --length " ++ decimal r.limits.length ++ codes ": bytes of one string or line"
+    codes "a string or line is longer than --length " ++ decimal r.limits.length ++ codes " allows"
 cause_text r missing cause.Items =
-    codes "over --items " ++ decimal r.limits.items ++ codes ": members or pairs of one aggregate"
+    codes "an aggregate has more members or pairs than --items " ++ decimal r.limits.items ++ codes " allows"
 cause_text r missing cause.Total =
-    codes "over --total " ++ decimal r.limits.total ++ codes ": bytes of one value"
-cause_text r missing cause.Streamed = codes "a streamed form; without --no-streamed it is read"
+    codes "the value needs more bytes than --total " ++ decimal r.limits.total ++ codes " allows"
+cause_text r missing cause.Streamed = codes "a streamed string or aggregate; accepted without --no-streamed"
 cause_text r missing cause.Truncated =
-    codes "the input ends; bytes that are missing at least: " ++ decimal missing ++ codes ""
-cause_text r missing _ = codes "no spelling goes on so"
+    codes "the input ends inside a value; bytes missing: at least " ++ decimal missing ++ codes ""
+cause_text r missing _ = codes "a valid value cannot contain this byte here"
 
 -- the first line up to the place
 abbrev pub margin_text : ℕ → List ℕ → List ℕ
@@ -70,8 +70,8 @@ margin_text place before = codes "  at byte " ++ decimal place ++ codes " of the
 -- what is said of the reason that the program stops for, at some value
 abbrev pub sentence_text : Rules → ℕ → ToolError → List ℕ
 sentence_text r missing (Refused value c at) = cause_text r missing c
-sentence_text r missing (OverLimits value) = codes "its canonical spelling is over the limits"
-sentence_text r missing _ = codes "no more than 1000000000 values are read"
+sentence_text r missing (OverLimits value) = codes "the canonical text of this value is over the limits"
+sentence_text r missing _ = codes "a run reads at most 1000000000 values"
 
 -- a line that ends with the bytes from a place on, and a line with a caret and a sentence after a blank
 abbrev pub explanation_lines : List ℕ → List ℕ → List ℕ → List ℕ → List ℕ

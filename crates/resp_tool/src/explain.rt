@@ -145,13 +145,16 @@ fn write_sentence<F: Sink>(
     match error {
         ToolError::Refused { cause, .. } => write_cause(faults, *cause, version, limits, missing),
         ToolError::OverLimits { .. } => {
-            write_text(faults, b"its canonical spelling is over the limits")
+            write_text(
+                faults,
+                b"the canonical text of this value is over the limits",
+            )
         }
         ToolError::TooManyValues
         | ToolError::Read
         | ToolError::Write
         | ToolError::TooManyTurns
-        | ToolError::Memory => write_text(faults, b"no more than 1000000000 values are read"),
+        | ToolError::Memory => write_text(faults, b"a run reads at most 1000000000 values"),
     }
 }
 
@@ -169,43 +172,46 @@ fn write_cause<F: Sink>(
 {
     match cause {
         Cause::Double => write_double(faults, version),
-        Cause::Version => write_text(faults, b"version 2 doesn't have this; --proto 3 reads it"),
-        Cause::NestedPush => write_text(faults, b"a push stands at the top alone"),
+        Cause::Version => write_text(faults, b"version 2 doesn't have this; try --proto 3"),
+        Cause::NestedPush => write_text(faults, b"a push cannot be inside another value"),
         Cause::Range => write_text(faults, b"the integer doesn't fit into 64 bits"),
         Cause::Depth => write_number(
             faults,
-            b"over --depth ",
+            b"aggregates are nested deeper than --depth ",
             limits.depth(),
-            b": aggregates inside one another",
+            b" allows",
         ),
         Cause::Length => write_number(
             faults,
-            b"over --length ",
+            b"a string or line is longer than --length ",
             limits.length(),
-            b": bytes of one string or line",
+            b" allows",
         ),
         Cause::Items => write_number(
             faults,
-            b"over --items ",
+            b"an aggregate has more members or pairs than --items ",
             limits.items(),
-            b": members or pairs of one aggregate",
+            b" allows",
         ),
         Cause::Total => write_number(
             faults,
-            b"over --total ",
+            b"the value needs more bytes than --total ",
             limits.total(),
-            b": bytes of one value",
+            b" allows",
         ),
         Cause::Streamed => {
-            write_text(faults, b"a streamed form; without --no-streamed it is read")
+            write_text(
+                faults,
+                b"a streamed string or aggregate; accepted without --no-streamed",
+            )
         }
         Cause::Truncated => write_number(
             faults,
-            b"the input ends; bytes that are missing at least: ",
+            b"the input ends inside a value; bytes missing: at least ",
             missing,
             b"",
         ),
-        _ => write_text(faults, b"no spelling goes on so"),
+        _ => write_text(faults, b"a valid value cannot contain this byte here"),
     }
 }
 
@@ -215,7 +221,7 @@ fn write_double<F: Sink>(faults: &mut F, version: Version) -> Result<(), DeviceF
         (F.failures faults.new) result (double_text version) }
 {
     match version {
-        Version::Two => write_text(faults, b"a double; --doubles and --proto 3 read it"),
-        Version::Three => write_text(faults, b"a double; --doubles reads it"),
+        Version::Two => write_text(faults, b"a double; accepted with --doubles and --proto 3"),
+        Version::Three => write_text(faults, b"a double; accepted with --doubles"),
     }
 }
