@@ -27,10 +27,10 @@ const ALL: u64 = u64::MAX;
 #[derive(Clone, Copy, Debug, PartialEq, Eq, Error)]
 pub enum PlayError {
     /// The world stopped at the event of this line, counted from 1, for this cause.
-    #[error("the world stopped at line {line}: {cause:?}")]
+    #[error("line {line} failed: {cause:?}")]
     Stopped { line: u64, cause: Cause },
     /// The writer failed, or took no byte.
-    #[error("the writer failed")]
+    #[error("write failed")]
     Write,
     /// A growth was refused.
     #[error("out of memory")]

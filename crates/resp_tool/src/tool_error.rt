@@ -21,16 +21,16 @@ pub enum ToolError {
     #[error("value {value}: {cause:?} at byte {at}")]
     Refused { value: u64, cause: Cause, at: u64 },
     /// The canonical text of the value with this number, counted from 1, is over the limits.
-    #[error("value {value}: its canonical text is over the limits")]
+    #[error("value {value}: the canonical text exceeds the limits")]
     OverLimits { value: u64 },
     /// Bytes follow the first 1,000,000,000 values.
     #[error("too many values")]
     TooManyValues,
     /// The reader failed.
-    #[error("the reader failed")]
+    #[error("read failed")]
     Read,
     /// The writer failed, or took no byte.
-    #[error("the writer failed")]
+    #[error("write failed")]
     Write,
     /// The input didn't end within 4,000,000,000 reads.
     #[error("too many reads")]
