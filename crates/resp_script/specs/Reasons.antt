@@ -48,12 +48,12 @@ WhereBad P fault.Memory = Unit {0}
 
 -- what follows the number of the client, for each verb
 abbrev pub arguments_text : Verb → List ℕ
-arguments_text verb.Send = codes "a command of one word or more follows the client of send"
-arguments_text verb.Hello = codes "2, 3 or nothing follows the client of hello"
-arguments_text verb.Server = codes "a number of bytes from 1 to 1000000000 follows the client of server and client"
-arguments_text verb.Client = codes "a number of bytes from 1 to 1000000000 follows the client of server and client"
-arguments_text verb.Push = codes "words follow the client of push"
-arguments_text verb.Drop = codes "nothing follows the client of drop"
+arguments_text verb.Send = codes "send needs a client and a command of at least one word"
+arguments_text verb.Hello = codes "hello needs a client, optionally followed by 2 or 3"
+arguments_text verb.Server = codes "server and client need a client and a number of bytes from 1 to 1000000000"
+arguments_text verb.Client = codes "server and client need a client and a number of bytes from 1 to 1000000000"
+arguments_text verb.Push = codes "push needs a client, optionally followed by words"
+arguments_text verb.Drop = codes "drop takes nothing after the client"
 
 -- the sentence that says a reason
 abbrev pub reason_text : BadLine → List ℕ
@@ -62,11 +62,11 @@ reason_text reasons.LongScript = codes "a script has at most 1048576 bytes"
 reason_text reasons.ManyLines = codes "a script has at most 10000 lines"
 reason_text reasons.LongLine = codes "a line has at most 4096 bytes"
 reason_text reasons.ManyWords = codes "a line has at most 64 words"
-reason_text reasons.Spaces = codes "one space stands between two words, and none at either end"
+reason_text reasons.Spaces = codes "words are separated by one space, with no space at either end"
 reason_text reasons.UnseenByte = codes "a byte is neither a space nor printable ASCII"
-reason_text reasons.NotClients = codes "the first line is `clients N`, with N from 1 to 16"
+reason_text reasons.NotClients = codes "the first line must be `clients N`, with N from 1 to 16"
 reason_text reasons.UnknownWord =
-    codes "no line after the first begins with this word, but with send, hello, server, client, push, drop or flush"
-reason_text reasons.FlushWords = codes "nothing follows flush"
-reason_text reasons.NoSuchClient = codes "the second word is the number of a client"
+    codes "unknown word: a line begins with send, hello, server, client, push, drop or flush"
+reason_text reasons.FlushWords = codes "flush takes nothing after it"
+reason_text reasons.NoSuchClient = codes "the second word must be the number of a client"
 reason_text (reasons.Arguments named) = arguments_text named

@@ -47,15 +47,14 @@ impl BadLine {
             BadLine::ManyLines => "a script has at most 10000 lines",
             BadLine::LongLine => "a line has at most 4096 bytes",
             BadLine::ManyWords => "a line has at most 64 words",
-            BadLine::Spaces => "one space stands between two words, and none at either end",
+            BadLine::Spaces => "words are separated by one space, with no space at either end",
             BadLine::UnseenByte => "a byte is neither a space nor printable ASCII",
-            BadLine::NotClients => "the first line is `clients N`, with N from 1 to 16",
+            BadLine::NotClients => "the first line must be `clients N`, with N from 1 to 16",
             BadLine::UnknownWord => {
-                "no line after the first begins with this word, but with send, hello, server, \
-                 client, push, drop or flush"
+                "unknown word: a line begins with send, hello, server, client, push, drop or flush"
             }
-            BadLine::FlushWords => "nothing follows flush",
-            BadLine::NoSuchClient => "the second word is the number of a client",
+            BadLine::FlushWords => "flush takes nothing after it",
+            BadLine::NoSuchClient => "the second word must be the number of a client",
             BadLine::Arguments(verb) => arguments_sentence(*verb),
         }
     }
@@ -66,13 +65,13 @@ fn arguments_sentence(verb: Verb) -> &'static str
     ensures { result.now ≡ arguments_text verb }
 {
     match verb {
-        Verb::Send => "a command of one word or more follows the client of send",
-        Verb::Hello => "2, 3 or nothing follows the client of hello",
+        Verb::Send => "send needs a client and a command of at least one word",
+        Verb::Hello => "hello needs a client, optionally followed by 2 or 3",
         Verb::Server | Verb::Client => {
-            "a number of bytes from 1 to 1000000000 follows the client of server and client"
+            "server and client need a client and a number of bytes from 1 to 1000000000"
         }
-        Verb::Push => "words follow the client of push",
-        Verb::Drop => "nothing follows the client of drop",
+        Verb::Push => "push needs a client, optionally followed by words",
+        Verb::Drop => "drop takes nothing after the client",
     }
 }
 
