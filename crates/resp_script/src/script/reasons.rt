@@ -7,37 +7,37 @@ use crate::script::steps::Verb;
 use std::fmt;
 use std::fmt::{Display, Formatter, Write};
 
-/// What is wrong with a line of a script, or with the script as a whole.
+/// The error in a line of a script, or in the script as a whole.
 #[derive(Clone, Copy, Debug, PartialEq, Eq)]
 pub enum BadLine {
     /// No line of the script begins with the word `clients`.
     NoClients,
     /// The script has more than 1,048,576 bytes up to the end of this line.
     LongScript,
-    /// It is the 10,001st line.
+    /// This is line 10,001.
     ManyLines,
-    /// It has more than 4,096 bytes.
+    /// The line has more than 4,096 bytes.
     LongLine,
-    /// It has more than 64 words.
+    /// The line has more than 64 words.
     ManyWords,
-    /// It begins or ends with a space, or has two spaces side by side.
+    /// The line begins or ends with a space, or has two spaces in a row.
     Spaces,
-    /// A byte of it is neither a space nor printable ASCII.
+    /// A byte of the line is neither a space nor printable ASCII.
     UnseenByte,
-    /// It is the first line that isn't passed over, and doesn't name from 1 to 16 clients.
+    /// This is the first line that is not skipped, and it is not `clients N` with N from 1 to 16.
     NotClients,
-    /// Its first word is none that a line after the first begins with.
+    /// No line after the first one begins with this word.
     UnknownWord,
     /// A word follows `flush`.
     FlushWords,
-    /// Its second word is no client's number.
+    /// The second word is not the number of a client.
     NoSuchClient,
-    /// What follows the client's number isn't what this verb takes.
+    /// The words after the client's number are not allowed for this verb.
     Arguments(Verb),
 }
 
 impl BadLine {
-    /// Says in a sentence what is wrong.
+    /// Returns a sentence that explains the error.
     pub fn sentence(&self) -> &'static str
         ensures { result.now ≡ reason_text self.now }
     {
@@ -60,7 +60,7 @@ impl BadLine {
     }
 }
 
-/// Says what follows the client's number after this verb.
+/// Returns the sentence for the words after this verb.
 fn arguments_sentence(verb: Verb) -> &'static str
     ensures { result.now ≡ arguments_text verb }
 {
