@@ -1,4 +1,5 @@
-//! The parser of the words of the command line: the program's subcommands, each with its options.
+//! The parser of the command line: the subcommands of the program with their options and their
+//! help.
 
 ghost use Rattle.std.specs.Prelude.{◌≡◌, false, [], ◌∷◌, IfErr, IfOk, codes, map};
 ghost use Rattle.clap.specs.Words.{App, app_of, kind_of, new_app, rule_of};
@@ -147,7 +148,7 @@ const CLIENTS: NumberOption = NumberOption {
 };
 
 impl NumberOption {
-    /// The option for the parser of the words, which refuses a number outside the range.
+    /// Returns the option for the parser, which rejects a number outside the range.
     fn option<'a>(self, alloc: Global) -> Arg<'a>
         ensures rule { rule_of result ≡ value_option self.name.now
             (numbers_between self.least self.most) self.default.now }
@@ -163,7 +164,11 @@ impl NumberOption {
     }
 }
 
-/// What the parser of the words finds in them.
+/// Parses the words of a command line.
+///
+/// # Errors
+///
+/// The error of clap: help, a usage error, or a failed allocation.
 pub(crate) fn matches_of<'a, S: AsStr>(
     alloc: Global,
     words: &'a [S],
@@ -174,7 +179,7 @@ pub(crate) fn matches_of<'a, S: AsStr>(
     matches_among(alloc, VERSIONS, words)
 }
 
-/// The same, where `--proto` takes one of these versions.
+/// Parses the words, if these are the versions of `--proto`.
 fn matches_among<'a, S: AsStr>(
     alloc: Global,
     versions: &'a [&'a str],
@@ -185,7 +190,7 @@ fn matches_among<'a, S: AsStr>(
     program(alloc, versions)?.try_get_matches_from(words)
 }
 
-/// The parser of the words: the subcommands, each with its options.
+/// Returns the parser: the program with its subcommands and their options.
 fn program<'a>(alloc: Global, versions: &'a [&'a str]) -> Result<Command<'a>, clap::Error>
     ensures program { IfOk result (λ command.
         app_of command ≡ resp_app (vp.Names versions.entry)) }
@@ -205,7 +210,7 @@ fn program<'a>(alloc: Global, versions: &'a [&'a str]) -> Result<Command<'a>, cl
     )
 }
 
-/// The program without its subcommands.
+/// Returns the program without its subcommands.
 fn resp<'a>(alloc: Global) -> Result<Command<'a>, clap::Error>
     ensures reads { IfOk result (λ command. IsTask command bare_app) }
     ensures memory { IfErr result (λ error. kind_of error ≡ ErrorKind.OutOfMemory) }
@@ -220,7 +225,7 @@ fn resp<'a>(alloc: Global) -> Result<Command<'a>, clap::Error>
     )
 }
 
-/// A subcommand without options.
+/// Returns a subcommand without options.
 fn bare_task<'a>(alloc: Global, name: &'a str, about: &'a str) -> Command<'a>
     ensures { IsTask result (new_app name.entry.now) }
 {
@@ -241,7 +246,7 @@ fn bare_task_with_help<'a>(
         .after_help(after_help)
 }
 
-/// A subcommand that reads a stream, of one of these versions.
+/// Returns a subcommand that reads a stream, of one of these versions.
 fn stream_task<'a>(
     alloc: Global,
     name: &'a str,
@@ -255,7 +260,7 @@ fn stream_task<'a>(
     with_options(alloc, bare_task(alloc, name, about), versions)
 }
 
-/// The subcommand `loop`.
+/// Returns the subcommand `loop`.
 fn loop_task<'a>(alloc: Global) -> Result<Command<'a>, clap::Error>
     ensures reads { IfOk result (λ command. IsTask command
         (with_options (new_app (codes "loop")) (flag_option (codes "explain") ∷ []))) }
@@ -267,7 +272,7 @@ fn loop_task<'a>(alloc: Global) -> Result<Command<'a>, clap::Error>
     Ok(played.arg(explain)?)
 }
 
-/// The subcommand `serve`.
+/// Returns the subcommand `serve`.
 fn serve_task<'a>(alloc: Global) -> Result<Command<'a>, clap::Error>
     ensures reads { IfOk result (λ command. IsTask command
         (with_options (new_app (codes "serve")) serve_options)) }
@@ -278,7 +283,7 @@ fn serve_task<'a>(alloc: Global) -> Result<Command<'a>, clap::Error>
     with_serve_options(alloc, serve)
 }
 
-/// A subcommand with the options of `serve`.
+/// Adds the options of `serve` to a subcommand.
 fn with_serve_options<'a>(alloc: Global, command: Command<'a>) -> Result<Command<'a>, clap::Error>
     ensures gains { IfOk result (GainsOptions command.entry serve_options) }
     ensures memory { IfErr result (λ error. kind_of error ≡ ErrorKind.OutOfMemory) }
@@ -296,7 +301,7 @@ fn with_serve_options<'a>(alloc: Global, command: Command<'a>) -> Result<Command
     )
 }
 
-/// The subcommand `tap`.
+/// Returns the subcommand `tap`.
 fn tap_task<'a>(alloc: Global) -> Result<Command<'a>, clap::Error>
     ensures reads { IfOk result (λ command. IsTask command
         (with_options (new_app (codes "tap")) tap_options)) }
@@ -307,7 +312,7 @@ fn tap_task<'a>(alloc: Global) -> Result<Command<'a>, clap::Error>
     with_tap_options(alloc, tap)
 }
 
-/// A subcommand with the options of `tap`.
+/// Adds the options of `tap` to a subcommand.
 fn with_tap_options<'a>(alloc: Global, command: Command<'a>) -> Result<Command<'a>, clap::Error>
     ensures gains { IfOk result (GainsOptions command.entry tap_options) }
     ensures memory { IfErr result (λ error. kind_of error ≡ ErrorKind.OutOfMemory) }
@@ -339,7 +344,7 @@ fn with_tap_options<'a>(alloc: Global, command: Command<'a>) -> Result<Command<'
     )
 }
 
-/// An address, which has to be given.
+/// Returns a required argument that is an address.
 fn address<'a>(
     alloc: Global,
     name: &'a str,
@@ -355,7 +360,7 @@ fn address<'a>(
         .required(true)
 }
 
-/// An option that is given or not.
+/// Returns an option without a value.
 fn flag<'a>(alloc: Global, name: &'a str, help: &'static str) -> Arg<'a>
     ensures rule { rule_of result ≡ flag_option name.entry.now }
     ensures here { result.global ≡ false }
@@ -366,7 +371,7 @@ fn flag<'a>(alloc: Global, name: &'a str, help: &'static str) -> Arg<'a>
         .action(ArgAction::SetTrue)
 }
 
-/// The version of the protocol, one of these.
+/// Returns the option `--proto`, with these versions.
 fn proto<'a>(alloc: Global, versions: &'a [&'a str]) -> Arg<'a>
     ensures rule { rule_of result
         ≡ value_option (codes "proto") (vp.Names versions.entry) (codes "2") }
@@ -380,7 +385,7 @@ fn proto<'a>(alloc: Global, versions: &'a [&'a str]) -> Arg<'a>
         .default_value("2")
 }
 
-/// The file that is read.
+/// Returns the argument for the input file.
 fn file<'a>(alloc: Global) -> Arg<'a>
     ensures rule { rule_of result ≡ file_word }
     ensures here { result.global ≡ false }
@@ -391,7 +396,7 @@ fn file<'a>(alloc: Global) -> Arg<'a>
         .default_value(STANDARD_INPUT)
 }
 
-/// A subcommand with the options of those that read a stream.
+/// Adds the options of `show`, `check` and `canon` to a subcommand.
 fn with_options<'a>(
     alloc: Global,
     command: Command<'a>,
@@ -417,7 +422,7 @@ fn with_options<'a>(
     )
 }
 
-/// A subcommand with the options that limit values.
+/// Adds the options that limit values to a subcommand.
 fn with_limits<'a>(alloc: Global, command: Command<'a>) -> Result<Command<'a>, clap::Error>
     ensures gains { IfOk result (GainsOptions command.entry limit_options) }
     ensures memory { IfErr result (λ error. kind_of error ≡ ErrorKind.OutOfMemory) }
