@@ -284,7 +284,7 @@ static PyObject *reader_set_protocol(struct reader *reader, PyObject *args) {
         return NULL;
     }
     if (reader->is_begun) {
-        PyErr_SetString(PyExc_ValueError, "a value was begun");
+        PyErr_SetString(PyExc_ValueError, "the version cannot change inside a value");
         return NULL;
     }
     if (version != reader->version)
@@ -374,7 +374,7 @@ static bool begin_scanner(struct reader *reader, unsigned int version, const str
     case RESP_OK:
         return true;
     case RESP_CAUSE_BAD_LIMITS:
-        PyErr_SetString(PyExc_ValueError, "a limit is outside its range");
+        PyErr_SetString(PyExc_ValueError, "a limit is out of range");
         return false;
     default:
         PyErr_SetString(PyExc_ValueError, "a protocol that is neither 2 nor 3");

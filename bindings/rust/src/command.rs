@@ -20,10 +20,10 @@ pub enum CommandError {
 impl fmt::Display for CommandError {
     fn fmt(&self, f: &mut fmt::Formatter<'_>) -> fmt::Result {
         f.write_str(match self {
-            CommandError::BadLimits => "a limit is outside its range",
-            CommandError::Length => "a word is over the limit of length",
+            CommandError::BadLimits => "a limit is out of range",
+            CommandError::Length => "a word exceeds the limit of length",
             CommandError::Items => "there are more words than the limit of items",
-            CommandError::Total => "the command is over the limit of total",
+            CommandError::Total => "the command exceeds the limit of total",
         })
     }
 }

@@ -115,13 +115,13 @@ pub struct Fault {
 
 impl fmt::Display for BadLimits {
     fn fmt(&self, f: &mut fmt::Formatter<'_>) -> fmt::Result {
-        f.write_str("a limit is outside its range")
+        f.write_str("a limit is out of range")
     }
 }
 
 impl fmt::Display for Busy {
     fn fmt(&self, f: &mut fmt::Formatter<'_>) -> fmt::Result {
-        f.write_str("a value was begun")
+        f.write_str("the version cannot change inside a value or after an error")
     }
 }
 

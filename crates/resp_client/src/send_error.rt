@@ -19,13 +19,13 @@ pub enum SendError {
     /// The command does not have exactly one reply, or it changes the version: HELLO, SUBSCRIBE,
     /// PSUBSCRIBE, SSUBSCRIBE, UNSUBSCRIBE, PUNSUBSCRIBE, SUNSUBSCRIBE, MONITOR, SYNC, PSYNC, RESET
     /// and CLIENT REPLY, in upper, lower or mixed case.
-    #[error("the client doesn't send this command")]
+    #[error("the client cannot send this command")]
     BadCommand,
     /// The command exceeds the client's limit of length, items or total.
-    #[error("the command is over a limit")]
+    #[error("the command exceeds a limit")]
     TooLarge,
     /// The client has queued 9,223,372,036,854,775,808 commands, the greatest number.
-    #[error("no number is left for the command")]
+    #[error("too many commands were queued")]
     TooMany,
     /// An allocation failed.
     #[error("out of memory")]

@@ -8,16 +8,16 @@ use thiserror::Error;
 #[derive(Clone, Copy, Debug, PartialEq, Eq, Error)]
 pub enum EncodeError {
     /// The value holds a double, and the limits do not allow doubles.
-    #[error("the limits allow no doubles")]
+    #[error("the limits do not allow doubles")]
     Double,
     /// The value holds a type that the version does not have.
-    #[error("the version has no such type")]
+    #[error("the version does not have this type")]
     NotInVersion,
     /// The value holds a push inside another value.
-    #[error("a push stands below the top")]
+    #[error("a push is inside another value")]
     NestedPush,
     /// The value exceeds this limit, and no limit that is checked before it.
-    #[error("the value is over the limit {0:?}")]
+    #[error("the value exceeds the limit {0:?}")]
     OverLimits(Limit),
     /// The buffer could not grow.
     #[error("out of memory")]
@@ -31,7 +31,7 @@ pub enum EncodeToError {
     #[error(transparent)]
     Refused(EncodeError),
     /// A write failed, or wrote no byte.
-    #[error("the device failed after {written} bytes")]
+    #[error("write failed after {written} bytes")]
     Write {
         /// The number of bytes that were written. They are the first bytes of the text.
         written: u64,

@@ -7,7 +7,8 @@ use Rattle.resp_print.specs.Written.{AppendsPart}
 use Rattle.resp_print.specs.declared.print_error.PrintError.{PrintError}
 use Rattle.resp_print.specs.declared.print_error.PrintError.TheVariants.{Write, TooDeep}
 
--- The whole text was appended. If a write failed, or a level of the text is not below 2^64, a first part was appended.
+-- The whole text was appended. If a write failed, or a level of the text is not below 2^64, the first part was
+-- appended.
 abbrev pub Prints : {X : Type 0} → Option (List ℕ) → Option (List ℕ) → ℕ → ℕ → Result X PrintError → List ℕ → ℕ → Type 0
 Prints before after failures failures' (Ok x) text levels = Appends before after text × (failures' ≡ failures)
 Prints before after failures failures' (Err Write) text levels =

@@ -1,4 +1,4 @@
--- The text that `show` prints for a value: a line for each node, two spaces deeper for each level.
+-- The text that `show` prints for a value, indented by two spaces for each level.
 use Rattle.std.specs.Prelude.{ℕ, suc, ◌+◌, ◌*◌, ◌/◌, ◌%◌, Bool, true, false, ◌==◌, ◌&&◌, nat_le, nat_lt, cond, List, [], ◌∷◌, ◌++◌, length, codes, decimal, replicate}
 use Rattle.std.specs.Fmt.{signed_decimal}
 use Rattle.std.specs.List.{flat_map}
@@ -7,15 +7,15 @@ use Rattle.resp_value.specs.Data as d
 use Rattle.resp_value.specs.Numbers.{sign_text}
 use Rattle.resp_value.specs.Canonical.{sign_of}
 
--- a byte that stands for itself inside quotes: printable, and neither a quote nor a backslash
+-- a byte that is printed unchanged inside quotes: printable, and neither a quote nor a backslash
 abbrev pub is_plain : ℕ → Bool
 is_plain byte = nat_le 32 byte && nat_le byte 126 && cond (byte == 34) false (cond (byte == 92) false true)
 
--- a digit of base 16
+-- a hexadecimal digit
 abbrev pub hex_digit : ℕ → ℕ
 hex_digit n = cond (nat_lt n 10) (n + 48) (n + 87)
 
--- a byte inside quotes that doesn't stand for itself: a quote, a backslash, CR, LF, a tab, or any other by two digits
+-- a byte that is escaped inside quotes: a quote, a backslash, CR, LF, a tab, or any other byte with two digits
 abbrev pub escape_of : ℕ → List ℕ
 escape_of byte =
     cond (byte == 34) (codes "\\\"")
@@ -62,7 +62,7 @@ kind_word Map = codes "map"
 kind_word Attr = codes "attr"
 kind_word Push = codes "push"
 
--- two spaces a level
+-- two spaces for each level
 abbrev pub indentation : ℕ → List ℕ
 indentation level = replicate (2 * level) 32
 
@@ -80,7 +80,7 @@ abbrev mutual
   member_lines level none = []
   member_lines level (more x xs) = lines_on level x ++ member_lines level xs
 
-  -- the lines of an attribute's keys and values, the word `of`, and those of the annotated value, which comes last
+  -- the lines of an attribute's keys and values, the word `of`, and the lines of the annotated value, which comes last
   pub annotating_lines : ℕ → Data → List ℕ
   annotating_lines level none = []
   annotating_lines level (more x none) = indentation level ++ codes "of\n" ++ lines_on (suc level) x

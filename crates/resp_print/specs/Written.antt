@@ -1,15 +1,15 @@
--- What was written of a text.
+-- The part of a text that was written.
 use Rattle.std.specs.Prelude.{◌≡◌, ℕ, List, ◌++◌, Option, Result, Ok, Err}
 use Rattle.resp_value.specs.Devices.{Appends, count_after}
 
--- a first part of the text was appended
+-- the first part of the text was appended
 pub record AppendsPart (before after : Option (List ℕ)) (text : List ℕ) : Type 0 where
   pub part : List ℕ
   pub beyond : List ℕ
   pub whole : text ≡ part ++ beyond
   pub appended : Appends before after part
 
--- The whole text was appended and no write failed; or one write failed, and a first part of the text was appended.
+-- The whole text was appended and no write failed; or one write failed, and the first part of the text was appended.
 abbrev pub WritesText : {X E : Type 0} → Option (List ℕ) → Option (List ℕ) → ℕ → ℕ → Result X E → List ℕ → Type 0
 WritesText before after failures failures' (Ok x) text = Appends before after text × (failures' ≡ failures)
 WritesText before after failures failures' (Err e) text =

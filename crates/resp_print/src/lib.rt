@@ -1,7 +1,6 @@
-//! Text for people: values of the protocol as the lines of `resp show`, numbers and quoted bytes.
+//! Text for people: values as the lines of `resp show`, numbers, and bytes in quotes.
 //!
-//! [`value::write_value`] writes the lines of a value, and [`text`] the pieces that lines are made
-//! of.
+//! [`value::write_value`] writes the lines of a value. [`text`] writes the parts of lines.
 #![tactic(auto)]
 
 pub mod live;

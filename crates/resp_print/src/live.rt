@@ -1,5 +1,4 @@
-//! Live streams: a sink that holds back what it takes until it is flushed, and a source that may
-//! see at each read what was sent by then.
+//! Output that is buffered until it is flushed, and input that is read beside such output.
 
 ghost use Rattle.std.specs.Prelude.{◌≡◌, ◌≤◌, ◌<◌, ◌++◌, ℕ, List, [], length, true, false, Option, None, OnOk, OnErr, IfOk, IsOk};
 ghost use Rattle.resp_print.specs.Live.{Look, Records, flush_fails, joined};
@@ -11,16 +10,20 @@ use std::alloc::{AllocError, Global};
 use std::io::Read;
 use std::marker::Model;
 
-/// The most bytes that a [`Gathering`] holds back.
+/// The most bytes that a [`Gathering`] holds.
 pub const MOST_GATHERED: usize = 8_192;
 
-/// A sink that may hold back what it takes until it is flushed.
+/// A sink that may hold bytes until it is flushed.
 pub trait LiveSink: Sink {
-    /// The bytes that it has sent on, or `None` where it claims nothing of them.
+    /// The bytes that were sent on, or `None` if the sink states nothing about them.
     ghost sent: { Self → Option (List ℕ) };
 
-    /// Sends on all that it holds back. A flush that fails counts as a failed write, and what it
-    /// didn't send is still held back.
+    /// Sends all bytes that are held.
+    ///
+    /// # Errors
+    ///
+    /// `DeviceFault` if a write fails. This counts as a failed write, and the bytes that were not
+    /// sent are still held.
     fn flush(&mut self) -> Result<(), DeviceFault>
         ensures same { Appends (Self.written self.old) (Self.written self.new) [] }
         ensures sent { OnOk result (sent self.new ≡ Self.written self.new) }
@@ -28,12 +31,16 @@ pub trait LiveSink: Sink {
             failures_after (flush_fails result) (Self.failures self.old) };
 }
 
-/// A source that may see, at each read, what a sink has sent by then.
+/// A source whose reads may record what a sink has sent before them.
 pub trait LiveSource<W: LiveSink>: Source {
-    /// What it saw at each read, or `None` where it keeps no record.
+    /// A record of each read, or `None` if the source keeps no record.
     ghost looks: { Self → Option (List Look) };
 
-    /// Reads as [`Source::read`] does, beside a sink.
+    /// Reads as [`Source::read`] does. `writer` is the sink whose sent bytes may be recorded.
+    ///
+    /// # Errors
+    ///
+    /// `DeviceFault` if the read fails.
     fn read_beside(&mut self, into: &mut [u8], writer: &W) -> Result<usize, DeviceFault>
         ensures within { IfOk result (λ n. n ≤ length into.old) }
         ensures bytes { Reads (Self.remaining self.old) (Self.remaining self.new) into.new
@@ -47,7 +54,7 @@ pub trait LiveSource<W: LiveSink>: Source {
         }) };
 }
 
-/// A sink that gathers up to 8,192 bytes for another, which it sends on together.
+/// A sink that collects up to 8,192 bytes for another sink and sends them together.
 #[derive(Drop)]
 pub struct Gathering<W> {
     inner: W,
@@ -68,7 +75,11 @@ impl<W> Model for Gathering<W> {
 }
 
 impl<W: Sink + Drop> Gathering<W> {
-    /// A sink for `inner`, with room for what it gathers.
+    /// Returns a sink for `inner`, and allocates room for the bytes that it collects.
+    ///
+    /// # Errors
+    ///
+    /// `AllocError` if the allocation fails.
     pub fn new(alloc: Global, inner: W) -> Result<Self, AllocError>
         ensures { IfOk result (λ g. g ≡ record { inner = inner; waits = []; calls = 0 }) }
     {
@@ -79,7 +90,7 @@ impl<W: Sink + Drop> Gathering<W> {
         })
     }
 
-    /// The sink that it gathers for.
+    /// Returns the inner sink.
     pub fn inner(&self) -> &W
         ensures { result.now ≡ self.now.inner }
     {
@@ -87,7 +98,8 @@ impl<W: Sink + Drop> Gathering<W> {
     }
 }
 
-/// Gathers a text, where there is room for it, and it is not empty.
+/// Appends a text to the collected bytes, if it is not empty and there is room for it. Returns
+/// whether it was appended.
 #[inline(always)]
 fn gather(gathered: &mut BytesMut, text: &[u8]) -> bool
     ensures gathered { result ≡ true → gathered.new.items ≡ gathered.old.items ++ text.now }
@@ -98,7 +110,7 @@ fn gather(gathered: &mut BytesMut, text: &[u8]) -> bool
     !text.is_empty() && size <= MOST_GATHERED && gathered.extend_from_slice(text).is_ok()
 }
 
-/// Sends on what was gathered, or its first bytes where a write fails.
+/// Sends the collected bytes. If a write fails, only their first bytes are sent.
 fn send<W: Sink>(inner: &mut W, gathered: &mut BytesMut) -> Result<(), DeviceFault>
     ensures same { Appends (joined (W.written inner.old) gathered.old.items)
         (joined (W.written inner.new) gathered.new.items) [] }
@@ -151,7 +163,7 @@ impl<W: Sink> LiveSink for Gathering<W> {
     }
 }
 
-/// It holds nothing back.
+/// It holds no bytes back.
 impl LiveSink for MemorySink {
     ghost use Rattle.std.specs.Prelude.{Some};
 
@@ -162,7 +174,7 @@ impl LiveSink for MemorySink {
     }
 }
 
-/// It holds nothing back.
+/// It holds no bytes back.
 impl LiveSink for Device<Vec<u8>> {
     ghost sent = { λ _. None };
 

@@ -1,16 +1,16 @@
-//! Why text was not written whole.
+//! The error of printing a value.
 
 use thiserror::Error;
 
-/// An error of printing a value.
+/// The error of printing a value.
 #[derive(Clone, Copy, Debug, PartialEq, Eq, Error)]
 pub enum PrintError {
-    /// A write to the sink failed.
+    /// A write failed.
     #[error("write failed")]
     Write,
-    /// The value is nested so deeply that its deepest level is not below 2^64.
+    /// The value and the levels around it have 2^64 levels or more.
     ///
-    /// No value that a decoder returns is: its depth is at most 128.
+    /// This does not happen to a value that a decoder returned, because its depth is at most 128.
     #[error("the value is nested too deeply")]
     TooDeep,
 }

@@ -1,4 +1,4 @@
-//! Text to a writer: plain pieces, numbers, and quoted bytes.
+//! Parts of lines: plain text, numbers, and bytes in quotes.
 
 ghost use Rattle.std.specs.Prelude.{◌≡◌, ◌++◌, ◌<◌, ◌≤◌, false, true, length, drop, take, slice_index};
 ghost use Rattle.resp_print.specs.Shown.{is_plain, hex_digit, escape_of, indentation, quoted_text};
@@ -7,13 +7,17 @@ ghost use Rattle.resp_print.specs.Written.{WritesText};
 use itoa::{Buffer, Integer};
 use resp_value::device::{DeviceFault, Sink, write_all};
 
-/// The number of bytes that are looked at together.
+/// The number of bytes that are tested together.
 const RUN: usize = 64;
 
-/// The spaces of 128 levels.
+/// The indentation of 128 levels.
 const SPACES: [u8; 256] = [b' '; 256];
 
-/// Writes a text, mostly by one write: small texts that are known here then need no call to copy.
+/// Writes a text, usually with one write.
+///
+/// # Errors
+///
+/// `DeviceFault` if a write fails. The first part of the text was written.
 #[inline(always)]
 pub fn write_text<W: Sink>(writer: &mut W, text: &[u8]) -> Result<(), DeviceFault>
     ensures { WritesText (W.written writer.old) (W.written writer.new) (W.failures writer.old)
@@ -36,7 +40,7 @@ pub fn write_text<W: Sink>(writer: &mut W, text: &[u8]) -> Result<(), DeviceFaul
     }
 }
 
-/// Writes what is left of a text after its first bytes.
+/// Writes the rest of a text after its first `written` bytes.
 #[cold]
 #[inline(never)]
 fn write_rest<W: Sink>(writer: &mut W, text: &[u8], written: usize) -> Result<(), DeviceFault>
@@ -51,6 +55,10 @@ fn write_rest<W: Sink>(writer: &mut W, text: &[u8], written: usize) -> Result<()
 }
 
 /// Writes a text, an integer, and another text.
+///
+/// # Errors
+///
+/// `DeviceFault` if a write fails. The first part was written.
 #[inline(always)]
 pub fn write_number<W: Sink, N: Integer + Drop>(
     writer: &mut W,
@@ -68,6 +76,10 @@ pub fn write_number<W: Sink, N: Integer + Drop>(
 }
 
 /// Writes two spaces for each level.
+///
+/// # Errors
+///
+/// `DeviceFault` if a write fails. The first part was written.
 #[inline(always)]
 pub fn write_indentation<W: Sink>(writer: &mut W, level: u64) -> Result<(), DeviceFault>
     ensures { WritesText (W.written writer.old) (W.written writer.new) (W.failures writer.old)
@@ -81,14 +93,14 @@ pub fn write_indentation<W: Sink>(writer: &mut W, level: u64) -> Result<(), Devi
     write_text(writer, &SPACES[..2 * left as usize])
 }
 
-/// Whether a byte stands for itself inside quotes: printable ASCII, no quote and no backslash.
+/// Returns whether a byte is printed unchanged inside quotes: printable ASCII except `"` and `\`.
 fn is_plain(byte: u8) -> bool
     ensures { result ≡ is_plain byte }
 {
     32 <= byte && byte <= 126 && byte != b'"' && byte != b'\\'
 }
 
-/// The digit of base 16 for a number below 16, a small letter from ten on.
+/// Returns the hexadecimal digit of a number below 16, in lower case.
 fn hex_digit(n: u8) -> u8
     requires { n < 16 }
     ensures { result ≡ hex_digit n }
@@ -96,7 +108,7 @@ fn hex_digit(n: u8) -> u8
     if n < 10 { n + b'0' } else { n - 10 + b'a' }
 }
 
-/// Writes a byte that doesn't stand for itself inside quotes.
+/// Writes a byte that is escaped inside quotes.
 fn write_escaped<W: Sink>(writer: &mut W, byte: u8) -> Result<(), DeviceFault>
     ensures { WritesText (W.written writer.old) (W.written writer.new) (W.failures writer.old)
         (W.failures writer.new) result (escape_of byte) }
@@ -114,8 +126,8 @@ fn write_escaped<W: Sink>(writer: &mut W, byte: u8) -> Result<(), DeviceFault>
     }
 }
 
-/// Whether all bytes stand for themselves inside quotes. It looks at each, whatever the others are,
-/// so that many are looked at together.
+/// Returns whether all bytes are printed unchanged inside quotes. It tests every byte without
+/// stopping early, so that many are tested together.
 pub fn is_all_plain(text: &[u8]) -> bool
     ensures { result ≡ true → quoted_text text.now ≡ text.now }
 {
@@ -126,7 +138,7 @@ pub fn is_all_plain(text: &[u8]) -> bool
     is_plain_so_far
 }
 
-/// How many bytes stand before the first that doesn't stand for itself inside quotes.
+/// Returns the number of bytes before the first one that is escaped inside quotes.
 fn plain_length(text: &[u8]) -> usize
     ensures within { result ≤ length text.now }
     ensures plain { quoted_text (take result text.now) ≡ take result text.now }
@@ -142,7 +154,11 @@ fn plain_length(text: &[u8]) -> usize
     length
 }
 
-/// Writes a text as it stands inside quotes.
+/// Writes a text as it is printed inside quotes, without the quotes.
+///
+/// # Errors
+///
+/// `DeviceFault` if a write fails. The first part was written.
 pub fn write_quoted<W: Sink>(writer: &mut W, text: &[u8]) -> Result<(), DeviceFault>
     ensures { WritesText (W.written writer.old) (W.written writer.new) (W.failures writer.old)
         (W.failures writer.new) result (quoted_text text.now) }

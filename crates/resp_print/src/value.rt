@@ -1,4 +1,4 @@
-//! The lines of a value, as `resp show` prints them, written from the value itself.
+//! The lines of a value, as `resp show` prints them.
 
 ghost use Rattle.std.specs.Prelude.{◌≡◌, ◌+◌, ◌++◌, ℕ, List, Option, suc, length, map, codes, decimal};
 ghost use Rattle.resp_value.specs.Data.{data_of_list, depth, greatest_depth, in_turn};
@@ -15,16 +15,37 @@ use resp_value::device::{DeviceFault, Sink};
 use resp_value::digits::Digits;
 use resp_value::value::{Members, Value};
 
-/// Writes the lines of a value, two spaces deeper for each level.
+/// Writes the lines of a value, indented by two spaces for each level.
 ///
 /// The lines are those of `resp show`, which prints a value on level 0. The call allocates nothing.
 ///
 /// # Errors
 ///
 /// - [`PrintError::Write`] if a write fails.
-/// - [`PrintError::TooDeep`] if the value and the levels around it are 2^64 levels or more.
+/// - [`PrintError::TooDeep`] if the value and the levels around it have 2^64 levels or more.
 ///
-/// After an error the sink has taken a first part of the lines.
+/// After an error the first part of the lines was written.
+///
+/// # Examples
+///
+/// From [samples](../../samples/src/printing.rt):
+///
+/// ```rust
+/// let hits = Value::Bulk(Content::new(Vec::from_slice(alloc, b"hits")?));
+/// let value = Value::Array(Members::new(vec![in alloc; hits, Value::Int(7)]?));
+/// let mut text = MemorySink::new(alloc, 4_096, 4_096)?;
+/// write_value(&value, 0, &mut text)?;
+/// print!(rt; "{}", str::from_utf8(text.bytes())?)?;
+/// ```
+///
+/// This prints:
+///
+/// ```text
+/// array
+///   bulk "hits" 4
+///   int 7
+/// end 2
+/// ```
 #[cycle(lines)]
 pub fn write_value<W: Sink>(value: &Value, level: u64, writer: &mut W) -> Result<(), PrintError>
     ensures { Prints (W.written writer.old) (W.written writer.new) (W.failures writer.old)
@@ -53,11 +74,11 @@ pub fn write_value<W: Sink>(value: &Value, level: u64, writer: &mut W) -> Result
     }
 }
 
-/// Writes the lines of a push of these members, as [`write_value`] writes those of a value.
+/// Writes the lines of a push with these members, as [`write_value`] writes those of a value.
 ///
 /// # Errors
 ///
-/// Fails as [`write_value`] does.
+/// The errors of [`write_value`].
 pub fn write_push_value<W: Sink>(
     members: &Members,
     level: u64,
@@ -71,7 +92,8 @@ pub fn write_push_value<W: Sink>(
     write_group(b"push\n", members.list(), level, writer)
 }
 
-/// Writes the lines of members, between the first and the last line of their aggregate.
+/// Writes the lines of an aggregate with members: its first line, the lines of the members, and its
+/// last line.
 #[cycle(lines)]
 fn write_group<W: Sink>(
     words: &[u8],
@@ -186,7 +208,7 @@ fn write_pairs<W: Sink>(
     Ok(())
 }
 
-/// Returns the result of a write as that of printing.
+/// Returns the result of a write as the result of printing.
 fn printed(written: Result<(), DeviceFault>) -> Result<(), PrintError>
     ensures { (before after : Option (List ℕ)) (failures failures' : ℕ) (text : List ℕ)
         (levels : ℕ) → WritesText before after failures failures' written text →
@@ -206,7 +228,7 @@ fn write_first_line<W: Sink>(level: u64, words: &[u8], writer: &mut W) -> Result
     printed(write_indented(level, words, writer))
 }
 
-/// Writes words two spaces deeper for each level.
+/// Writes words, indented by two spaces for each level.
 fn write_indented<W: Sink>(level: u64, words: &[u8], writer: &mut W) -> Result<(), DeviceFault>
     ensures { WritesText (W.written writer.old) (W.written writer.new) (W.failures writer.old)
         (W.failures writer.new) result (first_line level words.now) }
@@ -215,7 +237,7 @@ fn write_indented<W: Sink>(level: u64, words: &[u8], writer: &mut W) -> Result<(
     write_text(writer, words)
 }
 
-/// Writes the last line of an aggregate of this many members or pairs.
+/// Writes the last line of an aggregate with this many members or pairs.
 fn write_end_line<W: Sink>(level: u64, items: u64, writer: &mut W) -> Result<(), PrintError>
     ensures { Prints (W.written writer.old) (W.written writer.new) (W.failures writer.old)
         (W.failures writer.new) result (end_line level items) 0 }
@@ -223,7 +245,7 @@ fn write_end_line<W: Sink>(level: u64, items: u64, writer: &mut W) -> Result<(),
     printed(write_end(level, items, writer))
 }
 
-/// Writes the word `end` two spaces deeper for each level, a number, and LF.
+/// Writes the word `end`, indented by two spaces for each level, a number, and LF.
 fn write_end<W: Sink>(level: u64, items: u64, writer: &mut W) -> Result<(), DeviceFault>
     ensures { WritesText (W.written writer.old) (W.written writer.new) (W.failures writer.old)
         (W.failures writer.new) result (end_line level items) }
@@ -232,7 +254,7 @@ fn write_end<W: Sink>(level: u64, items: u64, writer: &mut W) -> Result<(), Devi
     write_number(writer, b"end ", items, b"\n")
 }
 
-/// Writes the line of a value without members. Of another value it writes no line.
+/// Writes the line of a value without members. For another value it writes no line.
 fn write_scalar<W: Sink>(value: &Value, level: u64, writer: &mut W) -> Result<(), DeviceFault>
     ensures { IsScalar (datum_of value.now) →
         WritesText (W.written writer.old) (W.written writer.new) (W.failures writer.old)

@@ -101,5 +101,5 @@ pub enum ScanError {
 
 /// The error of a change of version inside a value or after a fault.
 #[derive(Clone, Copy, Debug, PartialEq, Eq, Error)]
-#[error("a value was begun")]
+#[error("the version cannot change inside a value or after an error")]
 pub struct Busy;

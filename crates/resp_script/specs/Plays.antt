@@ -18,17 +18,17 @@ use Rattle.resp_script.specs.Printed.{PlayedEvent, counts_text, outcome_text}
 use Rattle.resp_script.specs.declared.play.PlayError.{PlayError}
 use Rattle.resp_script.specs.declared.play.PlayError.TheVariants.{Stopped, Write, Memory}
 
--- the line that says why the events are not played to their end
+-- the line that says why the script was not played to its end
 abbrev pub play_fault_line : PlayError → List ℕ
 play_fault_line (Stopped line cause) = codes "line " ++ decimal line ++ codes ": " ++ name_of cause ++ codes "\n"
 play_fault_line Write = codes "write failed\n"
 play_fault_line Memory = codes "out of memory\n"
 
--- the line of a client that no connection was opened for, and why
+-- the line that says why no connection was opened for a client
 abbrev pub no_connection_line : ℕ → List ℕ → List ℕ
 no_connection_line client why = codes "no connection for client " ++ decimal client ++ codes ": " ++ why ++ codes "\n"
 
--- as many bytes as an event can move
+-- the most bytes that an event can move
 abbrev pub all_bytes : ℕ
 all_bytes = 18446744073709551615
 
@@ -36,13 +36,14 @@ all_bytes = 18446744073709551615
 abbrev pub played : ℕ → Bool → WorldEvent → PlayedEvent
 played line is_flush event = record { line = line; event = event; is_flush = is_flush }
 
--- the events of `flush`: what waits of each of this many clients goes to its session, and then what waits there to it
+-- the events of `flush`: for each client, all waiting bytes go to its session, and then all waiting bytes of the
+-- session go to the client
 abbrev pub flush_events : ℕ → ℕ → List PlayedEvent
 flush_events line zero = []
 flush_events line (suc clients) = flush_events line clients ++
     (played line true (ToServer (suc clients) all_bytes) ∷ played line true (ToClient (suc clients) all_bytes) ∷ [])
 
--- the events of the step in this line, where there are this many clients
+-- the events of the step in this line, with this many clients
 abbrev pub step_events : ℕ → ℕ → Option Event → List PlayedEvent
 step_events clients line (Some event) = played line false (event_of event) ∷ []
 step_events clients line None = flush_events line clients
@@ -51,19 +52,19 @@ step_events clients line None = flush_events line clients
 abbrev pub steps_events : ℕ → List (ℕ × Option Event) → List PlayedEvent
 steps_events clients steps = flat_map (λ (step : ℕ × Option Event). step_events clients step.0 step.1) steps
 
--- the text of what comes of an event, which leads from one world to the next
+-- the text of the result of an event, which leads from one world to the next
 abbrev pub text_of_step : World → PlayedEvent → runs.Outcome → World → List ℕ
 text_of_step w played outcome next = outcome_text (client_of played.event) played.is_flush outcome
     (connection_of w played.event) (connection_of next played.event)
 
--- The events come to what they come to in the definitions, one after another, and this is the text of it.
+-- The events have the results of the definitions, one after another, and this is their text.
 abbrev pub Plays : Bounds → World → List PlayedEvent → List ℕ → World → Type 0
 Plays limits w [] text last = (text ≡ []) × (last ≡ w)
 Plays limits w (played ∷ events) text last = (outcome : runs.Outcome) × (next : World) × (rest : List ℕ) ×
     Step limits w played.event outcome next × Plays limits next events rest last ×
     (text ≡ text_of_step w played outcome next ++ rest)
 
--- these events were played, this is their text, and this world they leave
+-- these events were played, with this text and this world as the result
 pub record ArePlayed (limits : Bounds) (w : World) (events : List PlayedEvent) : Type 0 where
   pub text : List ℕ
   pub last : World
@@ -87,7 +88,7 @@ pub record PlaysUpTo (limits : Bounds) (w : World) (events : List PlayedEvent) (
   pub played : ArePlayed limits w done
   pub appended : Appends held held' played.text
 
--- some first events were played, or all of them, and a first part of their text was appended
+-- some first events were played, or all of them, and the first part of their text was appended
 pub record PlaysPart (limits : Bounds) (w : World) (events : List PlayedEvent) (held held' : Option (List ℕ)) : Type 0
   where
     pub done : List PlayedEvent
@@ -96,8 +97,8 @@ pub record PlaysPart (limits : Bounds) (w : World) (events : List PlayedEvent) (
     pub played : ArePlayed limits w done
     pub part : AppendsPart held held' played.text
 
--- What comes of events: all of them and their text; or the first of them, up to that at which the world stopped, and
--- their text; or a first part of the text, where a write failed or when out of memory.
+-- The result of playing events: all of them and their text; or the events before the one at which the world stopped,
+-- and their text; or the first part of the text, if a write failed or when out of memory.
 abbrev pub PlaysTo : {L : Type 0} → (L → Type 0) → Bounds → World → List PlayedEvent → WorldState L →
     Option (List ℕ) → Option (List ℕ) → Result (Unit {0}) PlayError → Type 0
 PlaysTo {L} is_honest limits w events after held held' (Ok x) = PlaysAll is_honest limits w events after held held'
@@ -112,13 +113,13 @@ pub record PlaysWhole {L : Type 0} (is_honest : L → Type 0) (limits : Bounds) 
   pub shows : Shows is_honest after limits played.last
   pub appended : Appends held held' (played.text ++ counts_text played.last)
 
--- all of the events were played, and a first part of their text and the line of counts was appended
+-- all of the events were played, and the first part of their text and the line of counts was appended
 pub record BreaksInCounts (limits : Bounds) (w : World) (events : List PlayedEvent) (held held' : Option (List ℕ)) :
     Type 0 where
   pub played : ArePlayed limits w events
   pub part : AppendsPart held held' (played.text ++ counts_text played.last)
 
--- What comes of all the events of a script, with the line of counts after their text.
+-- The result of playing all events of a script, with the line of counts after their text.
 abbrev pub PlaysScript : {L : Type 0} → (L → Type 0) → Bounds → World → List PlayedEvent → WorldState L →
     Option (List ℕ) → Option (List ℕ) → Result (Unit {0}) PlayError → Type 0
 PlaysScript {L} is_honest limits w events after held held' (Ok x) =
@@ -128,38 +129,38 @@ PlaysScript {L} is_honest limits w events after held held' (Err (Stopped line ca
 PlaysScript {L} is_honest limits w events after held held' (Err e) =
     PlaysPart limits w events held held' ⊎ BreaksInCounts limits w events held held'
 
--- a stop is at this line
+-- the world stopped at this line
 abbrev pub IsAtLine : ℕ → PlayError → Type 0
 IsAtLine line (Stopped stopped cause) = stopped ≡ line
 IsAtLine line _ = Unit {0}
 
--- a stop is at the line of one of these steps
+-- the world stopped at the line of one of these steps
 abbrev pub IsAtStep : List (ℕ × Option Event) → PlayError → Type 0
 IsAtStep steps (Stopped line cause) = Contains (map (λ (step : ℕ × Option Event). step.0) steps) line
 IsAtStep steps _ = Unit {0}
 
--- at a stop the world keeps its cause
+-- when the world stops, it keeps the cause
 abbrev pub KeepsCause : Option Cause → PlayError → Type 0
 KeepsCause stopped (Stopped line cause) = stopped ≡ Some cause
 KeepsCause stopped _ = Unit {0}
 
--- one write failed where that was the reason to stop, and else none did
+-- one write failed if the error is a failed write, and otherwise none did
 abbrev pub FailsToWrite : ℕ → ℕ → Result (Unit {0}) PlayError → Type 0
 FailsToWrite failures failures' (Err Write) = failures' ≡ count_after 1 failures
 FailsToWrite failures failures' _ = failures' ≡ failures
 
--- how many replies and pushes were shown on a connection, if there is one
+-- the numbers of replies and pushes that a connection has received, if there is one
 abbrev pub AreShownOn : ℕ → ℕ → Option Connection → Type 0
 AreShownOn replies pushes None = Unit {0}
 AreShownOn replies pushes (Some c) = (replies ≡ length (shown_replies c)) × (pushes ≡ length (shown_pushes c))
 
--- where the event happened, it is of a connection that stands before and after
+-- if the event happened, its connection exists before and after it
 abbrev pub AreThere : Outcome → Option Connection → Option Connection → Type 0
 AreThere Done (Some before) (Some after) = Unit {0}
 AreThere Done before after = ⊥
 AreThere outcome before after = Unit {0}
 
--- what was printed doesn't stop the world, and one write failed where that was the reason to end, and else none did
+-- the error is not a stop of the world; one write failed if the error is a failed write, and otherwise none did
 abbrev pub EndsPrint : ℕ → ℕ → Result (Unit {0}) PlayError → Type 0
 EndsPrint failures failures' (Err (Stopped line cause)) = ⊥
 EndsPrint failures failures' result = FailsToWrite failures failures' result

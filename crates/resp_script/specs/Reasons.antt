@@ -1,4 +1,4 @@
--- Why a line of a script is bad: what each reason says of it, and its sentence.
+-- Why a line of a script is bad: the meaning of each reason, and its sentence.
 use Rattle.std.specs.Prelude.{◌≡◌, ℕ, ◌≤◌, ◌<◌, ◌==◌, List, [], length, get_or, All, Option, None, Some, codes, decimal}
 use Rattle.std.specs.List.{slice_split}
 use Rattle.std.specs.Str.{byte}
@@ -11,7 +11,7 @@ use Rattle.resp_script.specs.declared.script.steps.Verb.TheVariants as verb
 use Rattle.resp_script.specs.declared.script.words.LineFault.{LineFault}
 use Rattle.resp_script.specs.declared.script.words.LineFault.TheVariants as fault
 
--- what stands between the spaces of a line
+-- the parts of a line between its spaces
 abbrev pub parts_of_line : List ℕ → List (List ℕ)
 parts_of_line line = slice_split (λ b. b == byte " ") line
 
@@ -23,12 +23,12 @@ NamesClient clients word = (number : ℕ) × (word ≡ decimal number) × (1 ≤
 abbrev pub BeginsNoLine : List ℕ → Type 0
 BeginsNoLine word = ((word ≡ codes "flush") → ⊥) × ((named : Verb) → word ≡ step_name named → ⊥)
 
--- the first of these parts is a verb's name
+-- the first of these parts is the name of a verb
 abbrev pub HasVerb : List (List ℕ) → Type 0
 HasVerb parts = (named : Verb) × (get_or parts 0 [] ≡ step_name named)
 
--- What a reason says of a line with these parts, where this many clients were named, or none yet. The reasons that
--- are left out here are of more than one line's words.
+-- The meaning of a reason, for a line with these parts. The number of clients is given if an earlier line named it. The
+-- reasons that are not listed here concern more than the words of one line.
 abbrev pub IsReason : Option ℕ → List (List ℕ) → BadLine → Type 0
 IsReason _ parts reasons.ManyWords = 64 < length parts
 IsReason _ parts reasons.Spaces = All IsFull parts → ⊥
@@ -41,32 +41,32 @@ IsReason (Some clients) parts (reasons.Arguments named) =
     (get_or parts 0 [] ≡ step_name named) × NamesClient clients (get_or parts 1 [])
 IsReason _ _ _ = ⊥
 
--- what holds of the reason why a line is bad
+-- P holds of the reason why a line is bad
 abbrev pub WhereBad : (BadLine → Type 0) → LineFault → Type 0
 WhereBad P (fault.Bad reason) = P reason
 WhereBad P fault.Memory = Unit {0}
 
--- what follows the number of the client, for each verb
+-- the sentence for the words after the client's number, for each verb
 abbrev pub arguments_text : Verb → List ℕ
-arguments_text verb.Send = codes "a command of one word or more follows the client of send"
-arguments_text verb.Hello = codes "2, 3 or nothing follows the client of hello"
-arguments_text verb.Server = codes "a number of bytes from 1 to 1000000000 follows the client of server and client"
-arguments_text verb.Client = codes "a number of bytes from 1 to 1000000000 follows the client of server and client"
-arguments_text verb.Push = codes "words follow the client of push"
-arguments_text verb.Drop = codes "nothing follows the client of drop"
+arguments_text verb.Send = codes "send needs a client and a command of at least one word"
+arguments_text verb.Hello = codes "hello needs a client, optionally followed by 2 or 3"
+arguments_text verb.Server = codes "server and client need a client and a number of bytes from 1 to 1000000000"
+arguments_text verb.Client = codes "server and client need a client and a number of bytes from 1 to 1000000000"
+arguments_text verb.Push = codes "push needs a client, optionally followed by words"
+arguments_text verb.Drop = codes "drop takes nothing after the client"
 
--- the sentence that says a reason
+-- the sentence of a reason
 abbrev pub reason_text : BadLine → List ℕ
 reason_text reasons.NoClients = codes "no line begins with the word clients"
 reason_text reasons.LongScript = codes "a script has at most 1048576 bytes"
 reason_text reasons.ManyLines = codes "a script has at most 10000 lines"
 reason_text reasons.LongLine = codes "a line has at most 4096 bytes"
 reason_text reasons.ManyWords = codes "a line has at most 64 words"
-reason_text reasons.Spaces = codes "one space stands between two words, and none at either end"
+reason_text reasons.Spaces = codes "words are separated by one space, with no space at either end"
 reason_text reasons.UnseenByte = codes "a byte is neither a space nor printable ASCII"
-reason_text reasons.NotClients = codes "the first line is `clients N`, with N from 1 to 16"
+reason_text reasons.NotClients = codes "the first line must be `clients N`, with N from 1 to 16"
 reason_text reasons.UnknownWord =
-    codes "no line after the first begins with this word, but with send, hello, server, client, push, drop or flush"
-reason_text reasons.FlushWords = codes "nothing follows flush"
-reason_text reasons.NoSuchClient = codes "the second word is the number of a client"
+    codes "unknown word: a line begins with send, hello, server, client, push, drop or flush"
+reason_text reasons.FlushWords = codes "flush takes nothing after it"
+reason_text reasons.NoSuchClient = codes "the second word must be the number of a client"
 reason_text (reasons.Arguments named) = arguments_text named

@@ -1,4 +1,4 @@
--- What a line of a script says: the words for each step, and what a step may be.
+-- The meaning of a line of a script: the words of each step, and the steps that are allowed.
 use Rattle.std.specs.Prelude.{◌≡◌, ℕ, ◌≤◌, List, [], ◌∷◌, length, map, All, Option, None, Some, codes, decimal}
 use Rattle.std.specs.List.{join_with_byte}
 use Rattle.std.specs.Str.{byte}
@@ -14,15 +14,15 @@ use Rattle.resp_wire.specs.declared.event.Event.TheVariants as event
 use Rattle.resp_script.specs.declared.script.steps.Verb.{Verb}
 use Rattle.resp_script.specs.declared.script.steps.Verb.TheVariants as verb
 
--- a byte that is seen: neither a space nor a control byte, and in ASCII
+-- a graphic byte: neither a space nor a control byte, and in ASCII
 abbrev pub IsSeen : ℕ → Type 0
 IsSeen b = (33 ≤ b) × (b ≤ 126)
 
--- one byte or more, all of them seen
+-- one or more graphic bytes
 abbrev pub IsWord : List ℕ → Type 0
 IsWord word = IsFull word × All IsSeen word
 
--- words with a space between each two
+-- words, separated by single spaces
 abbrev pub joined_words : List (List ℕ) → List ℕ
 joined_words words = join_with_byte (byte " ") words
 
@@ -33,7 +33,7 @@ pub record AreWords (line : List ℕ) (words : List (List ℕ)) : Type 0 where
   pub some : 1 ≤ length words
   pub few : length words ≤ 64
 
--- the first word of a line, for the event that it says
+-- the first word of a line, for its event
 abbrev pub step_name : Verb → List ℕ
 step_name verb.Send = codes "send"
 step_name verb.Hello = codes "hello"
@@ -42,7 +42,7 @@ step_name verb.Client = codes "client"
 step_name verb.Push = codes "push"
 step_name verb.Drop = codes "drop"
 
--- what happens in an event
+-- the verb of an event
 abbrev pub verb_of : Event → Verb
 verb_of (event.Send client command) = verb.Send
 verb_of (event.Hello client asked) = verb.Hello
@@ -60,12 +60,12 @@ step_client (event.ToClient client count) = client
 step_client (event.Push client items) = client
 step_client (event.Drop client) = client
 
--- the word for an item of a push; none but a bulk string has one
+-- the word for an item of a push; only a bulk string has one
 abbrev pub item_word : Value → List ℕ
 item_word (Bulk content) = content_bytes content
 item_word _ = []
 
--- the words for the version that HELLO asks, if it asks one
+-- the words for the version that HELLO asks for, if any
 abbrev pub asked_words : Option Version → List (List ℕ)
 asked_words None = []
 asked_words (Some Two) = codes "2" ∷ []
@@ -85,7 +85,7 @@ abbrev pub step_words : Option Event → List (List ℕ)
 step_words None = codes "flush" ∷ []
 step_words (Some event) = step_name (verb_of event) ∷ decimal (step_client event) ∷ arguments_of event
 
--- this many bytes may be moved by one line
+-- one line may move this many bytes
 abbrev pub IsMoved : ℕ → Type 0
 IsMoved count = (1 ≤ count) × (count ≤ 1000000000)
 
@@ -95,12 +95,12 @@ HasRange (event.ToServer client count) = IsMoved count
 HasRange (event.ToClient client count) = IsMoved count
 HasRange _ = Unit {0}
 
--- the client of a step is one of this many, and its count is in its range
+-- the client of a step exists, and its count is in its range
 abbrev pub IsStepInRange : ℕ → Option Event → Type 0
 IsStepInRange clients None = Unit {0}
 IsStepInRange clients (Some event) = (1 ≤ step_client event) × (step_client event ≤ clients) × HasRange event
 
--- the line says this step, where there are this many clients
+-- the line means this step, if there are this many clients
 pub record SaysStep (clients : ℕ) (line : List ℕ) (step : Option Event) : Type 0 where
   pub words : AreWords line (step_words step)
   pub range : IsStepInRange clients step

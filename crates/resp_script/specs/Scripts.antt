@@ -1,4 +1,4 @@
--- Scripts: their lines, what these say together, and the first bad one.
+-- Scripts: their lines, their meaning, and the first bad line.
 use Rattle.std.specs.Prelude.{◌≡◌, ◌⊎◌, ℕ, ◌+◌, ◌≤◌, ◌<◌, ◌==◌, Bool, true, false, not, List, [], ◌∷◌, ◌++◌, length, map, filter, sum_by, min, All, Option, None, Some, codes, decimal, if◌then◌else◌}
 use Rattle.std.specs.List.{before_first, enumerate_from}
 use Rattle.std.specs.Str.{byte}
@@ -11,22 +11,22 @@ use Rattle.resp_script.specs.declared.script.Script.{Script}
 use Rattle.resp_script.specs.declared.script.ScriptError.{ScriptError}
 use Rattle.resp_script.specs.declared.script.ScriptError.TheVariants.{BadScript, Memory}
 
--- lines whose first one has this byte before it
+-- lines with this byte in front of the first one
 abbrev pub onto_first_line : ℕ → List (List ℕ) → List (List ℕ)
 onto_first_line b [] = (b ∷ []) ∷ []
 onto_first_line b (line ∷ lines) = (b ∷ line) ∷ lines
 
--- the lines of a text: each ends by LF, which the last may lack
+-- the lines of a text: each ends with LF, which is optional in the last one
 abbrev pub lines_of : List ℕ → List (List ℕ)
 lines_of [] = []
 lines_of (b ∷ text) = (if b == byte "\n" then [] ∷ lines_of text else onto_first_line b (lines_of text))
 
--- whether the line is empty or begins with `#`
+-- whether the line is skipped: it is empty or begins with `#`
 abbrev pub is_passed_over : List ℕ → Bool
 is_passed_over [] = true
 is_passed_over (b ∷ line) = b == byte "#"
 
--- the lines that aren't passed over, each with its number, from 1
+-- the lines that are not skipped, each with its number, from 1
 abbrev pub said_lines : List (List ℕ) → List (ℕ × List ℕ)
 said_lines lines = filter (λ line. not (is_passed_over line.1)) (enumerate_from 1 lines)
 
@@ -34,20 +34,20 @@ said_lines lines = filter (λ line. not (is_passed_over line.1)) (enumerate_from
 abbrev pub step_line : ℕ × Option Event → ℕ × List ℕ
 step_line step = (step.0, joined_words (step_words step.1))
 
--- The lines say this number of clients, and after it these steps, each with the number of its line. Nothing else
--- stands there but what is passed over.
+-- The lines name this number of clients, followed by these steps, each with the number of its line. All other lines are
+-- skipped.
 pub record SayScript (clients : ℕ) (lines : List (List ℕ)) (steps : List (ℕ × Option Event)) : Type 0 where
   pub number : ℕ
   pub in_turn : said_lines lines ≡ (number, joined_words (clients_words clients)) ∷ map step_line steps
   pub clients_named : SaysClients (joined_words (clients_words clients)) clients
   pub steps_said : All (λ step. SaysStep clients (joined_words (step_words step.1)) step.1) steps
 
--- what lines say so far: nothing, or the number of clients and steps
+-- the meaning of the lines so far: nothing, or the number of clients and steps
 abbrev pub SaySoFar : Option ℕ → List (List ℕ) → List (ℕ × Option Event) → Type 0
 SaySoFar None lines steps = (said_lines lines ≡ []) × (steps ≡ [])
 SaySoFar (Some clients) lines steps = SayScript clients lines steps
 
--- how many bytes of a text stand up to the end of these first lines of it, with the LF after each
+-- the number of bytes of a text up to the end of these first lines, with the LF after each
 abbrev pub bytes_to_end : List ℕ → List (List ℕ) → ℕ
 bytes_to_end text lines = min (length text) (sum_by (λ line. length line + 1) lines)
 
@@ -57,28 +57,28 @@ pub record AreWithin (text : List ℕ) (lines : List (List ℕ)) : Type 0 where
   pub short : All (λ line. length line ≤ 4096) lines
   pub small : bytes_to_end text lines ≤ 1048576
 
--- the text is a script that says this
+-- the text is this script
 pub record IsScript (text : List ℕ) (script : Script) : Type 0 where
   pub said : SayScript script.clients (lines_of text) script.steps.items
   pub within : AreWithin text (lines_of text)
 
--- a line that a script may have where this many clients were named, or none yet
+-- a line that is allowed, if this many clients were named, or none yet
 abbrev pub SaysSomething : Option ℕ → List ℕ → Type 0
 SaysSomething None line = (clients : ℕ) × SaysClients line clients
 SaysSomething (Some clients) line = (step : Option Event) × SaysStep clients line step
 
--- a line that isn't passed over and says nothing
+-- a line that is neither skipped nor allowed
 abbrev pub SaysNothing : Option ℕ → List ℕ → Type 0
 SaysNothing named line = (is_passed_over line ≡ false) × (SaysSomething named line → ⊥)
 
--- a line of this number and length passes a limit, where the script has this many bytes up to its end
+-- The line with this number and length exceeds a limit. The script has this many bytes up to the end of the line.
 abbrev pub PassesLimit : ℕ → ℕ → ℕ → BadLine → Type 0
 PassesLimit number bytes read reasons.ManyLines = 10000 < number
 PassesLimit number bytes read reasons.LongLine = 4096 < bytes
 PassesLimit number bytes read reasons.LongScript = 1048576 < read
 PassesLimit number bytes read _ = ⊥
 
--- the line of this number is bad for this reason, and those before it are not bad
+-- the line with this number is bad for this reason, and no line before it is bad
 pub record IsFirstBad (text : List ℕ) (number : ℕ) (reason : BadLine) : Type 0 where
   pub before : List (List ℕ)
   pub bad : List ℕ
@@ -98,11 +98,11 @@ pub record IsFirstBad (text : List ℕ) (number : ℕ) (reason : BadLine) : Type
 abbrev pub first_word : List ℕ → List ℕ
 first_word line = before_first (λ b. b == byte " ") line
 
--- the first word of none of these lines is `clients`
+-- no line begins with the word `clients`
 abbrev pub NameNoClients : List (List ℕ) → Type 0
 NameNoClients lines = All (λ line. first_word line ≡ codes "clients" → ⊥) lines
 
--- why a text is no script: its first bad line, or line 1 where no line names the number of clients
+-- why a text is not a script: its first bad line, or line 1 if no line names the number of clients
 abbrev pub IsRefusedAt : List ℕ → ℕ → BadLine → Type 0
 IsRefusedAt text number reason =
     NameNoClients (lines_of text) × (number ≡ 1) × (reason ≡ reasons.NoClients) ⊎
@@ -112,12 +112,12 @@ abbrev pub IsRefusedScript : List ℕ → ScriptError → Type 0
 IsRefusedScript text (BadScript number reason) = IsRefusedAt text number reason
 IsRefusedScript text Memory = Unit {0}
 
--- the line that says why a script is not taken
+-- the line that reports a bad script
 abbrev pub script_fault_line : ScriptError → List ℕ
 script_fault_line (BadScript line reason) = codes "line " ++ decimal line ++ codes ": BadScript\n"
 script_fault_line Memory = codes "out of memory\n"
 
--- the line that says, for people, why a script is bad
+-- the line that explains why a script is bad
 abbrev pub script_reason_line : ScriptError → List ℕ
 script_reason_line (BadScript line reason) = codes "  " ++ reason_text reason ++ codes "\n"
 script_reason_line Memory = []

@@ -1,4 +1,4 @@
-//! The replies and pushes that a client has received, as lines of text.
+//! The replies and pushes that a client received, as lines of text.
 
 ghost use Rattle.std.specs.Prelude.{◌≡◌, ◌+◌, ◌<◌, ◌^◌, ◌++◌, ℕ, List, Option, codes, decimal, length};
 ghost use Rattle.resp_print.specs.Headings.{push_heading, reply_heading};
@@ -16,7 +16,8 @@ use resp_print::value::{write_push_value, write_value};
 use resp_value::device::{DeviceFault, Sink};
 use resp_value::value::{Members, Value};
 
-/// Writes replies to a client, the first of which answers the command after `count` commands.
+/// Writes replies to a client. The first one is the reply to the client's command number `count +
+/// 1`.
 pub(crate) fn write_replies<W: Sink>(
     client: u64,
     count: u64,
@@ -58,12 +59,12 @@ pub(crate) fn write_pushes<W: Sink>(
     Ok(())
 }
 
-/// Writes a client's reply of this number, below its heading.
+/// Writes a client's reply with this number, after its heading.
 ///
 /// # Errors
 ///
 /// [`PlayError::Write`] if a write fails, and [`PlayError::Memory`] if the reply is nested too
-/// deeply to be in memory. The sink has then taken a first part of the text.
+/// deeply to be in memory. The first part of the text was written.
 fn write_reply<W: Sink>(
     client: u64,
     number: u64,
@@ -80,11 +81,11 @@ fn write_reply<W: Sink>(
     }
 }
 
-/// Writes a push to a client, below its heading.
+/// Writes a push to a client, after its heading.
 ///
 /// # Errors
 ///
-/// Fails as [`write_reply`] does.
+/// The errors of [`write_reply`].
 fn write_push<W: Sink>(client: u64, push: &Members, writer: &mut W) -> Result<(), PlayError>
     ensures { PlaysText (W.written writer.old) (W.written writer.new) (W.failures writer.old)
         (W.failures writer.new) result
@@ -96,7 +97,7 @@ fn write_push<W: Sink>(client: u64, push: &Members, writer: &mut W) -> Result<()
     }
 }
 
-/// Returns the result of printing as that of playing.
+/// Returns the result of printing as the result of playing.
 fn played(printed: Result<(), PrintError>) -> Result<(), PlayError>
     ensures { (before after : Option (List ℕ)) (failures failures' : ℕ) (text : List ℕ)
         (levels : ℕ) → Prints before after failures failures' printed text levels →
@@ -109,7 +110,7 @@ fn played(printed: Result<(), PrintError>) -> Result<(), PlayError>
     }
 }
 
-/// Writes a line of two numbers, with words before each.
+/// Writes a line of two numbers, with words before each of them.
 pub(crate) fn write_numbers<W: Sink>(
     writer: &mut W,
     words: &[u8],
@@ -125,7 +126,7 @@ pub(crate) fn write_numbers<W: Sink>(
     write_number(writer, b"", second, b"\n")
 }
 
-/// Writes the line before a reply.
+/// Writes the heading of a reply.
 fn write_reply_heading<W: Sink>(client: u64, number: u64, writer: &mut W) -> Result<(), DeviceFault>
     ensures { WritesText (W.written writer.old) (W.written writer.new) (W.failures writer.old)
         (W.failures writer.new) result (reply_heading client number) }

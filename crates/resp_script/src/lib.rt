@@ -1,5 +1,5 @@
-//! The scripts of `resp loop`: [`script::read_script`] reads one, and [`play::play`] plays it in a
-//! world of clients of one server.
+//! Scripts of `resp loop`. [`script::read_script`] reads a script, and [`play::play`] plays it with
+//! a [`World`](resp_wire::world::World): several clients of one server.
 #![tactic(auto)]
 
 pub mod heard;

@@ -1,4 +1,4 @@
-//! `loop`: the events of a script in a world, and what comes of each.
+//! Plays the events of a script, and prints the result of each.
 
 ghost use Rattle.std.specs.Prelude.{◌≡◌, true, ◌+◌, ◌<◌, ◌^◌, ◌++◌, ◌∷◌, [], codes, decimal, drop, length, None, Option, Some, IfErr, OnOk};
 ghost use Rattle.resp_script.specs.Plays.{AreThere, EndsPrint, FailsToWrite, AreShownOn, IsAtLine, IsAtStep, KeepsCause, PlaysScript, PlaysTo, flush_events, no_connection_line, played, step_events, steps_events};
@@ -20,24 +20,24 @@ use std::alloc::Global;
 use std::hash::BuildHasher;
 use thiserror::Error;
 
-/// All bytes that wait.
+/// A count that moves all waiting bytes.
 const ALL: u64 = u64::MAX;
 
 /// Why a script was not played to its end.
 #[derive(Clone, Copy, Debug, PartialEq, Eq, Error)]
 pub enum PlayError {
-    /// The world stopped at the event of this line, counted from 1, for this cause.
-    #[error("the world stopped at line {line}: {cause:?}")]
+    /// The world stopped at the event of this line, with this cause. Lines are counted from 1.
+    #[error("line {line} failed: {cause:?}")]
     Stopped { line: u64, cause: Cause },
-    /// The writer failed, or took no byte.
-    #[error("the writer failed")]
+    /// A write failed, or wrote no byte.
+    #[error("write failed")]
     Write,
-    /// A growth was refused.
+    /// An allocation failed.
     #[error("out of memory")]
     Memory,
 }
 
-/// Writes a line: its subject, the number of that, and why.
+/// Writes a line: a subject with its number, and a reason.
 fn note<W: Sink>(writer: &mut W, subject: &[u8], number: u64, why: &[u8]) -> Result<(), DeviceFault>
     ensures { WritesText (W.written writer.old) (W.written writer.new) (W.failures writer.old)
         (W.failures writer.new) result
@@ -51,8 +51,11 @@ fn note<W: Sink>(writer: &mut W, subject: &[u8], number: u64, why: &[u8]) -> Res
 impl PlayError {
     ghost use Rattle.resp_script.specs.Plays.{play_fault_line};
 
-    /// Writes the line that says what was refused, with an LF. Refuses where a write fails, and
-    /// then the first bytes of the line were written.
+    /// Writes the line for standard error, with an LF.
+    ///
+    /// # Errors
+    ///
+    /// `DeviceFault` if a write fails. The first part of the line was written.
     pub fn line<W: Sink>(&self, writer: &mut W) -> Result<(), DeviceFault>
         ensures { WritesText (W.written writer.old) (W.written writer.new) (W.failures writer.old)
             (W.failures writer.new) result (play_fault_line self.now) }
@@ -66,7 +69,7 @@ impl PlayError {
         }
     }
 
-    /// The status that the program ends with: 3.
+    /// Returns the exit status of the program: 3.
     pub fn status(&self) -> u8
         ensures { result ≡ 3 }
     {
@@ -74,8 +77,12 @@ impl PlayError {
     }
 }
 
-/// Writes the line of a client, counted from 1, that no connection was opened for, and why, with an
-/// LF. Refuses where a write fails, and then the first bytes of the line were written.
+/// Writes a line, with an LF: no connection could be opened for this client, and why. Clients are
+/// counted from 1.
+///
+/// # Errors
+///
+/// `DeviceFault` if a write fails. The first part of the line was written.
 pub fn write_no_connection<W: Sink>(
     writer: &mut W,
     client: u64,
@@ -87,20 +94,23 @@ pub fn write_no_connection<W: Sink>(
     note(writer, b"no connection for client ", client, why)
 }
 
-/// Takes each event of a script, and writes what comes of it, and last how many commands were run
-/// and how many keys there are. The world is to have as many clients as the script names: of an
-/// event of another it is written that the client is gone.
+/// Plays the events of a script and writes the result of each. The last line has the number of
+/// commands that were run and the number of keys. The world should have as many clients as the
+/// script names; for an event of another client, the text says that the client is gone.
 ///
-/// Refuses where the world stops, with the line of that event, where a write fails, and when out of
-/// memory. At a stop the text of all events before it was written, and else a first part of the
-/// text.
+/// # Errors
+///
+/// - [`PlayError::Stopped`] with the line of the event if the world stops. The text of all events
+///   before it was written.
+/// - [`PlayError::Write`] if a write fails, and [`PlayError::Memory`] if an allocation fails. The
+///   first part of the text was written.
 pub fn play<L: Link, S: BuildHasher + Drop, W: Sink>(
     alloc: Global,
     script: &Script,
     world: &mut World<L, S>,
     writer: &mut W,
 ) -> Result<(), PlayError>
-    // By the definitions: what the steps come to, and the text of it.
+    // The results of the steps are those of the definitions, and this is their text.
     ensures plays { (limits : Bounds) (w : session.World) → Shows L.is_honest world.old limits w →
         PlaysScript L.is_honest limits w (steps_events script.now.clients script.now.steps.items)
         world.new (W.written writer.old) (W.written writer.new) result }
@@ -117,7 +127,7 @@ pub fn play<L: Link, S: BuildHasher + Drop, W: Sink>(
     write_counts(world, writer)
 }
 
-/// Writes how many commands were run, and how many keys the store holds.
+/// Writes the number of commands that were run, and the number of keys in the store.
 fn write_counts<L: Link, S: BuildHasher + Drop, W: Sink>(
     world: &World<L, S>,
     writer: &mut W,
@@ -142,7 +152,7 @@ fn write_totals<W: Sink>(commands: u64, keys: u64, writer: &mut W) -> Result<(),
     write_numbers(writer, b"commands ", commands, b" keys ", keys)
 }
 
-/// How many keys the store holds, as far as 64 bits count.
+/// Returns the number of keys in the store, or the greatest `u64` if it is larger.
 fn count_keys<L: Link, S: BuildHasher + Drop>(world: &World<L, S>) -> u64
     ensures { (limits : Bounds) (w : session.World) → Shows L.is_honest world.now limits w →
         result ≡ key_count w }
@@ -154,7 +164,7 @@ fn count_keys<L: Link, S: BuildHasher + Drop>(world: &World<L, S>) -> u64
     count
 }
 
-/// Takes the events of a step, and writes what comes of them.
+/// Plays the events of a step, and writes the results.
 fn play_step<L: Link, S: BuildHasher + Drop, W: Sink>(
     alloc: Global,
     line: u64,
@@ -177,7 +187,8 @@ fn play_step<L: Link, S: BuildHasher + Drop, W: Sink>(
     }
 }
 
-/// Carries all that waits of each client to its session, and then to it.
+/// Moves all waiting bytes of each client to its session, and then those of the session to the
+/// client.
 fn flush<L: Link, S: BuildHasher + Drop, W: Sink>(
     alloc: Global,
     line: u64,
@@ -206,7 +217,7 @@ fn flush<L: Link, S: BuildHasher + Drop, W: Sink>(
     Ok(())
 }
 
-/// Takes one event. What comes of it is written, but of a flush not that a client is gone.
+/// Plays one event and writes its result. In a `flush`, it does not write that a client is gone.
 fn take<L: Link, S: BuildHasher + Drop, W: Sink>(
     alloc: Global,
     line: u64,
@@ -236,7 +247,7 @@ fn take<L: Link, S: BuildHasher + Drop, W: Sink>(
     before.write_outcome(alloc, outcome, is_flush, world, writer)
 }
 
-/// What a client had heard before an event.
+/// The numbers of replies and pushes that a client had received before an event.
 #[derive(Clone, Copy)]
 struct Before {
     client: usize,
@@ -245,7 +256,7 @@ struct Before {
 }
 
 impl Before {
-    /// What the client of this number has heard: nothing, where there is none.
+    /// Returns the numbers for this client, which are 0 if there is no such client.
     fn new<L: Link, S: BuildHasher + Drop>(client: usize, world: &World<L, S>) -> Self
         ensures client { result.client ≡ client }
         ensures heard { (limits : Bounds) (w : session.World) →
@@ -266,7 +277,8 @@ impl Before {
         }
     }
 
-    /// Writes what came of an event of the client, but of a flush not that the client is gone.
+    /// Writes the result of an event of the client. In a `flush`, it does not write that the client
+    /// is gone.
     fn write_outcome<L: Link, S: BuildHasher + Drop, W: Sink>(
         &self,
         alloc: Global,
@@ -291,7 +303,7 @@ impl Before {
         }
     }
 
-    /// Writes what the client has heard since.
+    /// Writes the replies and pushes that the client received since then.
     fn write_heard<L: Link, S: BuildHasher + Drop, W: Sink>(
         &self,
         alloc: Global,
@@ -319,7 +331,7 @@ impl Before {
     }
 }
 
-/// The items after the first `count`.
+/// Returns the items after the first `count`.
 fn beyond<T>(items: &[T], count: usize) -> &[T]
     ensures items { result.now ≡ drop count items.now }
     ensures few { length result.now + count < 2 ^ 64 }
@@ -331,7 +343,7 @@ fn beyond<T>(items: &[T], count: usize) -> &[T]
     }
 }
 
-/// Writes that an event of a client was refused.
+/// Writes that an event of a client was rejected.
 fn write_refused<W: Sink>(client: u64, cause: Cause, writer: &mut W) -> Result<(), PlayError>
     ensures { PlaysText (W.written writer.old) (W.written writer.new) (W.failures writer.old)
         (W.failures writer.new) result (refused_text client cause) }
@@ -342,7 +354,7 @@ fn write_refused<W: Sink>(client: u64, cause: Cause, writer: &mut W) -> Result<(
     }
 }
 
-/// Writes the line of a refusal.
+/// Writes the line of a rejected event.
 fn write_refusal<W: Sink>(client: u64, name: &[u8], writer: &mut W) -> Result<(), DeviceFault>
     ensures { WritesText (W.written writer.old) (W.written writer.new) (W.failures writer.old)
         (W.failures writer.new) result ((codes "client " ++ decimal client ++ codes " refused ") ++
@@ -353,7 +365,7 @@ fn write_refusal<W: Sink>(client: u64, name: &[u8], writer: &mut W) -> Result<()
     write_text(writer, b"\n")
 }
 
-/// Writes that a client is gone, but nothing of a flush.
+/// Writes that a client is gone, except in a `flush`.
 fn write_gone<W: Sink>(client: u64, is_flush: bool, writer: &mut W) -> Result<(), PlayError>
     ensures { PlaysText (W.written writer.old) (W.written writer.new) (W.failures writer.old)
         (W.failures writer.new) result (gone_text client is_flush) }

@@ -1,4 +1,4 @@
-//! The script of `loop`: lines, each an event for the client of a number.
+//! Reads a script: its lines, each with an event of one client.
 
 ghost use Rattle.std.specs.Prelude.{◌≡◌, ◌+◌, ◌-◌, ◌<◌, ◌≤◌, [], ◌∷◌, length, IfOk, IfErr, IfSome, IfNone, MatchBool};
 ghost use Rattle.resp_script.specs.Scripts.{IsRefusedScript, IsScript, NameNoClients, PassesLimit, lines_of};
@@ -27,29 +27,29 @@ const MOST_LINES: u64 = 10_000;
 /// The most bytes of a line, without its LF.
 const MOST_IN_LINE: usize = 4_096;
 
-/// The refusal of a script that names no number of clients.
+/// The error of a script without a number of clients.
 const NO_CLIENTS: ScriptError = ScriptError::BadScript {
     line: 1,
     reason: BadLine::NoClients,
 };
 
-/// What a script says.
+/// A script that was read.
 #[derive(Debug, PartialEq, Eq, Drop)]
 pub struct Script {
-    /// How many clients there are, from 1 to 16.
+    /// The number of clients, from 1 to 16.
     pub clients: usize,
-    /// The events in their order, each with the number of its line, from 1. None is `flush`.
+    /// The events in order, each with the number of its line, from 1. `None` is `flush`.
     pub steps: Vec<(u64, Option<Event>)>,
 }
 
-/// Why a script is not taken.
+/// The error of [`read_script`].
 #[derive(Clone, Copy, Debug, PartialEq, Eq, Error)]
 pub enum ScriptError {
-    /// This line, counted from 1, is the first bad one; or it is line 1, and no line begins with
-    /// the word `clients`.
+    /// The first bad line, counted from 1, and the reason. If no line begins with the word
+    /// `clients`, this is line 1.
     #[error("line {line} of the script is bad: {reason}")]
     BadScript { line: u64, reason: BadLine },
-    /// A growth was refused.
+    /// An allocation failed.
     #[error("out of memory")]
     Memory,
 }
@@ -57,8 +57,11 @@ pub enum ScriptError {
 impl ScriptError {
     ghost use Rattle.resp_script.specs.Scripts.{script_fault_line, script_reason_line, script_status};
 
-    /// Writes the line that says what was refused, with an LF. Refuses where a write fails, and
-    /// then the first bytes of the line were written.
+    /// Writes the line for standard error, with an LF.
+    ///
+    /// # Errors
+    ///
+    /// `DeviceFault` if a write fails. The first part of the line was written.
     pub fn line<W: Sink>(&self, writer: &mut W) -> Result<(), DeviceFault>
         ensures { WritesText (W.written writer.old) (W.written writer.new) (W.failures writer.old)
             (W.failures writer.new) result (script_fault_line self.now) }
@@ -71,8 +74,11 @@ impl ScriptError {
         }
     }
 
-    /// Writes a line that says, for people, why the script is bad; nothing when out of memory.
-    /// Refuses where a write fails, and then the first bytes of the line were written.
+    /// Writes a line that explains why the script is bad. When out of memory, it writes nothing.
+    ///
+    /// # Errors
+    ///
+    /// `DeviceFault` if a write fails. The first part of the line was written.
     pub fn explain<W: Sink>(&self, writer: &mut W) -> Result<(), DeviceFault>
         ensures { WritesText (W.written writer.old) (W.written writer.new) (W.failures writer.old)
             (W.failures writer.new) result (script_reason_line self.now) }
@@ -87,7 +93,7 @@ impl ScriptError {
         }
     }
 
-    /// The status that the program ends with: 1 for a bad script, and 3 when out of memory.
+    /// Returns the exit status of the program: 1 for a bad script, and 3 when out of memory.
     pub fn status(&self) -> u8
         ensures { result ≡ script_status self.now }
     {
@@ -98,11 +104,14 @@ impl ScriptError {
     }
 }
 
-/// Reads a script: at most 1,048,576 bytes and 10,000 lines, and in each line at most 4,096 bytes
-/// without its LF and 64 words.
+/// Reads a script of at most 1,048,576 bytes and 10,000 lines. A line has at most 4,096 bytes
+/// without its LF, and at most 64 words.
 ///
-/// Refuses it by its first bad line, or by line 1 where no line begins with the word `clients`, and
-/// when out of memory.
+/// # Errors
+///
+/// - [`ScriptError::BadScript`] with the first bad line, or with line 1 if no line begins with the
+///   word `clients`.
+/// - [`ScriptError::Memory`] if an allocation fails.
 pub fn read_script(alloc: Global, bytes: &[u8]) -> Result<Script, ScriptError>
     ensures script { IfOk result (λ script. IsScript bytes.now script) }
     ensures refused { IfErr result (λ error. IsRefusedScript bytes.now error) }
@@ -139,8 +148,8 @@ pub fn read_script(alloc: Global, bytes: &[u8]) -> Result<Script, ScriptError>
     }
 }
 
-/// The limit of a script that is passed with the line of this number, of this many bytes, up to
-/// whose end the script has `read` bytes.
+/// Returns the limit that the line with this number exceeds. The line has `bytes` bytes, and the
+/// script has `read` bytes up to the line's end.
 fn passed_limit(line: u64, bytes: usize, read: usize) -> Option<BadLine>
     ensures within { IfNone result ((line ≤ 10000) × (bytes ≤ 4096) × (read ≤ 1048576)) }
     ensures passed { IfSome result (PassesLimit line bytes read) }
@@ -156,7 +165,7 @@ fn passed_limit(line: u64, bytes: usize, read: usize) -> Option<BadLine>
     }
 }
 
-/// The first line of a text, without its LF, and what stands after that.
+/// Returns the first line of a text, without its LF, and the rest of the text.
 pub(crate) fn first_line(text: &[u8]) -> Option<(&[u8], &[u8])>
     ensures line { IfSome result (λ parts.
         lines_of text.now ≡ parts.0.now ∷ lines_of parts.1.now) }
@@ -174,7 +183,7 @@ pub(crate) fn first_line(text: &[u8]) -> Option<(&[u8], &[u8])>
     }
 }
 
-/// Whether the first word of a line is `clients`.
+/// Returns whether the first word of a line is `clients`.
 fn names_clients(text: &[u8]) -> bool
     ensures { MatchBool result (NameNoClients (lines_of text.now) → ⊥)
         (NameNoClients (lines_of text.now)) }

@@ -1,4 +1,4 @@
-//! A connection that is served, and what is to be done with it next.
+//! One connection of the server.
 
 use crate::non_blocking::{Input, Output};
 use mio::net::TcpStream;
@@ -10,36 +10,36 @@ use std::hash::BuildHasher;
 use std::io::{Read, Write};
 use std::net::Shutdown;
 
-/// How many reads and writes are made of one connection before the others have their turn.
+/// The most reads and writes of a connection before the other connections are served.
 const TURNS: u64 = 16;
 
-/// How many reads of what came last are made of a connection that is closed.
+/// The most reads of received bytes before a connection is closed.
 const LAST_READS: usize = 4;
 
-/// What is to be done next with a connection.
+/// When a connection is served next.
 #[derive(Clone, Copy, Debug, PartialEq, Eq)]
 pub(crate) enum Next {
-    /// It is served again once its socket is ready.
+    /// When its socket is ready.
     Wait,
-    /// It is served again once the others had their turn.
+    /// After the other connections were served.
     Again,
-    /// It is closed.
+    /// Never: it is closed.
     Close,
 }
 
 /// A connection of a client.
 #[derive(Drop)]
 pub(crate) struct Connection {
-    /// The socket, whose calls never wait.
+    /// The socket, which is non-blocking.
     stream: TcpStream,
-    /// The session of the hub.
+    /// The id of its session in the hub.
     pub(crate) id: u64,
     /// Whether it is served again without waiting for its socket.
     pub(crate) is_queued: bool,
 }
 
 impl Connection {
-    /// A connection of which nothing was read.
+    /// Returns a connection of which nothing was read.
     pub(crate) fn new(stream: TcpStream, id: u64) -> Self {
         Connection {
             stream,
@@ -48,15 +48,15 @@ impl Connection {
         }
     }
 
-    /// Answers what has come, until a call would wait or the turns are spent. `is_at_end` tells
-    /// whether the input may have ended.
+    /// Answers the commands received, until a call would block or the allowed reads and writes were
+    /// made. `is_at_end` says whether the input may have ended.
     pub(crate) fn serve<S: BuildHasher>(&self, hub: &mut Hub<S>, is_at_end: bool) -> Next {
         let mut reader = Device::new(Input::new(&self.stream, is_at_end));
         let mut writer = Device::new(Output::new(&self.stream));
         let served = serve(&mut reader, &mut writer, hub, self.id, TURNS);
         let waits = match served {
             Ok(_) | Err(ServeError::NoSession) => false,
-            // The session is closing: what waits is still to be written.
+            // The session is closing. The bytes that wait still have to be written.
             Err(ServeError::TooManyTurns | ServeError::OutOfMemory) => return Next::Again,
             Err(ServeError::Read) => reader.into_inner().would_wait(),
             Err(ServeError::Write) => writer.into_inner().would_wait(),
@@ -71,15 +71,15 @@ impl Connection {
     }
 }
 
-/// Sends a line to a client that isn't served, and closes the connection.
+/// Sends a line to a client that is not served, and closes the connection.
 pub(crate) fn refuse(stream: &TcpStream, line: &[u8]) {
     let mut writer = stream;
     let _ = writer.write(line);
     close(stream);
 }
 
-/// Says that nothing more is sent. What came and isn't read is read first: a socket that is closed
-/// over unread bytes takes back what was sent.
+/// Shuts down the sending direction, and then reads bytes that were received but not read: a socket
+/// that is closed with unread bytes discards the bytes that it sent.
 fn close(stream: &TcpStream) {
     let _ = stream.shutdown(Shutdown::Write);
     let mut reader = stream;

@@ -1,11 +1,11 @@
-//! A server of the hub's sessions for many connections at once, in one thread, over sockets that
-//! tell when they are ready.
+//! A server and a proxy for many TCP connections at once, in one thread, over non-blocking sockets.
 //!
-//! A connection that is ready is served by [`resp_wire::serve::serve`], whose contract says what is
-//! read, what is answered and what still waits where the socket takes no more.
+//! A [`Server`] answers commands. Each ready connection is served by [`resp_wire::serve::serve`],
+//! whose contract states which bytes are read, which replies are written and which bytes still wait
+//! if the socket accepts no more.
 //!
-//! A [`Window`] stands between clients and another server: it hands on what either side sends, by
-//! [`resp_tap::way::Way::visit`], and prints what [`resp_tap::TimedTap`] sees of it.
+//! A [`Window`] forwards connections to another server with [`resp_tap::way::Way::visit`], and
+//! prints the commands, replies and pushes that [`resp_tap::TimedTap`] reports.
 #![tactic(auto)]
 
 mod connection;

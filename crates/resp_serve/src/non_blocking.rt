@@ -1,13 +1,13 @@
-//! A non-blocking socket as a reader and a writer that say why they failed.
+//! A non-blocking socket as a reader and a writer that keep the reason of a failure.
 
 use std::io;
 use std::io::{ErrorKind, Read, Write};
 
-/// A reader that tells, after a failed read, whether the read would only have waited.
+/// A reader that knows, after a failed read, whether the read failed because it would block.
 ///
-/// A socket that gives fewer bytes than there is room for has no more of them, so that the next
-/// read would wait, and isn't made. At the end of the input it is made all the same: the socket
-/// won't tell of the end again.
+/// If a socket returns fewer bytes than were asked for, it has no more, so the next read would
+/// block and is not made. The exception is a connection that may have ended: it is read again,
+/// because the socket does not report its end a second time.
 #[derive(Drop)]
 pub(crate) struct Input<R> {
     inner: R,
@@ -16,8 +16,8 @@ pub(crate) struct Input<R> {
 }
 
 impl<R> Input<R> {
-    /// A reader over `inner`, of which nothing was read. `is_at_end` tells whether the input may
-    /// have ended.
+    /// Returns a reader over `inner`, of which nothing was read. `is_at_end` says whether the input
+    /// may have ended.
     pub(crate) fn new(inner: R, is_at_end: bool) -> Self {
         Input {
             inner,
@@ -26,7 +26,7 @@ impl<R> Input<R> {
         }
     }
 
-    /// Whether the next read would wait.
+    /// Returns whether the next read would block.
     pub(crate) fn would_wait(&self) -> bool {
         self.is_dry
     }
@@ -46,7 +46,7 @@ impl<R: Read> Read for Input<R> {
     }
 }
 
-/// A writer that tells, after a failed write, whether the write would only have waited.
+/// A writer that knows, after a failed write, whether the write failed because it would block.
 #[derive(Drop)]
 pub(crate) struct Output<W> {
     inner: W,
@@ -55,7 +55,7 @@ pub(crate) struct Output<W> {
 }
 
 impl<W> Output<W> {
-    /// A writer over `inner`, to which nothing was written.
+    /// Returns a writer over `inner`, to which nothing was written.
     pub(crate) fn new(inner: W) -> Self {
         Output {
             inner,
@@ -64,12 +64,12 @@ impl<W> Output<W> {
         }
     }
 
-    /// Whether the last write failed for another reason, or took no byte.
+    /// Returns whether the last write failed for another reason, or wrote no byte.
     pub(crate) fn has_failed(&self) -> bool {
         self.has_failed
     }
 
-    /// Whether the last write failed because it would have waited.
+    /// Returns whether the last write failed because it would block.
     pub(crate) fn would_wait(&self) -> bool {
         self.is_full
     }

@@ -13,37 +13,36 @@ use std::net::{Net, SocketAddr};
 use std::time::Duration;
 use std::{io, mem};
 
-/// The token of the listener. A connection's is its place and 1.
+/// The token of the listener. The token of a connection is its place plus 1.
 const LISTENER: usize = 0;
 
-/// How many events one wait tells at most.
+/// The most events that one wait returns.
 pub(crate) const EVENTS: usize = 1_024;
 
-/// How many connections are accepted before those that are ready have their turn.
+/// The most connections that are accepted before the ready connections are served.
 pub(crate) const ACCEPTED: usize = 256;
 
-/// How long it is until connections are accepted again after a failure, in milliseconds.
+/// The time until connections are accepted again after a failure, in milliseconds.
 pub(crate) const PAUSE: u64 = 100;
 
-/// What a connection over the most is answered.
+/// The reply to a connection beyond the maximum.
 pub(crate) const TOO_MANY: &[u8] = b"-ERR max number of clients reached\r\n";
 
 /// Whether connections wait to be accepted.
 #[derive(Clone, Copy, Debug, PartialEq, Eq)]
 pub(crate) enum Backlog {
-    /// None, as far as is known.
+    /// No connection is known to wait.
     Empty,
-    /// There may be some.
+    /// Connections may wait.
     Waiting,
-    /// There may be some, and the last could not be accepted.
+    /// Connections may wait, and the last attempt to accept one failed.
     Failing,
 }
 
 /// A server of PING, ECHO, GET, SET, DEL and HELLO for many clients at once, over one store.
 ///
-/// Of a connection nothing is read while a reply to it waits, so that what waits is bounded by the
-/// answer to one piece of 16,384 bytes. A connection that has much to do is served in turn with the
-/// others.
+/// A connection is not read while a reply to it waits to be written, so the waiting bytes are at
+/// most the replies to one piece of 16,384 bytes. Connections with much to do are served in turns.
 #[derive(Drop)]
 pub struct Server<S: BuildHasher> {
     alloc: Global,
@@ -54,12 +53,17 @@ pub struct Server<S: BuildHasher> {
     connections: Slab<Connection>,
     /// The most connections.
     most: usize,
-    /// The places of those that are served again without waiting for their sockets.
+    /// The places of the connections that are served again without waiting for their sockets.
     queue: Vec<usize>,
 }
 
 impl<S: BuildHasher + Drop> Server<S> {
-    /// Listens on an address, for `most` clients at once, whose sessions read within these limits.
+    /// Listens on an address, for at most `most` clients at once. Their commands are read within
+    /// these limits.
+    ///
+    /// # Errors
+    ///
+    /// The error of the system if the address can't be opened.
     pub fn listen(
         net: &impl Net,
         alloc: Global,
@@ -84,12 +88,20 @@ impl<S: BuildHasher + Drop> Server<S> {
         })
     }
 
-    /// The address that it listens on.
+    /// Returns the address that the server listens on.
+    ///
+    /// # Errors
+    ///
+    /// The error of the system if it can't be read.
     pub fn address(&self) -> io::Result<SocketAddr> {
         self.listener.local_addr()
     }
 
-    /// Serves all that connect, until a wait for them fails.
+    /// Serves all connections until waiting for them fails.
+    ///
+    /// # Errors
+    ///
+    /// The error of that wait, or an error of kind `OutOfMemory` if the first allocation fails.
     pub fn run(&mut self) -> io::Result<()> {
         let Ok(mut events) = Events::with_capacity(self.alloc, EVENTS) else {
             return Err(ErrorKind::OutOfMemory.into());
@@ -100,7 +112,7 @@ impl<S: BuildHasher + Drop> Server<S> {
         Ok(())
     }
 
-    /// Waits until something is ready, and serves it.
+    /// Waits until a socket is ready, and serves its connection.
     fn turn(&mut self, events: &mut Events) -> io::Result<()> {
         let timeout = self.timeout();
         self.poll.poll(events, timeout)?;
@@ -120,7 +132,7 @@ impl<S: BuildHasher + Drop> Server<S> {
         Ok(())
     }
 
-    /// How long is waited at most.
+    /// Returns the longest time of the next wait.
     fn timeout(&self) -> Option<Duration> {
         if !self.queue.is_empty() || self.backlog == Backlog::Waiting {
             return Some(Duration::from_millis(0));
@@ -131,7 +143,7 @@ impl<S: BuildHasher + Drop> Server<S> {
         }
     }
 
-    /// Accepts connections that wait.
+    /// Accepts waiting connections.
     fn accept_some(&mut self) {
         for _ in 0..ACCEPTED {
             match self.listener.accept() {
@@ -148,13 +160,13 @@ impl<S: BuildHasher + Drop> Server<S> {
         self.backlog = Backlog::Waiting;
     }
 
-    /// Takes a connection, or refuses it where there are as many as may be.
+    /// Accepts a connection, or rejects it if the maximum is reached.
     fn admit(&mut self, stream: TcpStream) {
         if self.connections.len() >= self.most {
             refuse(&stream, TOO_MANY);
             return;
         }
-        // Without memory for it, or without a socket that works, it is closed.
+        // Without memory, or if its socket fails, the connection is closed.
         if let Ok(id) = self.hub.open() {
             if self.place(stream, id).is_err() {
                 let _ = self.hub.close(id);
@@ -162,7 +174,7 @@ impl<S: BuildHasher + Drop> Server<S> {
         }
     }
 
-    /// Gives a connection with its session a place.
+    /// Stores a connection with its session in a free place.
     fn place(&mut self, stream: TcpStream, id: u64) -> io::Result<()> {
         let mut stream = stream;
         stream.set_nodelay(true)?;
@@ -174,8 +186,8 @@ impl<S: BuildHasher + Drop> Server<S> {
         }
     }
 
-    /// Serves the connection in a place, whose socket is ready. One that is queued has its turn
-    /// there.
+    /// Serves the connection in a place after its socket became ready. A queued connection is
+    /// served when it is its turn.
     fn serve_ready(&mut self, place: usize, is_at_end: bool) {
         if let Some(connection) = self.connections.get(place) {
             if !connection.is_queued {
@@ -184,16 +196,16 @@ impl<S: BuildHasher + Drop> Server<S> {
         }
     }
 
-    /// Serves the connection in a place, which was queued.
+    /// Serves a queued connection.
     fn serve_queued(&mut self, place: usize) {
         if let Some(connection) = self.connections.get_mut(place) {
             connection.is_queued = false;
-            // The event that would have told of the end may have passed.
+            // The event that reports the end of the input may already have passed.
             self.serve(place, true);
         }
     }
 
-    /// Serves the connection in a place, if one is there.
+    /// Serves the connection in a place, if there is one.
     fn serve(&mut self, place: usize, is_at_end: bool) {
         let Some(connection) = self.connections.get_mut(place) else {
             return;
@@ -205,13 +217,13 @@ impl<S: BuildHasher + Drop> Server<S> {
         }
     }
 
-    /// Closes the connection in a place, and its session. The place is used again.
+    /// Closes the connection in a place, and its session. The place becomes free.
     fn close(&mut self, place: usize) {
         if let Some(connection) = self.connections.try_remove(place) {
             let _ = self.hub.close(connection.id);
             connection.close();
         }
-        // Where no connection could be accepted, one may be now.
+        // If no connection could be accepted before, it may be possible now.
         if self.backlog == Backlog::Failing {
             self.backlog = Backlog::Waiting;
         }

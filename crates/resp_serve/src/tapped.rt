@@ -1,4 +1,4 @@
-//! A connection through a window, and what is to be done with it next.
+//! One forwarded connection.
 
 use crate::connection::Next;
 use crate::non_blocking::{Input, Output};
@@ -13,29 +13,29 @@ use std::alloc::{AllocError, Global};
 use std::net::Shutdown;
 use std::rt::Clock;
 
-/// How many pieces are handed on each way before other connections have their turn.
+/// The most pieces that are forwarded in each direction before other connections are visited.
 const TURNS: usize = 16;
 
-/// One way of a connection.
+/// One direction of a connection.
 #[derive(Drop)]
 struct Lane {
     way: Way,
-    /// Whether the side that sends has ended, and the other was told.
+    /// Whether the sending side has ended, and the other side was told.
     has_ended: bool,
 }
 
-/// What came of the visits of a lane.
+/// The result of visiting a lane.
 #[derive(Clone, Copy, Debug, PartialEq, Eq)]
 enum Lately {
-    /// The next visit would wait, or the lane has ended.
+    /// The next visit would block, or the lane has ended.
     Waits,
-    /// There may be more to hand on.
+    /// More bytes may be ready.
     MayGoOn,
     /// A socket failed.
     Failed,
 }
 
-/// A client's connection and that to the server for it.
+/// The connection of a client, and the connection to the server for it.
 #[derive(Drop)]
 pub(crate) struct Tapped {
     client: TcpStream,
@@ -50,7 +50,7 @@ pub(crate) struct Tapped {
 }
 
 impl Lane {
-    /// A lane on which nothing has come.
+    /// Returns a lane that has forwarded nothing.
     fn new(alloc: Global) -> Result<Lane, AllocError> {
         Ok(Lane {
             way: Way::new(alloc)?,
@@ -58,7 +58,7 @@ impl Lane {
         })
     }
 
-    /// Visits the lane once, and gives the tap what came.
+    /// Visits the lane once, and gives the bytes that were read to the tap.
     fn visit<W: Sink, C: Clock>(
         &mut self,
         from: &TcpStream,
@@ -88,7 +88,7 @@ impl Lane {
     }
 }
 
-/// What a write that didn't take all leaves.
+/// Returns the result of a write that did not write all bytes.
 fn after_write<W>(writer: &Output<W>) -> Lately {
     if writer.has_failed() {
         Lately::Failed
@@ -99,7 +99,7 @@ fn after_write<W>(writer: &Output<W>) -> Lately {
     }
 }
 
-/// What sees the pieces that one side sends.
+/// Gives the pieces that one side sends to the tap, and prints the results.
 #[derive(Drop)]
 struct Seeing<'a, W, C> {
     tap: &'a mut TimedTap,
@@ -111,7 +111,7 @@ struct Seeing<'a, W, C> {
 }
 
 impl<W: Sink, C: Clock> Seeing<'_, W, C> {
-    /// A piece came.
+    /// Receives a piece.
     fn piece(&mut self, piece: &[u8]) {
         if piece.is_empty() {
             return;
@@ -122,7 +122,7 @@ impl<W: Sink, C: Clock> Seeing<'_, W, C> {
 }
 
 impl Tapped {
-    /// A connection of which nothing was read.
+    /// Returns a connection of which nothing was read.
     pub(crate) fn new(
         alloc: Global,
         client: TcpStream,
@@ -141,8 +141,8 @@ impl Tapped {
         })
     }
 
-    /// Hands on what has come, until each call would wait or the turns are spent. `is_at_end` tells
-    /// whether an input may have ended.
+    /// Forwards the bytes received, until each call would block or the allowed number of pieces was
+    /// forwarded. `is_at_end` says whether an input may have ended.
     pub(crate) fn hand_on<W: Sink, C: Clock>(
         &mut self,
         is_at_end: bool,
@@ -163,7 +163,7 @@ impl Tapped {
         Next::Again
     }
 
-    /// Visits the lane of what one side sends.
+    /// Visits the lane of the bytes that one side sends.
     fn visit<W: Sink, C: Clock>(
         &mut self,
         side: Side,
@@ -192,7 +192,7 @@ impl Tapped {
         }
     }
 
-    /// Whether both sides have ended.
+    /// Returns whether both sides have ended.
     fn has_ended(&self) -> bool {
         self.to_server.has_ended && self.to_client.has_ended
     }

@@ -1,4 +1,4 @@
-//! Standard output, which is written to only where it takes what is written at once.
+//! Standard output, which is written only if the write does not block.
 
 use mio::unix::SourceFd;
 use mio::{Events, Interest, Poll, Token};
@@ -9,26 +9,26 @@ use std::net::Net;
 use std::os::fd::RawFd;
 use std::time::Duration;
 
-/// How many bytes a pipe takes at once that is ready.
+/// The bytes that a ready pipe accepts without blocking.
 const FEW: usize = 4_096;
 
-/// How many are written to a file at once.
+/// The bytes that are written to a file at once.
 const MANY: usize = 65_536;
 
 /// The descriptor of standard output.
 const STANDARD_OUTPUT: RawFd = 1;
 
-/// Tells whether standard output takes a few bytes without waiting. A file always does.
+/// Asks whether standard output accepts bytes without blocking. A file always does.
 #[derive(Drop)]
 pub(crate) struct Terminal {
     poll: Poll,
     events: Events,
-    /// Whether it may have to wait, as a pipe or a terminal.
+    /// Whether a write may block, as for a pipe or a terminal.
     may_wait: bool,
 }
 
 impl Terminal {
-    /// Asks the system of standard output from now on.
+    /// Returns a `Terminal` that asks the system about standard output.
     pub(crate) fn new(net: &impl Net, alloc: Global) -> io::Result<Self> {
         let poll = Poll::new(net)?;
         let Ok(events) = Events::with_capacity(alloc, 1) else {
@@ -45,18 +45,19 @@ impl Terminal {
         })
     }
 
-    /// How many bytes one write is to have at most: those that it takes at once where it is ready.
+    /// Returns the most bytes of one write: as many as standard output accepts without blocking
+    /// when it is ready.
     pub(crate) fn most(&self) -> usize {
         if self.may_wait { FEW } else { MANY }
     }
 
-    /// Whether it takes a write now.
+    /// Returns whether standard output accepts a write now.
     pub(crate) fn is_ready(&mut self) -> bool {
         if !self.may_wait {
             return true;
         }
         let mut source = SourceFd(&STANDARD_OUTPUT);
-        // What was told once is told again after this.
+        // After this call the system reports again that standard output is ready.
         let again = self
             .poll
             .registry()

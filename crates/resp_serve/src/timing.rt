@@ -1,24 +1,29 @@
-//! When pieces come.
+//! The times at which pieces arrive.
 
 use resp_tap::Moment;
 use std::io;
 use std::rt::Clock;
 
-/// Tells when pieces come, where that is asked for.
+/// Reads the clocks when pieces arrive, if times are printed.
 #[derive(Clone, Copy)]
 pub(crate) struct Timing {
-    /// The moment that was told last, where moments are told.
+    /// The last moment, if times are printed.
     last: Option<Moment>,
 }
 
 impl Timing {
-    /// Tells moments, or none.
+    /// Returns a `Timing` that reads the clocks if `is_told` is true.
+    ///
+    /// # Errors
+    ///
+    /// The error of the system if a clock can't be read.
     pub(crate) fn new(clock: &impl Clock, is_told: bool) -> io::Result<Self> {
         let last = if is_told { Some(moment(clock)?) } else { None };
         Ok(Timing { last })
     }
 
-    /// The moment, where moments are told: that which was told last where a clock can't be read.
+    /// Returns the current moment if times are printed. If a clock can't be read, it returns the
+    /// last moment.
     pub(crate) fn now(&mut self, clock: &impl Clock) -> Option<Moment> {
         if self.last.is_some() {
             if let Ok(now) = moment(clock) {
@@ -29,7 +34,7 @@ impl Timing {
     }
 }
 
-/// What the clocks show.
+/// Reads the clocks.
 fn moment(clock: &impl Clock) -> io::Result<Moment> {
     Ok(Moment::new(clock.since_1970()?, clock.monotonic()?))
 }

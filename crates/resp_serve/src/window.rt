@@ -1,4 +1,4 @@
-//! The window: its listener, its connections, and the loop that hands on what they send.
+//! The window: its listener, its connections, and the loop that forwards their bytes.
 
 use crate::connection::{Next, refuse};
 use crate::server::{ACCEPTED, Backlog, EVENTS, PAUSE, TOO_MANY};
@@ -20,24 +20,25 @@ use std::rt::Clock;
 use std::time::Duration;
 use std::{io, mem};
 
-/// The token of the listener. Those of the connection in a place are twice the place and 1 or 2.
+/// The token of the listener. The tokens of the connection in a place are twice the place plus 1
+/// and plus 2.
 const LISTENER: usize = 0;
 
-/// How many bytes of text are held at most until they are shown.
+/// The most bytes of text that wait to be printed.
 const SCREEN: usize = 1_048_576;
 
-/// How many writes are made before connections have their turn.
+/// The most writes of text before connections are visited.
 const WRITES: usize = 64;
 
-/// How long it is until text that waits is tried to be shown again, in milliseconds.
+/// The time until waiting text is printed again, in milliseconds.
 const PATIENCE: u64 = 5;
 
-/// Stands between clients and a server: each client that connects has a connection to the server of
-/// its own, and what either side sends is handed on unchanged. What is seen of it is printed.
+/// Forwards connections to a server, and prints their traffic. Each client gets its own connection
+/// to the server, and the bytes of both sides are forwarded unchanged.
 ///
-/// Of a side nothing is read while what it sent waits to be handed on. A connection that has much
-/// to do is visited in turn with the others. Text is shown as far as standard output takes it at
-/// once, and what doesn't fit into 1,048,576 bytes is left out and counted.
+/// A side is not read while its bytes wait to be forwarded. Connections with much to do are visited
+/// in turns. Text is written as far as standard output accepts it without blocking. At most
+/// 1,048,576 bytes of text wait; more text is omitted and counted.
 #[derive(Drop)]
 pub struct Window {
     alloc: Global,
@@ -49,9 +50,9 @@ pub struct Window {
     connections: Slab<Tapped>,
     /// The most connections.
     most: usize,
-    /// How many connections there were.
+    /// The number of connections that were accepted.
     count: u64,
-    /// The places of those that are visited again without waiting for their sockets.
+    /// The places of the connections that are visited again without waiting for their sockets.
     queue: Vec<usize>,
     screen: Screen,
     terminal: Terminal,
@@ -59,8 +60,14 @@ pub struct Window {
 }
 
 impl Window {
-    /// Listens on an address for `most` clients at once of the server at another, whose connections
-    /// are read within these limits. `tells_time` asks for the time of what passes.
+    /// Listens on an address for at most `most` clients at once, and connects them to the server at
+    /// another address. Both sides are read within these limits. `tells_time` says whether times
+    /// are printed.
+    ///
+    /// # Errors
+    ///
+    /// The error of the system if the address can't be opened or a clock can't be read, or an error
+    /// of kind `OutOfMemory` if an allocation fails.
     pub fn listen<R: Net + Clock>(
         rt: &R,
         alloc: Global,
@@ -91,13 +98,22 @@ impl Window {
         })
     }
 
-    /// The address that it listens on.
+    /// Returns the address that the window listens on.
+    ///
+    /// # Errors
+    ///
+    /// The error of the system if it can't be read.
     pub fn address(&self) -> io::Result<SocketAddr> {
         self.listener.local_addr()
     }
 
-    /// Hands on what all that connect and their server send, and shows what is seen, until a wait
-    /// or a write of what is shown fails.
+    /// Forwards the bytes of all connections and prints their traffic, until waiting for
+    /// connections or printing fails.
+    ///
+    /// # Errors
+    ///
+    /// The error of that wait. An error of kind `WriteZero` if a write fails, or of kind
+    /// `OutOfMemory` if the first allocation fails.
     pub fn run<R: Net + Clock, W: LiveSink>(&mut self, rt: &R, out: &mut W) -> io::Result<()> {
         let Ok(mut events) = Events::with_capacity(self.alloc, EVENTS) else {
             return Err(ErrorKind::OutOfMemory.into());
@@ -112,7 +128,7 @@ impl Window {
         Ok(())
     }
 
-    /// Waits until something is ready, and visits it.
+    /// Waits until a socket is ready, and visits its connection.
     fn turn<R: Net + Clock>(&mut self, rt: &R, events: &mut Events) -> io::Result<()> {
         let timeout = self.timeout();
         self.poll.poll(events, timeout)?;
@@ -132,7 +148,7 @@ impl Window {
         Ok(())
     }
 
-    /// How long is waited at most.
+    /// Returns the longest time of the next wait.
     fn timeout(&self) -> Option<Duration> {
         if !self.queue.is_empty() || self.backlog == Backlog::Waiting {
             return Some(Duration::from_millis(0));
@@ -146,7 +162,7 @@ impl Window {
         }
     }
 
-    /// Shows what is held, as far as standard output takes it at once.
+    /// Prints waiting text, as far as standard output accepts it without blocking.
     fn show<W: LiveSink>(&mut self, out: &mut W) -> io::Result<()> {
         for _ in 0..WRITES {
             self.screen.say_what_is_left_out();
@@ -166,7 +182,7 @@ impl Window {
         Ok(())
     }
 
-    /// Accepts connections that wait.
+    /// Accepts waiting connections.
     fn accept_some<R: Net + Clock>(&mut self, rt: &R) {
         for _ in 0..ACCEPTED {
             match self.listener.accept() {
@@ -183,7 +199,7 @@ impl Window {
         self.backlog = Backlog::Waiting;
     }
 
-    /// Takes a connection, or refuses it where there are as many as may be.
+    /// Accepts a connection, or rejects it if the maximum is reached.
     fn admit<R: Net + Clock>(&mut self, rt: &R, client: TcpStream) {
         if self.connections.len() >= self.most {
             refuse(&client, TOO_MANY);
@@ -191,13 +207,13 @@ impl Window {
         }
         self.count = self.count.saturating_add(1);
         let number = self.count;
-        // Without memory for it, or without a socket that works, it is closed.
+        // Without memory, or if its socket fails, the connection is closed.
         if self.place(rt, client, number).is_err() {
             self.tell(rt, number, b" not connected");
         }
     }
 
-    /// Prints a line of a client.
+    /// Prints a line about a client.
     fn tell(&mut self, clock: &impl Clock, client: u64, what: &[u8]) {
         let stamp = match self.timing.now(clock) {
             Some(now) => Some(Stamp::new(now)),
@@ -206,7 +222,7 @@ impl Window {
         let _ = write_client_line(client, what, stamp, &mut self.screen);
     }
 
-    /// Gives a connection and one to the server a place.
+    /// Connects to the server for a client, and stores both connections in a free place.
     fn place(&mut self, net: &impl Net, client: TcpStream, number: u64) -> io::Result<()> {
         let mut client = client;
         let mut server = TcpStream::connect(net, self.server)?;
@@ -214,7 +230,8 @@ impl Window {
         self.insert(client, server, number)
     }
 
-    /// Sets the options of both sockets, and registers them under the tokens of the next free place.
+    /// Sets the options of both sockets, and registers them under the tokens of the next free
+    /// place.
     fn register(&self, client: &mut TcpStream, server: &mut TcpStream) -> io::Result<()> {
         client.set_nodelay(true)?;
         server.set_nodelay(true)?;
@@ -225,7 +242,7 @@ impl Window {
         registry.register(server, Token(first.saturating_add(2)), both)
     }
 
-    /// Puts a connection with these sockets into the next free place.
+    /// Stores a connection with these sockets in the next free place.
     fn insert(&mut self, client: TcpStream, server: TcpStream, number: u64) -> io::Result<()> {
         let Ok(tapped) = Tapped::new(self.alloc, client, server, &self.limits, number) else {
             return Err(ErrorKind::OutOfMemory.into());
@@ -236,8 +253,8 @@ impl Window {
         }
     }
 
-    /// Visits the connection in a place, of which a socket is ready. One that is queued has its
-    /// turn there.
+    /// Visits the connection in a place after a socket of it became ready. A queued connection is
+    /// visited when it is its turn.
     fn visit_ready(&mut self, clock: &impl Clock, place: usize, is_at_end: bool) {
         if let Some(tapped) = self.connections.get(place) {
             if !tapped.is_queued {
@@ -246,16 +263,16 @@ impl Window {
         }
     }
 
-    /// Visits the connection in a place, which was queued.
+    /// Visits a queued connection.
     fn visit_queued(&mut self, clock: &impl Clock, place: usize) {
         if let Some(tapped) = self.connections.get_mut(place) {
             tapped.is_queued = false;
-            // The event that would have told of the end may have passed.
+            // The event that reports the end of the input may already have passed.
             self.visit(clock, place, true);
         }
     }
 
-    /// Visits the connection in a place, if one is there.
+    /// Visits the connection in a place, if there is one.
     fn visit(&mut self, clock: &impl Clock, place: usize, is_at_end: bool) {
         let Some(tapped) = self.connections.get_mut(place) else {
             return;
@@ -267,12 +284,12 @@ impl Window {
         }
     }
 
-    /// Closes the connection in a place. The place is used again.
+    /// Closes the connection in a place. The place becomes free.
     fn close(&mut self, clock: &impl Clock, place: usize) {
         if let Some(tapped) = self.connections.try_remove(place) {
             self.tell(clock, tapped.number, b" gone");
         }
-        // Where no connection could be accepted, one may be now.
+        // If no connection could be accepted before, it may be possible now.
         if self.backlog == Backlog::Failing {
             self.backlog = Backlog::Waiting;
         }

@@ -30,16 +30,16 @@ pub enum PushError {
     #[error("the session is closing")]
     Closing,
     /// The session answers in version 2, which has no pushes.
-    #[error("the session's version has no pushes")]
+    #[error("version 2 does not have pushes")]
     NotInVersion,
     /// An item holds a double, and the limits do not allow doubles.
-    #[error("the limits allow no doubles")]
+    #[error("the limits do not allow doubles")]
     Double,
     /// An item holds a push.
-    #[error("a push stands below the top")]
+    #[error("a push is inside another value")]
     NestedPush,
     /// The push exceeds this limit, and no limit that is checked before it.
-    #[error("the push is over the limit {0:?}")]
+    #[error("the push exceeds the limit {0:?}")]
     OverLimits(Limit),
     /// An allocation failed.
     #[error("out of memory")]

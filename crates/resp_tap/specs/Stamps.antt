@@ -1,9 +1,9 @@
--- How a line ends that tells when something was seen.
+-- The end of a line with a time.
 use Rattle.std.specs.Prelude.{ℕ, ◌/◌, List, ◌++◌, Option, None, Some, codes, decimal}
 use Rattle.resp_tap.specs.Digits.{micros_text, time_text}
 use Rattle.resp_tap.specs.declared.stamp.Stamp.{Stamp}
 
--- how many seconds a command waited, with six decimals, if that is known
+-- the seconds that a command waited, with six decimals, if they are known, and LF
 abbrev pub waited_text : Option ℕ → List ℕ
 waited_text None = codes "\n"
 waited_text (Some micros) =

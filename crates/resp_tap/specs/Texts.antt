@@ -1,4 +1,4 @@
--- What is printed of what was seen.
+-- The lines that are printed.
 use Rattle.std.specs.Prelude.{ℕ, ◌+◌, List, [], ◌++◌, Option, codes, decimal}
 use Rattle.std.specs.List.{flat_map}
 use Rattle.resp_value.specs.Causes.{name_of}
@@ -25,53 +25,53 @@ words_text words = flat_map word_text words
 abbrev pub words_line : List (List ℕ) → List ℕ
 words_line words = codes " " ++ (words_text words ++ codes "\n")
 
--- a number at the end of a line
+-- a number and the end of its line
 abbrev pub numbered_end : ℕ → Option Stamp → List ℕ
 numbered_end number stamp = decimal number ++ ending_text stamp
 
--- a client's line of what has a number
+-- a line of a client with a number
 abbrev pub numbered_line : ℕ → List ℕ → ℕ → Option Stamp → List ℕ
 numbered_line client what number stamp = (codes "client " ++ decimal client ++ what) ++ numbered_end number stamp
 
--- a client's line of what has none
+-- a line of a client without a number
 abbrev pub client_line : ℕ → List ℕ → Option Stamp → List ℕ
 client_line client what stamp = (codes "client " ++ decimal client ++ what) ++ ending_text stamp
 
--- a command of a client
+-- the lines of a command of a client
 abbrev pub command_text : ℕ → ℕ → Option Stamp → List (List ℕ) → List ℕ
 command_text client number stamp words = numbered_line client (codes " command ") number stamp ++ words_line words
 
--- the reply to it
+-- the lines of the reply to it
 abbrev pub reply_text : ℕ → ℕ → Option Stamp → Datum → List ℕ
 reply_text client number stamp x = numbered_line client (codes " reply ") number stamp ++ lines_on 1 x
 
--- a push to a client
+-- the lines of a push to a client
 abbrev pub push_text : ℕ → Option Stamp → Datum → List ℕ
 push_text client stamp x = client_line client (codes " push") stamp ++ lines_on 1 x
 
--- a value to a client that is paired with no command
+-- the lines of a value to a client that is paired with no command
 abbrev pub value_text : ℕ → Option Stamp → Datum → List ℕ
 value_text client stamp x = client_line client (codes " value") stamp ++ lines_on 1 x
 
--- what a refused byte belongs to
+-- the command, reply or value that contains a wrong byte
 abbrev pub place_text : Place → Option Stamp → List ℕ
 place_text (place.Command number) stamp = codes "command " ++ numbered_end number stamp
 place_text (place.Reply number) stamp = codes "reply " ++ numbered_end number stamp
 place_text place.Value stamp = codes "a value" ++ ending_text stamp
 
--- a refusal up to its cause
+-- the line of an error up to its name
 abbrev pub refusal_heading : ℕ → List ℕ → List ℕ
 refusal_heading client name = (codes "client " ++ decimal client ++ codes " refused ") ++ name
 
--- which byte was refused
+-- the index of the wrong byte, and the command, reply or value that contains it
 abbrev pub byte_text : ℕ → Place → Option Stamp → List ℕ
 byte_text at where' stamp = (codes " at byte " ++ decimal at ++ codes " of ") ++ place_text where' stamp
 
--- the line of a refusal
+-- the line of an error
 abbrev pub refusal_text : ℕ → List ℕ → ℕ → Place → Option Stamp → List ℕ
 refusal_text client name at where' stamp = refusal_heading client name ++ byte_text at where' stamp
 
--- what was seen of a client's connection, stamped or not
+-- the lines of a result, with or without a stamp
 abbrev pub seen_text : ℕ → Option Stamp → Seen → List ℕ
 seen_text client stamp Nothing = []
 seen_text client stamp Passed = []
@@ -82,7 +82,7 @@ seen_text client stamp (Value x) = value_text client stamp (datum_of x)
 seen_text client stamp (NotCommand number) = refusal_text client (codes "NotCommand") 0 (place.Command number) stamp
 seen_text client stamp (Refused cause at where') = refusal_text client (name_of cause) at where' stamp
 
--- how many levels the lines of what was seen have
+-- the number of levels of these lines
 abbrev pub levels_of : Seen → ℕ
 levels_of (Reply number x) = 1 + depth (datum_of x)
 levels_of (Push items) = 1 + depth (datum_of (value.Push items))

@@ -1,4 +1,4 @@
--- What must be true of what is printed of times.
+-- Facts about printed times.
 use Rattle.std.specs.Prelude.{◌≡◌, ℕ, ◌++◌, None, codes}
 use Rattle.resp_value.specs.Data.{Datum}
 use Rattle.resp_print.specs.Shown.{lines_on}
@@ -6,7 +6,7 @@ use Rattle.resp_print.specs.Headings.{push_heading, reply_heading}
 use Rattle.resp_tap.specs.Digits.{micros_text, time_text}
 use Rattle.resp_tap.specs.Texts.{push_text, reply_text}
 
--- times of day and microseconds that were worked out by hand
+-- times of day and microseconds, worked out by hand
 pub record TimesAreToldSo : Type 0 where
   pub midnight : time_text 0 ≡ codes "00:00:00.000000"
   pub morning : time_text 20216123456 ≡ codes "05:36:56.123456"

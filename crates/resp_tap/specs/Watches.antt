@@ -1,4 +1,4 @@
--- What is seen and printed of pieces that either side sends.
+-- The results that a tap reports and prints for the pieces of either side.
 use Rattle.std.specs.Prelude.{◌≡◌, ℕ, true, false, List, [], ◌∷◌, length, drop, slice_get, Option, Result}
 use Rattle.resp_print.specs.Printed.{Prints}
 use Rattle.resp_print.specs.declared.print_error.PrintError.{PrintError}
@@ -14,29 +14,29 @@ use Rattle.resp_tap.specs.declared.timed.TimedTap.{TimedTap}
 use Rattle.resp_tap.specs.declared.watch.Side.{Side}
 use Rattle.resp_tap.specs.declared.watch.Side.TheVariants.{Client, Server}
 
--- what was taken of the value that the other side sends is the same
+-- the bytes read of the other side's value stay the same
 abbrev pub KeepsOther : Side → Tap → Tap → Type 0
 KeepsOther Client old new = KeepsValue old new
 KeepsOther Server old new = KeepsRequest old new
 
--- this holds of every front that was taken of what this side sends
+-- P holds of all bytes that were read of this side's incomplete value
 abbrev pub WhereSent : Side → Tap → (List ℕ → Type 0) → Type 0
 WhereSent Client t P = WhereRequested t P
 WhereSent Server t P = WhereAnswered t P
 
--- what is seen of what this side sends
+-- the result for the bytes of this side
 abbrev pub SeesSent : Side → TapState → Tap → List ℕ → List ℕ → ℕ → Seen → Type 0
 SeesSent Client s new front piece used seen = SeesRequest s new front piece used seen
 SeesSent Server s new front piece used seen = SeesValue (at_front front s) new front piece used seen
 
--- what is seen at the front of a piece that came at this moment, of which this many bytes were used
+-- The first result in a piece that arrived at this moment, and the number of bytes that were read for it.
 pub record SeesFirst (side : Side) (now : Option Moment) (old new : TimedTap) (piece : List ℕ) (used : ℕ)
     (what : Seen) : Type 0 where
   pub read : (tap_state old.tap).is_read ≡ true → WhereSent side old.tap (λ front.
       SeesSent side (tap_state old.tap) new.tap front piece used what × KeepsTimes now old new)
   pub unread : (tap_state old.tap).is_read ≡ false → (new ≡ old) × (used ≡ length piece) × (what ≡ seen.Nothing)
 
--- The text of what is seen is printed, as far as writes succeed. If times are printed, the text of a reply has the time
+-- The text of the result is printed, as far as writes succeed. If times are printed, the text of a reply has the time
 -- of the command that it answers.
 pub record PrintsSeen (client : ℕ) (now : Option Moment) (old : TimedTap) (what : Seen) (before after : Option (List ℕ))
     (failures failures' : ℕ) (printed : Result (Unit {0}) PrintError) : Type 0 where
@@ -44,7 +44,7 @@ pub record PrintsSeen (client : ℕ) (now : Option Moment) (old : TimedTap) (wha
   pub of_command : (times : List ℕ) → HasTimes old times → asked ≡ slice_get times (tap_state old.tap).answered
   pub text : Prints before after failures failures' printed (seen_text client (stamp_of now asked what) what) (levels_of what)
 
--- All of these are seen in a piece, one after another, and each is printed before the next is seen.
+-- These are all results in a piece, in order. Each result is printed before the next one is read.
 abbrev pub WatchesAll : ℕ → Side → Option Moment → List Seen → TimedTap → TimedTap → List ℕ → Option (List ℕ) →
     Option (List ℕ) → ℕ → ℕ → Type 0
 WatchesAll client side now [] old new piece before after failures failures' =

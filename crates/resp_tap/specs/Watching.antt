@@ -1,4 +1,4 @@
--- What is seen of what either side sends, in words of texts and values.
+-- The results that a tap reports for the bytes of either side, in terms of texts and values.
 use Rattle.std.specs.Prelude.{◌≡◌, ◌⊎◌, ℕ, ◌+◌, ◌≤◌, ◌^◌, false, Some, List, [], ◌∷◌, ◌++◌, length, take}
 use Rattle.resp_value.specs.Bounds.{Bounds}
 use Rattle.resp_value.specs.Data.{Datum}
@@ -28,46 +28,46 @@ use Rattle.resp_tap.specs.declared.pairing.Pairing.{Pairing}
 use Rattle.resp_tap.specs.declared.pairing.Pairing.TheVariants.{Paired, Ending, Unpaired}
 use Rattle.resp_tap.specs.declared.tap.Tap.{Tap}
 
--- the rules by which the client's side is read, whatever the version
+-- the rules for the client's bytes, in either version
 abbrev pub request_rules : Bounds → Rules
 request_rules limits = rules_under Two limits
 
--- the rules by which values are read that are paired with no command
+-- the rules for values that are paired with no command
 abbrev pub unpaired_rules : Bounds → Rules
 unpaired_rules limits = rules_under Three limits
 
--- What a tap has taken of the value that the client sends: the bytes of this front. How it stands to them is opaque to
--- callers: `new` establishes this relation and the next, and each call keeps them until a refusal.
+-- The bytes that a tap has read of the client's incomplete value. Callers do not need the definition: `new` establishes
+-- this relation and the next one, and each call preserves them until the first error.
 abbrev pub HasTakenRequest : Tap → List ℕ → Type 0
 HasTakenRequest t front = decode.HasTaken t.requests front
 
--- the first of two facts while replies are paired, and then the second
+-- P while replies are paired, and Q after that
 abbrev pub ByPairing : Pairing → Type 0 → Type 0 → Type 0
 ByPairing Paired P Q = P
 ByPairing Ending P Q = P
 ByPairing Unpaired P Q = Q
 
--- what it has taken of the value that the server sends
+-- the bytes that a tap has read of the server's incomplete value
 abbrev pub HasTakenValue : Tap → List ℕ → Type 0
 HasTakenValue t front = ByPairing t.pairing (client.HasTaken t.replies front) (decode.HasTaken t.values front)
 
--- this holds of every front that was taken of what the client sends
+-- P holds of all bytes that were read of the client's incomplete value
 abbrev pub WhereRequested : Tap → (List ℕ → Type 0) → Type 0
 WhereRequested t P = (front : List ℕ) → HasTakenRequest t front → P front
 
--- this holds of every front that was taken of what the server sends
+-- P holds of all bytes that were read of the server's incomplete value
 abbrev pub WhereAnswered : Tap → (List ℕ → Type 0) → Type 0
 WhereAnswered t P = (front : List ℕ) → HasTakenValue t front → P front
 
--- what was taken of the client's value is the same
+-- the bytes read of the client's value stay the same
 abbrev pub KeepsRequest : Tap → Tap → Type 0
 KeepsRequest old new = (front : List ℕ) → HasTakenRequest old front → HasTakenRequest new front
 
--- what was taken of the server's value is the same
+-- the bytes read of the server's value stay the same
 abbrev pub KeepsValue : Tap → Tap → Type 0
 KeepsValue old new = (front : List ℕ) → HasTakenValue old front → HasTakenValue new front
 
--- the client's text is a command of these words, the next one
+-- the client's text is the next command, with these words
 pub record GivesCommand (s : TapState) (new : Tap) (written : List ℕ) (number : ℕ) (words : List (List ℕ)) :
     Type 0 where
   pub value : Datum
@@ -77,7 +77,7 @@ pub record GivesCommand (s : TapState) (new : Tap) (written : List ℕ) (number 
   pub after : tap_state new ≡ with_command (command_kind words) s
   pub takes : HasTakenRequest new []
 
--- the client's text is an empty array or a null, which is passed over
+-- the client's text is an empty array or a null, which is ignored
 pub record GivesNothing (s : TapState) (new : Tap) (written : List ℕ) : Type 0 where
   pub value : Datum
   pub spelled : IsSpelling (request_rules s.limits) value written
@@ -85,7 +85,7 @@ pub record GivesNothing (s : TapState) (new : Tap) (written : List ℕ) : Type 0
   pub after : tap_state new ≡ s
   pub takes : HasTakenRequest new []
 
--- the client's text is a value that is no command
+-- the client's text is a value that is not a command
 pub record GivesNoCommand (s : TapState) (new : Tap) (written : List ℕ) (number : ℕ) : Type 0 where
   pub value : Datum
   pub spelled : IsSpelling (request_rules s.limits) value written
@@ -93,7 +93,7 @@ pub record GivesNoCommand (s : TapState) (new : Tap) (written : List ℕ) (numbe
   pub numbered : number ≡ s.commands + 1
   pub after : tap_state new ≡ with_refusal s
 
--- the piece is used up: no value of the client has ended, and one goes on so
+-- the whole piece was read: the client's value is incomplete, and a valid value can begin with its bytes
 pub record AwaitsRequest (s : TapState) (new : Tap) (written piece : List ℕ) (used : ℕ) : Type 0 where
   pub whole_piece : used ≡ length piece
   pub no_value : HasNoValue written
@@ -101,26 +101,27 @@ pub record AwaitsRequest (s : TapState) (new : Tap) (written piece : List ℕ) (
   pub after : tap_state new ≡ s
   pub takes : HasTakenRequest new written
 
--- why a command that came whole isn't told: as many wait as may, or the numbers are used up, or there is no memory
+-- why a complete command is rejected: too many commands wait, all numbers are used, or an allocation failed
 abbrev pub IsLeftOut : TapState → Cause → Type 0
 IsLeftOut s cause = ((cause ≡ causes.TooMany) × ((2 ^ 20 ≤ length s.waiting.asks) ⊎ (2 ^ 63 ≤ s.commands))) ⊎
     (cause ≡ causes.OutOfMemory)
 
--- why what the client sent is refused: by the grammar, when out of memory, or since there are too many commands
+-- why the client's bytes are rejected: by the grammar, because an allocation failed, or because there are too many
+-- commands
 abbrev pub RefusesOfRequest : TapState → List ℕ → List ℕ → Cause → ℕ → Type 0
 RefusesOfRequest s front piece cause at =
     RefusesByte (request_rules s.limits) front piece (record { cause = cause; at = at }) ⊎
     LacksMemory (request_rules s.limits) front piece (record { cause = cause; at = at }) ⊎
     (IsLeftOut s cause × (at ≡ 0))
 
--- what the client sent is refused as the next command
+-- the client's bytes are rejected, as part of the next command
 pub record RefusesRequestAt (s : TapState) (new : Tap) (front piece : List ℕ) (cause : Cause) (at : ℕ)
     (where' : Place) : Type 0 where
   pub refused : RefusesOfRequest s front piece cause at
   pub place : where' ≡ place.Command (s.commands + 1)
   pub after : tap_state new ≡ with_refusal s
 
--- what is seen of what the client sends
+-- the result for the bytes of the client
 abbrev pub SeesRequest : TapState → Tap → List ℕ → List ℕ → ℕ → Seen → Type 0
 SeesRequest s new front piece used seen.Nothing = AwaitsRequest s new (front ++ piece) piece used
 SeesRequest s new front piece used seen.Passed = GivesNothing s new (front ++ take used piece)
@@ -130,21 +131,22 @@ SeesRequest s new front piece used (seen.NotCommand number) = GivesNoCommand s n
 SeesRequest s new front piece used (seen.Refused cause at where') = RefusesRequestAt s new front piece cause at where'
 SeesRequest s new front piece used _ = ⊥
 
--- the server's text is the reply to the first command that waits, whose number it has
+-- the server's text is the reply to the first command that waits, and has its number
 pub record GivesReplyTo (s : TapState) (new : Tap) (written : List ℕ) (number : ℕ) (x : Datum) : Type 0 where
   pub reads : ReadsAs s.limits s.waiting (x ∷ []) written (tap_state new).waiting
   pub numbered : numbered_replies (s.answered + 1) (x ∷ []) ≡ (number, x) ∷ []
   pub after : tap_state new ≡ with_reply x s
   pub takes : HasTakenValue new []
 
--- the server's text is this value, which leaves all as it was: while replies are paired it is read as a client reads it
+-- The server's text is this value, which does not change the state. While replies are paired it is read as a client
+-- reads it.
 pub record LeavesAll (s : TapState) (new : Tap) (written : List ℕ) (x : Datum) : Type 0 where
   pub reads : ByPairing s.pairing (ReadsAs s.limits s.waiting (x ∷ []) written s.waiting)
       (IsSpelling (unpaired_rules s.limits) x written)
   pub after : tap_state new ≡ s
   pub takes : HasTakenValue new []
 
--- the piece is used up: no value of the server has ended, and one goes on so
+-- the whole piece was read: the server's value is incomplete, and a valid value can begin with its bytes
 pub record AwaitsValue (s : TapState) (new : Tap) (written piece : List ℕ) (used : ℕ) : Type 0 where
   pub whole_piece : used ≡ length piece
   pub may_go_on : ByPairing s.pairing (MayGoOn s.limits s.waiting written)
@@ -152,12 +154,12 @@ pub record AwaitsValue (s : TapState) (new : Tap) (written piece : List ℕ) (us
   pub after : tap_state new ≡ s
   pub takes : HasTakenValue new written
 
--- what a tap's client knows
+-- the state of the tap's client
 abbrev pub client_of : TapState → ClientState
 client_of s = record { limits = s.limits; waiting = s.waiting; answered = s.answered; out = [] }
 
--- why what the server sent is refused: as a client refuses it while replies are paired, and then by the grammar or when
--- out of memory
+-- why the server's bytes are rejected: for the reasons of a client while replies are paired, and after that by the
+-- grammar or because an allocation failed
 abbrev pub RefusesOfValue : TapState → List ℕ → List ℕ → Fault → Type 0
 RefusesOfValue s front piece fault = ByPairing s.pairing (client.Refuses (client_of s) front piece fault)
     (RefusesByte (unpaired_rules s.limits) front piece fault ⊎
@@ -168,18 +170,18 @@ place_by Paired number = place.Reply number
 place_by Ending number = place.Reply number
 place_by Unpaired number = place.Value
 
--- what a refused byte of the server belongs to
+-- the reply or value that contains a wrong byte of the server
 abbrev pub place_of_value : TapState → Place
 place_of_value s = place_by s.pairing (s.answered + 1)
 
--- what the server sent is refused
+-- the server's bytes are rejected
 pub record RefusesValueAt (s : TapState) (new : Tap) (front piece : List ℕ) (cause : Cause) (at : ℕ) (where' : Place) :
     Type 0 where
   pub refused : RefusesOfValue s front piece (record { cause = cause; at = at })
   pub place : where' ≡ place_of_value s
   pub after : tap_state new ≡ with_refusal s
 
--- what is seen of what the server sends, where this is known before the value's next byte
+-- the result for the bytes of the server, if this state holds before the value's next byte
 abbrev pub SeesValue : TapState → Tap → List ℕ → List ℕ → ℕ → Seen → Type 0
 SeesValue s new front piece used seen.Nothing = AwaitsValue s new (front ++ piece) piece used
 SeesValue s new front piece used (seen.Reply number x) =

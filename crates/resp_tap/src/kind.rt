@@ -1,4 +1,4 @@
-//! What a command does to the pairing of commands with replies.
+//! The effect of a command on the pairing of replies with commands.
 
 ghost use Rattle.std.specs.Prelude.{◌≡◌, ◌<◌, length, map};
 ghost use Rattle.std.specs.Char.{to_ascii_lowercase};
@@ -9,19 +9,20 @@ ghost use Rattle.resp_tap.specs.Kinds.{command_kind, unpairing_names, version_wo
 use resp_session::words::Words;
 use resp_value::version::Version;
 
-/// What a command does to the pairing of commands with replies.
+/// The effect of a command on the pairing of replies with commands.
 #[derive(Clone, Copy, Debug, PartialEq, Eq)]
 pub enum CommandKind {
-    /// One reply answers it.
+    /// The command has exactly one reply.
     Plain,
-    /// One reply answers it, and where that is no error the version is this one from there on.
+    /// The command has exactly one reply. If the reply is not an error, the connection continues in
+    /// this version.
     Hello(Version),
-    /// It is answered by none or by many, or it changes the version otherwise: SUBSCRIBE,
+    /// The command has no reply or several, or it changes the version in another way: SUBSCRIBE,
     /// PSUBSCRIBE, SSUBSCRIBE and their UN- forms, MONITOR, SYNC, PSYNC, RESET and CLIENT REPLY.
     Unpairing,
 }
 
-/// Whether a word is this name, which is in lower case, whatever the word's case.
+/// Returns whether `word` is `name`, which is in lower case. The case of `word` does not matter.
 fn is_name(word: &[u8], name: &[u8]) -> bool
     requires { map to_ascii_lowercase name.now ≡ name.now }
     ensures { result ≡ is_name name.now word.now }
@@ -29,7 +30,7 @@ fn is_name(word: &[u8], name: &[u8]) -> bool
     word.eq_ignore_ascii_case(name)
 }
 
-/// Whether a command of this name isn't answered by one reply, or changes the version.
+/// Returns whether a command of this name does not have exactly one reply, or changes the version.
 fn is_unpairing_name(name: &[u8]) -> bool
     ensures { result ≡ list_any (λ other. is_name other name.now) unpairing_names }
 {
@@ -45,7 +46,7 @@ fn is_unpairing_name(name: &[u8]) -> bool
         || is_name(name, b"reset")
 }
 
-/// The version that a word of HELLO asks.
+/// Returns the effect of a HELLO with this version argument.
 fn version_worded(word: &[u8]) -> CommandKind
     ensures { result ≡ version_worded word.now }
 {
@@ -58,7 +59,7 @@ fn version_worded(word: &[u8]) -> CommandKind
     CommandKind::Plain
 }
 
-/// What the command of these words does, the name first among them and in any case.
+/// Returns the effect of a command. Its first word is its name, in upper, lower or mixed case.
 pub fn command_kind(words: &Words) -> CommandKind
     requires { 0 < length words.now }
     ensures { result ≡ command_kind words.now }

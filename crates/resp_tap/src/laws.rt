@@ -1,20 +1,20 @@
-//! What must be true of the definitions, as functions that do nothing: their contracts are laws.
+//! Facts about the definitions. Each function does nothing; its contract states the fact.
 
 ghost use Rattle.resp_tap.specs.TimeLaws.{PrintsAsPlayed, TimesAreToldSo};
 ghost use Rattle.resp_tap.specs.Ways.{VisitsAddUp};
 
-/// Visits of a way, one after another, hand on what one visit would of all that came: what has gone
-/// out is what came in, in order, but for what waits.
+/// Successive visits of a [`Way`](crate::way::Way) forward what one visit of all their bytes would
+/// forward: the bytes written, followed by the bytes that wait, are the bytes read, in order.
 pub fn visits_add_up()
     ensures { VisitsAddUp }
 {}
 
-/// Times of day have hours, minutes, seconds and six decimals, as worked examples show.
+/// Worked examples of times of day: hours, minutes, and seconds with six decimals.
 pub fn times_are_told_so()
     ensures { TimesAreToldSo }
 {}
 
-/// Where no time is told replies and pushes are printed as `resp loop` prints those of its clients.
+/// Without a time, replies and pushes are printed as `resp loop` prints those of its clients.
 pub fn without_times_lines_are_those_of_loop()
     ensures { PrintsAsPlayed }
 {}

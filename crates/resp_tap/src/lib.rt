@@ -1,7 +1,10 @@
-//! A window on connections of clients to a server: what passes is handed on unchanged, and is told.
+//! The traffic between a client and a server: bytes are forwarded unchanged, and their commands,
+//! replies and pushes are reported.
 //!
-//! [`tap::Tap`] knows no socket: it is given what either side of a connection sends, and tells each
-//! command, reply and push. [`timed::TimedTap`] knows beside that when the commands came.
+//! [`tap::Tap`] has no socket. It receives the bytes that both sides of a connection send, and
+//! reports each command, reply and push. [`timed::TimedTap`] also measures how long each command
+//! waited for its reply. [`watch::watch`] prints the traffic as `resp tap` does, and [`way::Way`]
+//! forwards the bytes of one direction.
 #![tactic(auto)]
 
 pub mod kind;

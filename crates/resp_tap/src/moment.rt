@@ -1,4 +1,4 @@
-//! When something came.
+//! The time at which bytes arrive.
 
 ghost use Rattle.std.specs.Prelude.{◌≡◌, ◌/◌, ◌%◌, min};
 ghost use Rattle.std.specs.Duration.{as_nanos};
@@ -6,21 +6,21 @@ ghost use Rattle.resp_value.specs.Devices.{last_count};
 
 use std::time::Duration;
 
-/// The microseconds of a day.
+/// The number of microseconds of a day.
 const DAY: u128 = 86_400_000_000;
 
-/// A reading of two clocks, in microseconds.
+/// The time shown by two clocks, in microseconds.
 #[derive(Clone, Copy, Debug, PartialEq, Eq)]
 pub struct Moment {
-    /// The time of day in UTC, since midnight.
+    /// The time of day in UTC, in microseconds since midnight.
     pub of_day: u64,
-    /// What a clock shows that is never set, since some start.
+    /// The time in microseconds of a clock that is never set, from an unspecified start.
     pub steady: u64,
 }
 
 impl Moment {
-    /// The moment at which one clock shows this time since 1970, and a clock that is never set this
-    /// one.
+    /// Returns the moment at which one clock shows `since_1970`, the time since 1970 in UTC, and a
+    /// clock that is never set shows `steady`. Parts of a microsecond are dropped.
     pub fn new(since_1970: Duration, steady: Duration) -> Moment
         ensures of_day { result.of_day ≡ as_nanos since_1970 / 1000 % 86400000000 }
         ensures steady { result.steady ≡ min (as_nanos steady / 1000) last_count }

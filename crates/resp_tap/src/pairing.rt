@@ -1,12 +1,13 @@
-//! Whether the values of a server are paired with commands.
+//! Whether replies are paired with commands.
 
-/// Whether the values of the server are paired with commands.
+/// Whether the values of a server are paired with commands.
 #[derive(Clone, Copy, Debug, PartialEq, Eq)]
 pub enum Pairing {
-    /// Each that is no push answers a command.
+    /// Each value that is not a push is the reply to a command.
     Paired,
-    /// A command came that isn't answered by one reply. Those before it wait for theirs.
+    /// A command was sent that does not have exactly one reply. The commands before it still wait
+    /// for their replies.
     Ending,
-    /// Nothing waits, and no value is paired with a command any more.
+    /// No command waits, and values are no longer paired with commands.
     Unpaired,
 }

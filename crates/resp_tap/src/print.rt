@@ -1,4 +1,4 @@
-//! What is printed of what was seen.
+//! The lines of commands, replies and pushes, as `resp tap` prints them.
 
 ghost use Rattle.std.specs.Prelude.{◌+◌, ◌++◌, ℕ, List, Option, Some, codes, decimal};
 ghost use Rattle.resp_print.specs.Printed.{Prints};
@@ -18,12 +18,12 @@ use resp_session::words::Words;
 use resp_value::device::{DeviceFault, Sink};
 use resp_value::value::{Members, Value};
 
-/// Writes what was seen of the connection of the client with this number, as `resp loop` prints
-/// what its clients receive. If there is a stamp, the first line ends with the time.
+/// Writes the lines of `seen`, for the connection of the client with this number. Replies and
+/// pushes have the lines of `resp loop`. With a stamp, the first line ends with the time.
 ///
 /// # Errors
 ///
-/// Fails as [`write_value`] does. The sink has then taken a first part of the text.
+/// Fails as [`write_value`] does. The first part of the text was written.
 pub fn write_seen<W: Sink>(
     client: u64,
     stamp: Option<Stamp>,
@@ -52,7 +52,7 @@ pub fn write_seen<W: Sink>(
     }
 }
 
-/// What a write came to.
+/// Returns the result of a write as the result of printing.
 fn printed(written: Result<(), DeviceFault>) -> Result<(), PrintError>
     ensures { (before after : Option (List ℕ)) (failures failures' : ℕ) (text : List ℕ)
         (levels : ℕ) → WritesText before after failures failures' written text →
@@ -64,7 +64,7 @@ fn printed(written: Result<(), DeviceFault>) -> Result<(), PrintError>
     }
 }
 
-/// Writes the reply to a command, below its heading.
+/// Writes the reply to a command, after its heading.
 fn write_reply<W: Sink>(
     client: u64,
     number: u64,
@@ -82,7 +82,7 @@ fn write_reply<W: Sink>(
     }
 }
 
-/// Writes a push, below its heading.
+/// Writes a push, after its heading.
 fn write_push<W: Sink>(
     client: u64,
     stamp: Option<Stamp>,
@@ -100,7 +100,7 @@ fn write_push<W: Sink>(
     }
 }
 
-/// Writes a value that is paired with no command, below its heading.
+/// Writes a value that is paired with no command, after its heading.
 fn write_unpaired<W: Sink>(
     client: u64,
     stamp: Option<Stamp>,
@@ -117,7 +117,7 @@ fn write_unpaired<W: Sink>(
     }
 }
 
-/// Writes a command: its number, and its words on the next line.
+/// Writes the number of a command, and its words on the next line.
 fn write_command<W: Sink>(
     client: u64,
     number: u64,
@@ -132,7 +132,7 @@ fn write_command<W: Sink>(
     write_words_line(words, writer)
 }
 
-/// Writes the line before what has a number, a command or a reply.
+/// Writes the heading of a command or a reply, with its number.
 fn write_numbered_line<W: Sink>(
     client: u64,
     what: &[u8],
@@ -147,7 +147,11 @@ fn write_numbered_line<W: Sink>(
     write_numbered_end(number, stamp, writer)
 }
 
-/// Writes a line of a client that has no number, as that it is gone. Refuses where a write fails.
+/// Writes a line about a client without a number, such as `client 1 gone`.
+///
+/// # Errors
+///
+/// `DeviceFault` if a write fails. The first part of the line was written.
 pub fn write_client_line<W: Sink>(
     client: u64,
     what: &[u8],
@@ -176,7 +180,7 @@ fn write_numbered_end<W: Sink>(
     }
 }
 
-/// Writes a number and the stamp of what has it.
+/// Writes a number and a stamp.
 fn write_stamped_number<W: Sink>(
     number: u64,
     stamp: Stamp,
@@ -189,7 +193,7 @@ fn write_stamped_number<W: Sink>(
     write_stamp(stamp, writer)
 }
 
-/// Writes the line of a command's words.
+/// Writes the line with the words of a command.
 fn write_words_line<W: Sink>(words: &Words, writer: &mut W) -> Result<(), DeviceFault>
     ensures { WritesText (W.written writer.old) (W.written writer.new) (W.failures writer.old)
         (W.failures writer.new) result (words_line words.now) }
@@ -222,7 +226,7 @@ fn write_word<W: Sink>(word: &[u8], writer: &mut W) -> Result<(), DeviceFault>
     write_text(writer, b"\"")
 }
 
-/// Writes the line of a refusal.
+/// Writes the line of an error in the bytes of one side.
 fn write_refusal<W: Sink>(
     client: u64,
     name: &[u8],
@@ -238,7 +242,7 @@ fn write_refusal<W: Sink>(
     write_byte(at, place, stamp, writer)
 }
 
-/// Writes a refusal up to its cause.
+/// Writes the line of an error up to its name.
 fn write_refusal_heading<W: Sink>(
     client: u64,
     name: &[u8],
@@ -251,7 +255,7 @@ fn write_refusal_heading<W: Sink>(
     write_text(writer, name)
 }
 
-/// Writes which byte was refused.
+/// Writes the index of the wrong byte, and the command, reply or value that contains it.
 fn write_byte<W: Sink>(
     at: u64,
     place: Place,
@@ -265,7 +269,7 @@ fn write_byte<W: Sink>(
     write_place(place, stamp, writer)
 }
 
-/// Writes what a refused byte belongs to.
+/// Writes the command, reply or value that contains a wrong byte.
 fn write_place<W: Sink>(
     place: Place,
     stamp: Option<Stamp>,
@@ -281,7 +285,7 @@ fn write_place<W: Sink>(
     }
 }
 
-/// Writes a name with its number, and the end of the line.
+/// Writes a word with its number, and the end of the line.
 fn write_named<W: Sink>(
     name: &[u8],
     number: u64,
@@ -295,7 +299,7 @@ fn write_named<W: Sink>(
     write_numbered_end(number, stamp, writer)
 }
 
-/// Writes that it was a value, and the end of the line.
+/// Writes that a value contains the wrong byte, and the end of the line.
 fn write_value_end<W: Sink>(stamp: Option<Stamp>, writer: &mut W) -> Result<(), DeviceFault>
     ensures { WritesText (W.written writer.old) (W.written writer.new) (W.failures writer.old)
         (W.failures writer.new) result (codes "a value" ++ ending_text stamp) }

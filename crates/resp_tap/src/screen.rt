@@ -1,4 +1,4 @@
-//! What is printed, held until the terminal takes it.
+//! A bounded buffer for text that waits for the terminal.
 
 ghost use Rattle.std.specs.Prelude.{◌≡◌, ◌≤◌, length, None, IfOk};
 ghost use Rattle.resp_value.specs.Devices.{Writes, count_after, failures_after, write_fails};
@@ -9,13 +9,14 @@ use resp_value::device::{DeviceFault, MemorySink, Sink};
 use std::alloc::Global;
 use std::marker::Model;
 
-/// How much room there has to be before it is said how many bytes weren't shown.
+/// The free bytes that the line about omitted bytes needs.
 const ROOM: usize = 64;
 
-/// Holds what is printed, up to a number of bytes, until it is shown. What comes while it is full
-/// is left out and counted; once there is room it is said how many bytes weren't shown.
+/// Holds printed text until it is shown, up to a maximum number of bytes. Text that arrives while
+/// the screen is full is omitted and counted. When there is room again, a line says how many bytes
+/// were omitted.
 ///
-/// A write to it always goes well: nothing that is printed keeps back what is handed on.
+/// A write to a screen never fails, so printing never delays forwarding.
 #[derive(Drop)]
 pub struct Screen {
     alloc: Global,
@@ -44,7 +45,7 @@ impl Screen {
     ghost use Rattle.std.specs.Prelude.{◌⊎◌, drop, IfSome};
     ghost use Rattle.resp_tap.specs.Screens.{IsLead, IsLeftOutLine, KeepsOrCounts, SaysWhatIsLeftOut, new_screen};
 
-    /// An empty screen for `most` bytes at once. Takes no memory.
+    /// Returns an empty screen that holds at most `most` bytes. It allocates nothing.
     pub fn new(alloc: Global, most: usize) -> Screen
         ensures { result ≡ new_screen most }
     {
@@ -58,21 +59,22 @@ impl Screen {
         }
     }
 
-    /// What is held.
+    /// Returns the text that is held.
     pub fn text(&self) -> &[u8]
         ensures { result.now ≡ self.now.held }
     {
         self.text.as_slice()
     }
 
-    /// How many bytes were left out since the last time that this was said.
+    /// Returns the number of bytes that were omitted and not reported yet.
     pub fn unshown(&self) -> u64
         ensures { result ≡ self.now.unshown }
     {
         self.unshown
     }
 
-    /// Drops `count` bytes, no more than are held, from the front: those that were shown.
+    /// Removes the first `count` bytes of the held text, which were shown. `count` is at most the
+    /// length of the held text.
     pub fn shown(&mut self, count: usize)
         requires { count ≤ length self.old.held }
         ensures { self.new ≡ record self.old { held = drop count self.old.held } }
@@ -80,8 +82,8 @@ impl Screen {
         self.text.advance(count);
     }
 
-    /// Keeps a text, or as much of it as there is room for, and counts the rest. After a byte that
-    /// was left out nothing is kept until that is said.
+    /// Appends as much of `text` as there is room for, and counts the rest. Once a byte was
+    /// omitted, nothing is appended until the line about omitted bytes is written.
     fn keep(&mut self, text: &[u8])
         ensures kept { KeepsOrCounts self.old self.new text.now }
         ensures same_calls { self.new.calls ≡ self.old.calls }
@@ -100,8 +102,8 @@ impl Screen {
         self.unshown = self.unshown.saturating_add((text.len() - kept) as u64);
     }
 
-    /// Says how many bytes were left out, on a line of its own, where some were and there is room
-    /// for that again. It is called between two texts.
+    /// Appends a line with the number of omitted bytes, if bytes were omitted and there is room for
+    /// the line. Call this between two texts.
     pub fn say_what_is_left_out(&mut self)
         ensures { (self.new ≡ self.old) ⊎ SaysWhatIsLeftOut self.old self.new }
     {
@@ -115,7 +117,7 @@ impl Screen {
         }
     }
 
-    /// What ends a line that was cut.
+    /// Returns the text that ends a line that was cut.
     fn lead(&self) -> &'static [u8]
         ensures { IsLead result.now }
     {
@@ -125,8 +127,8 @@ impl Screen {
         }
     }
 
-    /// The line that says how many bytes were left out, after an LF where a line was cut; none when
-    /// out of memory.
+    /// Returns the line about omitted bytes, after an LF if a line was cut; `None` if an allocation
+    /// fails.
     fn left_out_line(&self) -> Option<MemorySink>
         ensures { IfSome result (λ line. IsLeftOutLine self.now.unshown line.held) }
     {

@@ -1,61 +1,62 @@
-//! What was seen of a connection.
+//! The commands, replies and pushes of a connection.
 
 use resp_session::words::Words;
 use resp_value::cause::Cause;
 use resp_value::value::{Members, Value};
 
-/// What was seen in a piece that one side sent.
+/// The result of one step over a piece that one side sent.
 #[derive(Drop)]
 pub struct Step {
-    /// The number of bytes taken from the front of the piece; the whole piece at
-    /// [`Seen::Nothing`].
+    /// The number of bytes read from the front of the piece. With [`Seen::Nothing`] this is the
+    /// whole piece.
     pub used: usize,
-    /// What ends with them.
+    /// What these bytes complete.
     pub seen: Seen,
 }
 
-/// What was seen of a connection. Commands are counted from 1, and a reply has the number of its
-/// command.
+/// A command, a reply or another part of the traffic. Commands are numbered from 1, and a reply has
+/// the number of its command.
 #[derive(Drop)]
 pub enum Seen {
-    /// Nothing: the piece is used up.
+    /// The whole piece was read, and nothing ended in it.
     Nothing,
-    /// An empty array or a null of the client, which a server passes over.
+    /// The client sent an empty array or a null, which a server ignores.
     Passed,
-    /// A command.
+    /// The client sent a command.
     Command {
         number: u64,
         words: Words,
     },
-    /// The reply to a command.
+    /// The server sent the reply to a command.
     Reply {
         number: u64,
         value: Value,
     },
-    /// The members of a push, which answers no command.
+    /// The server sent a push, which is no reply to a command. These are its members.
     Push(Members),
-    /// A value of the server after a command that isn't answered by one reply.
+    /// The server sent a value after a command that does not have exactly one reply.
     Value(Value),
-    /// A value of the client that is no command. Nothing more is read of the connection.
+    /// The client sent a value that is not a command. The rest of the connection is not read.
     NotCommand {
         number: u64,
     },
-    /// A byte that may not stand there, or no memory for what came. Nothing more is read of the
-    /// connection.
+    /// A byte is not allowed at its place, or memory ran out. The rest of the connection is not
+    /// read.
     Refused {
         cause: Cause,
-        /// The byte, counted from 0 in what it belongs to.
+        /// The index of the byte, from 0 at the first byte of the command, reply or value that
+        /// contains it.
         at: u64,
         place: Place,
     },
 }
 
-/// What a refused byte belongs to.
+/// The part of the traffic that contains a wrong byte.
 #[derive(Clone, Copy, Debug, PartialEq, Eq)]
 pub enum Place {
     /// The command with this number.
     Command(u64),
-    /// The reply with this number, or a push where it would come.
+    /// The reply with this number, or a push before it.
     Reply(u64),
     /// A value of the server that is paired with no command.
     Value,

@@ -1,4 +1,4 @@
-//! What a tap shows of itself.
+//! The state of a tap.
 
 ghost use Rattle.std.specs.Prelude.{◌≡◌, length};
 ghost use Rattle.resp_tap.specs.Taps.{tap_state};
@@ -6,14 +6,14 @@ ghost use Rattle.resp_tap.specs.Taps.{tap_state};
 use crate::tap::Tap;
 
 impl Tap {
-    /// Whether what comes is read: until a refusal.
+    /// Returns whether the connection is still read. It is read until the first error.
     pub fn is_read(&self) -> bool
         ensures { result ≡ (tap_state self.now).is_read }
     {
         self.is_read
     }
 
-    /// How many commands wait for their replies.
+    /// Returns the number of commands that wait for their replies.
     pub fn waiting(&self) -> u64
         ensures { result ≡ length (tap_state self.now).waiting.asks }
     {

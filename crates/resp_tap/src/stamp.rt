@@ -1,4 +1,4 @@
-//! When something was seen, as it is printed.
+//! The printed time of a command, reply or push.
 
 ghost use Rattle.std.specs.Prelude.{◌≡◌, ◌++◌, ◌/◌, ◌%◌, None, Some, codes};
 ghost use Rattle.resp_print.specs.Written.{WritesText};
@@ -8,19 +8,19 @@ use crate::moment::Moment;
 use resp_print::text::{write_number, write_text};
 use resp_value::device::{DeviceFault, Sink};
 
-/// When something was seen, in microseconds.
+/// The time of a command, reply or push, in microseconds.
 #[derive(Clone, Copy, Debug, PartialEq, Eq)]
 pub struct Stamp {
     /// The time of day in UTC, since midnight.
     pub of_day: u64,
-    /// Of a reply, how long its command waited for it.
+    /// For a reply, how long its command waited for it, if that is known.
     pub waited: Option<u64>,
 }
 
 ghost use Rattle.resp_tap.specs.Stamps.{ending_text, stamp_text, waited_text};
 
 impl Stamp {
-    /// Tells this moment, and that no command waited.
+    /// Returns a stamp of this moment, without a waiting time.
     pub fn new(now: Moment) -> Stamp
         ensures { result ≡ record { of_day = now.of_day; waited = None } }
     {
@@ -31,8 +31,11 @@ impl Stamp {
     }
 }
 
-/// Writes the end of a line: an LF, and before it when what it tells was seen, where it is stamped.
-/// Refuses where a write fails.
+/// Writes the end of a line: the time if there is a stamp, then LF.
+///
+/// # Errors
+///
+/// `DeviceFault` if a write fails. The first part of the text was written.
 pub(crate) fn write_ending<W: Sink>(stamp: Option<Stamp>, writer: &mut W) -> Result<(), DeviceFault>
     ensures { WritesText (W.written writer.old) (W.written writer.new) (W.failures writer.old)
         (W.failures writer.new) result (ending_text stamp) }
@@ -43,7 +46,7 @@ pub(crate) fn write_ending<W: Sink>(stamp: Option<Stamp>, writer: &mut W) -> Res
     }
 }
 
-/// Writes the end of a line that is stamped.
+/// Writes the end of a line that has a stamp.
 fn write_stamped_ending<W: Sink>(stamp: Stamp, writer: &mut W) -> Result<(), DeviceFault>
     ensures { WritesText (W.written writer.old) (W.written writer.new) (W.failures writer.old)
         (W.failures writer.new) result (codes " at " ++ stamp_text stamp) }
@@ -52,7 +55,11 @@ fn write_stamped_ending<W: Sink>(stamp: Stamp, writer: &mut W) -> Result<(), Dev
     write_stamp(stamp, writer)
 }
 
-/// Writes a time of day, how long a command waited, and an LF. Refuses where a write fails.
+/// Writes a time of day, the waiting time of a command, and LF.
+///
+/// # Errors
+///
+/// `DeviceFault` if a write fails. The first part of the text was written.
 pub(crate) fn write_stamp<W: Sink>(stamp: Stamp, writer: &mut W) -> Result<(), DeviceFault>
     ensures { WritesText (W.written writer.old) (W.written writer.new) (W.failures writer.old)
         (W.failures writer.new) result (stamp_text stamp) }
@@ -61,7 +68,7 @@ pub(crate) fn write_stamp<W: Sink>(stamp: Stamp, writer: &mut W) -> Result<(), D
     write_waited(stamp.waited, writer)
 }
 
-/// Writes the time of day, this many microseconds after midnight.
+/// Writes a time of day, given in microseconds since midnight.
 fn write_time<W: Sink>(micros: u64, writer: &mut W) -> Result<(), DeviceFault>
     ensures { WritesText (W.written writer.old) (W.written writer.new) (W.failures writer.old)
         (W.failures writer.new) result (time_text micros) }
@@ -70,7 +77,7 @@ fn write_time<W: Sink>(micros: u64, writer: &mut W) -> Result<(), DeviceFault>
     write_text(writer, text.as_slice())
 }
 
-/// Writes how long a command waited, if that is known, and an LF.
+/// Writes how long a command waited, if that is known, and LF.
 fn write_waited<W: Sink>(waited: Option<u64>, writer: &mut W) -> Result<(), DeviceFault>
     ensures { WritesText (W.written writer.old) (W.written writer.new) (W.failures writer.old)
         (W.failures writer.new) result (waited_text waited) }
@@ -81,7 +88,7 @@ fn write_waited<W: Sink>(waited: Option<u64>, writer: &mut W) -> Result<(), Devi
     }
 }
 
-/// Writes a number of microseconds as seconds, and an LF.
+/// Writes a number of microseconds as seconds with six decimals, and LF.
 fn write_seconds<W: Sink>(micros: u64, writer: &mut W) -> Result<(), DeviceFault>
     ensures { WritesText (W.written writer.old) (W.written writer.new) (W.failures writer.old)
         (W.failures writer.new) result (waited_text (Some micros)) }
@@ -91,7 +98,7 @@ fn write_seconds<W: Sink>(micros: u64, writer: &mut W) -> Result<(), DeviceFault
     write_text(writer, b" s\n")
 }
 
-/// Writes the microseconds that are no whole seconds.
+/// Writes the last six decimal digits of a number of microseconds.
 fn write_micros<W: Sink>(micros: u64, writer: &mut W) -> Result<(), DeviceFault>
     ensures { WritesText (W.written writer.old) (W.written writer.new) (W.failures writer.old)
         (W.failures writer.new) result (micros_text micros) }
@@ -100,21 +107,21 @@ fn write_micros<W: Sink>(micros: u64, writer: &mut W) -> Result<(), DeviceFault>
     write_text(writer, text.as_slice())
 }
 
-/// The last digit of a number.
+/// Returns the last decimal digit of a number.
 fn digit(number: u64) -> u8
     ensures { result ≡ digit number }
 {
     b'0' + (number % 10) as u8
 }
 
-/// The last two digits of a number.
+/// Returns the last two decimal digits of a number.
 fn two_digits(number: u64) -> [u8; 2]
     ensures { result ≡ two_digits number }
 {
     [digit(number / 10), digit(number)]
 }
 
-/// The last six digits of a number.
+/// Returns the last six decimal digits of a number.
 fn micros_of(number: u64) -> [u8; 6]
     ensures { result ≡ micros_text number }
 {
@@ -128,7 +135,7 @@ fn micros_of(number: u64) -> [u8; 6]
     ]
 }
 
-/// The time of day, this many microseconds after midnight.
+/// Returns a time of day as `HH:MM:SS.ssssss`, given in microseconds since midnight.
 fn time_of_day(micros: u64) -> [u8; 15]
     ensures { result ≡ time_text micros }
 {

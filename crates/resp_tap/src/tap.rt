@@ -1,4 +1,4 @@
-//! The tap: what is known of one connection, and what is seen of the bytes that pass.
+//! The tap: reads the traffic of one connection.
 
 ghost use Rattle.std.specs.Prelude.{◌≡◌, ◌≢◌, ◌<◌, ◌≤◌, ◌^◌, ◌++◌, ℕ, List, true, false, [], length, take, IfErr, OnOk, OnErr};
 ghost use Rattle.resp_value.specs.Rules.{rules_under};
@@ -20,32 +20,52 @@ use resp_value::value::Value;
 use resp_value::version::Version;
 use std::alloc::Global;
 
-/// The most commands that wait for their replies.
+/// The most commands that may wait for their replies.
 const MOST_WAITING: u64 = 1_048_576;
 
 /// The most commands of a connection.
 const MOST_COMMANDS: u64 = 9_223_372_036_854_775_808;
 
-/// What is known of one connection that passes by. It is given what either side sends, in pieces of
-/// any size, and tells what these are.
+/// Reads the traffic of one proxied connection. It receives the bytes that both sides send, in
+/// pieces of any size, and reports each command, reply and push.
 ///
-/// What the client sends is read as commands, arrays of bulk strings, and what the server sends as
-/// [`Client`] reads it: the version begins with 2, and moves with the reply to a HELLO that asks
-/// for another. After a command that isn't answered by one reply, and the replies before it, values
-/// are read in version 3, which has all of version 2, and are paired with no command.
+/// The client's bytes are read as commands, which are arrays of bulk strings. The server's bytes
+/// are read as [`Client`] reads them: the version is 2 at first, and it changes when the reply to a
+/// HELLO that asks for another version arrives. After a command that does not have exactly one
+/// reply, and after the replies to the commands before it, values are read in version 3, which
+/// contains version 2, and are paired with no command.
 ///
-/// From a refusal on nothing is read. It holds no more than one value of each side, and a byte for
-/// each command that waits, of which there are 1,048,576 at most.
+/// After an error nothing more is read. A tap holds at most one incomplete value of each side, and
+/// one byte for each command that waits for its reply, at most 1,048,576 of them.
+///
+/// # Examples
+///
+/// From [samples](../../samples/src/tapping.rt):
+///
+/// ```rust
+/// let mut tap = Tap::new(alloc, &Limits::standard());
+/// let step = tap.from_client(b"*1\r\n$4\r\nPING\r\n");
+/// if let Seen::Command { number, words } = &step.seen {
+///     println!(rt; "command {number}: {}", words.word(0).escape_ascii())?;
+/// }
+/// let step = tap.from_server(b"+PONG\r\n");
+/// if let Seen::Reply { number, value } = &step.seen {
+///     println!(rt; "reply {number}: {value:?}")?;
+/// }
+/// ```
+///
+/// This prints `command 1: PING` and `reply 1: Simple(Line { text: [80, 79, 78, 71] })`, each on a
+/// line.
 #[derive(Drop)]
 pub struct Tap {
     alloc: Global,
-    /// What reads the client's side.
+    /// Reads the bytes of the client.
     pub(crate) requests: Decoder,
-    /// How many commands have come.
+    /// The number of commands that were read.
     pub(crate) commands: u64,
-    /// What reads the server's side while replies are paired.
+    /// Reads the bytes of the server while replies are paired with commands.
     pub(crate) replies: Client,
-    /// What reads it after that.
+    /// Reads the bytes of the server after that.
     pub(crate) values: Decoder,
     pub(crate) pairing: Pairing,
     pub(crate) is_read: bool,
@@ -54,12 +74,12 @@ pub struct Tap {
     ghost same_limits: { (state_of replies).limits ≡ limits },
     ghost request_rules: { rules_of requests ≡ rules_under Two limits },
     ghost value_rules: { rules_of values ≡ rules_under Three limits },
-    /// The commands that have a reply and those that wait are all that came.
+    /// The commands with a reply and those that wait for one are all commands of the connection.
     ghost numbered: { pairing ≡ Paired → commands ≡ queued (state_of replies) },
 }
 
 impl Step {
-    /// A piece that is used up.
+    /// Returns the step of a piece that was read without a result.
     pub(crate) fn nothing(piece: &[u8]) -> Step
         ensures { result ≡ record { used = length piece.now; seen = Seen.Nothing } }
     {
@@ -73,7 +93,7 @@ impl Step {
 ghost use Rattle.resp_value.specs.Values.{datum_of};
 ghost use Rattle.resp_tap.specs.SeenOf.{TellsUnpaired, heard_as};
 
-/// What a client heard, as it is seen.
+/// Converts the result of a client.
 fn heard_as(what: What) -> Seen
     ensures { result ≡ heard_as what }
 {
@@ -84,7 +104,7 @@ fn heard_as(what: What) -> Seen
     }
 }
 
-/// A value that is paired with no command, as it is seen.
+/// Converts a value that is paired with no command.
 fn unpaired_as(value: Value) -> Seen
     ensures { TellsUnpaired (datum_of value) result }
 {
@@ -100,7 +120,7 @@ impl Tap {
     ghost use Rattle.resp_tap.specs.Taps.{at_front, new_tap, tap_state, with_command, with_refusal};
     ghost use Rattle.resp_tap.specs.Watching.{HasTakenRequest, HasTakenValue, IsLeftOut, KeepsRequest, KeepsValue, SeesRequest, SeesValue, WhereAnswered, WhereRequested, request_rules};
 
-    /// A connection of which nothing has passed, read within these limits. Takes no memory.
+    /// Returns a tap of a new connection, which is read within these limits. It allocates nothing.
     pub fn new(alloc: Global, limits: &Limits) -> Tap
         ensures nothing_passed { tap_state result ≡ new_tap limits.now }
         ensures nothing_requested { HasTakenRequest result [] }
@@ -118,11 +138,16 @@ impl Tap {
         }
     }
 
-    /// Takes bytes that the client sends until a command is whole or the piece ends.
+    /// Reads bytes that the client sent, until a command is complete or the piece ends. Call it
+    /// again with the rest of the piece.
     ///
-    /// Refuses the first byte after which no command can follow, and a value that is no command.
-    /// Refuses also a command over 2⁶³ or while 2²⁰ wait, by TooMany, and by OutOfMemory where no
-    /// memory is found. Nothing is read after that, and what comes is used up unseen.
+    /// # Errors
+    ///
+    /// Reports [`Seen::NotCommand`] for a value that is not a command. Reports [`Seen::Refused`]
+    /// with the cause of a [`Decoder`] for a byte that no command can contain at its place, with
+    /// `TooMany` for the command after 9,223,372,036,854,775,808 commands or while 1,048,576
+    /// commands wait, and with `OutOfMemory` if an allocation fails. After an error the bytes of
+    /// both sides are skipped.
     pub fn from_client(&mut self, piece: &[u8]) -> Step
         ensures seen { (tap_state self.old).is_read ≡ true → WhereRequested self.old (λ front.
             SeesRequest (tap_state self.old) self.new front piece.now result.used result.seen) }
@@ -155,7 +180,7 @@ impl Tap {
         }
     }
 
-    /// Refuses the next command at its first byte, since no memory is found for it.
+    /// Reports that memory for the next command ran out, at its first byte.
     pub(crate) fn lack_memory(&mut self, piece: &[u8]) -> Step
         ensures seen { (front : List ℕ) → SeesRequest (tap_state self.old) self.new front piece.now
             result.used result.seen }
@@ -167,7 +192,7 @@ impl Tap {
         self.refuse(Cause::OutOfMemory, 0, place, piece)
     }
 
-    /// Refuses what comes.
+    /// Stops reading, and reports an error.
     fn refuse(&mut self, cause: Cause, at: u64, place: Place, piece: &[u8]) -> Step
         ensures unread { self.new ≡ record self.old { is_read = false } }
         ensures step { result ≡ record {
@@ -182,7 +207,8 @@ impl Tap {
         }
     }
 
-    /// What a value of the client is.
+    /// Returns what a value of the client is: a command, a value that a server ignores, or a value
+    /// that is not a command.
     fn command_of(&mut self, value: Value) -> Seen
         ensures seen { HasTakenRequest self.old [] → (front piece : List ℕ) (used : ℕ) →
             IsSpelling (request_rules (tap_state self.old).limits) (datum_of value)
@@ -211,7 +237,7 @@ impl Tap {
         }
     }
 
-    /// Counts a command, and waits for its reply where one is paired with it.
+    /// Counts a command. If a reply is paired with it, it waits for its reply.
     fn take_command(&mut self, words: &Words) -> Result<(), Cause>
         requires { 0 < length words.now }
         ensures counted { OnOk result (tap_state self.new ≡
@@ -242,11 +268,14 @@ impl Tap {
         Ok(())
     }
 
-    /// Takes bytes that the server sends until a value is whole or the piece ends.
+    /// Reads bytes that the server sent, until a value is complete or the piece ends. Call it again
+    /// with the rest of the piece.
     ///
-    /// While replies are paired it refuses as [`Client::feed`] does, and after that the first byte
-    /// after which no value of version 3 can follow, or by OutOfMemory. Nothing is read after that,
-    /// and what comes is used up unseen.
+    /// # Errors
+    ///
+    /// Reports [`Seen::Refused`]: while replies are paired, with the error of [`Client::feed`];
+    /// later, for a byte that no value of version 3 can contain at its place, or with `OutOfMemory`
+    /// if an allocation fails. After an error the bytes of both sides are skipped.
     pub fn from_server(&mut self, piece: &[u8]) -> Step
         ensures seen { (tap_state self.old).is_read ≡ true → WhereAnswered self.old (λ front.
             SeesValue (at_front front (tap_state self.old)) self.new front piece.now result.used
@@ -267,7 +296,7 @@ impl Tap {
         }
     }
 
-    /// Ends the pairing where nothing waits any more, between two values.
+    /// Ends the pairing between two values, if no command waits any more.
     fn settle(&mut self)
         ensures settled { WhereAnswered self.old (λ front.
             HasTakenValue self.new front ×
@@ -281,7 +310,7 @@ impl Tap {
         }
     }
 
-    /// Takes bytes of a reply or a push.
+    /// Reads bytes of a reply or a push.
     fn reply(&mut self, piece: &[u8]) -> Step
         requires { self.old.pairing ≢ Unpaired }
         ensures seen { WhereAnswered self.old (λ front. SeesValue (tap_state self.old) self.new
@@ -303,7 +332,7 @@ impl Tap {
         }
     }
 
-    /// Takes bytes of a value that is paired with no command.
+    /// Reads bytes of a value that is paired with no command.
     fn unpaired_value(&mut self, piece: &[u8]) -> Step
         requires { self.old.pairing ≡ Unpaired }
         ensures seen { WhereAnswered self.old (λ front. SeesValue (tap_state self.old) self.new

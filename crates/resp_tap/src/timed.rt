@@ -1,4 +1,4 @@
-//! A tap that knows when the commands came that wait for their replies.
+//! A tap that measures how long commands wait for their replies.
 
 ghost use Rattle.std.specs.Prelude.{◌≡◌, ◌<◌, ◌≤◌, true, false, ℕ, List, [], Some, length, slice_get};
 ghost use Rattle.resp_tap.specs.Taps.{at_front, new_tap, tap_state};
@@ -11,19 +11,36 @@ use resp_value::limits::Limits;
 use std::alloc::Global;
 use std::collections::VecDeque;
 
-/// A tap, and beside it when each command came that waits for its reply: eight bytes for each.
+/// A tap that also keeps the time of each command that waits for its reply, in eight bytes each.
 ///
-/// Where no moment is given, no time is kept and the tap is as any other.
+/// If no moment is given, no time is kept, and the tap works as [`Tap`] does.
+///
+/// # Examples
+///
+/// From [samples](../../samples/src/tapping.rt):
+///
+/// ```rust
+/// let mut tap = TimedTap::new(alloc, &Limits::standard());
+/// let sent = Moment {
+///     of_day: 20_216_123_456,
+///     steady: 5_000_000,
+/// };
+/// tap.from_client(b"*1\r\n$4\r\nPING\r\n", Some(sent));
+/// println!(rt; "{:?}", tap.asked())?;
+/// ```
+///
+/// This prints `Some(5000000)`.
 #[derive(Drop)]
 pub struct TimedTap {
     pub(crate) tap: Tap,
-    /// When the commands came that wait for their replies, by the steady clock, the first first.
+    /// The times of the commands that wait for their replies, by the steady clock, in the order of
+    /// the commands.
     pub(crate) times: VecDeque<u64>,
 }
 
 ghost use Rattle.resp_tap.specs.Times.{HasTimes, KeepsTimes, is_reply};
 
-/// Whether this is a reply.
+/// Returns whether this is a reply.
 fn is_reply(seen: &Seen) -> bool
     ensures { result ≡ is_reply seen.now }
 {
@@ -31,7 +48,7 @@ fn is_reply(seen: &Seen) -> bool
 }
 
 impl TimedTap {
-    /// A connection of which nothing has passed, read within these limits. Takes no memory.
+    /// Returns a tap of a new connection, which is read within these limits. It allocates nothing.
     pub fn new(alloc: Global, limits: &Limits) -> TimedTap
         ensures nothing_passed { tap_state result.tap ≡ new_tap limits.now }
         ensures nothing_requested { HasTakenRequest result.tap [] }
@@ -44,7 +61,8 @@ impl TimedTap {
         }
     }
 
-    /// When the command came that the next reply answers, by the steady clock, if that is known.
+    /// Returns the time of the command that the next reply answers, by the steady clock, if it is
+    /// known.
     pub fn asked(&self) -> Option<u64>
         ensures { (times : List ℕ) → HasTimes self.now times →
             result ≡ slice_get times (tap_state self.now.tap).answered }
@@ -52,8 +70,13 @@ impl TimedTap {
         self.times.get(0).copied()
     }
 
-    /// Takes bytes that the client sent, which came at this moment, as [`Tap::from_client`] does.
-    /// Refuses the next command at its first byte where no memory is found for its time.
+    /// Reads bytes that the client sent, which arrived at this moment, as [`Tap::from_client`]
+    /// does.
+    ///
+    /// # Errors
+    ///
+    /// Reports the errors of [`Tap::from_client`]. Also reports `OutOfMemory` at the first byte of
+    /// the next command if the allocation for its time fails.
     pub fn from_client(&mut self, piece: &[u8], now: Option<Moment>) -> Step
         ensures seen { (tap_state self.old.tap).is_read ≡ true →
             WhereRequested self.old.tap (λ front. SeesRequest (tap_state self.old.tap) self.new.tap
@@ -72,7 +95,7 @@ impl TimedTap {
         }
     }
 
-    /// The same where a moment is given.
+    /// Reads bytes that the client sent, if a moment is given.
     fn from_client_at(&mut self, piece: &[u8], now: Moment) -> Step
         ensures seen { (tap_state self.old.tap).is_read ≡ true →
             WhereRequested self.old.tap (λ front. SeesRequest (tap_state self.old.tap) self.new.tap
@@ -94,14 +117,18 @@ impl TimedTap {
         let waiting = self.tap.waiting();
         let step = self.tap.from_client(piece);
         if self.tap.waiting() == waiting {
-            // No command came that waits.
+            // No command was read that waits for a reply.
             let _ = self.times.pop_back();
         }
         step
     }
 
-    /// Takes bytes that the server sent, as [`Tap::from_server`] does. The time of a command that
-    /// they answer is dropped.
+    /// Reads bytes that the server sent, as [`Tap::from_server`] does. The time of a command is
+    /// dropped when its reply arrives.
+    ///
+    /// # Errors
+    ///
+    /// Reports the errors of [`Tap::from_server`].
     pub fn from_server(&mut self, piece: &[u8], now: Option<Moment>) -> Step
         ensures seen { (tap_state self.old.tap).is_read ≡ true →
             WhereAnswered self.old.tap (λ front. SeesValue

@@ -1,4 +1,4 @@
-//! Pieces that pass: what is seen of them is printed.
+//! Prints the traffic of a connection, piece by piece.
 
 ghost use Rattle.std.specs.Prelude.{◌≡◌, ◌<◌, ◌≤◌, List, length, true, false};
 ghost use Rattle.resp_tap.specs.Taps.{tap_state};
@@ -14,23 +14,23 @@ use crate::timed::TimedTap;
 use resp_print::print_error::PrintError;
 use resp_value::device::Sink;
 
-/// Which side of a connection sends.
+/// The side of a connection that sends bytes.
 #[derive(Clone, Copy, Debug, PartialEq, Eq)]
 pub enum Side {
     Client,
     Server,
 }
 
-/// What was used of a piece, and whether what was seen is printed.
+/// The result of [`watch_some`].
 #[derive(Clone, Copy, Debug, PartialEq, Eq)]
 pub struct Watched {
-    /// The number of bytes used from the front of the piece.
+    /// The number of bytes read from the front of the piece.
     pub used: usize,
-    /// Refuses as [`write_seen`] does.
+    /// The result of printing, with the errors of [`write_seen`].
     pub printed: Result<(), PrintError>,
 }
 
-/// Takes bytes that a side sends until something is seen or the piece ends.
+/// Reads bytes that one side sent, until there is a result or the piece ends.
 fn step(tap: &mut TimedTap, side: Side, piece: &[u8], now: Option<Moment>) -> Step
     ensures sees { SeesFirst side now tap.old tap.new piece.now result.used result.seen }
     ensures other_side { KeepsOther side tap.old.tap tap.new.tap }
@@ -43,7 +43,7 @@ fn step(tap: &mut TimedTap, side: Side, piece: &[u8], now: Option<Moment>) -> St
     }
 }
 
-/// How long the command waited that came at this time, where a reply to it is seen.
+/// Returns how long the command waited that was sent at `asked`, if `seen` is its reply.
 fn waited_of(now: Moment, asked: Option<u64>, seen: &Seen) -> Option<u64>
     ensures { result ≡ waited_of now asked seen.now }
 {
@@ -53,7 +53,7 @@ fn waited_of(now: Moment, asked: Option<u64>, seen: &Seen) -> Option<u64>
     }
 }
 
-/// What is printed of the time at which something is seen.
+/// Returns the stamp of what was seen, if a moment is given.
 fn stamp_of(now: Option<Moment>, asked: Option<u64>, seen: &Seen) -> Option<Stamp>
     ensures { result ≡ stamp_of now asked seen.now }
 {
@@ -66,9 +66,17 @@ fn stamp_of(now: Option<Moment>, asked: Option<u64>, seen: &Seen) -> Option<Stam
     }
 }
 
-/// Takes bytes that a side of the connection of the client with this number has sent, until
-/// something is seen or the piece ends, and prints what is seen: where a moment is given, with the
-/// time of day, and a reply with how long its command waited for it.
+/// Reads bytes that one side sent, until there is a result or the piece ends, and prints the
+/// result. `client` is the number of the connection's client in the output. If a moment is given,
+/// the first line ends with the time of day, and that of a reply also with the seconds that its
+/// command waited.
+///
+/// The call reads at least one byte of a piece that is not empty. Call it again with the rest of
+/// the piece.
+///
+/// # Errors
+///
+/// [`Watched::printed`] has the error of printing. The tap has read the bytes in any case.
 pub fn watch_some<W: Sink>(
     tap: &mut TimedTap,
     client: u64,
@@ -95,8 +103,30 @@ pub fn watch_some<W: Sink>(
     }
 }
 
-/// Gives the tap a piece that a side of the connection of the client with this number has sent, and
-/// prints all that is seen, as [`watch_some`] does. What can't be printed is left out.
+/// Reads a piece that one side sent, and prints all commands, replies and pushes in it, as
+/// [`watch_some`] does. Errors of printing are ignored.
+///
+/// # Examples
+///
+/// From [samples](../../samples/src/tapping.rt):
+///
+/// ```rust
+/// let mut tap = TimedTap::new(alloc, &Limits::standard());
+/// let mut text = MemorySink::new(alloc, 4_096, 4_096)?;
+/// let get = b"*2\r\n$3\r\nGET\r\n$4\r\nhits\r\n";
+/// watch(&mut tap, 1, Side::Client, get, None, &mut text);
+/// watch(&mut tap, 1, Side::Server, b":7\r\n", None, &mut text);
+/// print!(rt; "{}", str::from_utf8(text.bytes())?)?;
+/// ```
+///
+/// This prints:
+///
+/// ```text
+/// client 1 command 1
+///   "GET" "hits"
+/// client 1 reply 1
+///   int 7
+/// ```
 pub fn watch<W: Sink>(
     tap: &mut TimedTap,
     client: u64,
@@ -113,7 +143,7 @@ pub fn watch<W: Sink>(
     let mut rest = piece;
     while !rest.is_empty() {
         let watched = watch_some(tap, client, side, rest, now, writer);
-        // A byte at least was used.
+        // At least one byte was read.
         rest = &rest[watched.used..];
     }
 }

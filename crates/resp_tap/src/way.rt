@@ -1,4 +1,4 @@
-//! What one side sends on its way to the other.
+//! Forwards the bytes of one direction.
 
 ghost use Rattle.std.specs.Prelude.{◌≡◌, ◌⊎◌, ◌≤◌, [], length, IfOk, IsErr, OnErr};
 ghost use Rattle.resp_value.specs.Devices.{count_after};
@@ -7,15 +7,15 @@ use resp_value::device::{DeviceFault, Sink, Source};
 use std::alloc::{AllocError, Global};
 use std::marker::Model;
 
-/// How many bytes one read asks for.
+/// The most bytes of one read.
 const PIECE: usize = 16_384;
 
-/// What one side sends on its way to the other: the piece that was read last, and how much of it
-/// still waits to be written.
+/// Forwards the bytes of one direction: it holds the piece that was read last, and the part of it
+/// that still waits to be written.
 #[derive(Drop)]
 pub struct Way {
     buffer: Vec<u8>,
-    /// Where what waits begins and ends.
+    /// The range of the bytes that wait to be written.
     start: usize,
     end: usize,
 }
@@ -35,16 +35,17 @@ impl Model for Way {
         (length w.buffer.items ≡ 16384) };
 }
 
-/// What a visit came to.
+/// The result of a visit.
 #[derive(Clone, Copy, Debug, PartialEq, Eq)]
 pub enum Visited {
-    /// All that was read is written.
+    /// All bytes that were read were written.
     Onward,
-    /// The reader failed, as where a read would wait.
+    /// A read failed, for example because it would block.
     NotRead,
-    /// The writer failed or took no byte, as where a write would wait. What it didn't take waits.
+    /// A write failed, for example because it would block, or wrote no byte. The bytes that were
+    /// not written wait.
     NotWritten,
-    /// The reader is at its end.
+    /// The input ended.
     Ended,
 }
 
@@ -52,7 +53,11 @@ impl Way {
     ghost use Rattle.std.specs.Prelude.{IsTrue, take, ◌<◌, ◌↔◌};
     ghost use Rattle.resp_tap.specs.Ways.{AtItsEnd, HandsOn, Sends, TakesIn};
 
-    /// Nothing was read.
+    /// Returns a way that has read nothing. It allocates room for one piece.
+    ///
+    /// # Errors
+    ///
+    /// `AllocError` if the allocation fails.
     pub fn new(alloc: Global) -> Result<Way, AllocError>
         ensures { IfOk result (λ way. way ≡ record { piece = []; waiting = [] }) }
     {
@@ -63,14 +68,14 @@ impl Way {
         })
     }
 
-    /// The piece that was read last.
+    /// Returns the piece that was read last.
     pub fn piece(&self) -> &[u8]
         ensures { result.now ≡ self.now.piece }
     {
         &self.buffer[..self.end]
     }
 
-    /// What waits to be written.
+    /// Returns the bytes that wait to be written.
     fn waiting(&self) -> &[u8]
         ensures { result.now ≡ self.now.waiting }
     {
@@ -78,14 +83,14 @@ impl Way {
         &read[self.start..]
     }
 
-    /// Whether bytes wait to be written.
+    /// Returns whether bytes wait to be written.
     pub fn waits(&self) -> bool
         ensures { IsTrue result ↔ (0 < length self.now.waiting) }
     {
         self.start < self.end
     }
 
-    /// Reads a piece, of 16,384 bytes at most: none only at the end.
+    /// Reads a piece of at most 16,384 bytes. It is empty only at the end of the input.
     fn fill<R: Source>(&mut self, reader: &mut R) -> Result<usize, DeviceFault>
         ensures read { TakesIn (R.remaining reader.old) (R.remaining reader.new) self.new }
         ensures count { IfOk result (λ count. count ≡ length self.new.piece) }
@@ -102,7 +107,7 @@ impl Way {
         Ok(count)
     }
 
-    /// Writes what waits, or as much of it as one write takes.
+    /// Writes the bytes that wait, as many as one write accepts.
     fn send<W: Sink>(&mut self, writer: &mut W) -> Result<usize, DeviceFault>
         ensures sent { Sends (W.written writer.old) (W.written writer.new) self.old.waiting
             self.new.waiting }
@@ -113,8 +118,9 @@ impl Way {
         Ok(count)
     }
 
-    /// Reads a piece where nothing waits, and writes what waits, by one read and one write at most.
-    /// Tells how many bytes came, which are the first of [`Way::piece`], and what it came to.
+    /// Reads a piece if no bytes wait, and writes the bytes that wait, with at most one read and
+    /// one write. Returns the number of bytes that were read, which are the first bytes of
+    /// [`Way::piece`], and the result of the visit.
     pub fn visit<R: Source, W: Sink>(&mut self, reader: &mut R, writer: &mut W) -> (usize, Visited)
         ensures handed_on { HandsOn (R.remaining reader.old) (R.remaining reader.new)
             (W.written writer.old) (W.written writer.new) self.old.waiting self.new.waiting
@@ -140,7 +146,7 @@ impl Way {
         (count, self.send_on(writer))
     }
 
-    /// Writes what waits, by one write.
+    /// Writes the bytes that wait, with one write.
     fn send_on<W: Sink>(&mut self, writer: &mut W) -> Visited
         requires { 0 < length self.old.waiting }
         ensures sent { Sends (W.written writer.old) (W.written writer.new) self.old.waiting

@@ -7,7 +7,7 @@ use Rattle.resp_tool.specs.Explained.{cause_text}
 
 pub other_cause : (r : Rules) (missing : ℕ) (c : Cause) → (c ≡ cause.Double → ⊥) → (c ≡ cause.Version → ⊥) → (c ≡ cause.NestedPush → ⊥) →
     (c ≡ cause.Range → ⊥) → (c ≡ cause.Depth → ⊥) → (c ≡ cause.Length → ⊥) → (c ≡ cause.Total → ⊥) → (c ≡ cause.Truncated → ⊥) →
-    (c ≡ cause.Streamed → ⊥) → (c ≡ cause.Items → ⊥) → cause_text r missing c ≡ codes "no spelling goes on so"
+    (c ≡ cause.Streamed → ⊥) → (c ≡ cause.Items → ⊥) → cause_text r missing c ≡ codes "a valid value cannot contain this byte here"
 other_cause r missing cause.Double n0 n1 n2 n3 n4 n5 n6 n7 n8 n9 = absurd (n0 refl)
 other_cause r missing cause.Version n0 n1 n2 n3 n4 n5 n6 n7 n8 n9 = absurd (n1 refl)
 other_cause r missing cause.NestedPush n0 n1 n2 n3 n4 n5 n6 n7 n8 n9 = absurd (n2 refl)

@@ -1,4 +1,4 @@
--- Where the values of a stream begin, of whose bytes pieces have come.
+-- The places at which the values of a stream begin, after some of its bytes.
 use Rattle.std.specs.Prelude.{◌≡◌, ◌⊎◌, ℕ, ◌≤◌, List, ◌++◌, length}
 use Rattle.resp_value.specs.Data.{Datum}
 use Rattle.resp_value.specs.Devices.{last_count}
@@ -11,7 +11,7 @@ use Rattle.resp_scan.specs.declared.event.Fault.{Fault}
 use Rattle.resp_tool.specs.Scans.{HasScanned}
 use Rattle.resp_tool.specs.declared.starts.Starts.{Starts}
 
--- the bytes begin with this many values, and these have this many bytes, where 64 bits hold the number
+-- The bytes begin with this many values, which have this many bytes if the number fits into 64 bits.
 pub record BeginsAt (r : Rules) (bytes : List ℕ) (count start : ℕ) : Type 0 where
   pub values : List Datum
   pub front : List ℕ
@@ -21,11 +21,11 @@ pub record BeginsAt (r : Rules) (bytes : List ℕ) (count start : ℕ) : Type 0 
   pub counted : length values ≡ count
   pub placed : length front ≤ last_count → start ≡ length front
 
--- a scanner has read the rest, in which no value has ended, or has refused a byte
+-- a scanner has read the rest, which contains no complete value, or has rejected a byte
 abbrev pub HasReadOrRefused : Place → List ℕ → Type 0
 HasReadOrRefused s rest = ((given : Events) × HasScanned s rest given) ⊎ ((fault : Fault) × IsFaulted s fault)
 
--- the bytes have come, up to the first that is refused
+-- the bytes were read, up to the first one that is rejected
 pub record HavePassed (starts : Starts) (bytes : List ℕ) : Type 0 where
   pub begins : BeginsAt (rules_of starts.scanner) bytes starts.values starts.start
   pub come : HasReadOrRefused starts.scanner begins.rest

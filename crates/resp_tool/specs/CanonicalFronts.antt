@@ -10,12 +10,12 @@ use Rattle.resp_value.specs.Numbers.{decimal, sign_text}
 use Rattle.resp_value.specs.Rules.{rules_under}
 use Rattle.resp_value.specs.declared.version.Version.{Version}
 
--- the text is the canonical one of a value that fits the limits, in each version
+-- the text is the canonical text of a value within the limits, in either version
 abbrev pub IsCanonicalWithin : Bounds → List ℕ → Type 0
 IsCanonicalWithin limits text = (version : Version) → (x : Datum) × IsValue x × Fits (rules_under version limits) x ×
     (canonical_text version x ≡ text)
 
--- the text begins with this line, which ends in it
+-- the text begins with this line, and the line ends in it
 pub record BeginsWithLine (text line : List ℕ) : Type 0 where
   pub is_line : IsLine line
   pub beyond : List ℕ
@@ -38,20 +38,20 @@ pub record IsInteger (line : List ℕ) : Type 0 where
   pub most : integer <ℤ pos (2 ^ 63)
   pub digits : line ≡ sign_text (int_sign integer) ++ decimal (int_size integer)
 
--- the same with its CR LF
+-- an integer in its canonical digits, with CR LF
 pub record IsIntegerText (text : List ℕ) : Type 0 where
   pub line : List ℕ
   pub is_integer : IsInteger line
   pub whole : text ≡ line ++ crlf []
 
--- the length of a bulk string within the limit, its content, and the CR LF after each
+-- the length of a bulk string within the limit, its content, and CR LF after each
 pub record IsBulkWithin (limits : Bounds) (text : List ℕ) : Type 0 where
   pub content : List ℕ
   pub is_text : IsText content
   pub short : length content ≤ limits.length
   pub whole : text ≡ decimal (length content) ++ crlf (content ++ crlf [])
 
--- the text stands after this type byte, of a value without members
+-- the text follows this type byte of a value without members
 abbrev pub FollowsByte : Bounds → ℕ → List ℕ → Type 0
 FollowsByte limits kind text =
     (((kind ≡ byte "+") ⊎ (kind ≡ byte "-")) × IsLineWithin limits text)

@@ -1,4 +1,4 @@
--- What `canon` has taken of a value.
+-- The part of a value that `canon` has read.
 use Rattle.std.specs.Prelude.{◌≡◌, ℕ, List, []}
 use Rattle.resp_value.specs.Rules.{Rules}
 use Rattle.resp_scan.specs.Kinds.{rules_of}
@@ -8,8 +8,8 @@ use Rattle.resp_tool.specs.Drafts.{HasDrafted}
 use Rattle.resp_tool.specs.Scans.{HasScanned}
 use Rattle.resp_tool.specs.declared.draft.Draft.{Draft}
 
--- a scanner under these rules has read a front in which no value has ended, the draft has the text of its events, and
--- nothing was written of it
+-- A scanner under these rules has read the beginning of a value, the draft has the text of its events, and nothing of
+-- the value was written.
 pub record HasBegunDraft (r : Rules) (s : Place) (draft : Draft) (front so_far : List ℕ) : Type 0 where
   pub given : Events
   pub scanned : HasScanned s front given

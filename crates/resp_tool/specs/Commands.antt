@@ -1,4 +1,4 @@
--- Words of the worked examples of command lines.
+-- The words of the worked examples of command lines.
 use Rattle.std.specs.Prelude.{◌≡◌, ℕ, Bool, true, false, List, [], ◌∷◌, codes}
 use Rattle.clap.specs.Words.{App, Text, fault_of}
 use Rattle.resp_value.specs.Bounds.{Bounds}
@@ -9,7 +9,7 @@ use Rattle.resp_tool.specs.declared.asked.Asked.TheVariants.{Stream, Play}
 use Rattle.resp_tool.specs.declared.options.Options.{Options}
 use Rattle.resp_tool.specs.declared.options.Task.{Task}
 
--- options that are these, whatever holds the file's name
+-- the options have these values, whatever holds the file's name
 pub record AreOptions (task : Task) (version : Version) (limits : Bounds) (piece : ℕ) (file : Text) (explains : Bool)
     (options : Options) : Type 0 where
   pub of_task : options.task ≡ task
@@ -24,20 +24,20 @@ abbrev pub AskForThese : List Text → (Options → Type 0) → Type 0
 AskForThese words These = (program : App) → IsProgram program → (options : Options) → These options
     → AskFor program words (Stream options)
 
--- and these for a script to be played, where this says whether a bad line is explained
+-- the words ask for a script to be played; the flag says whether a bad line is explained
 abbrev pub AskToPlay : List Text → Bool → Type 0
 AskToPlay words explains = (program : App) → IsProgram program → AskFor program words (Play explains)
 
--- and these for something, but for no stream to be read
+-- the words ask for something other than reading a stream
 abbrev pub AskForNoStream : List Text → Type 0
 AskForNoStream words = (program : App) → IsProgram program → (fault_of program words ≡ []) ×
     ((options : Options) → AskFor program words (Stream options) → ⊥)
 
--- and these are wrong
+-- the words are wrong
 abbrev pub AreWrongWords : List Text → Type 0
 AreWrongWords words = (program : App) → IsProgram program → AreWrong AskFor program words
 
--- and these ask for help
+-- the words ask for help
 abbrev pub AreWordsForHelp : List Text → Type 0
 AreWordsForHelp words = (program : App) → IsProgram program → AskForHelp program words
 
@@ -45,7 +45,7 @@ AreWordsForHelp words = (program : App) → IsProgram program → AskForHelp pro
 abbrev pub show_alone : List Text
 show_alone = codes "resp" ∷ codes "show" ∷ []
 
--- the limits where none is given
+-- the limits if none is given
 abbrev pub default_limits : Bounds
 default_limits = record {
   depth = 32;
@@ -56,7 +56,7 @@ default_limits = record {
   doubles = false;
 }
 
--- no depth over 128, no option twice, and no words without a task
+-- wrong words: a depth over 128, an option given twice, and no subcommand
 abbrev pub too_deep : List Text
 too_deep = codes "resp" ∷ codes "check" ∷ codes "--depth" ∷ codes "129" ∷ []
 
@@ -66,11 +66,11 @@ depth_twice = codes "resp" ∷ codes "check" ∷ codes "--depth" ∷ codes "4" �
 abbrev pub no_task : List Text
 no_task = codes "resp" ∷ []
 
--- no stream is read where clients are served
+-- words that serve clients, and read no stream
 abbrev pub served : List Text
 served = codes "resp" ∷ codes "serve" ∷ codes "127.0.0.1:6380" ∷ []
 
--- a script is played, and a bad line of it is explained
+-- words that play a script and explain a bad line
 abbrev pub explained_loop : List Text
 explained_loop = codes "resp" ∷ codes "loop" ∷ codes "--explain" ∷ []
 

@@ -1,4 +1,4 @@
--- What `check` writes of a stream.
+-- The text that `check` writes for a stream.
 use Rattle.std.specs.Prelude.{ℕ, ◌≤◌, List, [], ◌++◌, length, codes, decimal, Option, Result, Ok, Err}
 use Rattle.resp_value.specs.Data.{Datum}
 use Rattle.resp_value.specs.Devices.{Appends}
@@ -14,7 +14,7 @@ use Rattle.resp_tool.specs.declared.tool_error.ToolError.TheVariants.{Write}
 abbrev pub counts_line : ℕ → ℕ → List ℕ
 counts_line values bytes = codes "values " ++ decimal values ++ codes " bytes " ++ decimal bytes ++ codes "\n"
 
--- the bytes are values and nothing more, and this holds of the line of their counts
+-- the bytes are a sequence of values, and IsLine holds of the line of their counts
 pub record CountsBy (IsLine : List ℕ → Type 0) (r : Rules) (bytes : List ℕ) : Type 0 where
   pub values : List Datum
   pub cut : Cut r bytes values []
@@ -25,7 +25,7 @@ pub record CountsBy (IsLine : List ℕ → Type 0) (r : Rules) (bytes : List ℕ
 abbrev pub CountsAll : Rules → List ℕ → Option (List ℕ) → Option (List ℕ) → Type 0
 CountsAll r bytes before after = CountsBy (Appends before after) r bytes
 
--- a first part of the line was appended
+-- the first part of the line was appended
 abbrev pub CountsPart : Rules → List ℕ → Option (List ℕ) → Option (List ℕ) → Type 0
 CountsPart r bytes before after = CountsBy (AppendsPart before after) r bytes
 
@@ -33,15 +33,15 @@ CountsPart r bytes before after = CountsBy (AppendsPart before after) r bytes
 abbrev pub no_text : Datum → List ℕ
 no_text x = []
 
--- each value is looked at
+-- each value is read
 abbrev pub IsAny : Datum → Type 0
 IsAny x = Unit {0}
 
--- nothing stands of a value that goes no further
+-- nothing was written for an incomplete value
 abbrev pub LeavesNothing : List ℕ → List ℕ → Type 0
 LeavesNothing front text = IsNothing text
 
--- what comes of bytes that were read: the line of counts, or nothing and the reason to stop
+-- the result for the bytes that were read: the line of counts, or nothing and an error
 abbrev pub Counts : Rules → List ℕ → Option (List ℕ) → Option (List ℕ) → Result (Unit {0}) ToolError → Type 0
 Counts r bytes before after (Ok x) = CountsAll r bytes before after
 Counts r bytes before after (Err Write) = CountsPart r bytes before after

@@ -1,4 +1,4 @@
--- The canonical text of a value that is being read, by what its events have built.
+-- The canonical text of a value that is being read, from the value that its events have built.
 use Rattle.std.specs.Prelude.{◌≡◌, ◌⊎◌, ℕ, ◌+◌, ◌-◌, ◌^◌, Bool, true, Option, None, Some, List, [], ◌∷◌, ◌++◌, flat_map}
 use Rattle.std.specs.Prelude.{drop, length, min, reverse, take}
 use Rattle.resp_value.specs.Bytes.{crlf}
@@ -20,13 +20,13 @@ use Rattle.resp_tool.specs.declared.draft.OpenAggregate.{OpenAggregate}
 abbrev pub head_text : Kind → ℕ → List ℕ
 head_text kind number = kind_byte kind ∷ decimal number ++ crlf []
 
--- the head is appended where its number is known
+-- the head is appended if its number is known
 abbrev pub AppendsKnownHead : Kind → Option ℕ → List ℕ → List ℕ → Type 0
 AppendsKnownHead kind None before after = after ≡ before
 AppendsKnownHead kind (Some number) before after = after ≡ before ++ head_text kind number
 
--- After the text of what is around it stands the head of an open aggregate, where its number is known, and then the
--- texts of its finished members.
+-- After the text before it, the text contains the head of an open aggregate, if its number is known, followed by the
+-- texts of its complete members.
 pub record StandsOpen (version : Version) (o : OpenAggregate) (g : Group) (outer text : List ℕ) : Type 0 where
   pub kind : kind_of o.kind ≡ g.kind
   pub members : o.members ≡ min (length g.members) (2 ^ 64 - 1)
@@ -36,7 +36,7 @@ pub record StandsOpen (version : Version) (o : OpenAggregate) (g : Group) (outer
   pub counted : (number : ℕ) → o.count ≡ Some number → head ≡ head_text g.kind number
   pub parts : text ≡ outer ++ (head ++ flat_map (canonical_text version) g.members)
 
--- the text of all open aggregates, the innermost first, after what stands at the top
+-- the text of all open aggregates, the innermost first, after the text at the top
 abbrev pub StandOpen : Version → List OpenAggregate → List Group → List ℕ → List ℕ → Type 0
 StandOpen version [] [] top text = text ≡ top
 StandOpen version [] (g ∷ gs) top text = ⊥
@@ -44,7 +44,7 @@ StandOpen version (o ∷ os) [] top text = ⊥
 StandOpen version (o ∷ os) (g ∷ gs) top text =
     (outer : List ℕ) × StandsOpen version o g outer text × StandOpen version os gs top outer
 
--- the text of the whole value, if there is one
+-- the text of the complete value, if there is one
 abbrev pub whole_text : Version → Option Datum → List ℕ
 whole_text version None = []
 whole_text version (Some x) = canonical_text version x
@@ -55,7 +55,7 @@ IsRead None content None = content ≡ []
 IsRead (Some kind) content (Some text) = (text_kind_of kind ≡ text.kind) × (content ≡ text.content)
 IsRead _ content _ = ⊥
 
--- the draft has the text of what is built
+-- the draft has the text of what the events have built
 pub record IsDraftOf (draft : Draft) (b : Construction) : Type 0 where
   pub opens : StandOpen draft.version (reverse draft.aggregates.items) b.groups (whole_text draft.version b.whole)
       draft.text.items
@@ -65,21 +65,21 @@ pub record IsDraftOf (draft : Draft) (b : Construction) : Type 0 where
 abbrev pub HasDrafted : Version → Draft → Events → Type 0
 HasDrafted version draft given = (draft.version ≡ version) × IsDraftOf draft (built_from given)
 
--- where a call over events that may come goes on, their text is added
+-- if a call goes on, the text of its events is added
 abbrev pub DraftsWhereFit : Draft → Draft → Events → Bool → Type 0
 DraftsWhereFit old new more goes_on = (b : Construction) → MayAllCome more b → IsDraftOf old b → goes_on ≡ true →
     (new.version ≡ old.version) × IsDraftOf new (with_events more b)
 
--- one value more has ended in the innermost aggregate
+-- the innermost aggregate has one more complete member
 abbrev pub CountsOne : List OpenAggregate → List OpenAggregate → Type 0
 CountsOne [] new = new ≡ []
 CountsOne (o ∷ os) new = new ≡ record o { members = min (o.members + 1) (2 ^ 64 - 1) } ∷ os
 
--- the number that belongs into the head of an aggregate that ends
+-- the number for the head of an aggregate that ends
 abbrev pub number_of : OpenAggregate → ℕ
 number_of o = items_of (kind_of o.kind) o.members
 
--- the text with that head: it stands there, or is put before the members
+-- the text with that head: it is there already, or is inserted before the members
 abbrev pub WithHead : OpenAggregate → List ℕ → List ℕ → Type 0
 WithHead o text closed = ((o.count ≡ Some (number_of o)) × (closed ≡ text)) ⊎
     (closed ≡ take o.head_at text ++ (head_text (kind_of o.kind) (number_of o) ++ drop o.members_at text))

@@ -1,4 +1,4 @@
--- What is said, for people, of the place where a stream was refused.
+-- The lines that explain an error in a stream.
 use Rattle.std.specs.Prelude.{◌≡◌, ℕ, ◌+◌, ◌-◌, ◌≤◌, false, List, [], ◌++◌, length, drop, codes, decimal, replicate, Option}
 use Rattle.resp_value.specs.Data.{Datum}
 use Rattle.resp_value.specs.Devices.{Appends, last_count}
@@ -19,17 +19,17 @@ use Rattle.resp_tool.specs.declared.watched.Watched.{Watched}
 abbrev pub rules_watched : {R : Type 0} → Watched R → Rules
 rules_watched w = rules_of w.starts.scanner
 
--- of these bytes all but the last were gone through, and those are held
+-- all of these bytes except the last ones were scanned, and the last ones are held
 pub record Watches {R : Type 0} (w : Watched R) (bytes : List ℕ) : Type 0 where
   pub done : List ℕ
   pub whole : bytes ≡ done ++ drop (length w.held.items - w.fresh) w.held.items
   pub passed : HavePassed w.starts done
 
--- these bytes were read while it watched; where memory was refused nothing is claimed of them
+-- these bytes were read through this source; if an allocation failed, nothing is stated about them
 abbrev pub HasWatched : {R : Type 0} → Watched R → List ℕ → Type 0
 HasWatched w bytes = w.is_lost ≡ false → Watches w bytes
 
--- this many bytes stand before this byte of the value with this number, where 64 bits hold that
+-- this many bytes are before this byte of the value with this number, if the number fits into 64 bits
 pub record IsPlace (r : Rules) (bytes : List ℕ) (value at place : ℕ) : Type 0 where
   pub values : List Datum
   pub front : List ℕ
@@ -39,46 +39,46 @@ pub record IsPlace (r : Rules) (bytes : List ℕ) (value at place : ℕ) : Type 
   pub counted : length values + 1 ≡ value
   pub placed : length front + at ≤ last_count → place ≡ length front + at
 
--- what reads a double
+-- which options accept a double
 abbrev pub double_text : Version → List ℕ
-double_text Two = codes "a double; --doubles and --proto 3 read it"
-double_text Three = codes "a double; --doubles reads it"
+double_text Two = codes "a double; accepted with --doubles and --proto 3"
+double_text Three = codes "a double; accepted with --doubles"
 
--- why a byte was refused, and which option lets it through
+-- why a byte is not valid, and which option accepts it
 abbrev pub cause_text : Rules → ℕ → Cause → List ℕ
 cause_text r missing cause.Double = double_text r.version
-cause_text r missing cause.Version = codes "version 2 doesn't have this; --proto 3 reads it"
-cause_text r missing cause.NestedPush = codes "a push stands at the top alone"
+cause_text r missing cause.Version = codes "version 2 doesn't have this; try --proto 3"
+cause_text r missing cause.NestedPush = codes "a push cannot be inside another value"
 cause_text r missing cause.Range = codes "the integer doesn't fit into 64 bits"
 cause_text r missing cause.Depth =
-    codes "over --depth " ++ decimal r.limits.depth ++ codes ": aggregates inside one another"
+    codes "aggregates are nested deeper than --depth " ++ decimal r.limits.depth ++ codes " allows"
 cause_text r missing cause.Length =
-    codes "over --length " ++ decimal r.limits.length ++ codes ": bytes of one string or line"
+    codes "a string or line is longer than --length " ++ decimal r.limits.length ++ codes " allows"
 cause_text r missing cause.Items =
-    codes "over --items " ++ decimal r.limits.items ++ codes ": members or pairs of one aggregate"
+    codes "an aggregate has more members or pairs than --items " ++ decimal r.limits.items ++ codes " allows"
 cause_text r missing cause.Total =
-    codes "over --total " ++ decimal r.limits.total ++ codes ": bytes of one value"
-cause_text r missing cause.Streamed = codes "a streamed form; without --no-streamed it is read"
+    codes "the value needs more bytes than --total " ++ decimal r.limits.total ++ codes " allows"
+cause_text r missing cause.Streamed = codes "a streamed string or aggregate; accepted without --no-streamed"
 cause_text r missing cause.Truncated =
-    codes "the input ends; bytes that are missing at least: " ++ decimal missing ++ codes ""
-cause_text r missing _ = codes "no spelling goes on so"
+    codes "the input ends inside a value; bytes missing: at least " ++ decimal missing ++ codes ""
+cause_text r missing _ = codes "a valid value cannot contain this byte here"
 
--- the first line up to the place
+-- the first line up to the place of the error
 abbrev pub margin_text : ℕ → List ℕ → List ℕ
 margin_text place before = codes "  at byte " ++ decimal place ++ codes " of the input: " ++ quoted_text before
 
--- what is said of the reason that the program stops for, at some value
+-- the sentence about an error in some value
 abbrev pub sentence_text : Rules → ℕ → ToolError → List ℕ
 sentence_text r missing (Refused value c at) = cause_text r missing c
-sentence_text r missing (OverLimits value) = codes "its canonical spelling is over the limits"
-sentence_text r missing _ = codes "no more than 1000000000 values are read"
+sentence_text r missing (OverLimits value) = codes "the canonical text of this value is over the limits"
+sentence_text r missing _ = codes "a run reads at most 1000000000 values"
 
--- a line that ends with the bytes from a place on, and a line with a caret and a sentence after a blank
+-- a line that ends with the bytes from the place on, and a line with a caret and a sentence after blanks
 abbrev pub explanation_lines : List ℕ → List ℕ → List ℕ → List ℕ → List ℕ
 explanation_lines margin after blank sentence =
     margin ++ (quoted_text after ++ (codes "\n" ++ (blank ++ (codes "^ " ++ (sentence ++ codes "\n")))))
 
--- The place of a byte of a value was told, with some bytes before and after it, and below the place a caret and the
+-- The place of a byte of a value was written, with some bytes before and after it, and below the place a caret and the
 -- sentence.
 pub record ExplainsAt (r options : Rules) (bytes : List ℕ) (value at : ℕ) (said said' : Option (List ℕ))
     (error : ToolError) : Type 0 where
@@ -90,7 +90,7 @@ pub record ExplainsAt (r options : Rules) (bytes : List ℕ) (value at : ℕ) (s
   pub told : Appends said said' (explanation_lines (margin_text place before) after
       (replicate (length (margin_text place before)) 32) (sentence_text options missing error))
 
--- a refusal was explained at its place, and nothing where a device or memory failed
+-- an error in the input was explained at its place; nothing was written if a device or an allocation failed
 abbrev pub Explains : Rules → Rules → List ℕ → Option (List ℕ) → Option (List ℕ) → ToolError → Type 0
 Explains r options bytes said said' (Refused value c at) =
     ExplainsAt r options bytes value at said said' (Refused value c at)

@@ -1,11 +1,11 @@
--- The line and the status of each reason to stop.
+-- The line and the exit status for each error.
 use Rattle.std.specs.Prelude.{ℕ, List, ◌++◌, codes, decimal}
 use Rattle.resp_value.specs.Causes.{name_of}
 use Rattle.resp_tool.specs.Tried.{refusal_line}
 use Rattle.resp_tool.specs.declared.tool_error.ToolError.{ToolError}
 use Rattle.resp_tool.specs.declared.tool_error.ToolError.TheVariants.{Refused, OverLimits, TooManyValues, Read, Write, TooManyTurns, Memory}
 
--- the line that says why the program stops
+-- the line for standard error
 abbrev pub fault_line : ToolError → List ℕ
 fault_line (Refused value cause at) = refusal_line value (name_of cause) at
 fault_line (OverLimits value) = codes "value " ++ decimal value ++ codes ": OverLimits\n"
@@ -15,13 +15,13 @@ fault_line Write = codes "write failed\n"
 fault_line TooManyTurns = codes "too many turns\n"
 fault_line Memory = codes "out of memory\n"
 
--- 1 for an input that was refused, and 3 for a device or memory that failed
+-- 1 for an error in the input, and 3 if a device or an allocation failed
 abbrev pub status_of : ToolError → ℕ
 status_of (Refused value cause at) = 1
 status_of (OverLimits value) = 1
 status_of TooManyValues = 1
 status_of _ = 3
 
--- the line of a file that can't be opened, and why
+-- the line for a file that can't be opened, with the reason
 abbrev pub open_failed_line : List ℕ → List ℕ → List ℕ
 open_failed_line name why = codes "open failed: " ++ (name ++ (codes ": " ++ (why ++ codes "\n")))

@@ -1,4 +1,4 @@
--- What the program keeps of the lines so far.
+-- The state of the lines, as the code represents it.
 use Rattle.std.specs.Prelude.{ℕ, ◌+◌, ◌-◌, ◌<◌, ◌^◌, List, [], ◌∷◌, min, reverse, map, Option, None, Some}
 use Rattle.std.specs.List.{AllByRecursion}
 use Rattle.resp_value.specs.Kinds.{kind_of}
@@ -16,11 +16,11 @@ abbrev pub text_of : Option text.OpenText → Option OpenText
 text_of None = None
 text_of (Some t) = Some (record { is_big = t.is_big; size = t.size })
 
--- what is open
+-- the open aggregates and texts
 abbrev pub page_of : Lines → Page
 page_of lines = record { open_lines = map line_of (reverse lines.aggregates.items); text = text_of lines.text }
 
--- one member more of the innermost aggregate
+-- the innermost aggregate has one more member
 abbrev pub with_added : List line.OpenLine → List line.OpenLine
 with_added [] = []
 with_added (l ∷ ls) = record l { members = min (l.members + 1) (2 ^ 64 - 1) } ∷ ls

@@ -1,4 +1,4 @@
--- The text of events as they come: each gives a piece, which hangs on it and on the events before it.
+-- The text of events as they arrive: each event adds a piece, which depends on it and on the events before it.
 use Rattle.std.specs.Prelude.{ℕ, ◌+◌, ◌==◌, Bool, true, false, cond, List, [], ◌∷◌, ◌++◌, length, codes, decimal, Option, None, Some}
 use Rattle.std.specs.Fmt.{signed_decimal}
 use Rattle.resp_value.specs.Data.{Kind, Attr, items_of}
@@ -8,43 +8,43 @@ use Rattle.resp_fronts.specs.Events.{Event, TextKind}
 use Rattle.resp_fronts.specs.Events as e
 use Rattle.resp_print.specs.Shown.{indentation, kind_word, quoted_byte, quoted_text, truth_word}
 
--- an aggregate whose first line was written and whose last wasn't: its kind, the number in its head, and how many of
--- its members were written
+-- an aggregate whose first line was written and whose last was not: its kind, the number in its head, and the number of
+-- its members that were written
 pub record OpenLine : Type 0 where
   pub kind : Kind
   pub count : Option ℕ
   pub members : ℕ
 
--- a text that was begun: whether it is a big number, and how many of its bytes were written
+-- a text that was begun: whether it is a big number, and the number of its bytes that were written
 pub record OpenText : Type 0 where
   pub is_big : Bool
   pub size : ℕ
 
--- what is open in the lines so far: the aggregates, the innermost first, and the text that was begun
+-- the open parts of the lines so far: the aggregates, the innermost first, and the text that was begun
 pub record Page : Type 0 where
   pub open_lines : List OpenLine
   pub text : Option OpenText
 
--- nothing has been written of a value
+-- the state before the first event
 abbrev pub blank : Page
 blank = record { open_lines = []; text = None }
 
--- an attribute has all its pairs, so that the value comes which it annotates
+-- an attribute has all its pairs, so that the value that it belongs to comes next
 abbrev pub has_all_pairs : Kind → Option ℕ → ℕ → Bool
 has_all_pairs Attr (Some pairs) members = members == pairs + pairs
 has_all_pairs _ _ _ = false
 
--- the line `of` before the value that an attribute annotates
+-- the line `of` before the value that an attribute belongs to
 abbrev pub of_line : List OpenLine → List ℕ
 of_line [] = []
 of_line (line ∷ lines) =
     cond (has_all_pairs line.kind line.count line.members) (indentation (length lines) ++ codes "of\n") []
 
--- what stands before a value on its line, and the line `of`
+-- the beginning of a value's line, after the line `of`
 abbrev pub beginning : Page → List ℕ
 beginning p = of_line p.open_lines ++ indentation (length p.open_lines)
 
--- the words up to a text's content
+-- the words before a text's content
 abbrev pub text_words : TextKind → List ℕ
 text_words e.Simple = codes "simple \""
 text_words e.Error = codes "error \""
@@ -58,13 +58,13 @@ abbrev pub is_big : TextKind → Bool
 is_big (e.Big negative) = true
 is_big _ = false
 
--- what ends the line of a text: a big number's digit where it is zero, and else the number of its bytes
+-- the end of a text's line: the digit of a big number that is zero, otherwise the number of the text's bytes
 abbrev pub end_of_text : Option OpenText → List ℕ
 end_of_text None = []
 end_of_text (Some text) = cond text.is_big (cond (text.size == 0) (codes "0\n") (codes "\n"))
     (codes "\" " ++ decimal text.size ++ codes "\n")
 
--- what stands of a whole text on its line, after the indentation
+-- the line of a complete text, after the indentation
 abbrev pub text_line : TextKind → List ℕ → List ℕ
 text_line kind s = text_words kind ++ (quoted_text s ++ end_of_text (Some (record {
   is_big = is_big kind;
@@ -77,7 +77,7 @@ last_line [] = []
 last_line (line ∷ lines) =
     indentation (length lines) ++ (codes "end " ++ decimal (items_of line.kind line.members) ++ codes "\n")
 
--- the piece that an event gives
+-- the piece that an event adds
 abbrev pub piece_of : Event → Page → List ℕ
 piece_of e.Null p = beginning p ++ codes "null\n"
 piece_of (e.Bool truth) p = beginning p ++ (truth_word truth ++ codes "\n")
@@ -89,31 +89,31 @@ piece_of (e.Open kind count) p = beginning p ++ (kind_word kind ++ codes "\n")
 piece_of e.Close p = last_line p.open_lines
 piece_of e.Done p = []
 
--- one member more was written of the innermost aggregate
+-- one more member of the innermost aggregate was written
 abbrev pub with_member : List OpenLine → List OpenLine
 with_member [] = []
 with_member (line ∷ lines) = record line { members = line.members + 1 } ∷ lines
 
--- the innermost aggregate has ended
+-- the innermost aggregate ended
 abbrev pub without_last : List OpenLine → List OpenLine
 without_last [] = []
 without_last (line ∷ lines) = lines
 
--- one byte more was written of the text
+-- one more byte of the text was written
 abbrev pub with_byte : Option OpenText → Option OpenText
 with_byte None = None
 with_byte (Some text) = Some (record text { size = text.size + 1 })
 
--- this many bytes more
+-- this many more bytes of the text were written
 abbrev pub with_bytes : ℕ → Option OpenText → Option OpenText
 with_bytes n None = None
 with_bytes n (Some text) = Some (record text { size = text.size + n })
 
--- a value was written whole
+-- a value was written completely
 abbrev pub with_value : Page → Page
 with_value p = record p { open_lines = with_member p.open_lines }
 
--- what is open after an event
+-- the state after an event
 abbrev pub page_after_event : Event → Page → Page
 page_after_event e.Null p = with_value p
 page_after_event (e.Bool truth) p = with_value p
@@ -127,25 +127,25 @@ page_after_event (e.Open kind count) p = record p {
 page_after_event e.Close p = record p { open_lines = with_member (without_last p.open_lines) }
 page_after_event e.Done p = p
 
--- what is open after some events
+-- the state after some events
 abbrev pub page_after : List Event → Page → Page
 page_after [] p = p
 page_after (event ∷ es) p = page_after es (page_after_event event p)
 
--- the text of events, after others that have left a page so
+-- the text of events, after other events that have led to this state
 abbrev pub shown_on : Page → List Event → List ℕ
 shown_on p [] = []
 shown_on p (event ∷ es) = piece_of event p ++ shown_on (page_after_event event p) es
 
--- the text of the events of a value, as far as they have come
+-- the text of the events of a value, as far as they have arrived
 abbrev pub shown : List Event → List ℕ
 shown es = shown_on blank es
 
--- what ends a line that is open
+-- the end of an incomplete line
 abbrev pub end_of_line : Option OpenText → List ℕ
 end_of_line None = []
 end_of_line (Some text) = codes "\n"
 
--- the text of the events of a value that goes no further, whose last line ends
+-- the text of the events of an incomplete value, with the end of its last line
 abbrev pub left_text : List Event → List ℕ
 left_text es = shown es ++ end_of_line (page_after es blank).text

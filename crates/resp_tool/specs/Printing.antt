@@ -1,4 +1,4 @@
--- What was printed of a value since a call began.
+-- The text that was printed for a value since a call began.
 use Rattle.std.specs.Prelude.{◌≡◌, ℕ, ◌≤◌, ◌<◌, List, ◌++◌, length, Option}
 use Rattle.resp_value.specs.Devices.{Appends, count_after}
 use Rattle.resp_scan.specs.Counts.{open_count}
@@ -9,7 +9,7 @@ use Rattle.resp_tool.specs.Pages.{page_after, shown}
 use Rattle.resp_tool.specs.Scans.{AreLinesOf}
 use Rattle.resp_tool.specs.declared.lines.Lines.{Lines}
 
--- what stood when a call began: what the writer held, how many writes had failed, and the text of the value so far
+-- the state when a call began: the bytes written, the number of failed writes, and the text of the value so far
 pub record Start : Type 0 where
   pub held : Option (List ℕ)
   pub failures : ℕ
@@ -24,7 +24,7 @@ pub record HasPrinted (since : Start) (lines : Lines) (held : Option (List ℕ))
     pub whole : since.so_far ++ more ≡ shown given
     pub none_failed : failures ≡ since.failures
 
--- since then one write failed, and the text of these events is there in part
+-- since then one write failed, and the first part of the text of these events was written
 pub record HasBroken (since : Start) (held : Option (List ℕ)) (failures : ℕ) (told : Events) : Type 0 where
   pub more : List ℕ
   pub later : List ℕ
@@ -32,7 +32,7 @@ pub record HasBroken (since : Start) (held : Option (List ℕ)) (failures : ℕ)
   pub parts : shown told ≡ since.so_far ++ (more ++ later)
   pub failed : failures ≡ count_after 1 since.failures
 
--- what stood when a call began, and the references that it was given
+-- the state when a call began, and the references that it was given
 pub record Call : Type 0 where
   pub lines_name : ℕ
   pub writer_name : ℕ
@@ -43,13 +43,13 @@ pub record IsOfCall (call : Call) (lines_name writer_name : ℕ) : Type 0 where
   pub lines : lines_name ≡ call.lines_name
   pub writer : writer_name ≡ call.writer_name
 
--- this holds of every front that a scanner has read, and of every start since which the text of its events was
+-- P holds of all bytes that a scanner has read of a value, and of every start since which the text of their events was
 -- completed
 abbrev pub WherePrinted : Place → Lines → Option (List ℕ) → ℕ → (Start → List ℕ → Type 0) → Type 0
 WherePrinted s lines held failures P = (since : Start) (front : List ℕ) (given : Events) → HasRead s front given →
     HasPrinted since lines held failures given → P since front
 
--- what is open is that after these events, where the counts and the lines have room for them
+-- the open parts are those after these events, if the counts and the lines have room for them
 abbrev pub IsPageAfter : Lines → Lines → Events → Type 0
 IsPageAfter old new more = HasRoomFor (length more) (page_of old) →
     (1 ≤ open_count more → length (page_of old).open_lines < 128) → page_of new ≡ page_after more (page_of old)

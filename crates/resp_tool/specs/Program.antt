@@ -1,5 +1,5 @@
--- The program as the parser of its words knows it: its tasks with their options, the range of each number, and what
--- stands for an option that isn't given.
+-- The program as its parser knows it: its subcommands with their options, the range of each number, and the default of
+-- each option.
 use Rattle.std.specs.Prelude.{◌≡◌, ◌++◌, ℕ, ℤ, false, true, List, [], ◌∷◌, Some, codes}
 use Rattle.std.specs.Int.{saturate_unsigned, w64}
 use Rattle.std.specs.List.{list_any}
@@ -18,7 +18,7 @@ use Rattle.clap.specs.declared.builder.value_parser.ValueParser.TheVariants as v
 
 -- ---- options
 
--- `--name VALUE`: what its value has to be, and the value that stands for it where it isn't given
+-- `--name VALUE`: the values that are accepted, and the default
 abbrev pub value_option : Text → ValueParser → Text → Rule
 value_option name parser default = record (new_rule name) {
   long = Some name;
@@ -31,16 +31,16 @@ value_option name parser default = record (new_rule name) {
 abbrev pub number_option : Text → ℕ → ℕ → Text → Rule
 number_option name least most = value_option name (vp.Unsigned least most)
 
--- what the parser makes of a range
+-- the parser's representation of a range
 abbrev pub numbers_between : ℤ → ℤ → ValueParser
 numbers_between least most =
     unsigned_up_to (ord_max nat_cmp 0 (saturate_unsigned w64 least)) 18446744073709551615 (Some most)
 
--- `--name`, which is given or not
+-- `--name`, an option without a value
 abbrev pub flag_option : Text → Rule
 flag_option name = record (new_rule name) { long = Some name; action = Some SetTrue }
 
--- the limits of values
+-- the options that limit values
 abbrev pub limit_options : List Rule
 limit_options =
     number_option (codes "depth") 4 128 (codes "32") ∷
@@ -49,11 +49,11 @@ limit_options =
     number_option (codes "items") 16 1099511627776 (codes "1099511627776") ∷
     flag_option (codes "no-streamed") ∷ []
 
--- the file that is read, a word without a name
+-- the file to read, an argument without a name
 abbrev pub file_word : Rule
 file_word = record (new_rule (codes "file")) { value_names = 1; defaults = codes "-" ∷ [] }
 
--- the options of `show`, `check` and `canon`, where this is what `--proto` takes
+-- the options of `show`, `check` and `canon`, with these versions for `--proto`
 abbrev pub stream_options : ValueParser → List Rule
 stream_options versions = value_option (codes "proto") versions (codes "2") ∷ (limit_options ++
     flag_option (codes "doubles") ∷
@@ -61,11 +61,11 @@ stream_options versions = value_option (codes "proto") versions (codes "2") ∷ 
     flag_option (codes "explain") ∷
     file_word ∷ [])
 
--- an address, a word without a name that has to be given
+-- an address, a required argument without a name
 abbrev pub address_word : Text → Rule
 address_word name = record (new_rule name) { value_names = 1; required = true }
 
--- the options of `serve` and `tap`, before those that only one of them has
+-- the options of `serve` and `tap`, followed by those that only one of them has
 abbrev pub listening_options : List Rule → List Rule
 listening_options others = limit_options ++ number_option (codes "clients") 1 65536 (codes "1000") ∷ others
 
@@ -78,9 +78,9 @@ abbrev pub tap_options : List Rule
 tap_options = listening_options
     (flag_option (codes "time") ∷ address_word (codes "listen") ∷ address_word (codes "server") ∷ [])
 
--- ---- tasks
+-- ---- subcommands
 
--- a task with these options more, after those that it has
+-- a subcommand with these options added after those that it has
 abbrev pub with_options : App → List Rule → App
 with_options task [] = task
 with_options task (option ∷ options) = with_options (with_rule task option) options
@@ -88,11 +88,11 @@ with_options task (option ∷ options) = with_options (with_rule task option) op
 abbrev pub task_shape : Text → List Rule → Shape
 task_shape name options = (with_options (new_app name) options).top
 
--- the program without its tasks: it wants one, and has a version
+-- the program without its subcommands: it requires one, and has a version
 abbrev pub bare_app : App
 bare_app = on_top (λ top. record top { has_version = true; subcommand_required = true }) (new_app (codes "resp"))
 
--- the whole program, where this is what `--proto` takes
+-- the whole program, with these versions for `--proto`
 abbrev pub resp_app : ValueParser → App
 resp_app versions = with_subcommand (with_subcommand (with_subcommand (with_subcommand (with_subcommand
     (with_subcommand bare_app
@@ -103,23 +103,23 @@ resp_app versions = with_subcommand (with_subcommand (with_subcommand (with_subc
     (task_shape (codes "serve") serve_options))
     (task_shape (codes "tap") tap_options)
 
--- it takes 2 and 3, and nothing else
+-- the versions are 2 and 3, and nothing else
 pub record TakesVersions (versions : ValueParser) : Type 0 where
   pub two_and_three : (text : Text) → accepts false versions text ≡
       list_any (λ version. bytes_eq version text) (codes "2" ∷ codes "3" ∷ [])
   pub as_written : reading_of versions ≡ AsWritten
 
--- the program, whose `--proto` takes 2 and 3
+-- the program, with the versions 2 and 3 for `--proto`
 abbrev pub IsProgram : App → Type 0
 IsProgram program = (versions : ValueParser) × TakesVersions versions × (program ≡ resp_app versions)
 
 -- ---- commands in memory
 
--- a parse reads this of the command, which has no option for other commands
+-- the command has these options, and none that applies to other commands
 abbrev pub IsTask : Command → App → Type 0
 IsTask command task = (app_of command ≡ task) × ((out-Command command).has_globals ≡ false)
 
--- the new command is the old one with these options more, none of which is for other commands
+-- the new command has the options of the old one followed by these, none of which applies to other commands
 abbrev pub GainsOptions : Command → List Rule → Command → Type 0
 GainsOptions old options new = (app_of new ≡ with_options (app_of old) options) ×
     ((out-Command new).has_globals ≡ (out-Command old).has_globals)

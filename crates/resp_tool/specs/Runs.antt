@@ -1,4 +1,4 @@
--- What a run of the program does with its stream.
+-- The result of running the program over a stream.
 use Rattle.std.specs.Prelude.{◌≡◌, ◌⊎◌, ◌≤◌, ℕ, false, codes, List, [], Option, Some, IfSome, Result, Ok, Err}
 use Rattle.resp_value.specs.Canonical.{canonical_text, Fits}
 use Rattle.resp_value.specs.Rules.{Rules}
@@ -18,7 +18,7 @@ use Rattle.resp_tool.specs.declared.options.Task.{Task}
 use Rattle.resp_tool.specs.declared.options.Task.TheVariants.{Show, Check, Canon}
 use Rattle.resp_tool.specs.declared.tool_error.ToolError.{ToolError}
 
--- what a task has written of bytes that were read, by how it ended
+-- the text that a task has written for the bytes that were read, depending on how it ended
 abbrev pub TaskWrites : Task → Rules → List ℕ → Option (List ℕ) → Option (List ℕ) → Result (Unit {0}) ToolError → Type 0
 TaskWrites Show r bytes before after result =
     Renders r shown_text IsAny IsShownOf (IsShownIn r) bytes before after result
@@ -26,29 +26,29 @@ TaskWrites Check r bytes before after result = Counts r bytes before after resul
 TaskWrites Canon r bytes before after result =
     Renders r (canonical_text r.version) (Fits r) LeavesNothing LeavesNothing bytes before after result
 
--- at each read of a task that writes as it reads, what is due by then had been sent
+-- before each read of a task that writes as it reads, the text due by then was sent
 abbrev pub Lives : Task → Rules → Option (List ℕ) → Option (List ℕ) → Option (List Look) → Option (List Look) → Type 0
 Lives Show r left before looks looks' = EachRead looks looks' (IsLive r shown_text IsShownDue left before)
 Lives Check r left before looks looks' = Unit {0}
 Lives Canon r left before looks looks' =
     EachRead looks looks' (IsLive r (canonical_text r.version) LeavesNothing left before)
 
--- the status of a task that ended so
+-- the exit status of a task with this result
 abbrev pub status_of_run : Result (Unit {0}) ToolError → ℕ
 status_of_run (Ok x) = 0
 status_of_run (Err e) = status_of e
 
--- nothing is said of what ended well, and of what was refused or failed its line; or one write of that failed
+-- After success nothing is written; after an error its line is written, or one write of it failed.
 abbrev pub TellsOutcome : Option (List ℕ) → Option (List ℕ) → ℕ → ℕ → Result (Unit {0}) ToolError → Type 0
 TellsOutcome said said' failures failures' (Ok x) = (said' ≡ said) × (failures' ≡ failures)
 TellsOutcome said said' failures failures' (Err error) = TriesText said said' failures failures' (fault_line error)
 
--- the line of a failure that ends the program with status 3 was told; or one write of that failed
+-- the line of an error with exit status 3 was written, or one write of it failed
 abbrev pub TellsFailure : Option (List ℕ) → Option (List ℕ) → ℕ → ℕ → Type 0
 TellsFailure said said' failures failures' = (error : ToolError) × (status_of error ≡ 3) ×
     TriesText said said' failures failures' (fault_line error)
 
--- the task ran under the rules, ended with this status, and was told of so
+-- the task ran under these rules, ended with this status, and its error was reported
 pub record HasRun (task : Task) (rules : Rules) (left left' before after said said' : Option (List ℕ))
     (looks looks' : Option (List Look)) (failures failures' status : ℕ) : Type 0 where
   pub bytes : List ℕ
@@ -60,17 +60,17 @@ pub record HasRun (task : Task) (rules : Rules) (left left' before after said sa
   pub ended : status_of_run result ≡ status
   pub told : TellsOutcome said said' failures failures' result
 
--- the status of words that ask for help, that are wrong or that nothing was done for since a device or memory failed
+-- the status of words that ask for help, of wrong words, or after a failed device or allocation
 abbrev pub IsWordStatus : ℕ → Type 0
 IsWordStatus status = (status ≡ 0) ⊎ (2 ≤ status) × (status ≤ 3)
 
--- the words ask for a task over standard input, and for nothing that is done elsewhere
+-- the words ask for a task over standard input, and for nothing else
 abbrev pub AskForRun : App → List Text → Options → Type 0
 AskForRun program words options =
     AskFor program words (Stream options) × (options.file.now ≡ codes "-") × (options.explains ≡ false)
 
--- what the words bring about, where the first says that nothing was read, and the second which options were run: help, or
--- nothing since they are wrong, or since a device or memory failed, or a run of what they ask for
+-- The result of a command line: help, a usage error, a failed device or allocation, or a run of the options. The first
+-- proposition says that nothing was read, the second one which options were run.
 abbrev pub DoesWords : App → List Text → Type 0 → (Options → Type 0) → ℕ → Type 0
 DoesWords program words Stays Runs status =
     (Stays × (status ≡ 0) × AskForHelp program words)

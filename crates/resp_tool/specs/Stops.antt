@@ -1,21 +1,21 @@
--- Why the program stops, where a value is not read and written to its end.
+-- The errors of a value that is not read and written completely.
 use Rattle.std.specs.Prelude.{ℕ, Bool, true, false, Result, Ok, Err}
 use Rattle.resp_tool.specs.declared.rendering.Stop.{Stop}
 use Rattle.resp_tool.specs.declared.rendering.Stop.TheVariants as stop
 use Rattle.resp_tool.specs.declared.tool_error.ToolError.{ToolError}
 use Rattle.resp_tool.specs.declared.tool_error.ToolError.TheVariants.{Refused, OverLimits, Write, Memory}
 
--- whether the stop is by a failed write
+-- whether the error is a failed write
 abbrev pub is_of_writer : Stop → Bool
 is_of_writer stop.Write = true
 is_of_writer _ = false
 
--- and whether a call stopped so
+-- whether a call ended with that error
 abbrev pub failed_to_write : {X : Type 0} → Result X Stop → Bool
 failed_to_write (Ok x) = false
 failed_to_write (Err s) = is_of_writer s
 
--- why the program stops at the value with this number
+-- the error of the program, if the value with this number stopped it
 abbrev pub error_of : ℕ → Stop → ToolError
 error_of value (stop.Fault fault) = Refused value fault.cause fault.at
 error_of value stop.OverLimits = OverLimits value

@@ -1,4 +1,4 @@
--- What a call has read of its stream, and what it has written for that.
+-- The bytes that a call has read of its stream, and the text that it has written for them.
 use Rattle.std.specs.Prelude.{◌≡◌, ◌⊎◌, ℕ, ◌+◌, ◌<◌, ◌≤◌, Bool, true, false, List, [], ◌++◌, length, take, flat_map, Option, None, Some, Result, Ok, Err, IsErrOf}
 use Rattle.std.specs.List.{AllByRecursion}
 use Rattle.resp_value.specs.Data.{Datum}
@@ -12,7 +12,7 @@ use Rattle.resp_tool.specs.declared.stream.Totals.{Totals}
 use Rattle.resp_tool.specs.declared.tool_error.ToolError.{ToolError}
 use Rattle.resp_tool.specs.declared.tool_error.ToolError.TheVariants.{Refused, OverLimits, TooManyValues, Read, Write, TooManyTurns}
 
--- these bytes were read of those that were left, where the reader tells them
+-- these bytes were read from the remaining input, if the reader states it
 abbrev pub AreRead : Option (List ℕ) → Option (List ℕ) → List ℕ → Type 0
 AreRead None after bytes = Unit {0}
 AreRead (Some left) after bytes = (rest : List ℕ) × (after ≡ Some rest) × (left ≡ bytes ++ rest)
@@ -21,39 +21,39 @@ AreRead (Some left) after bytes = (rest : List ℕ) × (after ≡ Some rest) × 
 abbrev pub most_values : ℕ
 most_values = 1000000000
 
--- whether a call stopped for a reason that passes this test
+-- whether a call ended with an error that passes this test
 abbrev pub stopped_by : {X : Type 0} → (ToolError → Bool) → Result X ToolError → Bool
 stopped_by test (Ok x) = false
 stopped_by test (Err error) = test error
 
--- whether the stop is by a failed read
+-- whether the error is a failed read
 abbrev pub is_of_reader : ToolError → Bool
 is_of_reader Read = true
 is_of_reader _ = false
 
--- and whether a call stopped so
+-- whether a call ended with that error
 abbrev pub failed_to_read : {X : Type 0} → Result X ToolError → Bool
 failed_to_read result = stopped_by is_of_reader result
 
--- How a call used its reader, of whose reads, and of whose failed reads, these are the counts before and after: it read
--- no more often than this, just so often where it stopped for that, and a read failed where it stopped for that.
+-- How a call used its reader: it made at most this many reads, exactly this many if the result is that error, and a
+-- read failed if the result is that error. The counts of reads and failed reads are those before and after the call.
 pub record UsesReader {X : Type 0} (most : ℕ) (result : Result X ToolError) (calls calls' failures failures' : ℕ) :
     Type 0 where
   pub bounded : calls' ≤ calls + most
   pub used_up : IsErrOf result TooManyTurns → calls' ≡ count_after most calls
   pub failed : failures' ≡ failures_after (failed_to_read result) failures
 
--- whether the stop is by a failed write
+-- whether the error is a failed write
 abbrev pub is_of_writer : ToolError → Bool
 is_of_writer Write = true
 is_of_writer _ = false
 
--- and whether a call stopped so
+-- whether a call ended with that error
 abbrev pub failed_to_write : {X : Type 0} → Result X ToolError → Bool
 failed_to_write result = stopped_by is_of_writer result
 
--- the bytes are values that are written and nothing more, no more than the most of one run, and their texts were
--- appended, in order
+-- The bytes are a sequence of values that are written, at most as many as one run allows, and their texts were appended
+-- in order.
 pub record RendersAll (r : Rules) (text : Datum → List ℕ) (IsWritten : Datum → Type 0) (bytes : List ℕ)
     (before after : Option (List ℕ)) (values : List Datum) : Type 0 where
   pub cut : Cut r bytes values []
@@ -61,8 +61,8 @@ pub record RendersAll (r : Rules) (text : Datum → List ℕ) (IsWritten : Datum
   pub all_written : AllByRecursion IsWritten values
   pub appended : Appends before after (flat_map text values)
 
--- The bytes are the values before the one with this number and a rest that is refused so. The texts of these values
--- were appended, and what stands of the rest.
+-- The bytes are the values before the one with this number, and a rest with this error. The texts of these values were
+-- appended, and the text left for the rest.
 pub record RendersFront (r : Rules) (text : Datum → List ℕ) (IsWritten : Datum → Type 0)
     (IsLeft : List ℕ → List ℕ → Type 0) (bytes : List ℕ) (before after : Option (List ℕ)) (number : ℕ) (c : Cause)
     (at : ℕ) : Type 0 where
@@ -76,8 +76,8 @@ pub record RendersFront (r : Rules) (text : Datum → List ℕ) (IsWritten : Dat
   pub is_left : IsLeft (take at rest) left
   pub appended : Appends before after (flat_map text values ++ left)
 
--- the bytes begin with the values before the one with this number and with that one, which isn't written; the texts of
--- the values before it were appended
+-- The bytes begin with the values up to the one with this number, which is not written. The texts of the values before
+-- it were appended.
 pub record RendersUpTo (r : Rules) (text : Datum → List ℕ) (IsWritten : Datum → Type 0) (bytes : List ℕ)
     (before after : Option (List ℕ)) (number : ℕ) : Type 0 where
   pub values : List Datum
@@ -93,7 +93,7 @@ pub record RendersUpTo (r : Rules) (text : Datum → List ℕ) (IsWritten : Datu
   pub not_written : IsWritten value → ⊥
   pub appended : Appends before after (flat_map text values)
 
--- the bytes begin with spellings of values
+-- the bytes begin with encodings of values
 pub record Begins (r : Rules) (bytes : List ℕ) : Type 0 where
   pub values : List Datum
   pub front : List ℕ
@@ -101,7 +101,7 @@ pub record Begins (r : Rules) (bytes : List ℕ) : Type 0 where
   pub spelled : AreSpellings r values front
   pub whole : bytes ≡ front ++ rest
 
--- the bytes are the most values of one run and more, and the texts of these values were appended
+-- the bytes are more than the most values of one run, and the texts of these values were appended
 pub record RendersMost (r : Rules) (text : Datum → List ℕ) (IsWritten : Datum → Type 0) (bytes : List ℕ)
     (before after : Option (List ℕ)) : Type 0 where
   pub begins : Begins r bytes
@@ -110,8 +110,8 @@ pub record RendersMost (r : Rules) (text : Datum → List ℕ) (IsWritten : Datu
   pub all_written : AllByRecursion IsWritten begins.values
   pub appended : Appends before after (flat_map text begins.values)
 
--- the bytes begin with values and with bytes for which this may be written, and a first part of the texts of the values
--- and of that was appended
+-- The bytes begin with values, followed by bytes for which this text may be written. The first part of the texts of the
+-- values and of that text was appended.
 pub record RendersPart (r : Rules) (text : Datum → List ℕ) (IsBegun : List ℕ → List ℕ → Type 0) (bytes : List ℕ)
     (before after : Option (List ℕ)) : Type 0 where
   pub begins : Begins r bytes
@@ -122,7 +122,7 @@ pub record RendersPart (r : Rules) (text : Datum → List ℕ) (IsBegun : List �
   pub parts : flat_map text begins.values ++ begun ≡ part ++ later
   pub appended : Appends before after part
 
--- what was written for bytes that were read, where the call stops for this reason
+-- the text that was written for the bytes that were read, if the call ends with this error
 abbrev pub RendersStopped : Rules → (Datum → List ℕ) → (Datum → Type 0) → (List ℕ → List ℕ → Type 0) →
     (List ℕ → List ℕ → Type 0) → List ℕ → Option (List ℕ) → Option (List ℕ) → ToolError → Type 0
 RendersStopped r text IsWritten IsLeft IsBegun bytes before after (Refused number c at) =
@@ -133,14 +133,14 @@ RendersStopped r text IsWritten IsLeft IsBegun bytes before after TooManyValues 
     RendersMost r text IsWritten bytes before after
 RendersStopped r text IsWritten IsLeft IsBegun bytes before after e = RendersPart r text IsBegun bytes before after
 
--- a fact of the end of the input: the call read it to its end
+-- a fact about the end of the input: the call has read it to its end
 abbrev pub AtEnd : {X : Type 0} → Result X ToolError → Type 0 → Type 0
 AtEnd (Ok x) P = P
 AtEnd (Err (Refused number cause.Truncated at)) P = P
 AtEnd (Err e) P = Unit {0}
 
--- What was written of bytes so far: the texts of the values in them, and what is called for by the bytes of the next
--- that were taken. After the most values of one run none were.
+-- The text that was written for the bytes so far: the texts of the values in them, and the text for the bytes of the
+-- next value. After the most values of one run there are no such bytes.
 pub record HasRendered (r : Rules) (text : Datum → List ℕ) (IsWritten : Datum → Type 0)
     (HasTaken : List ℕ → List ℕ → Type 0) (bytes : List ℕ) (before after : Option (List ℕ)) (number : ℕ) : Type 0 where
   pub values : List Datum
@@ -155,7 +155,7 @@ pub record HasRendered (r : Rules) (text : Datum → List ℕ) (IsWritten : Datu
   pub appended : Appends before after (flat_map text values ++ so_far)
   pub at_most : number ≡ most_values → so_far ≡ []
 
--- what was written for a stream whose bytes were read, and their counts at its end
+-- the text that was written for a stream whose bytes were read, and their counts at its end
 pub record RendersCounted (r : Rules) (text : Datum → List ℕ) (IsWritten : Datum → Type 0) (bytes : List ℕ)
     (before after : Option (List ℕ)) (totals : Totals) : Type 0 where
   pub values : List Datum
@@ -170,23 +170,23 @@ RendersStream r text IsWritten IsLeft IsBegun bytes before after (Ok totals) =
 RendersStream r text IsWritten IsLeft IsBegun bytes before after (Err e) =
     RendersStopped r text IsWritten IsLeft IsBegun bytes before after e
 
--- a reason to stop before the end of the input
+-- an error before the end of the input
 abbrev pub IsBeforeEnd : ToolError → Type 0
 IsBeforeEnd (Refused number cause.Truncated at) = ⊥
 IsBeforeEnd _ = Unit {0}
 
--- a reason to stop that doesn't come of reading
+-- an error that is not caused by reading
 abbrev pub IsRenderingError : ToolError → Type 0
 IsRenderingError Read = ⊥
 IsRenderingError TooManyTurns = ⊥
 IsRenderingError _ = Unit {0}
 
--- a reason to stop that a call has which encodes nothing
+-- an error of a call that encodes nothing
 abbrev pub IsNeverOver : ToolError → Type 0
 IsNeverOver (OverLimits number) = ⊥
 IsNeverOver _ = Unit {0}
 
--- what was written for bytes that were read, by how the call ended
+-- the text that was written for the bytes that were read, depending on how the call ended
 abbrev pub Renders : Rules → (Datum → List ℕ) → (Datum → Type 0) → (List ℕ → List ℕ → Type 0) →
     (List ℕ → List ℕ → Type 0) → List ℕ → Option (List ℕ) → Option (List ℕ) → Result (Unit {0}) ToolError → Type 0
 Renders r text IsWritten IsLeft IsBegun bytes before after (Ok x) =

@@ -1,4 +1,4 @@
--- What comes of bytes that are given to a rendering: what is read of them, and what is written for that.
+-- The result of giving bytes to a rendering: what it has read, and what it has written for them.
 use Rattle.std.specs.Prelude.{◌≡◌, ℕ, ◌<◌, List, [], ◌++◌, length, take, flat_map, MatchBool, Option, Result, Ok, Err}
 use Rattle.resp_value.specs.Data.{Datum}
 use Rattle.resp_value.specs.Rules.{Rules, Rule, WithinTotal}
@@ -12,21 +12,21 @@ use Rattle.resp_tool.specs.declared.rendering.Taken.{Taken}
 use Rattle.resp_tool.specs.declared.rendering.Stop.{Stop}
 use Rattle.resp_tool.specs.declared.rendering.Stop.TheVariants as stop
 
--- the bytes stop being viable at this one, for the rule of this cause
+-- this byte is the first one at which the bytes stop being viable, by the rule of this cause
 pub record IsByteFault (r : Rules) (bytes : List ℕ) (c : Cause) (at : ℕ) : Type 0 where
   pub rule : Rule
   pub names : c ≡ cause_of rule
   pub fault_of : FaultOf r bytes rule at
 
--- the bytes end inside a value that they begin
+-- the bytes end inside a value
 pub record IsEndFault (r : Rules) (bytes : List ℕ) (c : Cause) (at : ℕ) : Type 0 where
   pub names : c ≡ cause.Truncated
   pub place : at ≡ length bytes
   pub begun : 0 < length bytes
   pub viable : IsViable r WithinTotal bytes
 
--- the bytes are a spelling of a value that is written, the rest of its text was appended, and nothing is taken of the
--- next
+-- The bytes are an encoding of a value that is written, the rest of its text was appended, and nothing of the next
+-- value was read.
 pub record WritesValue (r : Rules) (text : Datum → List ℕ) (IsWritten : Datum → Type 0)
     (HasTaken : List ℕ → List ℕ → Type 0) (bytes so_far : List ℕ) (before after : Option (List ℕ)) : Type 0 where
   pub value : Datum
@@ -37,7 +37,7 @@ pub record WritesValue (r : Rules) (text : Datum → List ℕ) (IsWritten : Datu
   pub whole : text value ≡ so_far ++ more
   pub takes : HasTaken [] []
 
--- no value has ended in the bytes, they are viable, and were taken
+-- the bytes contain no complete value, are viable, and were read
 pub record TakesUnfinished (r : Rules) (HasTaken : List ℕ → List ℕ → Type 0) (bytes so_far : List ℕ)
     (before after : Option (List ℕ)) : Type 0 where
   pub no_value : HasNoValue bytes
@@ -46,7 +46,7 @@ pub record TakesUnfinished (r : Rules) (HasTaken : List ℕ → List ℕ → Typ
   pub appended : Appends before after more
   pub takes : HasTaken bytes (so_far ++ more)
 
--- the bytes are refused, no front of them is a spelling, and what stands of them was written
+-- The bytes are rejected, they do not begin with a complete value, and the text left for them was written.
 pub record LeavesRefused (r : Rules) (IsFault : List ℕ → Cause → ℕ → Type 0) (IsLeft : List ℕ → List ℕ → Type 0)
     (bytes so_far : List ℕ) (before after : Option (List ℕ)) (c : Cause) (at : ℕ) : Type 0 where
   pub fault : IsFault bytes c at
@@ -55,7 +55,7 @@ pub record LeavesRefused (r : Rules) (IsFault : List ℕ → Cause → ℕ → T
   pub appended : Appends before after more
   pub is_left : IsLeft (take at bytes) (so_far ++ more)
 
--- the bytes begin with a spelling of a value that isn't written, and nothing of it was
+-- The bytes begin with an encoding of a value that is not written, and nothing was written for it.
 pub record Declines (r : Rules) (IsWritten : Datum → Type 0) (bytes so_far : List ℕ) (before after : Option (List ℕ)) :
     Type 0 where
   pub value : Datum
@@ -67,8 +67,8 @@ pub record Declines (r : Rules) (IsWritten : Datum → Type 0) (bytes so_far : L
   pub nothing : so_far ≡ []
   pub appended : Appends before after []
 
--- the bytes begin with some values, or none, and then with bytes for which this may be written; a first part of that
--- was
+-- The bytes begin with some values, or none, followed by bytes for which this text may be written. The first part of
+-- that text was written.
 pub record WritesPart (r : Rules) (text : Datum → List ℕ) (IsBegun : List ℕ → List ℕ → Type 0) (bytes so_far : List ℕ)
     (before after : Option (List ℕ)) : Type 0 where
   pub values : List Datum
@@ -83,7 +83,7 @@ pub record WritesPart (r : Rules) (text : Datum → List ℕ) (IsBegun : List �
   pub parts : flat_map text values ++ begun ≡ so_far ++ (more ++ later)
   pub appended : Appends before after more
 
--- what comes of a piece after a front
+-- the result for a piece after the bytes read before
 abbrev pub Takes : Rules → (Datum → List ℕ) → (Datum → Type 0) → (List ℕ → List ℕ → Type 0) →
     (List ℕ → List ℕ → Type 0) → (List ℕ → List ℕ → Type 0) → List ℕ → List ℕ → List ℕ → Option (List ℕ) →
     Option (List ℕ) → Result Taken Stop → Type 0
@@ -98,7 +98,7 @@ Takes r text IsWritten IsLeft IsBegun HasTaken front piece so_far before after (
 Takes r text IsWritten IsLeft IsBegun HasTaken front piece so_far before after (Err e) =
     WritesPart r text IsBegun (front ++ piece) so_far before after
 
--- what comes of the input's end after a front
+-- the result for the end of the input after the bytes read before
 abbrev pub EndsInput : Rules → (Datum → List ℕ) → (List ℕ → List ℕ → Type 0) → (List ℕ → List ℕ → Type 0) → List ℕ →
     List ℕ → Option (List ℕ) → Option (List ℕ) → Result (Unit {0}) Stop → Type 0
 EndsInput r text IsLeft IsBegun front so_far before after (Ok x) =

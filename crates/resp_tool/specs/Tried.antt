@@ -1,4 +1,4 @@
--- A text that was tried to be written, and the line of a value that was refused.
+-- A text that a call tried to write, and the line of an error in a value.
 use Rattle.std.specs.Prelude.{◌≡◌, ◌⊎◌, ℕ, List, ◌++◌, Option, codes, decimal}
 use Rattle.resp_value.specs.Devices.{Appends, count_after}
 use Rattle.resp_print.specs.Written.{AppendsPart}
@@ -7,16 +7,16 @@ use Rattle.resp_print.specs.Written.{AppendsPart}
 abbrev pub WritesWhole : Option (List ℕ) → Option (List ℕ) → ℕ → ℕ → List ℕ → Type 0
 WritesWhole before after failures failures' text = Appends before after text × (failures' ≡ failures)
 
--- one write failed, and a first part of the text was appended
+-- one write failed, and the first part of the text was appended
 abbrev pub BreaksText : Option (List ℕ) → Option (List ℕ) → ℕ → ℕ → List ℕ → Type 0
 BreaksText before after failures failures' text = AppendsPart before after text × (failures' ≡ count_after 1 failures)
 
--- The whole text was appended and no write failed; or one write failed, and a first part of the text was appended.
+-- The whole text was appended and no write failed; or one write failed, and the first part of the text was appended.
 abbrev pub TriesText : Option (List ℕ) → Option (List ℕ) → ℕ → ℕ → List ℕ → Type 0
 TriesText before after failures failures' text =
     WritesWhole before after failures failures' text ⊎ BreaksText before after failures failures' text
 
--- the line of a value that was refused: its number, the cause's name, and the byte
+-- the line of an error in a value: its number, the error's name, and the byte
 abbrev pub refusal_line : ℕ → List ℕ → ℕ → List ℕ
 refusal_line value name at = codes "value " ++ decimal value ++ codes ": " ++ name ++ codes " at byte " ++ decimal at ++
     codes "\n"

@@ -1,4 +1,4 @@
-//! What the words of the command line ask for: a subcommand, with its options.
+//! The meaning of a command line: a subcommand with its options.
 
 ghost use Rattle.std.specs.Prelude.{IfOk, OnErr, codes};
 ghost use Rattle.clap.specs.Words.{found_of, rows_of, subcommand_rows_of};
@@ -11,37 +11,37 @@ use clap::ArgMatches;
 use resp_print::text::write_text;
 use resp_value::device::{DeviceFault, Sink};
 
-/// What the words of the command line ask for.
+/// What a command line asks for.
 #[derive(Clone, Copy, Debug)]
 pub enum Asked<'a> {
-    /// To read a stream: `show`, `check` or `canon`.
+    /// Read a stream: `show`, `check` or `canon`.
     Stream(Options<'a>),
-    /// To play a script: `loop`.
+    /// Play a script: `loop`.
     Play {
-        /// Whether it is said why a line is bad.
+        /// Whether a bad line is explained.
         explains: bool,
     },
-    /// To serve clients: `serve`.
+    /// Serve clients: `serve`.
     Serve(Serving<'a>),
-    /// To stand between clients and a server: `tap`.
+    /// Forward connections: `tap`.
     Tap(Tapping<'a>),
 }
 
-/// Why the words ask for nothing.
+/// Why a command line asks for nothing that can be done.
 #[derive(Clone, Copy)]
 pub(crate) enum NothingAsked<'a> {
-    /// They are for nothing that is done here.
+    /// It asks for something that is not done here.
     OtherWords,
-    /// The text is no address.
+    /// The text is not an address.
     BadAddress {
         text: &'a str,
-        /// The word that it stands for.
+        /// The name of the argument.
         name: &'a str,
     },
 }
 
 impl NothingAsked<'_> {
-    /// Says why.
+    /// Writes the line for standard error.
     pub(crate) fn write<F: Sink>(self, faults: &mut F) -> Result<(), DeviceFault> {
         match self {
             Self::OtherWords => write_text(faults, b"error: these words ask for nothing here\n"),
@@ -50,7 +50,7 @@ impl NothingAsked<'_> {
     }
 }
 
-/// Says what is wrong with an address, which the word of this name is to be.
+/// Writes what is wrong with the address given for the argument `name`.
 fn write_bad_address<F: Sink>(text: &str, name: &str, faults: &mut F) -> Result<(), DeviceFault> {
     write_text(faults, b"error: invalid value '")?;
     write_text(faults, text.as_bytes())?;
@@ -63,7 +63,7 @@ fn write_bad_address<F: Sink>(text: &str, name: &str, faults: &mut F) -> Result<
     write_text(faults, b"For more information, try '--help'.\n")
 }
 
-/// What the words ask for, or why they ask for nothing.
+/// Returns what the words ask for, or why they ask for nothing.
 pub(crate) fn asked_of<'a>(matches: &ArgMatches<'a>) -> Result<Asked<'a>, NothingAsked<'a>>
     ensures ok { IfOk result (Enters (subcommand_rows_of matches.now)) }
     ensures err { OnErr result ((asked : Asked)
@@ -75,7 +75,7 @@ pub(crate) fn asked_of<'a>(matches: &ArgMatches<'a>) -> Result<Asked<'a>, Nothin
     }
 }
 
-/// What the subcommand of this name is asked for with these options.
+/// Returns what a subcommand with these options asks for.
 fn asked_by<'a>(name: &str, given: &ArgMatches<'a>) -> Result<Asked<'a>, NothingAsked<'a>>
     ensures ok { IfOk result (IsAsked name.now (rows_of (found_of given.now))) }
     ensures err { OnErr result ((asked : Asked)
@@ -92,7 +92,7 @@ fn asked_by<'a>(name: &str, given: &ArgMatches<'a>) -> Result<Asked<'a>, Nothing
     }
 }
 
-/// What a task is asked for with these options.
+/// Returns what `show`, `check` or `canon` with these options asks for.
 fn stream_of<'a>(task: Task, given: &ArgMatches<'a>) -> Result<Asked<'a>, NothingAsked<'a>>
     ensures ok { IfOk result (IsAsked (task_word task) (rows_of (found_of given.now))) }
     ensures err { OnErr result ((asked : Asked)
@@ -104,7 +104,7 @@ fn stream_of<'a>(task: Task, given: &ArgMatches<'a>) -> Result<Asked<'a>, Nothin
     }
 }
 
-/// What `loop` is asked for with these options.
+/// Returns what `loop` with these options asks for.
 fn play_of<'a>(given: &ArgMatches<'a>) -> Result<Asked<'a>, NothingAsked<'a>>
     ensures ok { IfOk result (IsAsked (codes "loop") (rows_of (found_of given.now))) }
     ensures err { OnErr result ((asked : Asked)
@@ -116,7 +116,7 @@ fn play_of<'a>(given: &ArgMatches<'a>) -> Result<Asked<'a>, NothingAsked<'a>>
     }
 }
 
-/// What `serve` is asked for with these options.
+/// Returns what `serve` with these options asks for.
 fn serve_of<'a>(given: &ArgMatches<'a>) -> Result<Asked<'a>, NothingAsked<'a>>
     ensures ok { IfOk result (IsAsked (codes "serve") (rows_of (found_of given.now))) }
     ensures err { OnErr result ((asked : Asked)
@@ -128,7 +128,7 @@ fn serve_of<'a>(given: &ArgMatches<'a>) -> Result<Asked<'a>, NothingAsked<'a>>
     }
 }
 
-/// What `tap` is asked for with these options.
+/// Returns what `tap` with these options asks for.
 fn tap_of<'a>(given: &ArgMatches<'a>) -> Result<Asked<'a>, NothingAsked<'a>>
     ensures ok { IfOk result (IsAsked (codes "tap") (rows_of (found_of given.now))) }
     ensures err { OnErr result ((asked : Asked)

@@ -1,4 +1,4 @@
-//! `canon`: each value of a stream again, in its one canonical spelling.
+//! `canon`: writes the canonical text of each value of a stream.
 
 ghost use Rattle.std.specs.Prelude.{◌≡◌, ◌⊎◌, ◌+◌, ◌<◌, ◌≤◌, ℕ, true, List, [], length, Some, IfErr, IfOk, IfSome, IsErrOf, OnOk};
 ghost use Rattle.resp_decode.specs.Builds.{nothing};
@@ -28,16 +28,16 @@ use resp_value::limits::Limits;
 use resp_value::version::Version;
 use std::alloc::Global;
 
-/// The room for a text from the start.
+/// The initial capacity for a text, in bytes.
 const ROOM: usize = 4_096;
 
-/// Each value in its canonical spelling in a version, under limits.
+/// Writes each value in its canonical text, in one version and under limits.
 #[derive(Drop)]
 struct Canonical<'a> {
     version: Version,
     limits: &'a Limits,
     scanner: Scanner,
-    /// Where each text is made before it is written.
+    /// Builds each text before it is written.
     draft: Draft,
 }
 
@@ -66,7 +66,7 @@ impl Rendering for Canonical<'_> {
     fn take<W: Sink>(&mut self, piece: &[u8], writer: &mut W) -> Result<Taken, Stop> {
         laws::canonical_text_spells_what_fits();
         laws::what_was_read_can_be_written();
-        // Most values without members are written as they came.
+        // Most values without members are already canonical and are copied.
         if self.scanner.taken() == 0 {
             if let Some(size) = canonical_front(piece, self.limits) {
                 return write_front(&piece[..size], writer);
@@ -79,7 +79,7 @@ impl Rendering for Canonical<'_> {
         };
         let used = scanned.used;
         if !scanned.is_whole {
-            // What was taken is viable, as the scanner says of it here.
+            // The bytes that were read are viable: this call states it.
             let _viable = self.scanner.taken();
             return Ok(Taken {
                 used,
@@ -102,7 +102,7 @@ impl Rendering for Canonical<'_> {
     }
 
     fn finish<W: Sink>(&mut self, _writer: &mut W) -> Result<(), Stop> {
-        // What was taken is viable, as the scanner says of it here.
+        // The bytes that were read are viable: this call states it.
         let _viable = self.scanner.taken();
         match self.scanner.finish() {
             Ok(()) => Ok(()),
@@ -111,7 +111,7 @@ impl Rendering for Canonical<'_> {
     }
 }
 
-/// Writes the text of a whole value as it came.
+/// Copies the text of a complete value.
 #[inline(always)]
 fn write_front<W: Sink>(text: &[u8], writer: &mut W) -> Result<Taken, Stop>
     ensures writes { WritesText (W.written writer.old) (W.written writer.new)
@@ -129,8 +129,10 @@ fn write_front<W: Sink>(text: &[u8], writer: &mut W) -> Result<Taken, Stop>
     }
 }
 
-/// Writes the text of a value that is whole, and begins the next. A text over the limit of total is
-/// refused, and nothing of it written; or a write fails, and a first part was written.
+/// Writes the text of a complete value, and prepares for the next one.
+///
+/// If the text is over the limit of total, the call fails and writes nothing. If a write fails, the
+/// first part of the text was written.
 #[inline(always)]
 fn write_draft<W: Sink>(draft: &mut Draft, limits: &Limits, writer: &mut W) -> Result<(), Stop>
     ensures whole { OnOk result (WritesWhole (W.written writer.old) (W.written writer.new)
@@ -155,14 +157,19 @@ fn write_draft<W: Sink>(draft: &mut Draft, limits: &Limits, writer: &mut W) -> R
     Ok(())
 }
 
-/// Reads the stream by reads of at most `piece` bytes, from 1 to 65,536, and writes the canonical
-/// text of each value in the same version, once it is whole. Before each read it flushes the
-/// writer; what that holds back at the end is the caller's to flush.
+/// Reads a stream with reads of at most `piece` bytes, and writes the canonical text of each value,
+/// in the same version, when the value is complete. `piece` is from 1 to 65,536. The writer is
+/// flushed before each read; the caller flushes it at the end.
 ///
-/// Refuses a stream at its first byte after which nothing can follow, where it ends inside a
-/// value, at the first value whose canonical text is over the limits, or where bytes follow the
-/// first 1,000,000,000 values; the texts of the values before have been written. Where a device or
-/// memory fails, or 4,000,000,000 reads are used up, a first part of the texts was.
+/// # Errors
+///
+/// - [`ToolError::Refused`] at the first byte that no valid value can contain at its place, or if
+///   the input ends inside a value. [`ToolError::OverLimits`] at the first value whose canonical
+///   text is over the limits. [`ToolError::TooManyValues`] if bytes follow the first 1,000,000,000
+///   values. The texts of the values before the error were written.
+/// - [`ToolError::Read`], [`ToolError::Write`], [`ToolError::Memory`], and
+///   [`ToolError::TooManyTurns`] after 4,000,000,000 reads. The first part of the texts was
+///   written.
 pub fn canon<R: LiveSource<W>, W: LiveSink>(
     alloc: Global,
     version: Version,
@@ -172,20 +179,20 @@ pub fn canon<R: LiveSource<W>, W: LiveSink>(
     writer: &mut W,
 ) -> Result<(), ToolError>
     requires { (1 ≤ piece) × (piece ≤ 65536) }
-    // Of the bytes that were read: the text of each value, each of which fits the limits, and what
-    // is refused.
+    // For the bytes that were read: the text of each value, all of which are within the limits, and
+    // the error.
     ensures written { (bytes : List ℕ) × AreRead (R.remaining reader.old) (R.remaining reader.new)
         bytes × Renders (rules_under version limits.now) (canonical_text version)
         (Fits (rules_under version limits.now)) LeavesNothing LeavesNothing bytes
         (W.written writer.old) (W.written writer.new) result }
     ensures read_to_its_end { AtEnd result (IfSome (R.remaining reader.old) (λ _.
         R.remaining reader.new ≡ Some [])) }
-    // At each read the texts of all values that were read whole before had been sent.
+    // Before each read, the texts of all complete values were sent.
     ensures live { EachRead (R.looks reader.old) (R.looks reader.new)
         (IsLive (rules_under version limits.now) (canonical_text version) LeavesNothing
         (R.remaining reader.old) (W.written writer.old)) }
 
-    // A device or memory that failed.
+    // A failed device or allocation.
     ensures reads { UsesReader MOST_READS result (R.calls reader.old) (R.calls reader.new)
         (R.failures reader.old) (R.failures reader.new) }
     ensures write_failures { W.failures writer.new ≡

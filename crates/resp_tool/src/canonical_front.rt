@@ -1,5 +1,5 @@
-//! Values without members that lie whole in a piece, in their canonical spelling, as most do: their
-//! text is known without a decoder and without an encoder.
+//! Recognises values without members that are complete in a piece and already canonical. They need
+//! neither the decoder nor the encoder.
 
 ghost use Rattle.std.specs.Prelude.{◌≡◌, ◌∷◌, ◌+◌, ◌≤◌, true, length, take, IfSome};
 ghost use Rattle.resp_tool.specs.CanonicalFronts.{BeginsWithLine, IsBulkWithin, IsCanonicalWithin, IsInteger, IsIntegerText, IsLineWithin, FollowsByte};
@@ -9,9 +9,9 @@ use itoa::Buffer;
 use memchr::memchr;
 use resp_value::limits::Limits;
 
-/// The number of bytes of the simple string, simple error, integer or bulk string that the piece
-/// begins with, where it lies whole in it, in its canonical spelling and within the limits. Of all
-/// else the decoder decides.
+/// Returns the number of bytes of the simple string, simple error, integer or bulk string at the
+/// front of the piece, if it is complete, canonical and within the limits. In all other cases the
+/// decoder decides.
 pub(crate) fn canonical_front(piece: &[u8], limits: &Limits) -> Option<usize>
     ensures within { IfSome result (λ size. size ≤ length piece.now) }
     ensures canonical { IfSome result (λ size.
@@ -25,7 +25,7 @@ pub(crate) fn canonical_front(piece: &[u8], limits: &Limits) -> Option<usize>
     Some(size + 1)
 }
 
-/// The bytes of a value whose type byte is this, and of which the rest begins the text.
+/// Returns the number of bytes of a value with this type byte. `text` begins after the type byte.
 #[inline(always)]
 fn value_size(kind: u8, text: &[u8], limits: &Limits) -> Option<usize>
     ensures within { IfSome result (λ size. size ≤ length text.now) }
@@ -39,7 +39,7 @@ fn value_size(kind: u8, text: &[u8], limits: &Limits) -> Option<usize>
     }
 }
 
-/// The bytes of the line that the text begins with, with its CR LF.
+/// Returns the number of bytes of the line at the front of the text, with its CR LF.
 fn line_size(text: &[u8], limits: &Limits) -> Option<usize>
     ensures within { IfSome result (λ size. size ≤ length text.now) }
     ensures line { IfSome result (λ size. IsLineWithin limits.now (take size text.now)) }
@@ -51,7 +51,7 @@ fn line_size(text: &[u8], limits: &Limits) -> Option<usize>
     Some(line.len() + 2)
 }
 
-/// The bytes of the integer that the text begins with, with its CR LF.
+/// Returns the number of bytes of the integer at the front of the text, with its CR LF.
 fn integer_size(text: &[u8]) -> Option<usize>
     ensures within { IfSome result (λ size. size ≤ length text.now) }
     ensures integer { IfSome result (λ size. IsIntegerText (take size text.now)) }
@@ -63,7 +63,7 @@ fn integer_size(text: &[u8]) -> Option<usize>
     Some(line.len() + 2)
 }
 
-/// Whether the line is an integer in its canonical digits.
+/// Returns whether the line is an integer in canonical digits.
 fn is_integer(line: &[u8]) -> bool
     ensures { result ≡ true → IsInteger line.now }
 {
@@ -73,7 +73,7 @@ fn is_integer(line: &[u8]) -> bool
     }
 }
 
-/// Whether these are the canonical digits of an integer below zero, without its sign.
+/// Returns whether these are the canonical digits of a negative integer, without its sign.
 fn is_negative(digits: &[u8]) -> bool
     ensures { result ≡ true → IsInteger (45 ∷ digits.now) }
 {
@@ -83,7 +83,7 @@ fn is_negative(digits: &[u8]) -> bool
     }
 }
 
-/// Whether these are the canonical digits of an integer from zero on.
+/// Returns whether these are the canonical digits of an integer that is not negative.
 fn is_natural(digits: &[u8]) -> bool
     ensures { result ≡ true → IsInteger digits.now }
 {
@@ -93,7 +93,7 @@ fn is_natural(digits: &[u8]) -> bool
     }
 }
 
-/// The bytes of the bulk string whose head, without its type byte, the text begins with.
+/// Returns the number of bytes of a bulk string. `text` begins after its type byte.
 fn bulk_size(text: &[u8], limits: &Limits) -> Option<usize>
     ensures within { IfSome result (λ size. size ≤ length text.now) }
     ensures bulk { IfSome result (λ size. IsBulkWithin limits.now (take size text.now)) }
@@ -111,7 +111,7 @@ fn bulk_size(text: &[u8], limits: &Limits) -> Option<usize>
     Some(line.len() + length + 4)
 }
 
-/// The line that the text begins with, without its CR LF, where it ends in the text.
+/// Returns the line at the front of the text, without its CR LF, if it ends in the text.
 fn first_line(text: &[u8]) -> Option<&[u8]>
     ensures within { IfSome result (λ line. length line.now + 2 ≤ length text.now) }
     ensures begins { IfSome result (λ line. BeginsWithLine text.now line.now) }
@@ -127,12 +127,12 @@ fn first_line(text: &[u8]) -> Option<&[u8]>
     Some(line)
 }
 
-/// The number whose canonical digits these are.
+/// Returns the number with these canonical digits.
 fn number_in(digits: &[u8]) -> Option<u64>
     ensures { IfSome result (λ number. digits.now ≡ decimal number) }
 {
     let number = digits_sum(digits);
-    // (whichever number that is, its digits say whether it is the right one)
+    // If the sum is another number, its digits differ, and the comparison finds that.
     let mut buffer = Buffer::new();
     if buffer.format(number).as_bytes() != digits {
         return None;
@@ -140,7 +140,7 @@ fn number_in(digits: &[u8]) -> Option<u64>
     Some(number)
 }
 
-/// The number that these digits write, where they are digits and few enough.
+/// Returns the number that these digits represent, if they are digits and not too many.
 fn digits_sum(digits: &[u8]) -> u64 {
     let mut sum: u64 = 0;
     for digit in digits {

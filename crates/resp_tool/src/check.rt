@@ -1,4 +1,4 @@
-//! `check`: how many values a stream has, and in how many bytes.
+//! `check`: counts the values and bytes of a stream.
 
 ghost use Rattle.std.specs.Prelude.{◌≡◌, ◌≤◌, ℕ, List, [], Some, IfErr, IfSome, IsErrOf};
 ghost use Rattle.resp_tool.specs.Counts.{Counts, counts_line};
@@ -21,7 +21,7 @@ use resp_value::limits::Limits;
 use resp_value::version::Version;
 use std::alloc::Global;
 
-/// Hears nothing, and never stops.
+/// A listener that ignores all events and never stops.
 #[derive(Clone, Copy)]
 pub struct Nobody;
 
@@ -78,7 +78,7 @@ impl Listener for Nobody {
     }
 }
 
-/// Nothing for each value, which is only looked at.
+/// Writes nothing for a value.
 #[derive(Drop)]
 struct Unwritten {
     scanner: Scanner,
@@ -110,7 +110,7 @@ impl Rendering for Unwritten {
     fn take<W: Sink>(&mut self, piece: &[u8], _writer: &mut W) -> Result<Taken, Stop> {
         match self.scanner.scan(piece, &mut Nobody) {
             Ok(scanned) => {
-                // What was taken is viable, as the scanner says of it here.
+                // The bytes that were read are viable: this call states it.
                 let _viable = self.scanner.taken();
                 Ok(Taken {
                     used: scanned.used,
@@ -118,7 +118,7 @@ impl Rendering for Unwritten {
                 })
             }
             Err(ScanError::Fault(fault)) => Err(Stop::Fault(fault)),
-            // Nobody stops.
+            // `Nobody` never stops.
             Err(ScanError::Stopped { .. }) => unreachable!(),
         }
     }
@@ -130,7 +130,7 @@ impl Rendering for Unwritten {
     }
 
     fn finish<W: Sink>(&mut self, _writer: &mut W) -> Result<(), Stop> {
-        // What was taken is viable, as the scanner says of it here.
+        // The bytes that were read are viable: this call states it.
         let _viable = self.scanner.taken();
         match self.scanner.finish() {
             Ok(()) => Ok(()),
@@ -139,13 +139,17 @@ impl Rendering for Unwritten {
     }
 }
 
-/// Reads the stream by reads of at most `piece` bytes, from 1 to 65,536, and writes the line of its
-/// counts once it is read whole. It takes memory for the bytes of one read alone.
+/// Reads a stream with reads of at most `piece` bytes, and writes the line of counts at its end.
+/// `piece` is from 1 to 65,536. The call allocates the bytes of one read.
 ///
-/// Refuses a stream at its first byte after which nothing can follow, where it ends inside a
-/// value, where bytes follow the first 1,000,000,000 values, where reading fails, or where
-/// 4,000,000,000 reads are used up: then nothing was written. Without memory nothing was read
-/// either. Where writing fails a first part of the line was written.
+/// # Errors
+///
+/// - [`ToolError::Refused`] at the first byte that no valid value can contain at its place, or if
+///   the input ends inside a value; [`ToolError::TooManyValues`] if bytes follow the first
+///   1,000,000,000 values; [`ToolError::Read`] if a read fails; [`ToolError::TooManyTurns`] after
+///   4,000,000,000 reads. Nothing was written.
+/// - [`ToolError::Memory`] if the allocation fails. Nothing was read or written.
+/// - [`ToolError::Write`] if a write fails. The first part of the line was written.
 pub fn check<R: LiveSource<W>, W: LiveSink>(
     alloc: Global,
     version: Version,
@@ -155,7 +159,7 @@ pub fn check<R: LiveSource<W>, W: LiveSink>(
     writer: &mut W,
 ) -> Result<(), ToolError>
     requires { (1 ≤ piece) × (piece ≤ 65536) }
-    // Of the bytes that were read: the line of their counts at Ok, and what is refused.
+    // For the bytes that were read: the line of their counts if the result is Ok, and the error.
     ensures counted { (bytes : List ℕ) × AreRead (R.remaining reader.old) (R.remaining reader.new)
         bytes × Counts (rules_under version limits.now) bytes (W.written writer.old)
         (W.written writer.new) result }
@@ -165,7 +169,7 @@ pub fn check<R: LiveSource<W>, W: LiveSink>(
         IfSome (R.remaining reader.old) (λ _. R.remaining reader.new ≡ Some []) }
     ensures never_over_limits { IfErr result IsNeverOver }
 
-    // A device or memory that failed.
+    // A failed device or allocation.
     ensures reads { UsesReader MOST_READS result (R.calls reader.old) (R.calls reader.new)
         (R.failures reader.old) (R.failures reader.new) }
     ensures write_failures { W.failures writer.new ≡

@@ -1,4 +1,4 @@
-//! The command line of the program: what its words bring about, and the status.
+//! Runs a command line, and returns the exit status.
 
 ghost use Rattle.std.specs.Prelude.{◌≡◌, ◌≢◌, ◌⊎◌, ◌≤◌, ◌+◌, ℕ, List, [], Some, IfErr, IfOk, IfSome, IsErrOf, OnOk, codes, map};
 ghost use Rattle.clap.specs.Words.{App, kind_of};
@@ -27,13 +27,13 @@ use std::alloc::Global;
 use std::convert::AsStr;
 use std::io::ErrorKind as IoErrorKind;
 
-/// The status of bad arguments.
+/// The exit status of a usage error.
 const BAD_ARGUMENTS: u8 = 2;
 
-/// The status of a failed device.
+/// The exit status after a device failed.
 const DEVICE_FAILED: u8 = 3;
 
-/// Says what is wrong with the words, or helps, and answers the status.
+/// Writes help to `writer` or a usage error to `faults`, and returns the exit status.
 fn explain<W: Sink, F: Sink>(
     alloc: Global,
     error: &clap::Error,
@@ -71,8 +71,8 @@ fn explain<W: Sink, F: Sink>(
     }
 }
 
-/// Says why the program stops, or as much of it as `faults` takes before a write fails, and answers
-/// the status.
+/// Writes the line of an error to `faults`, and returns the exit status. If a write fails, the rest
+/// of the line is not written.
 pub fn stop<F: Sink>(error: &ToolError, faults: &mut F) -> u8
     ensures status { result ≡ status_of error.now }
     ensures told { TriesText (F.written faults.old) (F.written faults.new)
@@ -82,8 +82,8 @@ pub fn stop<F: Sink>(error: &ToolError, faults: &mut F) -> u8
     error.status()
 }
 
-/// Says why the words of the command line can't be read, and answers the status: 2 where one is not
-/// UTF-8, and else 3, since memory was refused.
+/// Writes why the words of the command line can't be read. Returns the exit status: 2 if a word is
+/// not UTF-8, and 3 if an allocation failed.
 #[tactic(auto, using(crate::proofs::Tried::tries_text))]
 pub fn refuse_words<F: Sink>(kind: IoErrorKind, faults: &mut F) -> u8
     ensures two_where_not_text { kind ≡ IoErrorKind.InvalidData → result ≡ 2 }
@@ -104,7 +104,7 @@ pub fn refuse_words<F: Sink>(kind: IoErrorKind, faults: &mut F) -> u8
     }
 }
 
-/// Says that a file can't be opened, and why, and answers the status.
+/// Writes that a file can't be opened, and why. Returns the exit status, 3.
 #[tactic(auto, using(crate::proofs::Tried::tries_text))]
 pub fn refuse_file<F: Sink>(name: &str, why: &str, faults: &mut F) -> u8
     ensures status { result ≡ 3 }
@@ -127,8 +127,12 @@ fn write_open_failed<F: Sink>(name: &[u8], why: &[u8], faults: &mut F) -> Result
     write_text(faults, b"\n")
 }
 
-/// Does what the options ask for with the stream of `reader`, or says why not. What the writer
-/// holds back at the end is the caller's to flush.
+/// Runs the task of the options over the stream of `reader`. The caller flushes the writer at the
+/// end.
+///
+/// # Errors
+///
+/// The errors of [`show`], [`check`] or [`canon`].
 pub fn perform<R: LiveSource<W>, W: LiveSink>(
     alloc: Global,
     options: &Options<'_>,
@@ -156,9 +160,14 @@ pub fn perform<R: LiveSource<W>, W: LiveSink>(
     }
 }
 
-/// Reads the words, the program's name first among them. Where they ask for help, or are bad, that
-/// is said, and the answer is the status: 0 for help, 2 for bad words, and 3 where a device or
-/// memory failed.
+/// Reads a command line, of which the first word is the name of the program, and returns what it
+/// asks for.
+///
+/// # Errors
+///
+/// The exit status. It is 0 if the words ask for help or the version, which was written to
+/// `writer`; 2 for a usage error, which was written to `faults`; and 3 if a device or an allocation
+/// failed.
 pub fn read_words<'a, S: AsStr, W: Sink, F: Sink>(
     alloc: Global,
     words: &'a [S],
@@ -188,10 +197,10 @@ pub fn read_words<'a, S: AsStr, W: Sink, F: Sink>(
     }
 }
 
-/// Does what the options ask for with the stream of `reader`, and answers the status: 0 where all
-/// is well, 1 where the input was refused, and 3 where a device or memory failed. What is wrong is
-/// said on `faults`, whether or not that takes it. What the writer holds back at the end is the
-/// caller's to flush.
+/// Runs the task of the options over the stream of `reader`, and returns the exit status: 0 if all
+/// input was read, 1 if the input contains an error, and 3 if a device or an allocation failed. The
+/// line of an error is written to `faults`; if that fails, the status stays the same. The caller
+/// flushes the writer at the end.
 pub fn run_options<R: LiveSource<W>, W: LiveSink, F: Sink>(
     alloc: Global,
     options: &Options<'_>,
@@ -217,11 +226,17 @@ pub fn run_options<R: LiveSource<W>, W: LiveSink, F: Sink>(
     }
 }
 
-/// Does what the words say, the program's name first among them, with the stream of `reader`, and
-/// answers the status: 0 where all is well or help was asked for, 1 where the input was refused, 2
-/// where the words are bad, name a file or ask for an explanation or for no stream to be read, and 3
-/// where a device or memory failed. What is wrong is said on `faults`, whether or not that takes it. What the writer holds
-/// back at the end is the caller's to flush.
+/// Runs a command line, of which the first word is the name of the program, over the stream of
+/// `reader`. Returns the exit status:
+///
+/// - 0 if all input was read, or help was written;
+/// - 1 if the input contains an error;
+/// - 2 if the words are wrong, if they name a file or ask for an explanation, or if they do not ask
+///   for a stream to be read;
+/// - 3 if a device or an allocation failed.
+///
+/// The line of an error is written to `faults`; if that fails, the status stays the same. The
+/// caller flushes the writer at the end.
 pub fn command<S: AsStr, R: LiveSource<W>, W: LiveSink, F: Sink>(
     alloc: Global,
     words: &[S],

@@ -1,4 +1,4 @@
-//! The canonical text of a value, made as its events come, so that no value is held.
+//! Builds the canonical text of a value from its events, without holding the value.
 
 ghost use Rattle.std.specs.Prelude.{◌≡◌, ◌∷◌, ◌++◌, [], Some, drop, is_ok, length, reverse, take, OnOk};
 ghost use Rattle.resp_decode.specs.Builds.{text_value};
@@ -21,22 +21,22 @@ use resp_value::kind::OpenKind;
 use resp_value::version::Version;
 use std::alloc::{AllocError, Global};
 
-/// An aggregate whose end hasn't come.
+/// An aggregate whose end was not received yet.
 #[derive(Clone, Copy)]
 struct OpenAggregate {
     kind: OpenKind,
-    /// The number in its head; none where it is streamed, and has no head yet.
+    /// The number in its head; `None` if it is streamed, and has no head yet.
     count: Option<u64>,
-    /// Where its head begins in the text.
+    /// The index in the text at which its head begins.
     head_at: usize,
-    /// Where its members begin.
+    /// The index in the text at which its members begin.
     members_at: usize,
-    /// The number of its members that have ended.
+    /// The number of its complete members.
     members: u64,
 }
 
 impl OpenAggregate {
-    /// The number that its head has to have: of pairs in a map or an attribute, else of members.
+    /// Returns the number for its head: of pairs in a map or an attribute, of members otherwise.
     fn number(&self) -> u64
         ensures { result ≡ items_of (kind_of self.now.kind) self.now.members }
     {
@@ -47,7 +47,7 @@ impl OpenAggregate {
     }
 }
 
-/// The canonical text of the value that is being read, as far as its events have come.
+/// The canonical text of the value that is being read, for the events received so far.
 #[derive(Drop)]
 pub(crate) struct Draft {
     alloc: Global,
@@ -57,7 +57,7 @@ pub(crate) struct Draft {
     aggregates: Vec<OpenAggregate>,
     /// The kind of the simple or bulk text, or of the big number, that is being read.
     kind: Option<TextKind>,
-    /// What has come of its content.
+    /// The part of its content that was received.
     content: Vec<u8>,
 }
 
@@ -65,7 +65,7 @@ impl Draft {
     ghost use Rattle.resp_decode.specs.Builds.{Construction, nothing};
     ghost use Rattle.resp_tool.specs.Drafts.{DraftsWhereFit, HasDrafted, IsDraftOf};
 
-    /// A draft of no event. Takes no memory.
+    /// Returns a draft without events. It allocates nothing.
     pub(crate) fn new(alloc: Global, version: Version) -> Draft
         ensures { HasDrafted version result [] }
     {
@@ -79,7 +79,7 @@ impl Draft {
         }
     }
 
-    /// Makes room for texts of `size` bytes, where there is memory for it.
+    /// Reserves room for texts of `size` bytes, if there is memory.
     pub(crate) fn reserve(&mut self, size: usize)
         ensures same { (b : Construction) → IsDraftOf self.old b → IsDraftOf self.new b }
         ensures same_version { self.new.version ≡ self.old.version }
@@ -87,7 +87,7 @@ impl Draft {
         let _ = self.text.reserve(size);
     }
 
-    /// The text of what has come: of the whole value, once that has ended.
+    /// Returns the text so far; of the whole value, if it is complete.
     #[inline]
     pub(crate) fn text(&self) -> &[u8]
         ensures { result.now ≡ self.now.text.items }
@@ -95,7 +95,7 @@ impl Draft {
         self.text.as_slice()
     }
 
-    /// Begins the next value, after one that has ended.
+    /// Begins the next value, after a complete one.
     #[inline]
     pub(crate) fn clear(&mut self)
         ensures next { (x : Datum) → IsDraftOf self.old (record nothing { whole = Some x }) →
@@ -105,8 +105,8 @@ impl Draft {
         self.text.clear();
     }
 
-    /// Counts a value that has ended as a member of the innermost aggregate, and says whether its
-    /// text was written.
+    /// Counts a complete value as a member of the innermost aggregate. Returns whether its text was
+    /// written.
     #[inline]
     fn end_value(&mut self, written: Result<(), AllocError>) -> bool
         ensures counted { CountsOne (reverse self.old.aggregates.items)
@@ -120,7 +120,7 @@ impl Draft {
         written.is_ok()
     }
 
-    /// Adds a whole text of this kind.
+    /// Appends a complete text of this kind.
     fn add_text(&mut self, kind: TextKind, content: &[u8]) -> bool
         ensures { DraftsWhereFit self.old self.new (whole_text_events kind content.now) result }
     {
@@ -128,7 +128,8 @@ impl Draft {
         self.end_value(written)
     }
 
-    /// Adds the text whose content has come. False where none has begun, or there is no memory.
+    /// Appends the text whose content was received. Returns false if no text was begun, or an
+    /// allocation fails.
     fn end_text(&mut self) -> bool
         ensures { DraftsWhereFit self.old self.new (e.TextEnd ∷ []) result }
     {
@@ -140,7 +141,7 @@ impl Draft {
         self.end_value(written)
     }
 
-    /// Opens an aggregate, with its head where its number is known.
+    /// Opens an aggregate, and writes its head if its number is known.
     fn open_aggregate(&mut self, kind: OpenKind, count: Option<u64>) -> Result<(), AllocError>
         ensures { DraftsWhereFit self.old self.new (e.Open (kind_of kind) count ∷ [])
             (is_ok result) }
@@ -159,7 +160,7 @@ impl Draft {
         Ok(())
     }
 
-    /// Closes the innermost aggregate. False where none is open, or there is no memory.
+    /// Closes the innermost aggregate. Returns false if none is open, or an allocation fails.
     fn close_aggregate(&mut self) -> bool
         ensures { DraftsWhereFit self.old self.new (e.Close ∷ []) result }
     {
@@ -170,7 +171,7 @@ impl Draft {
         self.end_value(written)
     }
 
-    /// Puts the head of an aggregate that ends before its members, where it doesn't stand there.
+    /// Inserts the head of an aggregate that ends before its members, unless it is there already.
     fn put_head(&mut self, aggregate: &OpenAggregate) -> Result<(), AllocError>
         ensures text { OnOk result
             (WithHead aggregate.now self.old.text.items self.new.text.items) }
@@ -183,8 +184,8 @@ impl Draft {
         }
     }
 
-    /// Writes the head of a streamed aggregate, whose number is known at its end, before its
-    /// members.
+    /// Writes the head of a streamed aggregate before its members. Its number is known only at its
+    /// end.
     #[cold]
     fn write_head_before(
         &mut self,
@@ -263,7 +264,7 @@ impl Listener for Draft {
     }
 }
 
-/// Appends the head of an aggregate, where its number is known.
+/// Appends the head of an aggregate if its number is known.
 fn write_known_head(
     text: &mut Vec<u8>,
     kind: OpenKind,
@@ -344,7 +345,7 @@ fn write_verbatim(text: &mut Vec<u8>, format: &[u8; 3], content: &[u8]) -> Resul
     write_line(text, b":", content)
 }
 
-/// Appends a big number, of which no digits are a zero.
+/// Appends a big number. If it has no digits, it is zero.
 fn write_big(text: &mut Vec<u8>, negative: bool, digits: &[u8]) -> Result<(), AllocError>
     ensures { (version : Version) → OnOk result (text.new.items ≡ text.old.items
         ++ canonical_text version (text_value (e.Big negative) digits.now)) }

@@ -1,4 +1,4 @@
-//! What is said, for people, of the place where a stream was refused.
+//! Explains an error in a stream: the lines of `--explain`.
 
 ghost use Rattle.std.specs.Prelude.{◌≡◌, ℕ, List, OnOk};
 ghost use Rattle.resp_tool.specs.Explained.{Explains, ExplainsAt, HasWatched, cause_text, double_text, explanation_lines, margin_text, rules_watched, sentence_text};
@@ -16,15 +16,17 @@ use resp_value::limits::Limits;
 use resp_value::version::Version;
 use std::alloc::Global;
 
-/// More bytes than a margin has.
+/// A margin has fewer bytes than this.
 const MOST_IN_MARGIN: usize = 256;
 
-/// Writes two lines that say, for people, where in the stream of `watched` the value of `error` was
-/// refused, and why: the place and the bytes around it, and below the place a caret and a sentence.
-/// Nothing where a device or memory failed.
+/// Writes two lines that explain `error`: the place in the stream of `watched` with the bytes
+/// around it, and below the place a caret and a sentence. If a device or an allocation failed, it
+/// writes nothing.
 ///
-/// Refuses where a write fails, and then the first bytes of the lines were written, and when out of
-/// memory, and then nothing was.
+/// # Errors
+///
+/// [`ToolError::Write`] if a write fails; the first part of the lines was written.
+/// [`ToolError::Memory`] if an allocation fails; nothing was written.
 pub fn explain<R, F: Sink>(
     alloc: Global,
     error: &ToolError,
@@ -52,7 +54,7 @@ pub fn explain<R, F: Sink>(
     }
 }
 
-/// Goes through the bytes of the last read where the input ended.
+/// Scans the bytes of the last read, if the input ended inside a value.
 fn settle_at_end<R>(cause: Cause, watched: &mut Watched<R>)
     ensures watched { (bytes : List ℕ) → HasWatched watched.old bytes →
         HasWatched watched.new bytes }
@@ -63,7 +65,7 @@ fn settle_at_end<R>(cause: Cause, watched: &mut Watched<R>)
     }
 }
 
-/// Explains a refusal at this byte of the value with this number.
+/// Explains an error at this byte of the value with this number.
 fn explain_at<R, F: Sink>(
     alloc: Global,
     error: &ToolError,
@@ -121,7 +123,7 @@ fn write_lines<F: Sink>(
     write_text(faults, b"\n")
 }
 
-/// Writes the first line up to the place.
+/// Writes the first line up to the place of the error.
 fn write_margin<F: Sink>(faults: &mut F, place: u64, before: &[u8]) -> Result<(), DeviceFault>
     ensures { WritesText (F.written faults.old) (F.written faults.new) (F.failures faults.old)
         (F.failures faults.new) result (margin_text place before.now) }
@@ -130,7 +132,7 @@ fn write_margin<F: Sink>(faults: &mut F, place: u64, before: &[u8]) -> Result<()
     write_quoted(faults, before)
 }
 
-/// Writes why a stream was refused.
+/// Writes the sentence about an error.
 fn write_sentence<F: Sink>(
     faults: &mut F,
     error: &ToolError,
@@ -145,17 +147,20 @@ fn write_sentence<F: Sink>(
     match error {
         ToolError::Refused { cause, .. } => write_cause(faults, *cause, version, limits, missing),
         ToolError::OverLimits { .. } => {
-            write_text(faults, b"its canonical spelling is over the limits")
+            write_text(
+                faults,
+                b"the canonical text of this value is over the limits",
+            )
         }
         ToolError::TooManyValues
         | ToolError::Read
         | ToolError::Write
         | ToolError::TooManyTurns
-        | ToolError::Memory => write_text(faults, b"no more than 1000000000 values are read"),
+        | ToolError::Memory => write_text(faults, b"a run reads at most 1000000000 values"),
     }
 }
 
-/// Writes why a byte was refused, and which option lets it through.
+/// Writes why a byte is not valid, and which option accepts it.
 fn write_cause<F: Sink>(
     faults: &mut F,
     cause: Cause,
@@ -169,53 +174,56 @@ fn write_cause<F: Sink>(
 {
     match cause {
         Cause::Double => write_double(faults, version),
-        Cause::Version => write_text(faults, b"version 2 doesn't have this; --proto 3 reads it"),
-        Cause::NestedPush => write_text(faults, b"a push stands at the top alone"),
+        Cause::Version => write_text(faults, b"version 2 doesn't have this; try --proto 3"),
+        Cause::NestedPush => write_text(faults, b"a push cannot be inside another value"),
         Cause::Range => write_text(faults, b"the integer doesn't fit into 64 bits"),
         Cause::Depth => write_number(
             faults,
-            b"over --depth ",
+            b"aggregates are nested deeper than --depth ",
             limits.depth(),
-            b": aggregates inside one another",
+            b" allows",
         ),
         Cause::Length => write_number(
             faults,
-            b"over --length ",
+            b"a string or line is longer than --length ",
             limits.length(),
-            b": bytes of one string or line",
+            b" allows",
         ),
         Cause::Items => write_number(
             faults,
-            b"over --items ",
+            b"an aggregate has more members or pairs than --items ",
             limits.items(),
-            b": members or pairs of one aggregate",
+            b" allows",
         ),
         Cause::Total => write_number(
             faults,
-            b"over --total ",
+            b"the value needs more bytes than --total ",
             limits.total(),
-            b": bytes of one value",
+            b" allows",
         ),
         Cause::Streamed => {
-            write_text(faults, b"a streamed form; without --no-streamed it is read")
+            write_text(
+                faults,
+                b"a streamed string or aggregate; accepted without --no-streamed",
+            )
         }
         Cause::Truncated => write_number(
             faults,
-            b"the input ends; bytes that are missing at least: ",
+            b"the input ends inside a value; bytes missing: at least ",
             missing,
             b"",
         ),
-        _ => write_text(faults, b"no spelling goes on so"),
+        _ => write_text(faults, b"a valid value cannot contain this byte here"),
     }
 }
 
-/// Writes what reads a double.
+/// Writes which options accept a double.
 fn write_double<F: Sink>(faults: &mut F, version: Version) -> Result<(), DeviceFault>
     ensures { WritesText (F.written faults.old) (F.written faults.new) (F.failures faults.old)
         (F.failures faults.new) result (double_text version) }
 {
     match version {
-        Version::Two => write_text(faults, b"a double; --doubles and --proto 3 read it"),
-        Version::Three => write_text(faults, b"a double; --doubles reads it"),
+        Version::Two => write_text(faults, b"a double; accepted with --doubles and --proto 3"),
+        Version::Three => write_text(faults, b"a double; accepted with --doubles"),
     }
 }

@@ -1,7 +1,9 @@
-//! What the program `resp` does: it shows, checks and rewrites streams of the Redis wire protocol.
+//! The parts of the program `resp` that read streams: they show, check and rewrite streams of RESP,
+//! the Redis wire protocol.
 //!
-//! [`show::show`], [`check::check`] and [`canon::canon`] read any reader and write to any writer of
-//! [`live`]; [`command_line::command`] does what the words of a command line say of them.
+//! [`show::show`], [`check::check`] and [`canon::canon`] read from a
+//! [`LiveSource`](resp_print::live::LiveSource) and write to a
+//! [`LiveSink`](resp_print::live::LiveSink). [`command_line::command`] runs a command line.
 #![tactic(auto)]
 
 pub mod asked;

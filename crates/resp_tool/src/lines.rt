@@ -1,4 +1,4 @@
-//! The lines that `show` writes for events as they come.
+//! The lines that `show` writes for events as they arrive.
 
 ghost use Rattle.std.specs.Prelude.{◌≡◌, ◌≤◌, ◌<◌, ◌+◌, ◌^◌, ◌==◌, ◌++◌, [], ◌∷◌, length, reverse, codes, OnOk};
 ghost use Rattle.std.specs.Fmt.{signed_decimal};
@@ -19,13 +19,13 @@ use resp_scan::event::TextKind;
 use resp_value::device::{DeviceFault, Sink};
 use resp_value::kind::OpenKind;
 
-/// An aggregate whose first line was written, and whose last wasn't.
+/// An aggregate whose first line was written, and whose last line was not.
 #[derive(Clone, Copy, Debug, PartialEq, Eq)]
 struct OpenLine {
     kind: OpenKind,
     /// The number in its head.
     count: Option<u64>,
-    /// The number of its members that were written whole.
+    /// The number of its members that were written completely.
     members: u64,
 }
 
@@ -37,10 +37,11 @@ struct OpenText {
     size: u64,
 }
 
-/// What has to be known of the lines so far: the open aggregates, and the text that was begun.
+/// The state of the lines: the open aggregates, and the text that was begun.
 #[derive(Debug, Drop)]
 pub struct Lines {
-    /// The open aggregates, the innermost last: no more than the greatest limit of depth.
+    /// The open aggregates, the innermost last. There are never more than the greatest limit of
+    /// depth.
     aggregates: ArrayVec<OpenLine, 128>,
     text: Option<OpenText>,
 }
@@ -59,7 +60,7 @@ impl Lines {
     ghost use Rattle.resp_tool.specs.Lines.{HasRoomFor, around, innermost, page_of, with_added};
     ghost use Rattle.resp_tool.specs.Pages.{beginning, blank, end_of_line, page_after, shown_on, with_value};
 
-    /// Nothing has been written of a value.
+    /// Returns the state before the first event.
     pub fn new() -> Lines
         ensures { page_of result ≡ blank }
     {
@@ -69,7 +70,7 @@ impl Lines {
         }
     }
 
-    /// Writes an LF where a line is open.
+    /// Writes LF if a line is incomplete.
     pub fn end_line<W: Sink>(&self, writer: &mut W) -> Result<(), DeviceFault>
         ensures { WritesText (W.written writer.old) (W.written writer.new)
             (W.failures writer.old) (W.failures writer.new) result
@@ -81,7 +82,7 @@ impl Lines {
         }
     }
 
-    /// Writes what stands before a value on its line, and then these words.
+    /// Writes the beginning of a value's line, and these words.
     fn begin<W: Sink>(&self, words: &[u8], writer: &mut W) -> Result<(), DeviceFault>
         ensures { WritesText (W.written writer.old) (W.written writer.new)
             (W.failures writer.old) (W.failures writer.new) result
@@ -91,13 +92,14 @@ impl Lines {
         write_text(writer, words)
     }
 
-    /// Writes what stands before a value on its line, and `of` where an attribute annotates it.
+    /// Writes the beginning of a value's line: the indentation, and before it the line `of` if an
+    /// attribute belongs to the value.
     #[inline(always)]
     fn begin_line<W: Sink>(&self, writer: &mut W) -> Result<(), DeviceFault>
         ensures { WritesText (W.written writer.old) (W.written writer.new)
             (W.failures writer.old) (W.failures writer.new) result (beginning (page_of self.now)) }
     {
-        // Most values stand in no aggregate.
+        // Most values are in no aggregate.
         if self.aggregates.is_empty() {
             return Ok(());
         }
@@ -106,7 +108,7 @@ impl Lines {
         write_indentation(writer, level as u64)
     }
 
-    /// The innermost open aggregate.
+    /// Returns the innermost open aggregate.
     fn innermost(&self) -> Option<OpenLine>
         ensures { result ≡ innermost (reverse self.now.aggregates.items) }
     {
@@ -116,7 +118,7 @@ impl Lines {
         }
     }
 
-    /// The number of open aggregates.
+    /// Returns the number of open aggregates.
     fn level(&self) -> usize
         ensures value { result ≡ length (page_of self.now).open_lines }
         ensures few { result ≤ 128 }
@@ -124,7 +126,7 @@ impl Lines {
         self.aggregates.len()
     }
 
-    /// Writes `of` where an attribute has all its pairs.
+    /// Writes the line `of` if an attribute has all its pairs.
     fn write_of<W: Sink>(&self, writer: &mut W) -> Result<(), DeviceFault>
         ensures { WritesText (W.written writer.old) (W.written writer.new)
             (W.failures writer.old) (W.failures writer.new) result
@@ -143,7 +145,7 @@ impl Lines {
         }
     }
 
-    /// One member more was written of the innermost aggregate.
+    /// Counts one more member of the innermost aggregate.
     fn add_member(&mut self)
         ensures items { reverse self.new.aggregates.items ≡
             with_added (reverse self.old.aggregates.items) }
@@ -156,7 +158,7 @@ impl Lines {
         }
     }
 
-    /// A value was written whole.
+    /// Counts a value that was written completely.
     fn end(&mut self)
         ensures { HasRoomFor 1 (page_of self.old) →
             page_of self.new ≡ with_value (page_of self.old) }
@@ -164,7 +166,7 @@ impl Lines {
         self.add_member();
     }
 
-    /// The null.
+    /// Writes a null.
     pub fn null<W: Sink>(&mut self, writer: &mut W) -> Result<(), DeviceFault>
         ensures written { WritesText (W.written writer.old) (W.written writer.new)
             (W.failures writer.old) (W.failures writer.new) result
@@ -177,7 +179,7 @@ impl Lines {
         Ok(())
     }
 
-    /// A truth value.
+    /// Writes a boolean.
     pub fn truth<W: Sink>(&mut self, truth: bool, writer: &mut W) -> Result<(), DeviceFault>
         ensures written { WritesText (W.written writer.old) (W.written writer.new)
             (W.failures writer.old) (W.failures writer.new) result
@@ -190,7 +192,7 @@ impl Lines {
         Ok(())
     }
 
-    /// An integer.
+    /// Writes an integer.
     pub fn int<W: Sink>(&mut self, number: i64, writer: &mut W) -> Result<(), DeviceFault>
         ensures written { WritesText (W.written writer.old) (W.written writer.new)
             (W.failures writer.old) (W.failures writer.new) result
@@ -204,7 +206,7 @@ impl Lines {
         Ok(())
     }
 
-    /// A text begins.
+    /// Writes the beginning of a text.
     pub fn text<W: Sink>(&mut self, kind: TextKind, writer: &mut W) -> Result<(), DeviceFault>
         ensures written { WritesText (W.written writer.old) (W.written writer.new)
             (W.failures writer.old) (W.failures writer.new) result
@@ -221,7 +223,7 @@ impl Lines {
         Ok(())
     }
 
-    /// A run of its bytes.
+    /// Writes a part of the text's bytes.
     pub fn part<W: Sink>(&mut self, part: &[u8], writer: &mut W) -> Result<(), DeviceFault>
         ensures written { WritesText (W.written writer.old) (W.written writer.new)
             (W.failures writer.old) (W.failures writer.new) result
@@ -234,7 +236,7 @@ impl Lines {
         Ok(())
     }
 
-    /// It has ended.
+    /// Writes the end of the text.
     pub fn text_end<W: Sink>(&mut self, writer: &mut W) -> Result<(), DeviceFault>
         ensures written { WritesText (W.written writer.old) (W.written writer.new)
             (W.failures writer.old) (W.failures writer.new) result
@@ -248,7 +250,7 @@ impl Lines {
         Ok(())
     }
 
-    /// A text that has come whole.
+    /// Writes a complete text.
     pub fn whole_text<W: Sink>(
         &mut self,
         kind: TextKind,
@@ -268,7 +270,7 @@ impl Lines {
         Ok(())
     }
 
-    /// An aggregate begins.
+    /// Writes the beginning of an aggregate.
     pub fn open<W: Sink>(
         &mut self,
         kind: OpenKind,
@@ -291,7 +293,7 @@ impl Lines {
         Ok(())
     }
 
-    /// One aggregate more is open, where there is room for it: no value has more than that.
+    /// Adds an open aggregate, if there is room. No value needs more room.
     fn push(&mut self, line: OpenLine)
         ensures items { length self.old.aggregates.items < 128 →
             reverse self.new.aggregates.items ≡ line ∷ reverse self.old.aggregates.items }
@@ -300,7 +302,7 @@ impl Lines {
         let _ = self.aggregates.try_push(line);
     }
 
-    /// The innermost aggregate isn't open any more.
+    /// Removes the innermost open aggregate.
     fn pop(&mut self)
         ensures items { reverse self.new.aggregates.items ≡
             around (reverse self.old.aggregates.items) }
@@ -309,7 +311,7 @@ impl Lines {
         let _ = self.aggregates.pop();
     }
 
-    /// The innermost one has ended.
+    /// Writes the end of the innermost aggregate.
     pub fn close<W: Sink>(&mut self, writer: &mut W) -> Result<(), DeviceFault>
         ensures written { WritesText (W.written writer.old) (W.written writer.new)
             (W.failures writer.old) (W.failures writer.new) result
@@ -343,7 +345,8 @@ impl Lines {
 impl OpenLine {
     ghost use Rattle.resp_tool.specs.Pages.{has_all_pairs};
 
-    /// Whether an attribute has all its pairs, so that the value comes which it annotates.
+    /// Returns whether an attribute has all its pairs, so that the value that it belongs to comes
+    /// next.
     fn is_full(&self) -> bool
         ensures { result ≡ has_all_pairs (kind_of self.now.kind) self.now.count self.now.members }
     {
@@ -356,7 +359,7 @@ impl OpenLine {
         }
     }
 
-    /// The number of members, or of pairs.
+    /// Returns the number of members, or of pairs.
     fn items(&self) -> u64
         ensures { result ≡ items_of (kind_of self.now.kind) self.now.members }
     {
@@ -367,7 +370,7 @@ impl OpenLine {
     }
 }
 
-/// Writes what stands of a whole text on its line.
+/// Writes the line of a complete text, after the indentation.
 #[inline(always)]
 fn write_text_line<W: Sink>(writer: &mut W, kind: TextKind, bytes: &[u8]) -> Result<(), DeviceFault>
     ensures { WritesText (W.written writer.old) (W.written writer.new) (W.failures writer.old)
@@ -380,7 +383,7 @@ fn write_text_line<W: Sink>(writer: &mut W, kind: TextKind, bytes: &[u8]) -> Res
     write_long_line(writer, kind, bytes)
 }
 
-/// The same piece by piece.
+/// Writes the line of a complete text in several parts.
 fn write_long_line<W: Sink>(writer: &mut W, kind: TextKind, bytes: &[u8]) -> Result<(), DeviceFault>
     ensures { WritesText (W.written writer.old) (W.written writer.new) (W.failures writer.old)
         (W.failures writer.new) result (text_line (text_kind_of kind) bytes.now) }
@@ -394,7 +397,7 @@ fn write_long_line<W: Sink>(writer: &mut W, kind: TextKind, bytes: &[u8]) -> Res
     write_end(writer, Some(text))
 }
 
-/// Writes the words up to a text's content.
+/// Writes the words before a text's content.
 fn write_head<W: Sink>(writer: &mut W, kind: TextKind) -> Result<(), DeviceFault>
     ensures { WritesText (W.written writer.old) (W.written writer.new) (W.failures writer.old)
         (W.failures writer.new) result (text_words (text_kind_of kind)) }
@@ -419,7 +422,7 @@ fn write_int<W: Sink>(writer: &mut W, number: i64) -> Result<(), DeviceFault>
     write_number(writer, b"int ", number, b"\n")
 }
 
-/// Writes the words up to a verbatim string's content.
+/// Writes the words before a verbatim string's content.
 fn write_format<W: Sink>(writer: &mut W, format: &[u8]) -> Result<(), DeviceFault>
     ensures { WritesText (W.written writer.old) (W.written writer.new) (W.failures writer.old)
         (W.failures writer.new) result
@@ -440,14 +443,14 @@ fn write_indented<W: Sink>(writer: &mut W, level: usize, line: &[u8]) -> Result<
     write_text(writer, line)
 }
 
-/// Whether the text is a big number.
+/// Returns whether the text is a big number.
 fn is_big(kind: TextKind) -> bool
     ensures { result ≡ is_big (text_kind_of kind) }
 {
     matches!(kind, TextKind::Big { .. })
 }
 
-/// The first line of an aggregate.
+/// Returns the first line of an aggregate.
 fn kind_line(kind: OpenKind) -> &'static [u8]
     ensures { result.now ≡ kind_word (kind_of kind) ++ codes "\n" }
 {
@@ -460,14 +463,14 @@ fn kind_line(kind: OpenKind) -> &'static [u8]
     }
 }
 
-/// The line of a truth value.
+/// Returns the line of a boolean.
 fn truth_line(truth: bool) -> &'static [u8]
     ensures { result.now ≡ truth_word truth ++ codes "\n" }
 {
     if truth { b"true\n" } else { b"false\n" }
 }
 
-/// Whether the number is twice the other.
+/// Returns whether `number` is twice `half`.
 fn is_double(number: u64, half: u64) -> bool
     ensures { result ≡ (number == half + half) }
 {
@@ -477,7 +480,7 @@ fn is_double(number: u64, half: u64) -> bool
     number - half == half
 }
 
-/// The text with `bytes` bytes more.
+/// Returns the text with `bytes` more bytes.
 fn longer(text: Option<OpenText>, bytes: u64) -> Option<OpenText>
     ensures { size_of_text (text_of text) + bytes < 2 ^ 64 →
         text_of result ≡ with_bytes bytes (text_of text) }
@@ -491,7 +494,7 @@ fn longer(text: Option<OpenText>, bytes: u64) -> Option<OpenText>
     }
 }
 
-/// Writes what ends the line of a text.
+/// Writes the end of a text's line.
 fn write_end<W: Sink>(writer: &mut W, text: Option<OpenText>) -> Result<(), DeviceFault>
     ensures { WritesText (W.written writer.old) (W.written writer.new) (W.failures writer.old)
         (W.failures writer.new) result (end_of_text (text_of text)) }

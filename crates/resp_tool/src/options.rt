@@ -1,4 +1,4 @@
-//! What the options of the command line say.
+//! The options of the command line.
 
 ghost use Rattle.std.specs.Prelude.{◌≡◌, ℕ, Bool, false, IfNone, IfOk, IfSome, OnErr, option_map};
 ghost use Rattle.std.specs.Net.Grammar.{IsSocketText};
@@ -12,35 +12,35 @@ use resp_value::limits::Limits;
 use resp_value::version::Version;
 use std::net::SocketAddr;
 
-/// The name of a file that is standard input.
+/// The file name that stands for standard input.
 pub const STANDARD_INPUT: &str = "-";
 
-/// What is done with the values of the stream.
+/// What is done with the values of a stream.
 #[derive(Clone, Copy, Debug, PartialEq, Eq)]
 pub enum Task {
-    /// Their lines of text are written.
+    /// Write them as lines of text.
     Show,
-    /// They are counted.
+    /// Count them.
     Check,
-    /// Their canonical spellings are written.
+    /// Write their canonical texts.
     Canon,
 }
 
-/// A task, and how the stream is read.
+/// The options of `show`, `check` and `canon`.
 #[derive(Clone, Copy, Debug)]
 pub struct Options<'a> {
     pub task: Task,
     pub version: Version,
     pub limits: Limits,
-    /// The number of bytes of one read, from 1 to 65,536.
+    /// The most bytes of one read, from 1 to 65,536.
     pub piece: usize,
-    /// The name of the file that is read, or [`STANDARD_INPUT`].
+    /// The name of the file to read, or [`STANDARD_INPUT`].
     pub file: &'a str,
-    /// Whether it is said, for people, where and why the input was refused.
+    /// Whether an error in the input is explained.
     pub explains: bool,
 }
 
-/// The limits that the options say; none where a number is outside its range.
+/// Returns the limits in the options; `None` if a number is outside its range.
 pub(crate) fn limits_of(matches: &ArgMatches<'_>) -> Option<Limits>
     ensures some { IfSome result (HasLimits (rows_of (found_of matches.now))) }
     ensures no_doubles { IfSome result (λ limits. limits.doubles ≡ false) }
@@ -57,7 +57,7 @@ pub(crate) fn limits_of(matches: &ArgMatches<'_>) -> Option<Limits>
     Some(limits.with_streamed(!no_streamed))
 }
 
-/// The number of an option.
+/// Returns the number of an option.
 fn number_of(matches: &ArgMatches<'_>, name: &str) -> Option<u64>
     ensures some { IfSome result (HasNumber (rows_of (found_of matches.now)) name.now) }
     ensures none { IfNone result ((number : ℕ)
@@ -66,7 +66,7 @@ fn number_of(matches: &ArgMatches<'_>, name: &str) -> Option<u64>
     matches.get_one::<u64>(name)
 }
 
-/// The number of an option that is from 1 to 65,536; none where it is outside that range.
+/// Returns the number of an option from 1 to 65,536; `None` if it is outside that range.
 pub(crate) fn small_number_of(matches: &ArgMatches<'_>, name: &str) -> Option<usize>
     ensures some { IfSome result (HasSmallNumber (rows_of (found_of matches.now)) name.now) }
     ensures none { IfNone result ((number : ℕ)
@@ -79,7 +79,7 @@ pub(crate) fn small_number_of(matches: &ArgMatches<'_>, name: &str) -> Option<us
     Some(number as usize)
 }
 
-/// Whether an option is given.
+/// Returns whether an option is given.
 pub(crate) fn flag_of(matches: &ArgMatches<'_>, name: &str) -> Option<bool>
     ensures some { IfSome result (HasFlag (rows_of (found_of matches.now)) name.now) }
     ensures none { IfNone result ((on : Bool)
@@ -88,7 +88,7 @@ pub(crate) fn flag_of(matches: &ArgMatches<'_>, name: &str) -> Option<bool>
     matches.get_one::<bool>(name)
 }
 
-/// The text of an option.
+/// Returns the text of an option.
 pub(crate) fn text_of<'a>(matches: &ArgMatches<'a>, name: &str) -> Option<&'a str>
     ensures { option_map (λ text. text.now) result
         ≡ first_of name.now (rows_of (found_of matches.now)) }
@@ -96,7 +96,7 @@ pub(crate) fn text_of<'a>(matches: &ArgMatches<'a>, name: &str) -> Option<&'a st
     matches.get_str(name)
 }
 
-/// The address that a text is, which stands for the word of this name.
+/// Returns the address in a text, which was given for the argument `name`.
 pub(crate) fn address_of<'a>(text: &'a str, name: &'a str) -> Result<SocketAddr, NothingAsked<'a>>
     ensures ok { IfOk result (IsSocketText text.now) }
     ensures err { OnErr result ((address : SocketAddr) → IsSocketText text.now address → ⊥) }
@@ -107,7 +107,7 @@ pub(crate) fn address_of<'a>(text: &'a str, name: &'a str) -> Result<SocketAddr,
     }
 }
 
-/// The version of `--proto`.
+/// Returns the version of `--proto`.
 fn version_of(matches: &ArgMatches<'_>) -> Option<Version>
     ensures some { IfSome result (HasProto (rows_of (found_of matches.now))) }
     ensures none { IfNone result ((version : Version)
@@ -120,8 +120,8 @@ fn version_of(matches: &ArgMatches<'_>) -> Option<Version>
     }
 }
 
-/// The options of a subcommand; none where a number is outside its range, which the parser of the
-/// words refuses before.
+/// Returns the options of a subcommand; `None` if a number is outside its range, which the parser
+/// of the command line rejects before.
 pub(crate) fn options_of<'a>(task: Task, matches: &ArgMatches<'a>) -> Option<Options<'a>>
     ensures task { IfSome result (λ options. options.task ≡ task) }
     ensures some { IfSome result (HasOptions (rows_of (found_of matches.now))) }

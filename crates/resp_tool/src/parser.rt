@@ -1,4 +1,5 @@
-//! The parser of the words of the command line: the program's subcommands, each with its options.
+//! The parser of the command line: the subcommands of the program with their options and their
+//! help.
 
 ghost use Rattle.std.specs.Prelude.{◌≡◌, false, [], ◌∷◌, IfErr, IfOk, codes, map};
 ghost use Rattle.clap.specs.Words.{App, app_of, kind_of, new_app, rule_of};
@@ -15,20 +16,65 @@ use std::convert::AsStr;
 /// The greatest limit of total and of items.
 const MOST_TOTAL: i64 = 1_099_511_627_776;
 
-/// What `--proto` takes.
+/// The values of `--proto`.
 const VERSIONS: &[&str] = &["2", "3"];
 
-/// What the help of a task that reads a stream says of its statuses.
-const STREAM_STATUSES: &str = "Statuses:
-  0  All input was read
-  1  A value was refused
-  2  The words of the command line are wrong
-  3  A file can't be opened, the input can't be read, the output can't be written, or memory is out";
+/// The end of the help of `resp`.
+const EXAMPLES: &str = r"Examples:
+  printf '*2\r\n:1\r\n+two\r\n' | resp show
+  resp check --proto 3 replies.resp
+  resp tap 127.0.0.1:6380 127.0.0.1:6379
 
-/// What the help of `serve` and of `tap` says of their statuses.
-const LISTENING_STATUSES: &str = "Statuses:
-  2  The words of the command line are wrong
-  3  The address can't be opened, or memory is out";
+'resp help <COMMAND>' prints the options and the exit status of a command.";
+
+/// The end of the help of `show`, `check` and `canon`.
+const STREAM_HELP: &str = r"Examples:
+  printf '*2\r\n:1\r\n+two\r\n' | resp show
+  resp show --proto 3 --doubles --explain replies.resp
+  resp check replies.resp
+  resp canon --proto 3 <replies.resp >canonical.resp
+
+Exit status:
+  0  All input was read
+  1  The input contains an error
+  2  Usage error
+  3  The file can't be opened, a read or a write failed, or memory is out";
+
+/// The end of the help of `loop`.
+const LOOP_HELP: &str = r"The script is read from standard input.
+
+Examples:
+  printf 'clients 1\nsend 1 PING\nflush\n' | resp loop
+  resp loop --explain <script
+
+Exit status:
+  0  The script was played
+  1  A line of the script is wrong
+  2  Usage error
+  3  A connection, a read or a write failed, or memory is out";
+
+/// The end of the help of `serve`.
+const SERVE_HELP: &str = r"Examples:
+  resp serve 127.0.0.1:6380
+  resp serve --clients 100 --total 1048576 127.0.0.1:0
+
+The server runs until it is stopped. With port 0 the system chooses the port.
+
+Exit status:
+  2  Usage error
+  3  Listening, a read or a write failed, or memory is out";
+
+/// The end of the help of `tap`.
+const TAP_HELP: &str = r"Examples:
+  resp tap 127.0.0.1:6380 127.0.0.1:6379
+  resp tap --time 127.0.0.1:6380 127.0.0.1:6379 >traffic.txt
+
+Clients connect to LISTEN instead of SERVER. Everything is printed, including
+passwords. The program runs until it is stopped.
+
+Exit status:
+  2  Usage error
+  3  Listening or a write failed, or memory is out";
 
 /// An option with a number in a range.
 #[derive(Clone, Copy)]
@@ -38,64 +84,71 @@ struct NumberOption {
     least: i64,
     most: i64,
     default: &'static str,
+    hides_default: bool,
 }
 
 /// `--depth`: the limit of depth, in aggregates inside one another.
 const DEPTH: NumberOption = NumberOption {
     name: "depth",
-    help: "The most aggregates inside one another, from 4 to 128",
+    help: "Maximum nesting of aggregates, 4 to 128",
     least: 4,
     most: 128,
     default: "32",
+    hides_default: false,
 };
 
 /// `--length`: the limit of length, in bytes.
 const LENGTH: NumberOption = NumberOption {
     name: "length",
-    help: "The most bytes of one string or line, from 64 to 1073741824",
+    help: "Maximum bytes of a string or line,\n64 to 1073741824",
     least: 64,
     most: 1_073_741_824,
     default: "536870912",
+    hides_default: false,
 };
 
 /// `--total`: the limit of total, in bytes.
 const TOTAL: NumberOption = NumberOption {
     name: "total",
-    help: "The most bytes of one value, from 256 to 1099511627776",
+    help: "Maximum bytes of a value,\n256 to 1099511627776",
     least: 256,
     most: MOST_TOTAL,
     default: "1073741824",
+    hides_default: false,
 };
 
 /// `--items`: the limit of items, in members or pairs.
 const ITEMS: NumberOption = NumberOption {
     name: "items",
-    help: "The most members or pairs of one aggregate, from 16 to 1099511627776",
+    help: "Maximum members or pairs of an aggregate,\n16 to 1099511627776 [default: no limit]",
     least: 16,
     most: MOST_TOTAL,
     default: "1099511627776",
+    hides_default: true,
 };
 
 /// `--piece`: the most bytes of one read.
 const PIECE: NumberOption = NumberOption {
     name: "piece",
-    help: "The most bytes of one read, from 1 to 65536",
+    help: "Maximum bytes of a read, 1 to 65536",
     least: 1,
     most: 65_536,
     default: "4096",
+    hides_default: false,
 };
 
 /// `--clients`: the most clients at once.
 const CLIENTS: NumberOption = NumberOption {
     name: "clients",
-    help: "The most clients at once, from 1 to 65536",
+    help: "Maximum clients at once, 1 to 65536",
     least: 1,
     most: 65_536,
     default: "1000",
+    hides_default: false,
 };
 
 impl NumberOption {
-    /// The option for the parser of the words, which refuses a number outside the range.
+    /// Returns the option for the parser, which rejects a number outside the range.
     fn option<'a>(self, alloc: Global) -> Arg<'a>
         ensures rule { rule_of result ≡ value_option self.name.now
             (numbers_between self.least self.most) self.default.now }
@@ -107,10 +160,15 @@ impl NumberOption {
             .help(self.help)
             .value_parser(clap::value_parser!(u64).range(self.least..=self.most))
             .default_value(self.default)
+            .hide_default_value(self.hides_default)
     }
 }
 
-/// What the parser of the words finds in them.
+/// Parses the words of a command line.
+///
+/// # Errors
+///
+/// The error of clap: help, a usage error, or a failed allocation.
 pub(crate) fn matches_of<'a, S: AsStr>(
     alloc: Global,
     words: &'a [S],
@@ -121,7 +179,7 @@ pub(crate) fn matches_of<'a, S: AsStr>(
     matches_among(alloc, VERSIONS, words)
 }
 
-/// The same, where `--proto` takes one of these versions.
+/// Parses the words, if these are the versions of `--proto`.
 fn matches_among<'a, S: AsStr>(
     alloc: Global,
     versions: &'a [&'a str],
@@ -132,15 +190,15 @@ fn matches_among<'a, S: AsStr>(
     program(alloc, versions)?.try_get_matches_from(words)
 }
 
-/// The parser of the words: the subcommands, each with its options.
+/// Returns the parser: the program with its subcommands and their options.
 fn program<'a>(alloc: Global, versions: &'a [&'a str]) -> Result<Command<'a>, clap::Error>
     ensures program { IfOk result (λ command.
         app_of command ≡ resp_app (vp.Names versions.entry)) }
     ensures memory { IfErr result (λ error. kind_of error ≡ ErrorKind.OutOfMemory) }
 {
-    let show = "Prints each value of the stream as lines of text";
-    let check = "Reads the stream and prints how many values it has";
-    let canon = "Writes each value of the stream in its canonical spelling";
+    let show = "Prints each value of a stream as lines of text";
+    let check = "Reads a stream and prints the number of its values and bytes";
+    let canon = "Writes the canonical text of each value of a stream";
     Ok(
         resp(alloc)?
             .subcommand(stream_task(alloc, "show", show, versions)?)?
@@ -152,7 +210,7 @@ fn program<'a>(alloc: Global, versions: &'a [&'a str]) -> Result<Command<'a>, cl
     )
 }
 
-/// The program without its subcommands.
+/// Returns the program without its subcommands.
 fn resp<'a>(alloc: Global) -> Result<Command<'a>, clap::Error>
     ensures reads { IfOk result (λ command. IsTask command bare_app) }
     ensures memory { IfErr result (λ error. kind_of error ≡ ErrorKind.OutOfMemory) }
@@ -161,19 +219,34 @@ fn resp<'a>(alloc: Global) -> Result<Command<'a>, clap::Error>
         Command::new(alloc, "resp")
             .bin_name("resp")?
             .version("0.2.0")
-            .about("Reads a stream of the Redis wire protocol from a file or standard input")
+            .about("Tools for RESP2 and RESP3, the wire protocol of Redis")
+            .after_help(EXAMPLES)
             .subcommand_required(true),
     )
 }
 
-/// A subcommand without options.
+/// Returns a subcommand without options.
 fn bare_task<'a>(alloc: Global, name: &'a str, about: &'a str) -> Command<'a>
     ensures { IsTask result (new_app name.entry.now) }
 {
     Command::new(alloc, name).about(about)
 }
 
-/// A subcommand that reads a stream, of one of these versions.
+/// Returns a subcommand without options, with a text at the end of its help.
+fn bare_task_with_help<'a>(
+    alloc: Global,
+    name: &'a str,
+    about: &'a str,
+    after_help: &'a str,
+) -> Command<'a>
+    ensures { IsTask result (new_app name.entry.now) }
+{
+    Command::new(alloc, name)
+        .about(about)
+        .after_help(after_help)
+}
+
+/// Returns a subcommand that reads a stream, of one of these versions.
 fn stream_task<'a>(
     alloc: Global,
     name: &'a str,
@@ -187,22 +260,19 @@ fn stream_task<'a>(
     with_options(alloc, bare_task(alloc, name, about), versions)
 }
 
-/// The subcommand `loop`.
+/// Returns the subcommand `loop`.
 fn loop_task<'a>(alloc: Global) -> Result<Command<'a>, clap::Error>
     ensures reads { IfOk result (λ command. IsTask command
         (with_options (new_app (codes "loop")) (flag_option (codes "explain") ∷ []))) }
     ensures memory { IfErr result (λ error. kind_of error ≡ ErrorKind.OutOfMemory) }
 {
-    let explain = flag(alloc, "explain", "Says why a line of the script is bad");
-    let played = bare_task(
-        alloc,
-        "loop",
-        "Plays a script of clients of one server, over TCP",
-    );
+    let explain = flag(alloc, "explain", "Says why a line of the script is wrong");
+    let about = "Plays a script of clients of one server from standard input";
+    let played = bare_task_with_help(alloc, "loop", about, LOOP_HELP);
     Ok(played.arg(explain)?)
 }
 
-/// The subcommand `serve`.
+/// Returns the subcommand `serve`.
 fn serve_task<'a>(alloc: Global) -> Result<Command<'a>, clap::Error>
     ensures reads { IfOk result (λ command. IsTask command
         (with_options (new_app (codes "serve")) serve_options)) }
@@ -213,7 +283,7 @@ fn serve_task<'a>(alloc: Global) -> Result<Command<'a>, clap::Error>
     with_serve_options(alloc, serve)
 }
 
-/// A subcommand with the options of `serve`.
+/// Adds the options of `serve` to a subcommand.
 fn with_serve_options<'a>(alloc: Global, command: Command<'a>) -> Result<Command<'a>, clap::Error>
     ensures gains { IfOk result (GainsOptions command.entry serve_options) }
     ensures memory { IfErr result (λ error. kind_of error ≡ ErrorKind.OutOfMemory) }
@@ -225,24 +295,24 @@ fn with_serve_options<'a>(alloc: Global, command: Command<'a>) -> Result<Command
                 alloc,
                 "address",
                 "ADDRESS",
-                "The address to listen on, as 127.0.0.1:6380",
+                "Address to listen on, such as 127.0.0.1:6380",
             ))?
-            .after_help(LISTENING_STATUSES),
+            .after_help(SERVE_HELP),
     )
 }
 
-/// The subcommand `tap`.
+/// Returns the subcommand `tap`.
 fn tap_task<'a>(alloc: Global) -> Result<Command<'a>, clap::Error>
     ensures reads { IfOk result (λ command. IsTask command
         (with_options (new_app (codes "tap")) tap_options)) }
     ensures memory { IfErr result (λ error. kind_of error ≡ ErrorKind.OutOfMemory) }
 {
-    let about = "Stands between clients and a server, and prints what they send";
+    let about = "Forwards connections to a server and prints the traffic";
     let tap = bare_task(alloc, "tap", about);
     with_tap_options(alloc, tap)
 }
 
-/// A subcommand with the options of `tap`.
+/// Adds the options of `tap` to a subcommand.
 fn with_tap_options<'a>(alloc: Global, command: Command<'a>) -> Result<Command<'a>, clap::Error>
     ensures gains { IfOk result (GainsOptions command.entry tap_options) }
     ensures memory { IfErr result (λ error. kind_of error ≡ ErrorKind.OutOfMemory) }
@@ -251,18 +321,18 @@ fn with_tap_options<'a>(alloc: Global, command: Command<'a>) -> Result<Command<'
         alloc,
         "listen",
         "LISTEN",
-        "The address to listen on, as 127.0.0.1:6380",
+        "Address to listen on, such as 127.0.0.1:6380",
     );
     let server = address(
         alloc,
         "server",
         "SERVER",
-        "The address of the server, as 127.0.0.1:6379",
+        "Address of the server, such as 127.0.0.1:6379",
     );
     let time = flag(
         alloc,
         "time",
-        "Tells the time of day in UTC, and how long each command waited for its reply",
+        "Prints the time in UTC, and how long each reply took",
     );
     Ok(
         with_limits(alloc, command)?
@@ -270,11 +340,11 @@ fn with_tap_options<'a>(alloc: Global, command: Command<'a>) -> Result<Command<'
             .arg(time)?
             .arg(listen)?
             .arg(server)?
-            .after_help(LISTENING_STATUSES),
+            .after_help(TAP_HELP),
     )
 }
 
-/// An address, which has to be given.
+/// Returns a required argument that is an address.
 fn address<'a>(
     alloc: Global,
     name: &'a str,
@@ -290,7 +360,7 @@ fn address<'a>(
         .required(true)
 }
 
-/// An option that is given or not.
+/// Returns an option without a value.
 fn flag<'a>(alloc: Global, name: &'a str, help: &'static str) -> Arg<'a>
     ensures rule { rule_of result ≡ flag_option name.entry.now }
     ensures here { result.global ≡ false }
@@ -301,7 +371,7 @@ fn flag<'a>(alloc: Global, name: &'a str, help: &'static str) -> Arg<'a>
         .action(ArgAction::SetTrue)
 }
 
-/// The version of the protocol, one of these.
+/// Returns the option `--proto`, with these versions.
 fn proto<'a>(alloc: Global, versions: &'a [&'a str]) -> Arg<'a>
     ensures rule { rule_of result
         ≡ value_option (codes "proto") (vp.Names versions.entry) (codes "2") }
@@ -310,23 +380,23 @@ fn proto<'a>(alloc: Global, versions: &'a [&'a str]) -> Arg<'a>
     Arg::new(alloc, "proto")
         .long("proto")
         .value_name("VERSION")
-        .help("The version of the protocol")
+        .help("Protocol version")
         .value_parser(versions)
         .default_value("2")
 }
 
-/// The file that is read.
+/// Returns the argument for the input file.
 fn file<'a>(alloc: Global) -> Arg<'a>
     ensures rule { rule_of result ≡ file_word }
     ensures here { result.global ≡ false }
 {
     Arg::new(alloc, "file")
         .value_name("FILE")
-        .help("The file that is read, or - for standard input")
+        .help("Input file, or - for standard input")
         .default_value(STANDARD_INPUT)
 }
 
-/// A subcommand with the options of those that read a stream.
+/// Adds the options of `show`, `check` and `canon` to a subcommand.
 fn with_options<'a>(
     alloc: Global,
     command: Command<'a>,
@@ -336,15 +406,11 @@ fn with_options<'a>(
         (GainsOptions command.entry (stream_options (vp.Names versions.entry))) }
     ensures memory { IfErr result (λ error. kind_of error ≡ ErrorKind.OutOfMemory) }
 {
-    let doubles = flag(
-        alloc,
-        "doubles",
-        "Lets doubles through, which version 3 alone has",
-    );
+    let doubles = flag(alloc, "doubles", "Accepts RESP3 doubles");
     let explain = flag(
         alloc,
         "explain",
-        "Says where in the input and why a byte was refused",
+        "Says where in the input an error is, and why",
     );
     Ok(
         with_limits(alloc, command.arg(proto(alloc, versions))?)?
@@ -352,11 +418,11 @@ fn with_options<'a>(
             .arg(PIECE.option(alloc))?
             .arg(explain)?
             .arg(file(alloc))?
-            .after_help(STREAM_STATUSES),
+            .after_help(STREAM_HELP),
     )
 }
 
-/// A subcommand with the options that limit values.
+/// Adds the options that limit values to a subcommand.
 fn with_limits<'a>(alloc: Global, command: Command<'a>) -> Result<Command<'a>, clap::Error>
     ensures gains { IfOk result (GainsOptions command.entry limit_options) }
     ensures memory { IfErr result (λ error. kind_of error ≡ ErrorKind.OutOfMemory) }
@@ -364,7 +430,7 @@ fn with_limits<'a>(alloc: Global, command: Command<'a>) -> Result<Command<'a>, c
     let no_streamed = flag(
         alloc,
         "no-streamed",
-        "Refuses streamed strings and aggregates",
+        "Rejects streamed strings and aggregates",
     );
     Ok(
         command

@@ -1,4 +1,4 @@
-//! The listener by which `show` writes: it prints the lines of what it is told.
+//! The listener of `show`: it writes the lines of the events that it receives.
 
 ghost use Rattle.std.specs.Prelude.{◌≡◌, ◌≤◌, ◌++◌, length, take, false, IfOk};
 ghost use Rattle.resp_scan.specs.Kinds.{rules_of};
@@ -12,7 +12,7 @@ use resp_scan::scanner::Scanner;
 use resp_value::device::Sink;
 use resp_value::kind::OpenKind;
 
-/// Writes the lines of the events that it is told, and stops where a write fails.
+/// Writes the lines of the events that it receives, and stops if a write fails.
 #[derive(Drop)]
 struct Printer<'a, W> {
     lines: &'a mut Lines,
@@ -78,7 +78,7 @@ impl<W: Sink> Listener for Printer<'_, W> {
     }
 }
 
-/// Scans a piece up to the end of a value, and writes the lines of its events. Where a write fails
+/// Scans a piece up to the end of a value, and writes the lines of its events. If a write fails,
 /// the scan stops.
 pub fn print_piece<W: Sink>(
     scanner: &mut Scanner,

@@ -1,4 +1,4 @@
-//! What is written for the values of a stream, as their bytes come.
+//! What is written for the values of a stream as their bytes arrive.
 
 ghost use Rattle.std.specs.Prelude.{◌≡◌, ◌≤◌, ◌++◌, ℕ, List, [], length, IfOk, IsErr, IsErrOf, OnOk};
 ghost use Rattle.resp_value.specs.Data.{Datum};
@@ -12,25 +12,25 @@ use resp_print::live::LiveSink;
 use resp_scan::event::Fault;
 use resp_value::device::{DeviceFault, Sink};
 
-/// What came of bytes that were given.
+/// The result of reading bytes.
 #[derive(Clone, Copy, Debug, PartialEq, Eq)]
 pub struct Taken {
-    /// The number of bytes taken from the front of the piece.
+    /// The number of bytes read from the front of the piece.
     pub used: usize,
-    /// Whether a value has ended after them.
+    /// Whether a value is complete after them.
     pub is_whole: bool,
 }
 
-/// Why a value was not read and written to its end.
+/// Why a value was not read and written completely.
 #[derive(Clone, Copy, Debug, PartialEq, Eq)]
 pub enum Stop {
-    /// A byte was refused, or the input ended inside the value.
+    /// A byte is not valid, or the input ended inside the value.
     Fault(Fault),
-    /// The text is over the limits. Nothing of it was written.
+    /// The text is over the limits. No part of it was written.
     OverLimits,
-    /// The writer failed. A first part of the text was written.
+    /// A write failed. The first part of the text was written.
     Write,
-    /// A growth was refused.
+    /// An allocation failed.
     Memory,
 }
 
@@ -47,7 +47,7 @@ impl From<DeviceFault> for Stop {
 impl Stop {
     ghost use Rattle.resp_tool.specs.Stops.{error_of};
 
-    /// Why the program stops, at the value with this number.
+    /// Returns the error of the program, if the value with this number stopped it.
     pub fn of_value(self, value: u64) -> ToolError
         ensures { result ≡ error_of value self }
     {
@@ -64,7 +64,7 @@ impl Stop {
     }
 }
 
-/// What is written for each value of a stream.
+/// Writes something for each value of a stream.
 pub trait Rendering {
     ghost use Rattle.resp_tool.specs.Stops.{failed_to_write};
     ghost use Rattle.resp_tool.specs.Takings.{EndsInput, Takes};
@@ -72,32 +72,32 @@ pub trait Rendering {
     /// The version and limits under which values are read.
     ghost rules: { Self → Rules };
 
-    /// It has taken these bytes of a value, and has written this text of it.
+    /// It has read these bytes of a value, and has written this text for them.
     ghost has_taken: { Self → List ℕ → List ℕ → Type 0 };
 
-    /// The text of a whole value.
+    /// The text of a complete value.
     ghost text: { Rules → Datum → List ℕ };
 
-    /// The values that are written at all.
+    /// The values for which anything is written.
     ghost is_written: { Rules → Datum → Type 0 };
 
-    /// What is due of a value that these bytes begin.
+    /// The text that must have been written for a value that begins with these bytes.
     ghost is_due: { Rules → List ℕ → List ℕ → Type 0 };
 
-    /// What stands written of a value that goes no further than these bytes.
+    /// The text that was written for a value that goes no further than these bytes.
     ghost is_left: { Rules → List ℕ → List ℕ → Type 0 };
 
-    /// What may be about to be written of a value that begins in these bytes.
+    /// The text that may have been written for a value that begins in these bytes.
     ghost is_begun: { Rules → List ℕ → List ℕ → Type 0 };
 
-    /// Whether a value may find no memory.
+    /// Whether an allocation may fail for a value.
     ghost takes_memory: { Type 0 };
 
     /// Whether anything is written.
     ghost writes: { Type 0 };
 
-    /// Takes bytes of the piece until a value is whole or the piece ends, and writes what they call
-    /// for.
+    /// Reads bytes of the piece until a value is complete or the piece ends, and writes the text
+    /// for them.
     fn take<W: Sink>(&mut self, piece: &[u8], writer: &mut W) -> Result<Taken, Stop>
         requires { (front : List ℕ) × (so_far : List ℕ) × has_taken self.old front so_far }
         ensures takes { (front so_far : List ℕ) → has_taken self.old front so_far →
@@ -111,8 +111,8 @@ pub trait Rendering {
         ensures write_failures { W.failures writer.new ≡
             failures_after (failed_to_write result) (W.failures writer.old) };
 
-    /// What was written of a value is a first part of what may be written of it, and all that is
-    /// due of it.
+    /// The text that was written for an incomplete value is a first part of the text that may be
+    /// written for it, and contains all text that must be.
     fn part_stands(&self)
         ensures begun { (front so_far : List ℕ) → has_taken self.now front so_far →
             (later : List ℕ) × is_begun (rules self.now) front (so_far ++ later) }
@@ -121,7 +121,7 @@ pub trait Rendering {
         ensures due { (front so_far : List ℕ) → has_taken self.now front so_far →
             is_due (rules self.now) front so_far };
 
-    /// Sends on what was written, where anything is.
+    /// Flushes the writer, if anything is written.
     fn flush<W: LiveSink>(&self, writer: &mut W) -> Result<(), DeviceFault>
         ensures same { Appends (W.written writer.old) (W.written writer.new) [] }
         ensures sent { writes → OnOk result (W.sent writer.new ≡ W.written writer.new) }
@@ -129,7 +129,7 @@ pub trait Rendering {
         ensures failures { W.failures writer.new ≡
             failures_after (flush_fails result) (W.failures writer.old) };
 
-    /// The end of the input.
+    /// Handles the end of the input.
     fn finish<W: Sink>(&mut self, writer: &mut W) -> Result<(), Stop>
         requires { (front : List ℕ) × (so_far : List ℕ) × has_taken self.old front so_far }
         ensures ends { (front so_far : List ℕ) → has_taken self.old front so_far →

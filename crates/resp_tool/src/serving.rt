@@ -1,4 +1,4 @@
-//! What the options of `resp serve` say.
+//! The options of `resp serve`.
 
 ghost use Rattle.std.specs.Prelude.{ℕ, List, IfNone, IfOk, IfSome, OnErr};
 ghost use Rattle.clap.specs.Words.{found_of, rows_of};
@@ -11,18 +11,18 @@ use clap::ArgMatches;
 use resp_value::limits::Limits;
 use std::net::SocketAddr;
 
-/// Where clients are served, how many at once, and within which limits their values are read.
+/// The options of `resp serve`.
 #[derive(Clone, Copy, Debug)]
 pub struct Serving<'a> {
     pub address: SocketAddr,
-    /// The address as the words have it.
+    /// The address as it was given.
     pub address_text: &'a str,
     pub limits: Limits,
     /// The most clients at once, from 1 to 65,536.
     pub clients: usize,
 }
 
-/// What the words say, before the address is read.
+/// The options before the address is parsed.
 #[derive(Clone, Copy)]
 struct Words<'a> {
     address: &'a str,
@@ -30,7 +30,7 @@ struct Words<'a> {
     clients: usize,
 }
 
-/// What the options of `serve` say.
+/// Returns the options of `serve`, or why there are none.
 pub(crate) fn serving_of<'a>(matches: &ArgMatches<'a>) -> Result<Serving<'a>, NothingAsked<'a>>
     ensures ok { IfOk result (HasServing (rows_of (found_of matches.now))) }
     ensures err { OnErr result ((serving : Serving)
@@ -47,8 +47,8 @@ pub(crate) fn serving_of<'a>(matches: &ArgMatches<'a>) -> Result<Serving<'a>, No
     })
 }
 
-/// The same, before the address is read; none where a number is outside its range, which the parser
-/// of the words refuses before.
+/// Returns the options before the address is parsed; `None` if a number is outside its range, which
+/// the parser of the command line rejects before.
 fn words_of<'a>(matches: &ArgMatches<'a>) -> Option<Words<'a>>
     ensures some { IfSome result (λ words. HasServeWords (rows_of (found_of matches.now))
         words.address.now words.limits words.clients) }

@@ -1,5 +1,4 @@
-//! The line of a text that has come whole, where it is short and plain: it is made first, so that
-//! one write is enough.
+//! Builds the line of a short text in memory, so that one write is enough.
 
 ghost use Rattle.std.specs.Prelude.{◌≡◌, ◌++◌, [], codes, decimal, false, true};
 ghost use Rattle.resp_scan.specs.Kinds.{text_kind_of};
@@ -12,8 +11,9 @@ use resp_scan::event::TextKind;
 /// The most bytes of content of a short line.
 const MOST_CONTENT: usize = 96;
 
-/// Makes the line of a text in an empty one, where it is short and each byte stands for itself, and
-/// answers whether it did. A line that is given back would be copied on its way.
+/// Builds the line of a text in `line`, which is empty, if the text is short and no byte of it is
+/// escaped. Returns whether it did. The line is a parameter because a returned line would be
+/// copied.
 #[inline(always)]
 pub fn make_line(line: &mut ArrayVec<u8, 128>, kind: TextKind, bytes: &[u8]) -> bool
     requires { line.old.items ≡ [] }
@@ -31,7 +31,7 @@ pub fn make_line(line: &mut ArrayVec<u8, 128>, kind: TextKind, bytes: &[u8]) -> 
     push_size(line, bytes.len() as u64)
 }
 
-/// Adds the words up to the content, where there is room, and it is one that is quoted.
+/// Appends the words before the content, if there is room and the text is printed in quotes.
 #[inline(always)]
 fn push_words(line: &mut ArrayVec<u8, 128>, kind: TextKind) -> bool
     ensures words { result ≡ true →
@@ -49,8 +49,8 @@ fn push_words(line: &mut ArrayVec<u8, 128>, kind: TextKind) -> bool
     }
 }
 
-/// Adds what stands after the content, where there is room and the number has no more than two
-/// digits: a quote and the number of its bytes.
+/// Appends the end of the line, a quote and the number of bytes, if there is room and the number
+/// has at most two digits.
 #[inline(always)]
 fn push_size(line: &mut ArrayVec<u8, 128>, size: u64) -> bool
     ensures { result ≡ true →

@@ -1,4 +1,4 @@
-//! `show`: each value of a stream as lines of text.
+//! `show`: writes each value of a stream as lines of text.
 
 ghost use Rattle.std.specs.Prelude.{◌≡◌, ◌≤◌, ℕ, List, [], Some, IfErr, IfSome, IsErrOf};
 ghost use Rattle.resp_tool.specs.Counts.{IsAny};
@@ -22,7 +22,7 @@ use resp_value::limits::Limits;
 use resp_value::version::Version;
 use std::alloc::Global;
 
-/// Each value as lines of text.
+/// Writes each value as lines of text.
 #[derive(Drop)]
 struct Shown {
     scanner: Scanner,
@@ -66,7 +66,7 @@ impl Rendering for Shown {
     }
 
     fn part_stands(&self) {
-        // What was scanned is viable, as the scanner says of it here.
+        // The bytes that were scanned are viable: this call states it.
         let _taken = self.scanner.taken();
     }
 
@@ -75,7 +75,7 @@ impl Rendering for Shown {
     }
 
     fn finish<W: Sink>(&mut self, writer: &mut W) -> Result<(), Stop> {
-        // What was scanned is viable, as the scanner says of it here.
+        // The bytes that were scanned are viable: this call states it.
         let _viable = self.scanner.taken();
         match self.scanner.finish() {
             Ok(()) => Ok(()),
@@ -87,14 +87,20 @@ impl Rendering for Shown {
     }
 }
 
-/// Reads the stream by reads of at most `piece` bytes, from 1 to 65,536, and writes the lines of
-/// each value as its bytes come. Before each read it flushes the writer; what that holds back at
-/// the end is the caller's to flush. It takes memory for the bytes of one read alone.
+/// Reads a stream with reads of at most `piece` bytes, and writes the lines of each value as its
+/// bytes arrive. `piece` is from 1 to 65,536. The writer is flushed before each read; the caller
+/// flushes it at the end. The call allocates the bytes of one read.
 ///
-/// Refuses a stream at its first byte after which nothing can follow, or where it ends inside a
-/// value; the lines of the values before and of what came of that one have been written. It refuses
-/// bytes after the first 1,000,000,000 values too. Where a device fails, or 4,000,000,000 reads
-/// are used up, a first part of the lines was written. Without memory nothing was read or written.
+/// # Errors
+///
+/// - [`ToolError::Refused`] at the first byte that no valid value can contain at its place, or if
+///   the input ends inside a value; [`ToolError::TooManyValues`] if bytes follow the first
+///   1,000,000,000 values. The lines of the values before the error, and of the part of the value
+///   before it, were written.
+/// - [`ToolError::Read`] and [`ToolError::Write`] if a device fails, and
+///   [`ToolError::TooManyTurns`] after 4,000,000,000 reads. The first part of the lines was
+///   written.
+/// - [`ToolError::Memory`] if the allocation fails. Nothing was read or written.
 pub fn show<R: LiveSource<W>, W: LiveSink>(
     alloc: Global,
     version: Version,
@@ -104,7 +110,7 @@ pub fn show<R: LiveSource<W>, W: LiveSink>(
     writer: &mut W,
 ) -> Result<(), ToolError>
     requires { (1 ≤ piece) × (piece ≤ 65536) }
-    // Of the bytes that were read: the lines of each value, and what is refused.
+    // For the bytes that were read: the lines of each value, and the error.
     ensures written { (bytes : List ℕ) × AreRead (R.remaining reader.old) (R.remaining reader.new)
         bytes × Renders (rules_under version limits.now) shown_text IsAny IsShownOf
         (IsShownIn (rules_under version limits.now)) bytes (W.written writer.old)
@@ -112,12 +118,12 @@ pub fn show<R: LiveSource<W>, W: LiveSink>(
     ensures read_to_its_end { AtEnd result (IfSome (R.remaining reader.old) (λ _.
         R.remaining reader.new ≡ Some [])) }
     ensures never_over_limits { IfErr result IsNeverOver }
-    // At each read the lines of all that was read before had been sent.
+    // Before each read, the lines for all bytes that were read before were sent.
     ensures live { EachRead (R.looks reader.old) (R.looks reader.new)
         (IsLive (rules_under version limits.now) shown_text IsShownDue (R.remaining reader.old)
         (W.written writer.old)) }
 
-    // A device or memory that failed.
+    // A failed device or allocation.
     ensures reads { UsesReader MOST_READS result (R.calls reader.old) (R.calls reader.new)
         (R.failures reader.old) (R.failures reader.new) }
     ensures write_failures { W.failures writer.new ≡

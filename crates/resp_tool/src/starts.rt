@@ -1,4 +1,4 @@
-//! Where the values of a stream begin, found as its bytes come.
+//! Finds the places at which the values of a stream begin, as its bytes arrive.
 
 ghost use Rattle.std.specs.Prelude.{◌≡◌, ◌≤◌, ◌++◌, ℕ, List, [], true, false};
 ghost use Rattle.resp_scan.specs.Kinds.{rules_of};
@@ -10,7 +10,7 @@ use resp_scan::scanner::Scanner;
 use resp_value::limits::Limits;
 use resp_value::version::Version;
 
-/// How many values of a stream have ended, and where the next begins.
+/// The number of complete values of a stream, and the place at which the next one begins.
 #[derive(Drop)]
 pub struct Starts {
     scanner: Scanner,
@@ -19,7 +19,7 @@ pub struct Starts {
 }
 
 impl Starts {
-    /// The start of a stream.
+    /// Returns the start of a stream.
     pub fn new(version: Version, limits: &Limits) -> Starts
         ensures nothing_passed { HavePassed result [] }
         ensures rules { rules_of result.scanner ≡ rules_under version limits.now }
@@ -31,8 +31,8 @@ impl Starts {
         }
     }
 
-    /// Goes on through a piece until `most` values have ended, a byte is refused, or the piece
-    /// ends. False where that many have ended before the piece does.
+    /// Scans a piece until `most` values are complete, a byte is rejected, or the piece ends.
+    /// Returns false if that many values are complete before the piece ends.
     pub fn pass(&mut self, piece: &[u8], most: u64) -> bool
         ensures begins { (bytes : List ℕ) → HavePassed self.old bytes →
             BeginsAt (rules_of self.old.scanner) (bytes ++ piece.now) self.new.values
@@ -62,22 +62,22 @@ impl Starts {
         rest.is_empty()
     }
 
-    /// How many values have ended.
+    /// Returns the number of complete values.
     pub fn values(&self) -> u64
         ensures { result ≡ self.now.values }
     {
         self.values
     }
 
-    /// How many bytes these have, where 64 bits hold the number.
+    /// Returns the number of bytes of the complete values, if it fits into 64 bits.
     pub fn start(&self) -> u64
         ensures { result ≡ self.now.start }
     {
         self.start
     }
 
-    /// The least number of bytes that complete the value that was begun. It says nothing after a
-    /// refused byte.
+    /// Returns the least number of bytes that complete the value that was begun. After a rejected
+    /// byte the number is unspecified.
     pub fn needed(&self) -> u64 {
         self.scanner.needed()
     }

@@ -1,4 +1,4 @@
-//! The loop that reads a stream, which `show`, `check` and `canon` share.
+//! The loop that reads a stream, for `show`, `check` and `canon`.
 
 ghost use Rattle.std.specs.Prelude.{◌≡◌, ◌⊎◌, ◌+◌, ◌≤◌, ◌++◌, ℕ, List, [], Option, Some, IfErr, IfOk, IfSome, IsErrOf};
 ghost use Rattle.resp_tool.specs.Live.{EachRead, IsLive};
@@ -15,17 +15,19 @@ use std::alloc::Global;
 /// The most reads of one run.
 pub const MOST_READS: u64 = 4_000_000_000;
 
-/// How much was read.
+/// The number of values and bytes that were read.
 #[derive(Clone, Copy, Debug, PartialEq, Eq)]
 pub struct Totals {
     pub values: u64,
     pub bytes: u64,
 }
 
-/// Reads the stream to its end by reads of at most `piece` bytes, and writes what each value calls
-/// for. Before each read what was written is flushed.
+/// Reads a stream to its end with reads of at most `piece` bytes, and writes the text for each
+/// value. The writer is flushed before each read.
 ///
-/// Refuses as [`ToolError`] says.
+/// # Errors
+///
+/// Fails as [`ToolError`] describes.
 pub fn render_stream<T: Rendering, R: LiveSource<W>, W: LiveSink>(
     alloc: Global,
     rendering: &mut T,
@@ -35,7 +37,7 @@ pub fn render_stream<T: Rendering, R: LiveSource<W>, W: LiveSink>(
 ) -> Result<Totals, ToolError>
     requires piece_in_range { (1 ≤ piece) × (piece ≤ 65536) }
     requires nothing_taken { T.has_taken rendering.old [] [] }
-    // Some bytes were read, which the result is of.
+    // Some bytes were read, and this is the result for them.
     ensures rendered { (bytes : List ℕ) × AreRead (R.remaining reader.old) (R.remaining reader.new)
         bytes × RendersStream (T.rules rendering.old) (T.text (T.rules rendering.old))
         (T.is_written (T.rules rendering.old)) (T.is_left (T.rules rendering.old))
@@ -47,7 +49,7 @@ pub fn render_stream<T: Rendering, R: LiveSource<W>, W: LiveSink>(
         (IsLive (T.rules rendering.old) (T.text (T.rules rendering.old))
         (T.is_due (T.rules rendering.old)) (R.remaining reader.old) (W.written writer.old)) }
 
-    // A device or memory that failed.
+    // A failed device or allocation.
     ensures reads { UsesReader MOST_READS result (R.calls reader.old) (R.calls reader.new)
         (R.failures reader.old) (R.failures reader.new) }
     ensures write_failures { W.failures writer.new ≡
@@ -88,8 +90,8 @@ pub fn render_stream<T: Rendering, R: LiveSource<W>, W: LiveSink>(
     Err(ToolError::TooManyTurns)
 }
 
-/// Writes what the values call for that a piece goes on with, and answers the number of all
-/// that are whole.
+/// Writes the text for the values that a piece continues, and returns the number of all complete
+/// values.
 fn render_piece<T: Rendering, W: Sink>(
     rendering: &mut T,
     before: u64,
@@ -124,7 +126,7 @@ fn render_piece<T: Rendering, W: Sink>(
     ensures write_failures { W.failures writer.new ≡
         failures_after (failed_to_write result) (W.failures writer.old) }
 {
-    // No value is empty, so each leaves less.
+    // No value is empty, so each value leaves fewer bytes.
     laws::no_spelling_is_empty();
     let mut values = before;
     let mut rest = piece;

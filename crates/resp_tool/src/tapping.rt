@@ -1,4 +1,4 @@
-//! What the options of `resp tap` say.
+//! The options of `resp tap`.
 
 ghost use Rattle.std.specs.Prelude.{ℕ, Bool, List, IfNone, IfOk, IfSome, OnErr};
 ghost use Rattle.clap.specs.Words.{found_of, rows_of};
@@ -11,24 +11,23 @@ use clap::ArgMatches;
 use resp_value::limits::Limits;
 use std::net::SocketAddr;
 
-/// Where clients are listened for and where their server is, how many there are at once, within
-/// which limits what passes is read, and whether it is told when it passed.
+/// The options of `resp tap`.
 #[derive(Clone, Copy, Debug)]
 pub struct Tapping<'a> {
     pub address: SocketAddr,
-    /// The address as the words have it.
+    /// The address as it was given.
     pub address_text: &'a str,
     /// The address of the server.
     pub server: SocketAddr,
-    /// The limits, which let doubles through.
+    /// The limits, which allow doubles.
     pub limits: Limits,
     /// The most clients at once, from 1 to 65,536.
     pub clients: usize,
-    /// Whether times are told.
+    /// Whether times are printed.
     pub tells_time: bool,
 }
 
-/// What the words say, before the addresses are read.
+/// The options before the addresses are parsed.
 #[derive(Clone, Copy)]
 struct Words<'a> {
     address: &'a str,
@@ -38,7 +37,7 @@ struct Words<'a> {
     tells_time: bool,
 }
 
-/// What the options of `tap` say.
+/// Returns the options of `tap`, or why there are none.
 pub(crate) fn tapping_of<'a>(matches: &ArgMatches<'a>) -> Result<Tapping<'a>, NothingAsked<'a>>
     ensures ok { IfOk result (HasTapping (rows_of (found_of matches.now))) }
     ensures err { OnErr result ((tapping : Tapping)
@@ -57,8 +56,8 @@ pub(crate) fn tapping_of<'a>(matches: &ArgMatches<'a>) -> Result<Tapping<'a>, No
     })
 }
 
-/// The same, before the addresses are read; none where a number is outside its range, which the
-/// parser of the words refuses before.
+/// Returns the options before the addresses are parsed; `None` if a number is outside its range,
+/// which the parser of the command line rejects before.
 fn words_of<'a>(matches: &ArgMatches<'a>) -> Option<Words<'a>>
     ensures some { IfSome result (λ words. HasTapWords (rows_of (found_of matches.now))
         words.address.now words.server.now words.limits words.clients words.tells_time) }

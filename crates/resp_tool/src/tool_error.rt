@@ -1,4 +1,4 @@
-//! Why the program stops, the line that it prints then, and its status.
+//! The errors of the program, the lines that it prints for them, and its exit statuses.
 
 ghost use Rattle.std.specs.Prelude.{◌≡◌};
 ghost use Rattle.resp_print.specs.Written.{WritesText};
@@ -17,25 +17,25 @@ pub const MOST_VALUES: u64 = 1_000_000_000;
 /// Why a stream was not shown, checked or rewritten to its end.
 #[derive(Clone, Copy, Debug, PartialEq, Eq, Error)]
 pub enum ToolError {
-    /// The value with this number, counted from 1, was refused at this byte of it, counted from 0.
+    /// The value with this number, counted from 1, has an error at this byte, counted from 0.
     #[error("value {value}: {cause:?} at byte {at}")]
     Refused { value: u64, cause: Cause, at: u64 },
     /// The canonical text of the value with this number, counted from 1, is over the limits.
-    #[error("value {value}: its canonical text is over the limits")]
+    #[error("value {value}: the canonical text exceeds the limits")]
     OverLimits { value: u64 },
     /// Bytes follow the first 1,000,000,000 values.
     #[error("too many values")]
     TooManyValues,
-    /// The reader failed.
-    #[error("the reader failed")]
+    /// A read failed.
+    #[error("read failed")]
     Read,
-    /// The writer failed, or took no byte.
-    #[error("the writer failed")]
+    /// A write failed, or wrote no byte.
+    #[error("write failed")]
     Write,
-    /// The input didn't end within 4,000,000,000 reads.
+    /// The input did not end within 4,000,000,000 reads.
     #[error("too many reads")]
     TooManyTurns,
-    /// A growth was refused.
+    /// An allocation failed.
     #[error("out of memory")]
     Memory,
 }
@@ -56,7 +56,7 @@ impl From<DeviceFault> for ToolError {
     }
 }
 
-/// Writes the line of a refused value.
+/// Writes the line of an error in a value.
 fn write_refusal<W: Sink>(
     writer: &mut W,
     value: u64,
@@ -74,8 +74,11 @@ fn write_refusal<W: Sink>(
 impl ToolError {
     ghost use Rattle.resp_tool.specs.Faults.{fault_line, status_of};
 
-    /// Writes the line that says what was refused, with an LF. Refuses where a write fails, and
-    /// then the first bytes of the line were written.
+    /// Writes the line for standard error, with an LF.
+    ///
+    /// # Errors
+    ///
+    /// `DeviceFault` if a write fails. The first part of the line was written.
     pub fn line<W: Sink>(&self, writer: &mut W) -> Result<(), DeviceFault>
         ensures { WritesText (W.written writer.old) (W.written writer.new) (W.failures writer.old)
             (W.failures writer.new) result (fault_line self.now) }
@@ -97,8 +100,8 @@ impl ToolError {
         }
     }
 
-    /// The status that the program ends with: 1 for a refused input, 3 for a device or memory that
-    /// failed, and where the reads are used up.
+    /// Returns the exit status of the program: 1 for an error in the input, and 3 if a device or an
+    /// allocation failed or there were too many reads.
     pub fn status(&self) -> u8
         ensures { result ≡ status_of self.now }
     {

@@ -1,4 +1,4 @@
-//! A source that remembers where the values of its stream begin, and the last bytes.
+//! A source that keeps the last bytes of its stream and the place at which its last value begins.
 
 ghost use Rattle.std.specs.Prelude.{◌≡◌, ◌≤◌, ◌-◌, ◌++◌, ℕ, List, [], length, drop, take, IfOk, IfSome, IsErr, false};
 ghost use Rattle.resp_tool.specs.Begun.{HavePassed};
@@ -15,24 +15,24 @@ use resp_value::limits::Limits;
 use resp_value::version::Version;
 use std::alloc::Global;
 
-/// How many bytes are shown before a place, and how many from there on.
+/// The most bytes that are shown before a place, and from it on.
 const SHOWN: usize = 16;
 
-/// Reads what another source reads, and remembers where the values begin, the bytes of the last
-/// read, and up to 16 before these.
+/// Reads from another source. It keeps the place at which the next value begins, the bytes of the
+/// last read, and up to 16 bytes before them.
 #[derive(Drop)]
 pub struct Watched<R> {
     inner: R,
     starts: Starts,
     held: BytesMut,
-    // How many of the last bytes held were not gone through yet.
+    // The number of the last bytes in `held` that were not scanned yet.
     fresh: usize,
     read: u64,
     is_lost: bool,
 }
 
 impl<R: Source + Drop> Watched<R> {
-    /// Watches a source from here on, whose values are those of this version within these limits.
+    /// Watches a source from here on. Its values are read in this version within these limits.
     pub fn new(alloc: Global, inner: R, version: Version, limits: &Limits) -> Watched<R>
         ensures nothing_read { HasWatched result [] }
         ensures rules { rules_watched result ≡ rules_under version limits.now }
@@ -51,7 +51,7 @@ impl<R: Source + Drop> Watched<R> {
 }
 
 impl<R> Watched<R> {
-    /// Goes through the bytes of the last read.
+    /// Scans the bytes of the last read.
     pub(crate) fn settle(&mut self)
         ensures watched { (bytes : List ℕ) → HasWatched self.old bytes → HasWatched self.new bytes }
         ensures gone_through { (bytes : List ℕ) → HasWatched self.old bytes →
@@ -66,7 +66,7 @@ impl<R> Watched<R> {
         self.fresh = 0;
     }
 
-    /// Remembers the bytes of a read.
+    /// Keeps the bytes of a read.
     fn keep(&mut self, bytes: &[u8])
         ensures watched { (before : List ℕ) → HasWatched self.old before →
             HasWatched self.new (before ++ bytes.now) }
@@ -83,10 +83,11 @@ impl<R> Watched<R> {
         self.read = self.read.saturating_add(bytes.len() as u64);
     }
 
-    /// How many bytes of the stream stand before byte `at` of the value with the number `value`,
-    /// counted from 1. None where memory was refused before, or fewer values have come.
+    /// Returns the number of bytes of the stream before byte `at` of the value with the number
+    /// `value`, counted from 1. Returns `None` if an allocation failed before, or the stream has
+    /// fewer values.
     ///
-    /// It is asked once: what comes after that value is not gone through any more.
+    /// Call this once: the bytes after that value are not scanned any more.
     pub(crate) fn place_of(&mut self, value: u64, at: u64) -> Option<u64>
         ensures place { (bytes : List ℕ) → HasWatched self.old bytes →
             IfSome result (IsPlace (rules_watched self.old) bytes value at) }
@@ -102,13 +103,13 @@ impl<R> Watched<R> {
         Some(self.starts.start().saturating_add(at))
     }
 
-    /// The least number of bytes that complete the value that was begun.
+    /// Returns the least number of bytes that complete the value that was begun.
     pub(crate) fn missing(&self) -> u64 {
         self.starts.needed()
     }
 
-    /// Up to 16 bytes before a place, and up to 16 from there on, as far as they were read; nothing
-    /// and two dots where the place isn't remembered.
+    /// Returns up to 16 bytes before a place and up to 16 bytes from it on, as far as they were
+    /// read. If the bytes at the place are no longer in memory, returns no bytes and `..`.
     pub(crate) fn around(&self, place: u64) -> (&[u8], &[u8]) {
         let held = self.held.as_slice();
         let first = self.read.saturating_sub(held.len() as u64);
@@ -121,7 +122,7 @@ impl<R> Watched<R> {
     }
 }
 
-/// The last bytes of a text, this many or all.
+/// Returns the last `count` bytes of a text, or all if it is shorter.
 fn last(text: &[u8], count: usize) -> &[u8]
     ensures { result.now ≡ drop (length text.now - count) text.now }
 {

@@ -17,7 +17,7 @@ pub struct Command {
 
 /// The error of [`Command::new`]: the command has no word.
 #[derive(Debug, PartialEq, Eq, Drop, Error)]
-#[error("a command has no word")]
+#[error("the command has no words")]
 pub struct BadCommand {
     /// The words that were passed, an empty list.
     pub words: Vec<Vec<u8>>,

@@ -21,7 +21,7 @@ pub struct Digits {
 #[derive(Clone, Copy, Debug, PartialEq, Eq, Error)]
 pub enum DigitsError {
     /// The text is not an optional `+` or `-` followed by one or more decimal digits.
-    #[error("not an optional sign and one or more digits")]
+    #[error("expected an optional sign and one or more digits")]
     BadDigits,
     /// The allocation for the digits failed.
     #[error("out of memory")]

@@ -79,7 +79,7 @@ impl Model for Limits {
 
 /// The error of [`Limits::new`] and [`Limits::with_items`]: a limit is outside its range.
 #[derive(Clone, Copy, Debug, PartialEq, Eq, Error)]
-#[error("a limit is outside its range")]
+#[error("a limit is out of range")]
 pub struct BadLimits;
 
 impl Limits {

@@ -18,7 +18,7 @@ pub struct Line {
 
 /// The error of [`Line::new`]: the bytes contain CR or LF.
 #[derive(Debug, PartialEq, Eq, Drop, Error)]
-#[error("a CR or LF stands in a line")]
+#[error("the line contains CR or LF")]
 pub struct BadLine {
     /// The bytes that were passed, unchanged.
     pub bytes: Vec<u8>,

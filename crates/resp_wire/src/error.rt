@@ -25,18 +25,18 @@ pub enum AskError {
     #[error("out of memory")]
     OutOfMemory,
     /// A read failed. The replies received before were added.
-    #[error("the reader failed")]
+    #[error("read failed")]
     Read,
     /// A write failed or wrote no byte. The bytes that were not written still wait, and nothing was
     /// read.
-    #[error("the writer failed")]
+    #[error("write failed")]
     Write,
     /// All allowed reads and writes were made. The bytes that were not written still wait, and the
     /// replies received were added.
-    #[error("too many turns")]
+    #[error("too many reads and writes")]
     TooManyTurns,
     /// The input ended while a command waited for its reply. The replies received were added.
-    #[error("the input ended")]
+    #[error("the input ended before the reply")]
     Ended,
 }
 
@@ -51,12 +51,12 @@ pub enum ServeError {
     #[error("out of memory")]
     OutOfMemory,
     /// A read failed. All replies before it were written.
-    #[error("the reader failed")]
+    #[error("read failed")]
     Read,
     /// A write failed or wrote no byte. The bytes that were not written still wait.
-    #[error("the writer failed")]
+    #[error("write failed")]
     Write,
     /// All allowed reads and writes were made. The bytes that were not written still wait.
-    #[error("too many turns")]
+    #[error("too many reads and writes")]
     TooManyTurns,
 }

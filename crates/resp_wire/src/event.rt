@@ -59,7 +59,7 @@ pub enum Outcome {
 /// Why a world stopped. Each later step stops with the same cause, and what the world then shows is
 /// unspecified.
 #[derive(Clone, Copy, Debug, PartialEq, Eq, Error)]
-#[error("the world stopped at event {event}: {cause:?}")]
+#[error("event {event} failed: {cause:?}")]
 pub struct Stop {
     /// The index of the event among the events of the call, from 0.
     pub event: usize,

@@ -24,7 +24,7 @@ pub enum Direction {
 
 /// The error of a link.
 #[derive(Clone, Copy, Debug, PartialEq, Eq, Error)]
-#[error("the link failed: {cause:?}")]
+#[error("the connection failed: {cause:?}")]
 pub struct LinkFault {
     /// The cause: `Read`, `Write` or `TooManyTurns`.
     pub cause: Cause,

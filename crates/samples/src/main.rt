@@ -6,9 +6,11 @@ mod decoding;
 mod encoding;
 mod framing;
 mod pipelining;
+mod printing;
 mod scanning;
 mod serving;
 mod sessions;
+mod tapping;
 mod values;
 mod wire;
 mod worlds;
@@ -26,5 +28,7 @@ fn main(rt: HostRuntime) -> Result<()> {
     serving::run(&rt, alloc)?;
     wire::run(&rt, alloc)?;
     worlds::run(&rt, alloc)?;
+    printing::run(&rt, alloc)?;
+    tapping::run(&rt, alloc)?;
     framing::run(&rt, alloc)
 }

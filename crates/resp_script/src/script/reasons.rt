@@ -7,37 +7,37 @@ use crate::script::steps::Verb;
 use std::fmt;
 use std::fmt::{Display, Formatter, Write};
 
-/// What is wrong with a line of a script, or with the script as a whole.
+/// The error in a line of a script, or in the script as a whole.
 #[derive(Clone, Copy, Debug, PartialEq, Eq)]
 pub enum BadLine {
     /// No line of the script begins with the word `clients`.
     NoClients,
     /// The script has more than 1,048,576 bytes up to the end of this line.
     LongScript,
-    /// It is the 10,001st line.
+    /// This is line 10,001.
     ManyLines,
-    /// It has more than 4,096 bytes.
+    /// The line has more than 4,096 bytes.
     LongLine,
-    /// It has more than 64 words.
+    /// The line has more than 64 words.
     ManyWords,
-    /// It begins or ends with a space, or has two spaces side by side.
+    /// The line begins or ends with a space, or has two spaces in a row.
     Spaces,
-    /// A byte of it is neither a space nor printable ASCII.
+    /// A byte of the line is neither a space nor printable ASCII.
     UnseenByte,
-    /// It is the first line that isn't passed over, and doesn't name from 1 to 16 clients.
+    /// This is the first line that is not skipped, and it is not `clients N` with N from 1 to 16.
     NotClients,
-    /// Its first word is none that a line after the first begins with.
+    /// No line after the first one begins with this word.
     UnknownWord,
     /// A word follows `flush`.
     FlushWords,
-    /// Its second word is no client's number.
+    /// The second word is not the number of a client.
     NoSuchClient,
-    /// What follows the client's number isn't what this verb takes.
+    /// The words after the client's number are not allowed for this verb.
     Arguments(Verb),
 }
 
 impl BadLine {
-    /// Says in a sentence what is wrong.
+    /// Returns a sentence that explains the error.
     pub fn sentence(&self) -> &'static str
         ensures { result.now ≡ reason_text self.now }
     {
@@ -47,32 +47,31 @@ impl BadLine {
             BadLine::ManyLines => "a script has at most 10000 lines",
             BadLine::LongLine => "a line has at most 4096 bytes",
             BadLine::ManyWords => "a line has at most 64 words",
-            BadLine::Spaces => "one space stands between two words, and none at either end",
+            BadLine::Spaces => "words are separated by one space, with no space at either end",
             BadLine::UnseenByte => "a byte is neither a space nor printable ASCII",
-            BadLine::NotClients => "the first line is `clients N`, with N from 1 to 16",
+            BadLine::NotClients => "the first line must be `clients N`, with N from 1 to 16",
             BadLine::UnknownWord => {
-                "no line after the first begins with this word, but with send, hello, server, \
-                 client, push, drop or flush"
+                "unknown word: a line begins with send, hello, server, client, push, drop or flush"
             }
-            BadLine::FlushWords => "nothing follows flush",
-            BadLine::NoSuchClient => "the second word is the number of a client",
+            BadLine::FlushWords => "flush takes nothing after it",
+            BadLine::NoSuchClient => "the second word must be the number of a client",
             BadLine::Arguments(verb) => arguments_sentence(*verb),
         }
     }
 }
 
-/// Says what follows the client's number after this verb.
+/// Returns the sentence for the words after this verb.
 fn arguments_sentence(verb: Verb) -> &'static str
     ensures { result.now ≡ arguments_text verb }
 {
     match verb {
-        Verb::Send => "a command of one word or more follows the client of send",
-        Verb::Hello => "2, 3 or nothing follows the client of hello",
+        Verb::Send => "send needs a client and a command of at least one word",
+        Verb::Hello => "hello needs a client, optionally followed by 2 or 3",
         Verb::Server | Verb::Client => {
-            "a number of bytes from 1 to 1000000000 follows the client of server and client"
+            "server and client need a client and a number of bytes from 1 to 1000000000"
         }
-        Verb::Push => "words follow the client of push",
-        Verb::Drop => "nothing follows the client of drop",
+        Verb::Push => "push needs a client, optionally followed by words",
+        Verb::Drop => "drop takes nothing after the client",
     }
 }
 

@@ -1,4 +1,4 @@
-//! What a line of a script says.
+//! The meaning of a line of a script.
 
 ghost use Rattle.std.specs.Prelude.{◌≡◌, ℕ, ◌≤◌, ◌<◌, List, [], ◌∷◌, length, map, Option, Some, IfErr, IfOk, IfSome, IfNone, decimal};
 ghost use Rattle.resp_value.specs.Words.{texts_of};
@@ -22,18 +22,18 @@ const MOST_CLIENTS: u64 = 16;
 /// The most bytes that one event moves.
 const MOST_MOVED: u64 = 1_000_000_000;
 
-/// What a line says.
+/// The meaning of a line.
 #[derive(Debug, PartialEq, Eq, Drop)]
 pub enum Saying {
-    /// It is passed over.
+    /// The line is skipped.
     Nothing,
-    /// How many clients there are.
+    /// The number of clients.
     Clients(usize),
-    /// An event, or none for `flush`.
+    /// An event; `None` is `flush`.
     Step(Option<Event>),
 }
 
-/// The first word of a line for an event.
+/// The first word of a line with an event.
 #[derive(Clone, Copy, Debug, PartialEq, Eq)]
 pub enum Verb {
     /// `send`
@@ -50,8 +50,11 @@ pub enum Verb {
     Drop,
 }
 
-/// What a line says, where the number of clients was named, or not yet. Refuses by Bad where it
-/// says nothing there, and when out of memory.
+/// Returns the meaning of a line. `clients` is the number of clients, if an earlier line named it.
+///
+/// # Errors
+///
+/// `Bad` with the reason if the line is not valid here, and `Memory` if an allocation fails.
 pub fn said(alloc: Global, clients: Option<usize>, line: &[u8]) -> Result<Saying, LineFault>
     ensures said { IfOk result (λ said. Says clients line.now said) }
     ensures bad { IfErr result (WhereBad (λ reason. SaysNothing clients line.now)) }
@@ -76,7 +79,7 @@ pub fn said(alloc: Global, clients: Option<usize>, line: &[u8]) -> Result<Saying
     }
 }
 
-/// Whether the line is passed over: it is empty or begins with `#`.
+/// Returns whether the line is skipped: it is empty or begins with `#`.
 fn is_passed_over(line: &[u8]) -> bool
     ensures { result ≡ is_passed_over line.now }
 {
@@ -86,7 +89,7 @@ fn is_passed_over(line: &[u8]) -> bool
     }
 }
 
-/// The number of clients that these words name.
+/// Returns the number of clients in these words, if they are `clients N` with N from 1 to 16.
 fn clients_of(words: &[&[u8]]) -> Option<usize>
     ensures clients { IfSome result (λ clients.
         (map (λ word. word.now) words.now ≡ clients_words clients) ×
@@ -106,7 +109,7 @@ fn clients_of(words: &[&[u8]]) -> Option<usize>
     }
 }
 
-/// The step that these words say, where there are `clients` clients.
+/// Returns the step of these words, if there are `clients` clients.
 fn step_of(alloc: Global, clients: usize, words: &[&[u8]]) -> Result<Option<Event>, LineFault>
     ensures step { IfOk result (λ step.
         (map (λ word. word.now) words.now ≡ step_words step) × IsStepInRange clients step) }
@@ -141,7 +144,7 @@ fn step_of(alloc: Global, clients: usize, words: &[&[u8]]) -> Result<Option<Even
     }
 }
 
-/// What the first word of a line says.
+/// Returns the verb with this name.
 fn verb_of(name: &[u8]) -> Option<Verb>
     ensures verb { IfSome result (λ verb. name.now ≡ step_name verb) }
     ensures none { IfNone result ((verb : Verb) → name.now ≡ step_name verb → ⊥) }
@@ -163,8 +166,7 @@ fn verb_of(name: &[u8]) -> Option<Verb>
     }
 }
 
-/// The event of this client with these words after its number; none where they aren't what the
-/// verb takes.
+/// Returns the event of this client with these arguments; `None` if the verb does not allow them.
 fn event_of(
     alloc: Global,
     verb: Verb,
@@ -202,7 +204,7 @@ fn event_of(
     })
 }
 
-/// The command of these words, asked by this client; none where there is no word.
+/// Returns the event that sends these words from this client; `None` if there is no word.
 fn sent(alloc: Global, client: usize, words: &[&[u8]]) -> Result<Option<Event>, AllocError>
     ensures event { IfOk result (λ found. IfSome found (λ event. (verb_of event ≡ Verb.Send) ×
         (step_client event ≡ client) × (map (λ word. word.now) words.now ≡ arguments_of event) ×
@@ -215,7 +217,8 @@ fn sent(alloc: Global, client: usize, words: &[&[u8]]) -> Result<Option<Event>, 
     }
 }
 
-/// The version that HELLO asks by these words, if it asks one.
+/// Returns the version that HELLO asks for with these arguments. The inner `None` is a HELLO
+/// without a version.
 fn asked(words: &[&[u8]]) -> Option<Option<Version>>
     ensures asked { IfSome result (λ asked.
         map (λ word. word.now) words.now ≡ asked_words asked) }
@@ -237,7 +240,7 @@ fn asked(words: &[&[u8]]) -> Option<Option<Version>>
     }
 }
 
-/// The number of bytes to move that is the one word here.
+/// Returns the number of bytes to move, if there is one word and it is such a number.
 fn moved(words: &[&[u8]]) -> Option<u64>
     ensures moved { IfSome result (λ count.
         (map (λ word. word.now) words.now ≡ decimal count ∷ []) × IsMoved count) }
@@ -250,7 +253,7 @@ fn moved(words: &[&[u8]]) -> Option<u64>
     }
 }
 
-/// Each word in memory of its own.
+/// Copies the words, each into memory of its own.
 fn copies(alloc: Global, words: &[&[u8]]) -> Result<Vec<Vec<u8>>, AllocError>
     ensures { IfOk result (λ copies. texts_of copies.items ≡ map (λ word. word.now) words.now) }
 {
@@ -261,7 +264,7 @@ fn copies(alloc: Global, words: &[&[u8]]) -> Result<Vec<Vec<u8>>, AllocError>
     Ok(copies)
 }
 
-/// Each word as a bulk string.
+/// Copies the words, each into a bulk string.
 fn items_of(alloc: Global, words: &[&[u8]]) -> Result<Vec<Value>, AllocError>
     ensures { IfOk result (λ items. map item_word items.items ≡ map (λ word. word.now) words.now) }
 {

@@ -1,4 +1,4 @@
-//! The words of a line of a script, and the numbers among them.
+//! The words of a line of a script, and numbers.
 
 ghost use Rattle.std.specs.Prelude.{◌≡◌, ℕ, ◌≤◌, List, All, Option, map, decimal, IfOk, IfErr, IfSome, IfNone, MatchBool};
 ghost use Rattle.resp_script.specs.Reasons.{IsReason, WhereBad, parts_of_line};
@@ -14,16 +14,16 @@ use std::str;
 /// The most words of a line.
 const MOST_WORDS: usize = 64;
 
-/// Why a line is not taken.
+/// Why a line could not be read.
 #[derive(Clone, Copy, Debug, PartialEq, Eq)]
 pub enum LineFault {
-    /// It says nothing that a line may say.
+    /// The line is bad, for this reason.
     Bad(BadLine),
-    /// A growth was refused.
+    /// An allocation failed.
     Memory,
 }
 
-/// The bytes before the first space, or all where there is none.
+/// Returns the bytes before the first space, or the whole line if it has no space.
 pub fn first_word(line: &[u8]) -> &[u8]
     ensures { result.now ≡ first_word line.now }
 {
@@ -33,8 +33,12 @@ pub fn first_word(line: &[u8]) -> &[u8]
     }
 }
 
-/// The words of a line: from 1 to 64, with a space between each two. Refuses by Bad where it isn't
-/// such words, and else when out of memory.
+/// Returns the words of a line: from 1 to 64, separated by single spaces.
+///
+/// # Errors
+///
+/// `Bad` with the reason if the line does not consist of such words, and `Memory` if an allocation
+/// fails.
 pub fn words_of<'a>(alloc: Global, line: &'a [u8]) -> Result<Vec<&'a [u8]>, LineFault>
     ensures words { IfOk result (λ words. AreWords line.now (map (λ word. word.now) words.items)) }
     ensures parts { IfOk result (λ words.
@@ -57,7 +61,7 @@ pub fn words_of<'a>(alloc: Global, line: &'a [u8]) -> Result<Vec<&'a [u8]>, Line
     }
 }
 
-/// What stands between the spaces of a line.
+/// Returns the parts of a line between its spaces.
 fn split<'a>(alloc: Global, line: &'a [u8]) -> Result<Vec<&'a [u8]>, AllocError>
     ensures { IfOk result (λ parts.
         map (λ part. part.now) parts.items ≡ parts_of_line line.now) }
@@ -65,7 +69,7 @@ fn split<'a>(alloc: Global, line: &'a [u8]) -> Result<Vec<&'a [u8]>, AllocError>
     line.split(|byte| *byte == b' ').collect(alloc)
 }
 
-/// Why the first of these that is no word is none.
+/// Returns why the first of these parts that is not a word is not one.
 fn first_fault(words: &[&[u8]]) -> Option<BadLine>
     ensures words { IfNone result (All IsWord (map (λ word. word.now) words.now)) }
     ensures no_words { IfSome result (λ reason.
@@ -84,14 +88,15 @@ fn first_fault(words: &[&[u8]]) -> Option<BadLine>
     None
 }
 
-/// Whether each of these bytes is graphic ASCII.
+/// Returns whether all of these bytes are graphic ASCII.
 fn are_seen(text: &[u8]) -> bool
     ensures { MatchBool result (All IsSeen text.now) (All IsSeen text.now → ⊥) }
 {
     text.iter().all(u8::is_ascii_graphic)
 }
 
-/// A number from 1 to this, in decimal digits without a leading zero; none for any other word.
+/// Returns the number from 1 to `most` that a word is, in decimal digits without a leading zero;
+/// `None` for any other word.
 pub fn number_of(word: &[u8], most: u64) -> Option<u64>
     ensures number { IfSome result (λ number.
         (word.now ≡ decimal number) × (1 ≤ number) × (number ≤ most)) }
@@ -104,7 +109,7 @@ pub fn number_of(word: &[u8], most: u64) -> Option<u64>
     let Ok(number) = text.parse::<u64>() else {
         return None;
     };
-    // Only the canonical digits of a number are its spelling here.
+    // Only the canonical digits of a number are accepted.
     let mut buffer = Buffer::new();
     if buffer.format(number).as_bytes() != word || number < 1 || number > most {
         return None;

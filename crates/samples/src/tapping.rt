@@ -1,0 +1,48 @@
+//! The traffic of a connection that is forwarded.
+
+use anyhow::Result;
+use resp_tap::watch::{Side, watch};
+use resp_tap::{Moment, Seen, Tap, TimedTap};
+use resp_value::{Limits, MemorySink};
+use std::alloc::Global;
+use std::str;
+
+pub(crate) fn run(rt: &impl Print, alloc: Global) -> Result<()> {
+    pair_reply(rt, alloc)?;
+    measure_reply(rt, alloc)?;
+    print_traffic(rt, alloc)
+}
+
+fn pair_reply(rt: &impl Print, alloc: Global) -> Result<()> {
+    let mut tap = Tap::new(alloc, &Limits::standard());
+    let step = tap.from_client(b"*1\r\n$4\r\nPING\r\n");
+    if let Seen::Command { number, words } = &step.seen {
+        println!(rt; "command {number}: {}", words.word(0).escape_ascii())?;
+    }
+    let step = tap.from_server(b"+PONG\r\n");
+    if let Seen::Reply { number, value } = &step.seen {
+        println!(rt; "reply {number}: {value:?}")?;
+    }
+    Ok(())
+}
+
+fn measure_reply(rt: &impl Print, alloc: Global) -> Result<()> {
+    let mut tap = TimedTap::new(alloc, &Limits::standard());
+    let sent = Moment {
+        of_day: 20_216_123_456,
+        steady: 5_000_000,
+    };
+    tap.from_client(b"*1\r\n$4\r\nPING\r\n", Some(sent));
+    println!(rt; "{:?}", tap.asked())?;
+    Ok(())
+}
+
+fn print_traffic(rt: &impl Print, alloc: Global) -> Result<()> {
+    let mut tap = TimedTap::new(alloc, &Limits::standard());
+    let mut text = MemorySink::new(alloc, 4_096, 4_096)?;
+    let get = b"*2\r\n$3\r\nGET\r\n$4\r\nhits\r\n";
+    watch(&mut tap, 1, Side::Client, get, None, &mut text);
+    watch(&mut tap, 1, Side::Server, b":7\r\n", None, &mut text);
+    print!(rt; "{}", str::from_utf8(text.bytes())?)?;
+    Ok(())
+}
