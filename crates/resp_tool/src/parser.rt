@@ -317,29 +317,26 @@ fn with_tap_options<'a>(alloc: Global, command: Command<'a>) -> Result<Command<'
     ensures gains { IfOk result (GainsOptions command.entry tap_options) }
     ensures memory { IfErr result (λ error. kind_of error ≡ ErrorKind.OutOfMemory) }
 {
-    let listen = address(
-        alloc,
-        "listen",
-        "LISTEN",
-        "Address to listen on, such as 127.0.0.1:6380",
-    );
-    let server = address(
-        alloc,
-        "server",
-        "SERVER",
-        "Address of the server, such as 127.0.0.1:6379",
-    );
-    let time = flag(
-        alloc,
-        "time",
-        "Prints the time in UTC, and how long each reply took",
-    );
     Ok(
         with_limits(alloc, command)?
             .arg(CLIENTS.option(alloc))?
-            .arg(time)?
-            .arg(listen)?
-            .arg(server)?
+            .arg(flag(
+                alloc,
+                "time",
+                "Prints the time in UTC, and how long each reply took",
+            ))?
+            .arg(address(
+                alloc,
+                "listen",
+                "LISTEN",
+                "Address to listen on, such as 127.0.0.1:6380",
+            ))?
+            .arg(address(
+                alloc,
+                "server",
+                "SERVER",
+                "Address of the server, such as 127.0.0.1:6379",
+            ))?
             .after_help(TAP_HELP),
     )
 }

@@ -8,9 +8,9 @@ use Rattle.resp_tool.proofs.parser.with_tap_options.Goals as goal
 
 pub returns-clause-gains : goal.returns-clause-gains
 returns-clause-gains c =
-    let all = option_added _ _ _ _ _ _ c.in_ok-arg-4.ensures c.address-server.ensures.here c.address-server.ensures.rule
-    (option_added _ _ _ _ _ _ c.in_ok-arg-3.ensures c.address-listen.ensures.here c.address-listen.ensures.rule
-    (option_added _ _ _ _ _ _ c.in_ok-arg-2.ensures c.flag-time.ensures.here c.flag-time.ensures.rule
+    let all = option_added _ _ _ _ _ _ c.in_ok-arg-4.ensures c.address-2.ensures.here c.address-2.ensures.rule
+    (option_added _ _ _ _ _ _ c.in_ok-arg-3.ensures c.address.ensures.here c.address.ensures.rule
+    (option_added _ _ _ _ _ _ c.in_ok-arg-2.ensures c.flag.ensures.here c.flag.ensures.rule
     (option_added _ _ _ _ _ _ c.in_ok-arg.ensures c.option.ensures.here c.option.ensures.rule
     (options_added _ _ _ _ limit_options c.in_ok-with_limits.ensures.gains
     (nothing_added c.args.command))))) in
