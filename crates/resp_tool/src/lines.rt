@@ -38,6 +38,9 @@ struct OpenText {
 }
 
 /// The state of the lines: the open aggregates, and the text that was begun.
+///
+/// A call that writes fails with `DeviceFault` if a write fails. Then the first part of its text
+/// was written.
 #[derive(Debug, Drop)]
 pub struct Lines {
     /// The open aggregates, the innermost last. There are never more than the greatest limit of

@@ -29,8 +29,11 @@ pub enum Task {
 /// The options of `show`, `check` and `canon`.
 #[derive(Clone, Copy, Debug)]
 pub struct Options<'a> {
+    /// What to do with the values of the stream.
     pub task: Task,
+    /// The version of the protocol.
     pub version: Version,
+    /// The limits of a value.
     pub limits: Limits,
     /// The most bytes of one read, from 1 to 65,536.
     pub piece: usize,

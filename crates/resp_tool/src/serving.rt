@@ -14,9 +14,11 @@ use std::net::SocketAddr;
 /// The options of `resp serve`.
 #[derive(Clone, Copy, Debug)]
 pub struct Serving<'a> {
+    /// The address to listen on.
     pub address: SocketAddr,
     /// The address as it was given.
     pub address_text: &'a str,
+    /// The limits of a command.
     pub limits: Limits,
     /// The most clients at once, from 1 to 65,536.
     pub clients: usize,

@@ -18,7 +18,9 @@ pub const MOST_READS: u64 = 4_000_000_000;
 /// The number of values and bytes that were read.
 #[derive(Clone, Copy, Debug, PartialEq, Eq)]
 pub struct Totals {
+    /// The number of values.
     pub values: u64,
+    /// The number of bytes.
     pub bytes: u64,
 }
 

@@ -14,6 +14,7 @@ use std::net::SocketAddr;
 /// The options of `resp tap`.
 #[derive(Clone, Copy, Debug)]
 pub struct Tapping<'a> {
+    /// The address to listen on.
     pub address: SocketAddr,
     /// The address as it was given.
     pub address_text: &'a str,

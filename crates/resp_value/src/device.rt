@@ -70,7 +70,7 @@ pub trait Sink {
 
 /// The error of [`write_all`]: one of its writes failed, or wrote no byte.
 #[derive(Clone, Copy, Debug, PartialEq, Eq, Error)]
-#[error("the device failed after {written} bytes")]
+#[error("write failed after {written} bytes")]
 pub struct WriteFault {
     /// The number of bytes that were written before the failure.
     pub written: usize,
