@@ -31,9 +31,9 @@ const MOST_COMMANDS: u64 = 9_223_372_036_854_775_808;
 ///
 /// The client's bytes are read as commands, which are arrays of bulk strings. The server's bytes
 /// are read as [`Client`] reads them: the version is 2 at first, and it changes when the reply to a
-/// HELLO that asks for another version arrives. After a command that does not have exactly one
-/// reply, and after the replies to the commands before it, values are read in version 3, which
-/// contains version 2, and are paired with no command.
+/// HELLO that asks for another version arrives and is not an error. After a command that does not
+/// have exactly one reply, and after the replies to the commands before it, values are read in
+/// version 3, which contains version 2, and are paired with no command.
 ///
 /// After an error nothing more is read. A tap holds at most one incomplete value of each side, and
 /// one byte for each command that waits for its reply, at most 1,048,576 of them.
