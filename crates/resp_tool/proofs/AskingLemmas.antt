@@ -1,5 +1,5 @@
 -- What the words give an option, from what the matches read of it.
-use Rattle.std.proofs.Common.{subst, ◌≤◌, zero, suc, arith, inl, inr, ◌⊎◌, ◌≢◌, ◌∙◌, ◌≡◌, ℕ, ap, Bool, true, false, List, [], ◌∷◌, map, refl, sym, Option, Some, None, Result, Ok, Err, IfOk, IfSome, IfNone, codes}
+use Rattle.std.proofs.Common.{subst, ◌≤◌, ◌&&◌, zero, suc, arith, inl, inr, ◌⊎◌, ◌≢◌, ◌∙◌, ◌≡◌, ℕ, ap, Bool, true, false, List, [], ◌∷◌, map, refl, sym, Option, Some, None, Result, Ok, Err, IfOk, IfSome, IfNone, codes}
 use Rattle.std.specs.Str.Parse.{ParsesBool, ParsesUnsigned}
 use Rattle.clap.specs.Words.{App, FailsBy, HasKind, HasMatchesOf, IsAmong, kind_of, ReadsOne, Row, Text, fault_of, is_simple, is_simple_and_free, one_text, rows_of, subcommand_of, subcommand_rows_of}
 use Rattle.clap.specs.declared.error.Error.{Error}
@@ -77,13 +77,16 @@ if_none (Some x) P p = tt
 if_none None P p = p
 
 -- the program is one of which the matches are known
-program_is_simple : (versions : ValueParser) → is_simple (resp_app versions) ≡ true
-unfolding clap_on_literals
-program_is_simple versions = refl
-
 program_is_free : (versions : ValueParser) → is_simple_and_free (resp_app versions) ≡ true
 unfolding clap_on_literals
 program_is_free versions = refl
+
+first_true : (a b : Bool) → (a && b) ≡ true → a ≡ true
+first_true true b e = refl
+first_true false b e = e
+
+program_is_simple : (versions : ValueParser) → is_simple (resp_app versions) ≡ true
+program_is_simple versions = first_true (is_simple (resp_app versions)) _ (program_is_free versions)
 
 -- what the parser finds is what the program's definition says
 pub found_by_program : (versions : ValueParser) (app : App) (words : List Text) (found : Result ArgMatches Error) → app ≡ resp_app versions →

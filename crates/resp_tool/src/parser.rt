@@ -266,10 +266,10 @@ fn loop_task<'a>(alloc: Global) -> Result<Command<'a>, clap::Error>
         (with_options (new_app (codes "loop")) (flag_option (codes "explain") ∷ []))) }
     ensures memory { IfErr result (λ error. kind_of error ≡ ErrorKind.OutOfMemory) }
 {
-    let explain = flag(alloc, "explain", "Says why a line of the script is wrong");
     let about = "Plays a script of clients of one server from standard input";
     let played = bare_task_with_help(alloc, "loop", about, LOOP_HELP);
-    Ok(played.arg(explain)?)
+    let why = "Says why a line of the script is wrong";
+    Ok(played.arg(flag(alloc, "explain", why))?)
 }
 
 /// Returns the subcommand `serve`.
@@ -424,17 +424,16 @@ fn with_limits<'a>(alloc: Global, command: Command<'a>) -> Result<Command<'a>, c
     ensures gains { IfOk result (GainsOptions command.entry limit_options) }
     ensures memory { IfErr result (λ error. kind_of error ≡ ErrorKind.OutOfMemory) }
 {
-    let no_streamed = flag(
-        alloc,
-        "no-streamed",
-        "Rejects streamed strings and aggregates",
-    );
     Ok(
         command
             .arg(DEPTH.option(alloc))?
             .arg(LENGTH.option(alloc))?
             .arg(TOTAL.option(alloc))?
             .arg(ITEMS.option(alloc))?
-            .arg(no_streamed)?,
+            .arg(flag(
+                alloc,
+                "no-streamed",
+                "Rejects streamed strings and aggregates",
+            ))?,
     )
 }
