@@ -284,7 +284,7 @@ static inline const uint8_t *resp_event_whole(const struct resp_event *event, co
     return piece + (event->used - event->part - 2);
 }
 
-/* Tracks which command each reply answers, and in which version it is read. The caller owns it,
+/* Tracks which command each reply belongs to, and in which version it is read. The caller owns it,
  * initialises it with resp_pairing_init, and changes no field. */
 struct resp_pairing {
     /* The version, 2 or 3. */

@@ -116,7 +116,7 @@ impl Pairing {
         }
     }
 
-    /// Returns the version: 2, or the one of the last HELLO that was answered without an error.
+    /// Returns the version: 2, or that of the last HELLO whose reply was not an error.
     pub fn version(&self) -> Version {
         match self.pairing.version {
             3 => Version::Three,

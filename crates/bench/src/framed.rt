@@ -1,11 +1,11 @@
 //! Measures framed streams with GETs and their replies, beside `serve` and `ask` over memory.
 //!
 //! A framed stream reads a text of commands and encodes a null reply to each into a buffer, and
-//! `serve` answers the same text from an empty hub. A framed stream reads replies and encodes their
-//! commands into a buffer, and `ask` sends the same commands in pipelines and reads the replies. At
-//! last a bulk string is received in pieces of one byte. Without an argument it prints counts,
-//! which are the same in every run. With the argument `times` there are a million commands, and it
-//! also prints nanoseconds.
+//! `serve` answers the same commands from an empty hub. A framed stream reads replies and encodes
+//! their commands into a buffer, and `ask` sends the same commands in pipelines and reads the
+//! replies. At last a bulk string is received in pieces of one byte. Without an argument it prints
+//! counts, which are the same in every run. With the argument `times` there are a million commands,
+//! and it also prints nanoseconds.
 
 use crate::server::{Kind, command as text_of, new_hub};
 use crate::{end_line, has, nanos};

@@ -48,9 +48,9 @@ fn print_replies(rt: &HostRuntime, client: &mut Client) -> Result<()> {
 fn print_heard(rt: &HostRuntime, client: &mut Client, piece: &[u8]) -> Result<()> {
     let mut rest = piece;
     for _ in 0..u64::MAX {
-        let heard = client.feed(rest)?;
-        rest = &rest[heard.used..];
-        match &heard.what {
+        let fed = client.feed(rest)?;
+        rest = &rest[fed.used..];
+        match &fed.what {
             What::Reply { number, value } => println!(rt; "reply {number}: {value:?}")?,
             What::Push(items) => println!(rt; "push: {:?}", items.list())?,
             _ => break,

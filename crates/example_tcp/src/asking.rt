@@ -89,28 +89,28 @@ pub(crate) fn ask_server(net: &HostRuntime, alloc: Global, port: u16) -> Result<
     let stream = TcpStream::connect(net, ("127.0.0.1", port))?;
     stream.set_nodelay(true)?;
     let mut client = Client::new(alloc, &Limits::standard());
-    let mut heard = Asked::new(alloc);
+    let mut received = Asked::new(alloc);
     ask(
         &mut Device::new(&stream),
         &mut Device::new(&stream),
         &mut client,
         requests.as_slice(),
-        &mut heard,
+        &mut received,
         TURNS,
     )?;
-    check(alloc, &heard)
+    check(alloc, &received)
 }
 
 /// Returns the number of replies and of pushes, if each command has its reply.
-fn check(alloc: Global, heard: &Asked) -> Result<(usize, usize)> {
-    let count = heard.replies.len();
+fn check(alloc: Global, received: &Asked) -> Result<(usize, usize)> {
+    let count = received.replies.len();
     if count != COMMANDS {
         bail!("{count} replies to {COMMANDS} commands");
     }
-    for (index, (number, reply)) in heard.replies.iter().enumerate() {
+    for (index, (number, reply)) in received.replies.iter().enumerate() {
         if *number != index as u64 + 1 || !is_reply(alloc, index, reply)? {
             bail!("reply {number} is another command's: {reply:?}");
         }
     }
-    Ok((count, heard.pushes.len()))
+    Ok((count, received.pushes.len()))
 }

@@ -1,7 +1,7 @@
 //! A small server of PING, ECHO, GET, SET, DEL and HELLO, over the requests that a codec of
 //! commands reads.
 //!
-//! It shows how replies are made. `resp_server` is a server of these commands with Redis's error
+//! It shows how replies are made. `resp_server` is a server of the same commands with Redis's error
 //! replies.
 
 use resp_session::words::{Asked, Words};

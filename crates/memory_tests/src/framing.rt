@@ -67,7 +67,7 @@ pub(crate) fn of_values_in(alloc: Global) -> Outcome {
     }
 }
 
-/// Returns whether it is a command of these two words.
+/// Returns whether it is the command `GET a`.
 fn is_get(asked: &Asked) -> bool {
     match asked {
         Asked::Command(words) => {

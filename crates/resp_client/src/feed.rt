@@ -60,9 +60,9 @@ impl Client {
     /// The replies and pushes of a piece, from [example_client](../../example_client/src/main.rt):
     ///
     /// ```rust
-    /// let heard = client.feed(rest)?;
-    /// rest = &rest[heard.used..];
-    /// match &heard.what {
+    /// let fed = client.feed(rest)?;
+    /// rest = &rest[fed.used..];
+    /// match &fed.what {
     ///     What::Reply { number, value } => println!(rt; "reply {number}: {value:?}")?,
     ///     What::Push(items) => println!(rt; "push: {:?}", items.list())?,
     ///     _ => break,
@@ -112,8 +112,8 @@ impl Client {
     ///
     /// ```rust
     /// let mut sink: Box<dyn PushSink> = Box::new(alloc, PushList::new(alloc))?;
-    /// let heard = client.feed_with(b">1\r\n+tick\r\n", &mut sink)?;
-    /// println!(rt; "{:?}, {} stored", heard.what, sink.shown().len())?;
+    /// let fed = client.feed_with(b">1\r\n+tick\r\n", &mut sink)?;
+    /// println!(rt; "{:?}, {} stored", fed.what, sink.shown().len())?;
     /// ```
     ///
     /// This prints `Shown, 1 stored`.

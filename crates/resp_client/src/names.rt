@@ -33,7 +33,7 @@ fn is_unsent_name(name: &[u8]) -> bool
         || is_name(name, b"reset")
 }
 
-/// Returns whether the first of these words is REPLY.
+/// Returns whether the first word is REPLY.
 fn is_reply_word(words: &[Vec<u8>]) -> bool
     ensures { result ≡ is_reply_word (texts_of words.now) }
 {
@@ -43,7 +43,7 @@ fn is_reply_word(words: &[Vec<u8>]) -> bool
     }
 }
 
-/// Returns whether a client does not send a command of these words.
+/// Returns whether a client does not send a command with the given words.
 pub(crate) fn is_unsent(words: &[Vec<u8>]) -> bool
     ensures { result ≡ is_unsent (texts_of words.now) }
 {

@@ -53,7 +53,7 @@ pub fn decode_all(
     limits: &Limits,
     bytes: &[u8],
 ) -> Result<Vec<Value>, AllFault>
-    // The input consists of the encodings of these values and nothing else.
+    // The input consists of the encodings of the returned values and nothing else.
     ensures whole_input { IfOk result (λ values.
         AreSpellings (rules_under version limits.now) (map datum_of values.items) bytes.now) }
 

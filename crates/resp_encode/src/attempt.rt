@@ -144,7 +144,7 @@ fn attempt_group(
     attempt_members(members, version, limits, deeper - 1, out)
 }
 
-/// Appends the text of a map of these pairs, and returns true. Stops and returns false at a fault
+/// Appends the text of a map of the pairs, and returns true. Stops and returns false at a fault
 /// or when the room ends.
 #[cycle(attempt)]
 #[inline(never)]

@@ -91,7 +91,7 @@ impl Measure {
         }
     }
 
-    /// Returns the measure of these members with one more member after them.
+    /// Returns the measure of the members with one more member after them.
     #[inline]
     pub(crate) fn with(&self, next: &Measure) -> Measure
         ensures { (version : Version) (xs : Data) (x : Datum) → DescribesEach version xs self.now →

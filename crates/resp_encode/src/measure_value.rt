@@ -82,7 +82,7 @@ pub(crate) fn string_size(counted: u64) -> u64
     head_size(counted) + counted + 2
 }
 
-/// Returns the measure of a bulk string of these bytes.
+/// Returns the measure of a bulk string of the given bytes.
 #[inline]
 pub(crate) fn measure_bulk(bytes: &[u8]) -> Measure
     ensures found { (version : Version) → Describes version (scalar (d.Bulk bytes.now)) result }
@@ -105,7 +105,7 @@ pub(crate) fn measure_bulk_of(counted: u64) -> Measure
     }
 }
 
-/// Returns the measure of a bulk error of these bytes, which version 2 does not have.
+/// Returns the measure of a bulk error of the given bytes, which version 2 does not have.
 #[inline]
 pub(crate) fn measure_bulk_error(bytes: &[u8]) -> Measure
     ensures found { (version : Version) →
@@ -171,7 +171,7 @@ pub(crate) fn measure_value(value: &Value, version: Version) -> Measure
     }
 }
 
-/// Returns the measure of a map of these pairs.
+/// Returns the measure of a map of the given pairs.
 #[cycle(measure)]
 #[inline(never)]
 fn measure_map(pairs: &[(Value, Value)], version: Version) -> Measure
@@ -193,7 +193,8 @@ fn measure_annotated(value: &Value, version: Version) -> Measure
     measure_value(value, version)
 }
 
-/// Returns the measure of an attribute of these pairs that annotates a value of this measure.
+/// Returns the measure of an attribute of the given pairs that annotates a value with the measure
+/// `under`.
 #[cycle(measure)]
 #[inline(never)]
 fn measure_attr(pairs: &[(Value, Value)], version: Version, under: &Measure) -> Measure

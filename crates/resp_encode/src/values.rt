@@ -28,11 +28,11 @@ use resp_value::version::Version;
 ///
 /// # Errors
 ///
-/// The first of these that holds. `out` is unchanged.
+/// The first error of this list that applies. `out` is unchanged.
 ///
 /// - `Double`: the value holds a double, and the limits do not allow doubles.
 /// - `NotInVersion`: the version does not have a type of the value. Version 2 has nulls, integers,
-///   simple strings, simple errors, bulk strings and arrays of these.
+///   simple strings, simple errors, bulk strings and arrays.
 /// - `NestedPush`: the value holds a push inside another value.
 /// - `OverLimits`: the value exceeds the limit of depth, length, items or total, checked in this
 ///   order.
@@ -98,7 +98,7 @@ fn write_whole(value: &Value, version: Version, out: &mut BytesMut)
     write_value(value, version, out);
 }
 
-/// Returns the number of bytes of the text of a push of these values, or its first fault.
+/// Returns the number of bytes of the text of a push of the given values, or its first fault.
 fn checked_push_size(limits: &Limits, items: &[Value]) -> Result<usize, EncodeError>
     ensures verdict { IsVerdict (rules_under Three limits.now) (push_of items.now) result }
     ensures size { IfOk result (λ size. size ≡ length (canonical_text Three (push_of items.now))) }
@@ -109,7 +109,7 @@ fn checked_push_size(limits: &Limits, items: &[Value]) -> Result<usize, EncodeEr
     checked_size(&found, Version::Three, limits)
 }
 
-/// Appends the text of a push of these values. The buffer already has room for it.
+/// Appends the text of a push of the given values. The buffer already has room for it.
 fn write_push(items: &[Value], out: &mut BytesMut)
     requires { length (canonical_text Three (push_of items.now)) ≤ out.old.spare }
     ensures { Fills out.old out.new (canonical_text Three (push_of items.now)) }
@@ -117,8 +117,8 @@ fn write_push(items: &[Value], out: &mut BytesMut)
     write_group(items, Version::Three, b'>', out);
 }
 
-/// Appends the canonical text of a push of these values in version 3 (Redis serialization protocol
-/// specification, "Pushes"), or leaves `out` unchanged.
+/// Appends the canonical text of a push of the given values in version 3 (Redis serialization
+/// protocol specification, "Pushes"), or leaves `out` unchanged.
 ///
 /// # Errors
 ///

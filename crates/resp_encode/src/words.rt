@@ -99,7 +99,7 @@ pub fn check_words(limits: &Limits, words: &[Vec<u8>]) -> Result<(), EncodeError
 }
 
 /// Appends the canonical text of a command to `out`, or leaves `out` unchanged. The text is the
-/// array of these words as bulk strings in version 2 (Redis serialization protocol specification,
+/// array of the words as bulk strings in version 2 (Redis serialization protocol specification,
 /// "Sending commands to a Redis server").
 ///
 /// # Errors
@@ -135,7 +135,7 @@ pub fn encode_words(
     Ok(())
 }
 
-/// Returns the measure of consecutive words of these lengths, each as a bulk string.
+/// Returns the measure of consecutive words of the given lengths, each as a bulk string.
 fn measure_lengths(lengths: &[usize]) -> Measure
     ensures { (words : List (List ℕ)) → HaveLengths words lengths.now →
         DescribesEach Two (data_of_list (map word_datum words)) result }

@@ -1,4 +1,4 @@
-//! The answer of a session to a piece.
+//! The response of a session to a piece.
 
 ghost use Rattle.std.specs.Prelude.{◌≡◌, ◌<◌, ◌^◌, ◌++◌, List, ℕ, false, IfOk, IfErr};
 ghost use Rattle.resp_session.specs.Answers.{server_rules};

@@ -1,4 +1,4 @@
-//! The answer to a complete value.
+//! The response to a complete value.
 
 ghost use Rattle.std.specs.Prelude.{◌≡◌, ◌<◌, ◌≤◌, ◌^◌, List, ℕ, false, length, IfOk, OnOk, OnErr};
 ghost use Rattle.resp_value.specs.Bounds.{AreBounds};
@@ -23,7 +23,7 @@ use resp_value::value::Value;
 use std::alloc::{AllocError, Global};
 use std::hash::BuildHasher;
 
-/// Runs a command of these words, and queues the reply. When out of memory, the store, the
+/// Runs a command of the given words, and queues the reply. When out of memory, the store, the
 /// session's version and the waiting bytes are unchanged.
 fn run_words<S: BuildHasher>(
     words: Words,

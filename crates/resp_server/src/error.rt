@@ -29,7 +29,7 @@ pub enum PushError {
     /// The session is closing.
     #[error("the session is closing")]
     Closing,
-    /// The session answers in version 2, which has no pushes.
+    /// The session's version is 2, which has no pushes.
     #[error("version 2 does not have pushes")]
     NotInVersion,
     /// An item holds a double, and the limits do not allow doubles.
@@ -46,7 +46,7 @@ pub enum PushError {
     OutOfMemory,
 }
 
-/// Why a piece was not completely answered.
+/// Why a piece was not completely handled.
 #[derive(Clone, Copy, Debug, PartialEq, Eq, Error)]
 pub enum HubError {
     /// No session has this id. The hub is unchanged.

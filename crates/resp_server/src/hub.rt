@@ -277,11 +277,11 @@ impl<S: BuildHasher> Hub<S> {
     /// This prints `0 1`, `+PONG\r\n-ERR Protocol error: Syntax at byte 0\r\n` and `true`.
     pub fn bytes(&mut self, id: u64, piece: &[u8]) -> Result<Handled, HubError>
         // The queued replies, the store, the version and whether the session is closing are the
-        // answer to the bytes read before of a value together with the piece.
+        // response to the bytes read before of a value together with the piece.
         ensures answered { WhereOpen self.old id (λ s front. IfOk result (λ handled.
             HasAnswered self.old self.new id s (front ++ piece.now) handled.commands)) }
-        // At `OutOfMemory` they are the answer to the bytes read before together with the first
-        // bytes of the piece.
+        // At `OutOfMemory` they are the response to the bytes read before together with the
+        // first bytes of the piece.
         ensures cut_short { WhereOpen self.old id (λ s front. IfErr result (λ error.
             IfOutOfMemory error (HasCutShort self.old self.new id s front piece.now))) }
         ensures closing { IfSome (seat_at self.old id) (λ (s : Seat). s.closing ≡ true →
@@ -312,7 +312,7 @@ impl<S: BuildHasher> Hub<S> {
         Ok(Handled { commands })
     }
 
-    /// Queues a push of these items in version 3 (Redis serialization protocol specification,
+    /// Queues a push of the items in version 3 (Redis serialization protocol specification,
     /// "Pushes").
     ///
     /// # Errors

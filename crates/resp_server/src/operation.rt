@@ -72,7 +72,7 @@ pub(crate) fn verb_of(name: &[u8]) -> Option<Verb>
     }
 }
 
-/// Returns the request of a command of these words.
+/// Returns the operation that a command of the given words asks for.
 pub(crate) fn operation_of(words: Words) -> Operation
     requires { 0 < length words }
     ensures { operation_in result ≡

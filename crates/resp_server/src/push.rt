@@ -15,7 +15,7 @@ use resp_value::limits::Limits;
 use resp_value::value::Value;
 use resp_value::version::Version;
 
-/// Queues a push of these items in a session.
+/// Queues a push of the items in a session.
 pub(crate) fn queue_push(
     session: &mut Session,
     limits: &Limits,

@@ -26,7 +26,7 @@ impl Model for Stored {
 }
 
 impl Stored {
-    /// Makes a stored value of these bytes. Does not allocate.
+    /// Makes a stored value of the given bytes. Does not allocate.
     pub(crate) fn new(content: Content) -> Stored
         ensures { result ≡ content_bytes content }
     {
@@ -45,7 +45,7 @@ impl Stored {
         }
     }
 
-    /// Returns the bulk string of these bytes.
+    /// Returns the bytes as a bulk string.
     pub(crate) fn reply(&self) -> &Value
         ensures { datum_of result.now ≡ bulk_string self.now }
     {

@@ -32,8 +32,8 @@ pub(crate) struct Turn {
     pub(crate) commands: u64,
 }
 
-/// Reads up to the end of a value or of the piece, and answers the value or the fault. When out of
-/// memory, the store, the session's version and the waiting bytes are unchanged.
+/// Reads up to the end of a value or of the piece, and responds to the value or the fault. When out
+/// of memory, the store, the session's version and the waiting bytes are unchanged.
 pub(crate) fn take_turn<S: BuildHasher>(
     store: &mut Store<S>,
     session: &mut Session,
@@ -96,7 +96,7 @@ fn run_whole<S: BuildHasher>(
     Ok(Turn { used, commands: 1 })
 }
 
-/// Reads with the decoder, and answers the value or the fault.
+/// Reads with the decoder, and responds to the value or the fault.
 fn read_turn<S: BuildHasher>(
     store: &mut Store<S>,
     session: &mut Session,

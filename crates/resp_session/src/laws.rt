@@ -27,26 +27,26 @@ pub fn a_command_is_its_words()
     ensures { ACommandIsItsWords }
 {}
 
-/// Take the answers to a text up to some rest. If the session is not closing after them, the
-/// answers to the rest and more bytes, appended to these, are the answers to the whole text.
+/// The response to a text up to some rest, and the response to the rest and more bytes, are
+/// together the response to the whole text, if the session is not closing after the first of them.
 pub fn answers_go_on()
     ensures { AnswersGoOn }
 {}
 
-/// A session that is closing answers nothing more.
+/// A session that is closing sends no more replies.
 pub fn answers_end()
     ensures { AnswersEnd }
 {
     grammar::fronts_of_spellings_are_viable();
 }
 
-/// The answers do not depend on the output written and the commands run before.
+/// The response to a text does not depend on the output written and the commands run before.
 pub fn answers_are_added()
     ensures { AnswersAreAdded }
 {}
 
-/// A text has at most one answer. If the text can be cut into values and a rest, its answer is the
-/// answer to these values and this rest.
+/// A text has at most one response. If the text can be cut into values and a rest, the response to
+/// the text is the response to the values and the rest.
 pub fn a_text_has_one_answer()
     ensures one_answer { ATextHasOneAnswer }
     ensures of_the_cut { AnswersAreOfTheCut }
@@ -179,7 +179,7 @@ pub fn arrivals_go_on()
     ensures { ArrivalsGoOn }
 {}
 
-/// The effect of bytes received in a world is the session's answer to them.
+/// The effect of bytes received in a world is the session's response to them.
 pub fn what_arrives_is_answered()
     ensures { WhatArrivesIsAnswered }
 {
@@ -243,7 +243,7 @@ pub fn what_is_shown_is_read()
     grammar::a_push_begins_with_its_byte();
 }
 
-/// The answers of a new session with number 1 to commands, and to values that are not commands.
+/// The replies of a new session with number 1 to commands, and to values that are not commands.
 pub fn commands_and_their_replies()
     // Empty arrays and nulls are ignored.
     ensures nothing_is_asked { answers_to (command_of [] ∷ null ∷ []) ≡ [] }
@@ -257,13 +257,13 @@ pub fn commands_and_their_replies()
         ≡ codes "-ERR unknown command\r\n" }
     ensures echoes { answers_to (command_of (codes "ECHO" ∷ codes "a" ∷ []) ∷
         command_of (codes "ping" ∷ codes "b" ∷ []) ∷ []) ≡ codes "$1\r\na\r\n$1\r\nb\r\n" }
-    // A value that is not a command closes the session, and the values after it are not answered.
+    // A value that is not a command closes the session, and the values after it get no reply.
     ensures no_command { answers_to (natural 1 ∷ command_of (codes "PING" ∷ []) ∷ [])
         ≡ codes "-ERR Protocol error: NotCommand at byte 0\r\n" }
     ensures closes { (after_values 1 new_session (natural 1 ∷ [])).closing ≡ true }
 {}
 
-/// The answers of a new session to commands with too few or too many words.
+/// The replies of a new session to commands with too few or too many words.
 pub fn wrong_numbers_of_words()
     ensures ping { answers_to (command_of (codes "PING" ∷ codes "a" ∷ codes "b" ∷ []) ∷ [])
         ≡ codes "-ERR wrong number of arguments for 'ping' command\r\n" }
@@ -351,7 +351,7 @@ pub fn versions_after_replies()
     ensures asks_nothing_in_three { version_after Three None (hello_reply Two 1) ≡ Three }
 {}
 
-/// The answer of a new session to an inline command.
+/// The reply of a new session to an inline command.
 pub fn an_inline_command_is_refused()
     ensures { AnInlineCommandIsRefused }
 {
@@ -361,7 +361,7 @@ pub fn an_inline_command_is_refused()
     grammar::no_other_byte_begins_a_tree();
 }
 
-/// The answers of a new session with number 1 to HELLO.
+/// The replies of a new session with number 1 to HELLO.
 pub fn greetings_and_their_replies()
     // A map in version 3, and an array in version 2.
     ensures hello_three { answers_to (command_of (codes "HELLO" ∷ codes "3" ∷ []) ∷
@@ -405,7 +405,7 @@ pub fn greetings_and_their_replies()
         command_of get_a ∷ []) ≡ hello_in_three ++ codes "_\r\n" }
 {}
 
-/// The answers of a new session to SET with a condition.
+/// The replies of a new session to SET with a condition.
 pub fn conditions_and_their_replies()
     ensures conditions { answers_to (
         command_of (codes "SET" ∷ codes "a" ∷ codes "1" ∷ codes "NX" ∷ []) ∷

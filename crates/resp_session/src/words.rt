@@ -33,7 +33,7 @@ impl Model for Words {
 /// The request that a value received by a server makes.
 #[derive(Drop)]
 pub enum Asked {
-    /// A command of these words, the name first.
+    /// A command with its words, the name first.
     Command(Words),
     /// No request: an empty array or a null. The server ignores it.
     Nothing,
@@ -82,7 +82,7 @@ pub fn asked_by(value: Value) -> Asked
     }
 }
 
-/// Returns the request that an array of these members makes.
+/// Returns the request that an array of the given members makes.
 fn asked_by_members(members: Vec<Value>) -> Asked
     ensures meaning { meaning_in result ≡
         array_meaning (bulk_contents (data_of_list (map datum_of members.items))) }

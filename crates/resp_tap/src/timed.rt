@@ -61,8 +61,8 @@ impl TimedTap {
         }
     }
 
-    /// Returns the time of the command that the next reply answers, by the steady clock, if it is
-    /// known.
+    /// Returns the time of the command that the next reply belongs to, by the steady clock, if it
+    /// is known.
     pub fn asked(&self) -> Option<u64>
         ensures { (times : List ℕ) → HasTimes self.now times →
             result ≡ slice_get times (tap_state self.now.tap).answered }

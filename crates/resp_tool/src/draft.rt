@@ -287,7 +287,7 @@ fn write_head(text: &mut Vec<u8>, byte: u8, number: u64) -> Result<(), AllocErro
     write_line(text, &[byte], buffer.format(number).as_bytes())
 }
 
-/// Appends a line of these two parts, with CR and LF.
+/// Appends a line of the two parts, with CR and LF.
 fn write_line(text: &mut Vec<u8>, first: &[u8], second: &[u8]) -> Result<(), AllocError>
     ensures { OnOk result (text.new.items ≡
         text.old.items ++ (first.now ++ (second.now ++ crlf []))) }

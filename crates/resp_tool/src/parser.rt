@@ -246,7 +246,7 @@ fn bare_task_with_help<'a>(
         .after_help(after_help)
 }
 
-/// Returns a subcommand that reads a stream, of one of these versions.
+/// Returns a subcommand that reads a stream, whose version is one of `versions`.
 fn stream_task<'a>(
     alloc: Global,
     name: &'a str,

@@ -21,7 +21,7 @@ pub struct Content {
 impl Content {
     ghost use Rattle.resp_value.specs.Values.{content_bytes};
 
-    /// Makes a content of these bytes. They may be empty. Does not allocate.
+    /// Makes a content of the given bytes, which may be empty. Does not allocate.
     pub fn new(bytes: Vec<u8>) -> Content
         ensures { content_bytes result ≡ bytes.items }
     {

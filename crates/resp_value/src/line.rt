@@ -34,7 +34,7 @@ fn is_line(bytes: &[u8]) -> bool
 impl Line {
     ghost use Rattle.resp_value.specs.Values.{line_text};
 
-    /// Makes a line of these bytes. They may be empty. Does not allocate.
+    /// Makes a line of the given bytes, which may be empty. Does not allocate.
     ///
     /// # Errors
     ///

@@ -48,13 +48,13 @@ use resp_value::device::{Sink, Source};
 /// let stream = TcpStream::connect(net, ("127.0.0.1", port))?;
 /// stream.set_nodelay(true)?;
 /// let mut client = Client::new(alloc, &Limits::standard());
-/// let mut heard = Asked::new(alloc);
+/// let mut received = Asked::new(alloc);
 /// ask(
 ///     &mut Device::new(&stream),
 ///     &mut Device::new(&stream),
 ///     &mut client,
 ///     requests.as_slice(),
-///     &mut heard,
+///     &mut received,
 ///     TURNS,
 /// )?;
 /// ```
@@ -65,9 +65,9 @@ use resp_value::device::{Sink, Source};
 /// let mut reader = MemorySource::new(b"+OK\r\n:1\r\n", 4);
 /// let mut writer = MemorySink::new(alloc, 16, 256)?;
 /// let mut client = Client::new(alloc, &Limits::standard());
-/// let mut heard = Asked::new(alloc);
-/// ask(&mut reader, &mut writer, &mut client, requests, &mut heard, 100)?;
-/// for (number, value) in heard.replies.iter() {
+/// let mut received = Asked::new(alloc);
+/// ask(&mut reader, &mut writer, &mut client, requests, &mut received, 100)?;
+/// for (number, value) in received.replies.iter() {
 ///     println!(rt; "reply {number}: {value:?}")?;
 /// }
 /// ```

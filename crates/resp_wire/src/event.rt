@@ -21,7 +21,7 @@ pub enum Event {
     ToServer(usize, u64),
     /// This many of the session's waiting bytes reach its client, or all of them if fewer wait.
     ToClient(usize, u64),
-    /// The session sends a push of these items to the client. It does so only in version 3.
+    /// The session sends a push of the items to the client. It does so only in version 3.
     Push(usize, Members),
     /// The session is closed, and the waiting bytes of both directions are lost.
     Drop(usize),
@@ -50,7 +50,7 @@ pub enum Outcome {
     Done,
     /// The event was refused, and nothing changed. The cause is `BadCommand`, `TooLarge` or
     /// `TooMany` of the client, or `NotInVersion`, `Double`, `PushBelowTop` or `OverLimits` of the
-    /// session, the first of these that applies.
+    /// session, the first one that applies.
     Refused(Cause),
     /// The client was dropped, or no client has this number. Nothing changed.
     Gone,

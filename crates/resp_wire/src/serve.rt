@@ -82,10 +82,10 @@ pub fn serve<R: Source, W: Sink, S: BuildHasher>(
     id: u64,
     turns: u64,
 ) -> Result<Served, ServeError>
-    // The bytes received are pieces, each from one read. Before each read, all answers to the bytes
+    // The bytes received are pieces, each from one read. Before each read, all replies to the bytes
     // received before were written. The bytes written and the bytes that still wait, joined, are
-    // the bytes that waited before and the answer to the bytes read before of a value together with
-    // the bytes received. The hub is in the state after that answer.
+    // the bytes that waited before and the response to the bytes read before of a value together
+    // with the bytes received. The hub is in the state after that response.
     ensures served { (pieces : List (List ℕ)) × ReadsPieces R.remaining R.calls R.failures
         reader.old reader.new pieces (ends_by_read result) × WhereOpen hub.old id (λ s front.
         OnOk result (Serves hub.old hub.new id s (front ++ concat pieces) (W.written writer.old)
@@ -247,7 +247,7 @@ fn write_out<W: Sink, S: BuildHasher>(
     }
 }
 
-/// Returns the error of the call for a piece that was not completely answered.
+/// Returns the error of the call for a piece that was not completely handled.
 fn unanswered(error: HubError) -> ServeError
     requires { error ≢ HubError.NoSession }
     ensures { result ≡ ServeError.OutOfMemory }

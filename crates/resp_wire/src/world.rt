@@ -113,7 +113,7 @@ impl<S: BuildHasher + Drop> World<MemoryLink, S> {
 }
 
 impl<L: Link, S: BuildHasher + Drop> World<L, S> {
-    /// Makes a world with a client for each of these links and an empty store. The clients have
+    /// Makes a world with a client for each of the links and an empty store. The clients have
     /// sent nothing. Each client and each session reads and writes within these limits.
     ///
     /// # Errors
@@ -360,7 +360,7 @@ impl<L: Link, S: BuildHasher + Drop> World<L, S> {
         self.ends[number - 1].keep(heard)
     }
 
-    /// Sends a push of these items to a client.
+    /// Sends a push of the items to a client.
     fn push(&mut self, number: usize, items: &Members) -> Result<Outcome, Cause>
         requires there { (1 ≤ number) × (number ≤ length self.old.ends) }
         requires is_open { IsOpenEnd self.old.ends (number - 1) }

@@ -51,7 +51,7 @@ fn store_push(rt: &impl Print, alloc: Global) -> Result<()> {
     client.hello(Some(Version::Three))?;
     client.feed(b"%0\r\n")?;
     let mut sink: Box<dyn PushSink> = Box::new(alloc, PushList::new(alloc))?;
-    let heard = client.feed_with(b">1\r\n+tick\r\n", &mut sink)?;
-    println!(rt; "{:?}, {} stored", heard.what, sink.shown().len())?;
+    let fed = client.feed_with(b">1\r\n+tick\r\n", &mut sink)?;
+    println!(rt; "{:?}, {} stored", fed.what, sink.shown().len())?;
     Ok(())
 }

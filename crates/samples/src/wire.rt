@@ -25,16 +25,16 @@ fn ask_two(rt: &impl Print, alloc: Global, requests: &[Request]) -> Result<()> {
     let mut reader = MemorySource::new(b"+OK\r\n:1\r\n", 4);
     let mut writer = MemorySink::new(alloc, 16, 256)?;
     let mut client = Client::new(alloc, &Limits::standard());
-    let mut heard = Asked::new(alloc);
+    let mut received = Asked::new(alloc);
     ask(
         &mut reader,
         &mut writer,
         &mut client,
         requests,
-        &mut heard,
+        &mut received,
         100,
     )?;
-    for (number, value) in heard.replies.iter() {
+    for (number, value) in received.replies.iter() {
         println!(rt; "reply {number}: {value:?}")?;
     }
     Ok(())

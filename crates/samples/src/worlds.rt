@@ -18,7 +18,7 @@ pub(crate) fn run(rt: &impl Print, alloc: Global) -> Result<()> {
     Ok(())
 }
 
-/// Makes a command of these words.
+/// Makes a command of the given words.
 fn command(alloc: Global, words: &[&[u8]]) -> Result<Command> {
     let mut made = Vec::new(alloc);
     for word in words {

@@ -56,7 +56,7 @@ impl Asked {
     }
 }
 
-/// Makes a command of these words.
+/// Makes a command with each text as a word.
 fn command(alloc: Global, texts: &[&[u8]]) -> Result<Command, AllocError> {
     let mut words = Vec::new(alloc);
     for text in texts {

@@ -39,7 +39,7 @@ fn takes_digits_as_they_are_kept(rt: HostRuntime) {
     check_equal(&rt, is_kept(&rt, false, b"-7"), false);
 }
 
-/// Checks that each of these texts is rejected.
+/// Checks that each text is rejected.
 fn check_refused<R: Abort + AllocGlobal>(rt: &R, texts: &[&[u8]]) {
     for text in texts {
         let refused = Digits::new(rt.alloc(), text).err();

@@ -52,7 +52,7 @@ fn limits_of([depth, length, total, items]: [u64; 4]) -> Result<Limits, BadLimit
     Limits::new(depth, length, total)?.with_items(items)
 }
 
-/// Checks that each of these is accepted, or that each is rejected.
+/// Checks that all limits are accepted if `is_taken`, and that all are rejected otherwise.
 fn check_taken(rt: &impl Abort, all: &[[u64; 4]], is_taken: bool) {
     for numbers in all {
         check_equal(rt, limits_of(*numbers).is_ok(), is_taken);

@@ -53,7 +53,7 @@ fn check_copy<R: Abort + AllocGlobal>(rt: &R, value: &Value) {
     check_equal(rt, copy, value);
 }
 
-/// Checks that each of these is the canonical text of its value.
+/// Checks that each text is the canonical text of its value.
 fn check_texts<R: Abort + AllocGlobal>(rt: &R, texts: &[&[u8]]) {
     for text in texts {
         check_text(rt, text, text);

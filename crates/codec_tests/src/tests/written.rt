@@ -7,7 +7,7 @@ use resp_value::cause::Limit;
 use resp_value::value::Value;
 use std::process::Abort;
 
-/// Checks that `encode_push` appends this text of these items to a buffer that holds `kept`.
+/// Checks that `encode_push` appends `text` for the items to a buffer that holds `kept`.
 fn check_push<R: Abort + AllocGlobal>(rt: &R, items: &[Value], text: &[u8]) {
     let mut buffer = bare_buffer(rt);
     let answer = encode_push(&small_limits(), items, &mut buffer);

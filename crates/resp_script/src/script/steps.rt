@@ -109,7 +109,7 @@ fn clients_of(words: &[&[u8]]) -> Option<usize>
     }
 }
 
-/// Returns the step of these words, if there are `clients` clients.
+/// Returns the step of the given words, if there are `clients` clients.
 fn step_of(alloc: Global, clients: usize, words: &[&[u8]]) -> Result<Option<Event>, LineFault>
     ensures step { IfOk result (λ step.
         (map (λ word. word.now) words.now ≡ step_words step) × IsStepInRange clients step) }

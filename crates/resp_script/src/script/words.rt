@@ -69,7 +69,7 @@ fn split<'a>(alloc: Global, line: &'a [u8]) -> Result<Vec<&'a [u8]>, AllocError>
     line.split(|byte| *byte == b' ').collect(alloc)
 }
 
-/// Returns why the first of these parts that is not a word is not one.
+/// Returns why the first part that is not a word is not a word.
 fn first_fault(words: &[&[u8]]) -> Option<BadLine>
     ensures words { IfNone result (All IsWord (map (λ word. word.now) words.now)) }
     ensures no_words { IfSome result (λ reason.
@@ -88,7 +88,7 @@ fn first_fault(words: &[&[u8]]) -> Option<BadLine>
     None
 }
 
-/// Returns whether all of these bytes are graphic ASCII.
+/// Returns whether all bytes are graphic ASCII.
 fn are_seen(text: &[u8]) -> bool
     ensures { MatchBool result (All IsSeen text.now) (All IsSeen text.now → ⊥) }
 {

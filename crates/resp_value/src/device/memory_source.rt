@@ -34,7 +34,7 @@ impl<'a> Model for MemorySource<'a> {
 }
 
 impl<'a> MemorySource<'a> {
-    /// Makes a source of these bytes that moves at most `most` bytes in a read, at least 1, and
+    /// Makes a source of the given bytes that moves at most `most` bytes in a read, at least 1, and
     /// never fails. Does not allocate.
     ///
     /// # Examples

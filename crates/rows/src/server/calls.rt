@@ -55,7 +55,7 @@ pub(crate) fn run(alloc: Global, hub: &mut TestHub, given: &str, said: &mut Stri
     Ok(())
 }
 
-/// Adds the text of a command of these words.
+/// Adds the text of a command of the given words.
 fn spell(alloc: Global, words: Vec<Vec<u8>>, text: &mut Vec<u8>) -> Result<(), AllocError> {
     add_line(alloc, text, '*', words.len())?;
     for word in words.as_slice() {

@@ -53,7 +53,7 @@ impl Asking {
         Ok(())
     }
 
-    /// Adds a command of these words to the requests.
+    /// Adds a command of the given words to the requests.
     pub(crate) fn queue(&mut self, alloc: Global, words: &str) -> Result<()> {
         self.requests
             .push(Request::Command(command(alloc, words)?))?;

@@ -50,7 +50,7 @@ fn event(alloc: Global, name: &str, given: &str) -> Result<Event> {
     })
 }
 
-/// Returns the items of a push of these words.
+/// Returns the items of a push of the given words.
 fn items(alloc: Global, words: &str) -> Result<Members> {
     let mut items = Vec::new(alloc);
     for word in text::words(alloc, words)? {
