@@ -1,5 +1,5 @@
 -- How many replies and pushes of a client are shown.
-use Rattle.std.proofs.Common.{List, None, Option, Some, length, sym, ap, ◌∙◌}
+use Rattle.std.proofs.Common.{◌≡◌, List, None, Option, Some, length, sym, ap, ◌∙◌}
 use Rattle.std.specs.Option.{IfSome}
 use Rattle.std.proofs.lemmas.List.{length-map}
 use Rattle.resp_session.specs.Connections.{Connection, shown_pushes, shown_replies}
