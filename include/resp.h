@@ -12,6 +12,7 @@
  *
  *     struct resp_limits limits;
  *     resp_limits_standard(&limits);
+ *     limits.doubles = true;   // in version 3 redis-server sends doubles, to ZSCORE for example
  *     struct resp_scanner scanner = { malloc(resp_scanner_size()) };
  *     resp_scanner_init(&scanner, 3, &limits);
  *
@@ -120,7 +121,8 @@ enum resp_kind {
     RESP_BOOL = 2,
     /* `number` is the integer. */
     RESP_INT = 3,
-    /* A text of the kind `form` begins. Its parts follow, then RESP_TEXT_END. */
+    /* A text of the kind `form` begins. Its parts follow, then RESP_TEXT_END. An empty text has no
+     * part. The event doesn't have the length of the text. */
     RESP_TEXT = 4,
     /* `part` bytes of the text, at resp_event_part. */
     RESP_PART = 5,
@@ -309,6 +311,11 @@ void resp_pairing_init(struct resp_pairing *pairing);
 
 /* Counts a command that is sent. `hello` is the version that a HELLO asks for, and 0 for any other
  * command. Sets `*number` to the number of the command and of its reply, from 1.
+ *
+ * Do not queue a command that gets no reply or several replies: SUBSCRIBE, PSUBSCRIBE, SSUBSCRIBE
+ * and their UN- forms, MONITOR, SYNC, PSYNC, CLIENT REPLY. Later replies would be paired with the
+ * wrong commands. Do not queue RESET either: it changes the version of the connection. Nothing
+ * checks this.
  *
  * Errors: RESP_CAUSE_BAD_VERSION; RESP_CAUSE_HELLO_WAITS for a HELLO with a version while another
  * one waits; RESP_CAUSE_TOO_MANY after 2^63 commands. An error changes nothing. */
