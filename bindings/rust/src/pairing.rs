@@ -96,6 +96,15 @@ impl Pairing {
     }
 
     /// Counts a command that is sent, and returns the number of its reply.
+    ///
+    /// Do not queue a command that gets no reply or several replies: SUBSCRIBE, PSUBSCRIBE,
+    /// SSUBSCRIBE and their UN- forms, MONITOR, SYNC, PSYNC, CLIENT REPLY. Later replies would be
+    /// paired with the wrong commands. Do not queue RESET either: it changes the version of the
+    /// connection. Nothing checks this.
+    ///
+    /// # Errors
+    ///
+    /// [`QueueError::TooMany`] after 2^63 commands.
     pub fn queue(&mut self) -> Result<u64, QueueError> {
         self.queue_asking(0)
     }

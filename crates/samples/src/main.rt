@@ -2,6 +2,7 @@
 //! prints its result. tests/pages checks that the comments show these lines.
 #![tactic(auto)]
 
+mod counting;
 mod decoding;
 mod encoding;
 mod framing;
@@ -19,6 +20,7 @@ use anyhow::Result;
 
 fn main(rt: HostRuntime) -> Result<()> {
     let alloc = rt.alloc();
+    counting::run(&rt, alloc)?;
     values::run(&rt, alloc)?;
     sessions::run(&rt, alloc)?;
     encoding::run(&rt, alloc)?;
