@@ -1,8 +1,8 @@
 //! Reads the script of `loop` from the input. If a script is too long, only the part that decides
 //! the error is kept.
 
+use resp_args::tool_error::ToolError;
 use resp_script::script::MOST_BYTES;
-use resp_tool::tool_error::ToolError;
 use resp_value::device::Source;
 use std::alloc::Global;
 

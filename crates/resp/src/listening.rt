@@ -1,12 +1,12 @@
 //! The commands `serve` and `tap`, which listen on an address for clients.
 
+use resp_args::serving::Serving;
+use resp_args::tapping::Tapping;
+use resp_args::tool_error::ToolError;
+use resp_args::words::{refuse_file, stop};
 use resp_print::live::LiveSink;
 use resp_print::text::write_text;
 use resp_serve::{Server, Window};
-use resp_tool::command_line::{refuse_file, stop};
-use resp_tool::serving::Serving;
-use resp_tool::tapping::Tapping;
-use resp_tool::tool_error::ToolError;
 use resp_value::device::Sink;
 use std::alloc::{AllocError, Global};
 use std::hash::RandomState;

@@ -7,8 +7,8 @@ use Rattle.resp_tool.specs.Counts.{Counts, CountsAll, CountsBy, CountsPart, IsAn
 use Rattle.resp_tool.specs.Streams.{RendersCounted, RendersStopped}
 use Rattle.resp_print.specs.Written.{AppendsPart}
 use Rattle.resp_tool.specs.declared.stream.Totals.{Totals}
-use Rattle.resp_tool.specs.declared.tool_error.ToolError.{ToolError}
-use Rattle.resp_tool.specs.declared.tool_error.ToolError.TheVariants as e
+use Rattle.resp_args.specs.declared.tool_error.ToolError.{ToolError}
+use Rattle.resp_args.specs.declared.tool_error.ToolError.TheVariants as e
 use Rattle.resp_print.proofs.WrittenLemmas.{Appends-append}
 
 -- values without texts

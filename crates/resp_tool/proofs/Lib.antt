@@ -1,5 +1,4 @@
 pub mod Outcomes
-pub mod Tried
 pub mod ReadLemmas
 pub mod Rendered
 pub mod LiveLemmas
@@ -12,9 +11,7 @@ pub mod PageLemmas
 pub mod Showing
 pub mod BegunLemmas
 pub mod CauseTexts
-pub mod AskingLemmas
-pub mod CommandLemmas
-pub mod CommandExamples
 pub mod CanonicalFrontLemmas
 pub mod FrontsTaken
 pub mod SameBytes
+pub mod RunWords

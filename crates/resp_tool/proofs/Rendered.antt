@@ -19,7 +19,7 @@ use Rattle.resp_tool.specs.declared.stream.Totals.{Totals}
 use Rattle.resp_tool.specs.declared.rendering.Taken.{Taken}
 use Rattle.resp_tool.specs.declared.rendering.Stop.{Stop}
 use Rattle.resp_tool.specs.declared.rendering.Stop.TheVariants as stop
-use Rattle.resp_tool.specs.declared.tool_error.ToolError.TheVariants as e
+use Rattle.resp_args.specs.declared.tool_error.ToolError.TheVariants as e
 use Rattle.resp_print.proofs.WrittenLemmas.{Appends-append, Appends-none}
 
 -- a relation of a text

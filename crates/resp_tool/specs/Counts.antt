@@ -7,8 +7,8 @@ use Rattle.resp_value.specs.Spellings.{Cut}
 use Rattle.resp_tool.specs.Streams.{RendersStopped, most_values}
 use Rattle.resp_tool.specs.Scans.{IsNothing}
 use Rattle.resp_print.specs.Written.{AppendsPart}
-use Rattle.resp_tool.specs.declared.tool_error.ToolError.{ToolError}
-use Rattle.resp_tool.specs.declared.tool_error.ToolError.TheVariants.{Write}
+use Rattle.resp_args.specs.declared.tool_error.ToolError.{ToolError}
+use Rattle.resp_args.specs.declared.tool_error.ToolError.TheVariants.{Write}
 
 -- the line of counts
 abbrev pub counts_line : ℕ → ℕ → List ℕ

@@ -11,8 +11,8 @@ use Rattle.resp_value.specs.declared.version.Version.TheVariants.{Two, Three}
 use Rattle.resp_scan.specs.Kinds.{rules_of}
 use Rattle.resp_tool.specs.Begun.{HavePassed}
 use Rattle.resp_print.specs.Shown.{quoted_text}
-use Rattle.resp_tool.specs.declared.tool_error.ToolError.{ToolError}
-use Rattle.resp_tool.specs.declared.tool_error.ToolError.TheVariants.{Refused, OverLimits, TooManyValues}
+use Rattle.resp_args.specs.declared.tool_error.ToolError.{ToolError}
+use Rattle.resp_args.specs.declared.tool_error.ToolError.TheVariants.{Refused, OverLimits, TooManyValues}
 use Rattle.resp_tool.specs.declared.watched.Watched.{Watched}
 
 -- the version and limits of the values that are watched

@@ -1,5 +1,3 @@
-pub mod Tried
-pub mod Faults
 pub mod Stops
 pub mod Live
 pub mod Takings
@@ -14,8 +12,5 @@ pub mod Laws
 pub mod Runs
 pub mod Begun
 pub mod Explained
-pub mod Program
-pub mod CommandWords
-pub mod Commands
 pub mod CanonicalFronts
 pub mod Drafts

@@ -1,22 +1,22 @@
 -- The result of running the program over a stream.
-use Rattle.std.specs.Prelude.{◌≡◌, ◌⊎◌, ◌≤◌, ℕ, false, codes, List, [], Option, Some, IfSome, Result, Ok, Err}
+use Rattle.std.specs.Prelude.{◌≡◌, ◌⊎◌, ℕ, false, codes, List, [], Option, Some, IfSome, Result, Ok, Err}
 use Rattle.resp_value.specs.Canonical.{canonical_text, Fits}
 use Rattle.resp_value.specs.Rules.{Rules}
 use Rattle.clap.specs.Words.{App, Text}
-use Rattle.resp_tool.specs.CommandWords.{AreWrong, AskFor, AskForHelp}
+use Rattle.resp_args.specs.CommandWords.{AreWrong, AskFor, AskForHelp}
 use Rattle.resp_tool.specs.Counts.{Counts, IsAny, LeavesNothing}
-use Rattle.resp_tool.specs.Faults.{fault_line, status_of}
+use Rattle.resp_args.specs.Faults.{fault_line, status_of}
 use Rattle.resp_print.specs.Live.{Look}
 use Rattle.resp_tool.specs.Live.{EachRead, IsLive}
 use Rattle.resp_tool.specs.Scans.{IsShownDue, IsShownIn, IsShownOf}
 use Rattle.resp_print.specs.Shown.{shown_text}
 use Rattle.resp_tool.specs.Streams.{AreRead, AtEnd, Renders}
-use Rattle.resp_tool.specs.Tried.{TriesText}
-use Rattle.resp_tool.specs.declared.asked.Asked.TheVariants.{Stream}
-use Rattle.resp_tool.specs.declared.options.Options.{Options}
-use Rattle.resp_tool.specs.declared.options.Task.{Task}
-use Rattle.resp_tool.specs.declared.options.Task.TheVariants.{Show, Check, Canon}
-use Rattle.resp_tool.specs.declared.tool_error.ToolError.{ToolError}
+use Rattle.resp_args.specs.Tried.{TriesText}
+use Rattle.resp_args.specs.declared.asked.Asked.TheVariants.{Stream}
+use Rattle.resp_args.specs.declared.options.Options.{Options}
+use Rattle.resp_args.specs.declared.options.Task.{Task}
+use Rattle.resp_args.specs.declared.options.Task.TheVariants.{Show, Check, Canon}
+use Rattle.resp_args.specs.declared.tool_error.ToolError.{ToolError}
 
 -- the text that a task has written for the bytes that were read, depending on how it ended
 abbrev pub TaskWrites : Task → Rules → List ℕ → Option (List ℕ) → Option (List ℕ) → Result (Unit {0}) ToolError → Type 0
@@ -43,11 +43,6 @@ abbrev pub TellsOutcome : Option (List ℕ) → Option (List ℕ) → ℕ → �
 TellsOutcome said said' failures failures' (Ok x) = (said' ≡ said) × (failures' ≡ failures)
 TellsOutcome said said' failures failures' (Err error) = TriesText said said' failures failures' (fault_line error)
 
--- the line of an error with exit status 3 was written, or one write of it failed
-abbrev pub TellsFailure : Option (List ℕ) → Option (List ℕ) → ℕ → ℕ → Type 0
-TellsFailure said said' failures failures' = (error : ToolError) × (status_of error ≡ 3) ×
-    TriesText said said' failures failures' (fault_line error)
-
 -- the task ran under these rules, ended with this status, and its error was reported
 pub record HasRun (task : Task) (rules : Rules) (left left' before after said said' : Option (List ℕ))
     (looks looks' : Option (List Look)) (failures failures' status : ℕ) : Type 0 where
@@ -59,10 +54,6 @@ pub record HasRun (task : Task) (rules : Rules) (left left' before after said sa
   pub live : Lives task rules left before looks looks'
   pub ended : status_of_run result ≡ status
   pub told : TellsOutcome said said' failures failures' result
-
--- the status of words that ask for help, of wrong words, or after a failed device or allocation
-abbrev pub IsWordStatus : ℕ → Type 0
-IsWordStatus status = (status ≡ 0) ⊎ (2 ≤ status) × (status ≤ 3)
 
 -- the words ask for a task over standard input, and for nothing else
 abbrev pub AskForRun : App → List Text → Options → Type 0

@@ -9,8 +9,8 @@ use Rattle.resp_value.specs.declared.cause.Cause.{Cause}
 use Rattle.resp_value.specs.declared.cause.Cause.TheVariants as cause
 use Rattle.resp_tool.specs.Takings.{IsByteFault, IsEndFault}
 use Rattle.resp_tool.specs.declared.stream.Totals.{Totals}
-use Rattle.resp_tool.specs.declared.tool_error.ToolError.{ToolError}
-use Rattle.resp_tool.specs.declared.tool_error.ToolError.TheVariants.{Refused, OverLimits, TooManyValues, Read, Write, TooManyTurns}
+use Rattle.resp_args.specs.declared.tool_error.ToolError.{ToolError}
+use Rattle.resp_args.specs.declared.tool_error.ToolError.TheVariants.{Refused, OverLimits, TooManyValues, Read, Write, TooManyTurns}
 
 -- these bytes were read from the remaining input, if the reader states it
 abbrev pub AreRead : Option (List ℕ) → Option (List ℕ) → List ℕ → Type 0

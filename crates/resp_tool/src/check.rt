@@ -9,7 +9,7 @@ ghost use Rattle.resp_value.specs.Rules.{rules_under};
 
 use crate::rendering::{Rendering, Stop, Taken};
 use crate::stream::{MOST_READS, Totals, render_stream};
-use crate::tool_error::ToolError;
+use resp_args::tool_error::ToolError;
 use resp_print::live::{LiveSink, LiveSource};
 use resp_print::text::write_number;
 use resp_scan::event::{ScanError, TextKind};

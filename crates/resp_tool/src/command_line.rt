@@ -1,131 +1,29 @@
 //! Runs a command line, and returns the exit status.
 
-ghost use Rattle.std.specs.Prelude.{◌≡◌, ◌≢◌, ◌⊎◌, ◌≤◌, ◌+◌, ℕ, List, [], Some, IfErr, IfOk, IfSome, IsErrOf, OnOk, codes, map};
-ghost use Rattle.clap.specs.Words.{App, kind_of};
-ghost use Rattle.resp_tool.specs.CommandWords.{AnswersStatus, AskFor, IsInRange};
-ghost use Rattle.resp_tool.specs.Faults.{fault_line, open_failed_line, status_of};
-ghost use Rattle.resp_tool.specs.Program.{IsProgram};
-ghost use Rattle.resp_tool.specs.Runs.{DoesWords, HasRun, IsWordStatus, Lives, TaskWrites, TellsFailure};
+ghost use Rattle.std.specs.Prelude.{◌≡◌, ◌≢◌, ◌≤◌, ◌+◌, ℕ, List, [], Some, IfSome, map};
+ghost use Rattle.clap.specs.Words.{App};
+ghost use Rattle.resp_args.specs.Faults.{TellsFailure};
+ghost use Rattle.resp_args.specs.Program.{IsProgram};
+ghost use Rattle.resp_tool.specs.Runs.{DoesWords, HasRun, Lives, TaskWrites};
 ghost use Rattle.resp_tool.specs.Streams.{AreRead, AtEnd};
-ghost use Rattle.resp_print.specs.Written.{WritesText};
-ghost use Rattle.resp_tool.specs.Tried.{TriesText};
 ghost use Rattle.resp_value.specs.Rules.{rules_under};
 
-use crate::asked::{Asked, NothingAsked, asked_of};
 use crate::canon::canon;
 use crate::check::check;
-use crate::options::{Options, STANDARD_INPUT, Task};
-use crate::parser::matches_of;
 use crate::show::show;
 use crate::stream::MOST_READS;
-use crate::tool_error::ToolError;
-use clap::error::ErrorKind;
+use resp_args::asked::Asked;
+use resp_args::options::{Options, STANDARD_INPUT, Task};
+use resp_args::tool_error::ToolError;
+use resp_args::words::{read_words, stop};
 use resp_print::live::{LiveSink, LiveSource};
 use resp_print::text::write_text;
-use resp_value::device::{DeviceFault, Sink};
+use resp_value::device::Sink;
 use std::alloc::Global;
 use std::convert::AsStr;
-use std::io::ErrorKind as IoErrorKind;
 
 /// The exit status of a usage error.
 const BAD_ARGUMENTS: u8 = 2;
-
-/// The exit status after a device failed.
-const DEVICE_FAILED: u8 = 3;
-
-/// Writes help to `writer` or a usage error to `faults`, and returns the exit status.
-fn explain<W: Sink, F: Sink>(
-    alloc: Global,
-    error: &clap::Error,
-    writer: &mut W,
-    faults: &mut F,
-) -> u8
-    ensures never_one { IsWordStatus result }
-    ensures help_at_zero { result ≡ 0 → (kind_of error.now ≡ ErrorKind.DisplayHelp)
-        ⊎ (kind_of error.now ≡ ErrorKind.DisplayVersion) }
-    ensures refused_at_two { result ≡ 2 → (kind_of error.now ≢ ErrorKind.OutOfMemory)
-        × (kind_of error.now ≢ ErrorKind.DisplayHelp)
-        × (kind_of error.now ≢ ErrorKind.DisplayVersion) }
-    ensures bad_words_write_nothing { result ≡ 2 → writer.new ≡ writer.old }
-    ensures nothing_told_at_zero { result ≡ 0 → faults.new ≡ faults.old }
-    ensures told_at_three { result ≡ 3 → TellsFailure (F.written faults.old)
-        (F.written faults.new) (F.failures faults.old) (F.failures faults.new) }
-{
-    let text = match format!(in alloc; "{error}") {
-        Ok(text) => text,
-        Err(_) => return stop(&ToolError::Memory, faults),
-    };
-    match error.kind() {
-        ErrorKind::OutOfMemory => stop(&ToolError::Memory, faults),
-        ErrorKind::DisplayHelp | ErrorKind::DisplayVersion => {
-            if write_text(writer, text.as_str().as_bytes()).is_err() {
-                stop(&ToolError::Write, faults)
-            } else {
-                0
-            }
-        }
-        _ => {
-            let _ = write_text(faults, text.as_str().as_bytes());
-            BAD_ARGUMENTS
-        }
-    }
-}
-
-/// Writes the line of an error to `faults`, and returns the exit status. If a write fails, the rest
-/// of the line is not written.
-pub fn stop<F: Sink>(error: &ToolError, faults: &mut F) -> u8
-    ensures status { result ≡ status_of error.now }
-    ensures told { TriesText (F.written faults.old) (F.written faults.new)
-        (F.failures faults.old) (F.failures faults.new) (fault_line error.now) }
-{
-    let _ = error.line(faults);
-    error.status()
-}
-
-/// Writes why the words of the command line can't be read. Returns the exit status: 2 if a word is
-/// not UTF-8, and 3 if an allocation failed.
-#[tactic(auto, using(crate::proofs::Tried::tries_text))]
-pub fn refuse_words<F: Sink>(kind: IoErrorKind, faults: &mut F) -> u8
-    ensures two_where_not_text { kind ≡ IoErrorKind.InvalidData → result ≡ 2 }
-    ensures three_without_memory { kind ≢ IoErrorKind.InvalidData → result ≡ 3 }
-    ensures told_where_not_text { kind ≡ IoErrorKind.InvalidData →
-        TriesText (F.written faults.old) (F.written faults.new) (F.failures faults.old)
-        (F.failures faults.new) (codes "error: a word of the command line is not UTF-8\n") }
-    ensures told_without_memory { kind ≢ IoErrorKind.InvalidData →
-        TriesText (F.written faults.old) (F.written faults.new) (F.failures faults.old)
-        (F.failures faults.new) (fault_line ToolError.Memory) }
-{
-    match kind {
-        IoErrorKind::InvalidData => {
-            let _ = write_text(faults, b"error: a word of the command line is not UTF-8\n");
-            BAD_ARGUMENTS
-        }
-        _ => stop(&ToolError::Memory, faults),
-    }
-}
-
-/// Writes that a file can't be opened, and why. Returns the exit status, 3.
-#[tactic(auto, using(crate::proofs::Tried::tries_text))]
-pub fn refuse_file<F: Sink>(name: &str, why: &str, faults: &mut F) -> u8
-    ensures status { result ≡ 3 }
-    ensures told { TriesText (F.written faults.old) (F.written faults.new)
-        (F.failures faults.old) (F.failures faults.new) (open_failed_line name.now why.now) }
-{
-    let _ = write_open_failed(name.as_bytes(), why.as_bytes(), faults);
-    DEVICE_FAILED
-}
-
-/// Writes the line of a file that can't be opened.
-fn write_open_failed<F: Sink>(name: &[u8], why: &[u8], faults: &mut F) -> Result<(), DeviceFault>
-    ensures { WritesText (F.written faults.old) (F.written faults.new) (F.failures faults.old)
-        (F.failures faults.new) result (open_failed_line name.now why.now) }
-{
-    write_text(faults, b"open failed: ")?;
-    write_text(faults, name)?;
-    write_text(faults, b": ")?;
-    write_text(faults, why)?;
-    write_text(faults, b"\n")
-}
 
 /// Runs the task of the options over the stream of `reader`. The caller flushes the writer at the
 /// end.
@@ -157,43 +55,6 @@ pub fn perform<R: LiveSource<W>, W: LiveSink>(
         Task::Show => show(alloc, version, &limits, piece, reader, writer),
         Task::Check => check(alloc, version, &limits, piece, reader, writer),
         Task::Canon => canon(alloc, version, &limits, piece, reader, writer),
-    }
-}
-
-/// Reads a command line, of which the first word is the name of the program, and returns what it
-/// asks for.
-///
-/// # Errors
-///
-/// The exit status. It is 0 if the words ask for help or the version, which was written to
-/// `writer`; 2 for a usage error, which was written to `faults`; and 3 if a device or an allocation
-/// failed.
-pub fn read_words<'a, S: AsStr, W: Sink, F: Sink>(
-    alloc: Global,
-    words: &'a [S],
-    writer: &mut W,
-    faults: &mut F,
-) -> Result<Asked<'a>, u8>
-    ensures asked { (program : App) × IsProgram program
-        × AnswersStatus AskFor program (map S.text words.entry.now) result }
-    ensures in_range { IfOk result IsInRange }
-    ensures nothing_said { OnOk result ((writer.new ≡ writer.old) × (faults.new ≡ faults.old)) }
-    ensures never_one { IfErr result IsWordStatus }
-    ensures nothing_told_at_zero { IsErrOf result 0 → faults.new ≡ faults.old }
-    ensures nothing_at_two { IsErrOf result 2 → writer.new ≡ writer.old }
-    ensures told_at_three { IsErrOf result 3 → TellsFailure (F.written faults.old)
-        (F.written faults.new) (F.failures faults.old) (F.failures faults.new) }
-{
-    let matches = match matches_of(alloc, words) {
-        Ok(matches) => matches,
-        Err(error) => return Err(explain(alloc, &error, writer, faults)),
-    };
-    match asked_of(&matches) {
-        Ok(asked) => Ok(asked),
-        Err(nothing) => {
-            let _ = nothing.write(faults);
-            Err(BAD_ARGUMENTS)
-        }
     }
 }
 
@@ -263,7 +124,7 @@ pub fn command<S: AsStr, R: LiveSource<W>, W: LiveSink, F: Sink>(
         Err(status) => return status,
     };
     let Asked::Stream(options) = asked else {
-        let _ = NothingAsked::OtherWords.write(faults);
+        let _ = write_text(faults, b"error: these words ask for nothing here\n");
         return BAD_ARGUMENTS;
     };
     if options.file != STANDARD_INPUT {

@@ -6,9 +6,9 @@ ghost use Rattle.resp_print.specs.Written.{WritesText};
 ghost use Rattle.resp_value.specs.Devices.{Appends};
 ghost use Rattle.resp_value.specs.Rules.{rules_under};
 
-use crate::options::Options;
-use crate::tool_error::{MOST_VALUES, ToolError};
 use crate::watched::Watched;
+use resp_args::options::Options;
+use resp_args::tool_error::{MOST_VALUES, ToolError};
 use resp_print::text::{write_number, write_quoted, write_text};
 use resp_value::cause::Cause;
 use resp_value::device::{DeviceFault, MemorySink, Sink};

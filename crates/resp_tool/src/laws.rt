@@ -1,35 +1,8 @@
-//! Facts about the text of events and about command lines. Each function has an empty body; its
-//! contract states the fact.
+//! A fact about the text of events. The function has an empty body; its contract states the fact.
 
-ghost use Rattle.std.specs.Prelude.{false, true, codes};
-ghost use Rattle.resp_tool.specs.Commands.{AreOptions, AreWordsForHelp, AreWrongWords, AskForNoStream, AskForThese, AskToPlay, default_limits, depth_twice, explained_loop, help_of_show, no_task, served, show_alone, too_deep};
 ghost use Rattle.resp_tool.specs.Laws.{EventsAreShownAsTheirValue};
-
-use crate::options::Task;
-use resp_value::version::Version;
 
 /// The text of a value's events, which `show` writes as they arrive, is the text of the value.
 pub fn events_are_shown_as_their_value()
     ensures { EventsAreShownAsTheirValue }
-{}
-
-/// `resp show` has the default options.
-pub fn show_alone_asks_for_the_defaults()
-    ensures { AskForThese show_alone (AreOptions Task.Show Version.Two default_limits 4096
-        (codes "-") false) }
-{}
-
-/// `resp loop --explain` plays a script and explains a bad line.
-pub fn loop_asks_to_play()
-    ensures { AskToPlay explained_loop true }
-{}
-
-/// Wrong words, or the words of `serve`, do not ask for a stream or a script, and `--help` asks for
-/// help.
-pub fn other_words_ask_for_no_options()
-    ensures too_deep { AreWrongWords too_deep }
-    ensures depth_twice { AreWrongWords depth_twice }
-    ensures no_task { AreWrongWords no_task }
-    ensures served { AskForNoStream served }
-    ensures help { AreWordsForHelp help_of_show }
 {}

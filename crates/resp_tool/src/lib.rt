@@ -6,7 +6,6 @@
 //! [`LiveSink`](resp_print::live::LiveSink). [`command_line::command`] runs a command line.
 #![tactic(auto)]
 
-pub mod asked;
 pub mod canon;
 mod canonical_front;
 pub mod check;
@@ -15,15 +14,10 @@ mod draft;
 pub mod explain;
 pub mod laws;
 mod lines;
-pub mod options;
-mod parser;
 mod printer;
 mod rendering;
-pub mod serving;
 mod short_line;
 pub mod show;
 mod starts;
 mod stream;
-pub mod tapping;
-pub mod tool_error;
 pub mod watched;

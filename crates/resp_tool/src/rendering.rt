@@ -7,7 +7,7 @@ ghost use Rattle.resp_print.specs.Live.{flush_fails};
 ghost use Rattle.resp_value.specs.Devices.{Appends, failures_after};
 ghost use Rattle.resp_value.specs.Rules.{Rules};
 
-use crate::tool_error::ToolError;
+use resp_args::tool_error::ToolError;
 use resp_print::live::LiveSink;
 use resp_scan::event::Fault;
 use resp_value::device::{DeviceFault, Sink};

@@ -13,7 +13,7 @@ use crate::lines::Lines;
 use crate::printer::print_piece;
 use crate::rendering::{Rendering, Stop, Taken};
 use crate::stream::{MOST_READS, render_stream};
-use crate::tool_error::ToolError;
+use resp_args::tool_error::ToolError;
 use resp_print::live::{LiveSink, LiveSource};
 use resp_scan::event::ScanError;
 use resp_scan::scanner::Scanner;

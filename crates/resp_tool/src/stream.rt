@@ -6,7 +6,7 @@ ghost use Rattle.resp_tool.specs.Streams.{AreRead, AtEnd, HasRendered, IsBeforeE
 ghost use Rattle.resp_value.specs.Devices.{failures_after};
 
 use crate::rendering::Rendering;
-use crate::tool_error::{MOST_VALUES, ToolError};
+use resp_args::tool_error::{MOST_VALUES, ToolError};
 use resp_print::live::{LiveSink, LiveSource};
 use resp_value::device::{DeviceFault, Sink};
 use resp_value::laws;

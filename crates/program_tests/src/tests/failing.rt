@@ -2,8 +2,8 @@
 
 use super::check_equal;
 use super::streams::{STREAM, run};
-use resp_tool::options::Task;
-use resp_tool::tool_error::ToolError;
+use resp_args::options::Task;
+use resp_args::tool_error::ToolError;
 use resp_value::device::{MemorySink, MemorySource};
 use resp_value::version::Version;
 use std::process::Abort;

@@ -1,12 +1,12 @@
 //! Live streams: the bytes that were written before each read.
 
 use super::check_equal;
+use resp_args::options::Task;
+use resp_args::tool_error::ToolError;
 use resp_print::live::{Gathering, LiveSource};
 use resp_tool::canon::canon;
 use resp_tool::check::check;
-use resp_tool::options::Task;
 use resp_tool::show::show;
-use resp_tool::tool_error::ToolError;
 use resp_value::device::{DeviceFault, MemorySink, MemorySource, Source};
 use resp_value::limits::Limits;
 use resp_value::version::Version;

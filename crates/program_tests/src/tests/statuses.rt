@@ -1,8 +1,8 @@
 //! The lines and statuses of faults.
 
 use super::check_equal;
+use resp_args::tool_error::ToolError;
 use resp_tool::command_line::command;
-use resp_tool::tool_error::ToolError;
 use resp_value::device::{MemorySink, MemorySource};
 use std::process::Abort;
 

@@ -1,11 +1,11 @@
 //! Streams that are read in pieces of several sizes, from readers that return few bytes.
 
 use super::check_equal;
+use resp_args::options::Task;
+use resp_args::tool_error::ToolError;
 use resp_tool::canon::canon;
 use resp_tool::check::check;
-use resp_tool::options::Task;
 use resp_tool::show::show;
-use resp_tool::tool_error::ToolError;
 use resp_value::cause::Cause;
 use resp_value::device::{MemorySink, MemorySource};
 use resp_value::limits::Limits;

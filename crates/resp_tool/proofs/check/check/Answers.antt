@@ -2,7 +2,7 @@ use Rattle.std.proofs.Common.{◌≡◌, [], Err, refl, ap, subst}
 use Rattle.resp_value.specs.Rules.{rules_under}
 use Rattle.resp_tool.specs.Counts.{IsAny, LeavesNothing, no_text}
 use Rattle.resp_tool.specs.Streams.{RendersStopped}
-use Rattle.resp_tool.specs.declared.tool_error.ToolError.TheVariants.{Write}
+use Rattle.resp_args.specs.declared.tool_error.ToolError.TheVariants.{Write}
 use Rattle.resp_tool.proofs.Counted.{counts_all, counts_part, counts_stopped}
 use Rattle.resp_tool.proofs.Scanned.{scanned_nothing}
 use Rattle.resp_tool.proofs.check.check.Goals as goal

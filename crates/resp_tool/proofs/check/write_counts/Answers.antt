@@ -1,6 +1,6 @@
 use Rattle.std.proofs.Common.{decimal}
 use Rattle.resp_print.proofs.WrittenLemmas.{writes_next, writes_part}
-use Rattle.resp_tool.proofs.Tried.{counts_parts}
+use Rattle.resp_args.proofs.Tried.{counts_parts}
 use Rattle.resp_tool.proofs.check.write_counts.Goals as goal
 
 pub returns-in_err-write_number : goal.returns-in_err-write_number

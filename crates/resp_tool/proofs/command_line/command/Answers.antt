@@ -1,5 +1,5 @@
 use Rattle.std.proofs.Common.{◌∙◌, arith, inl, inr, map, refl, sym}
-use Rattle.resp_tool.proofs.AskingLemmas.{does_nothing, runs_no_explanation, runs_no_file, runs_no_stream}
+use Rattle.resp_tool.proofs.RunWords.{does_nothing, runs_no_explanation, runs_no_file, runs_no_stream}
 use Rattle.resp_tool.proofs.SameBytes.{same_bytes}
 use Rattle.resp_tool.proofs.command_line.command.Goals as goal
 

@@ -1,7 +1,7 @@
 use Rattle.std.proofs.Common.{◌≡◌, ◌+◌, ◌≤◌, ◌++◌, ℕ, List, [], Ok, Err, length, take, vec_len, refl, sym, ap, subst, ◌∙◌, arith, length-append}
 use Rattle.std.proofs.lemmas.List.{length-take-le}
 use Rattle.resp_tool.specs.Streams.{HasRendered, RendersStopped, RendersStream, UsesReader}
-use Rattle.resp_tool.specs.declared.tool_error.ToolError.TheVariants.{Memory}
+use Rattle.resp_args.specs.declared.tool_error.ToolError.TheVariants.{Memory}
 use Rattle.resp_tool.specs.declared.stream.TheConstants.{MOST_READS}
 use Rattle.resp_tool.proofs.LiveLemmas.{flushed, live_on, none_recorded}
 use Rattle.resp_tool.proofs.Outcomes.{is_that_error}

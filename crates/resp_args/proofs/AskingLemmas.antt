@@ -1,0 +1,188 @@
+-- What the words give an option, from what the matches read of it.
+use Rattle.std.proofs.Common.{subst, ◌≤◌, ◌&&◌, zero, suc, arith, inl, inr, ◌⊎◌, ◌≢◌, ◌∙◌, ◌≡◌, ℕ, ap, Bool, true, false, List, [], ◌∷◌, map, refl, sym, Option, Some, None, Result, Ok, Err, IfOk, IfSome, IfNone, codes}
+use Rattle.std.specs.Str.Parse.{ParsesBool, ParsesUnsigned}
+use Rattle.clap.specs.Words.{App, FailsBy, HasKind, HasMatchesOf, IsAmong, kind_of, ReadsOne, Row, Text, fault_of, is_simple, is_simple_and_free, one_text, rows_of, subcommand_of, subcommand_rows_of}
+use Rattle.clap.specs.declared.error.Error.{Error}
+use Rattle.clap.specs.declared.error.kind.ErrorKind.{ErrorKind}
+use Rattle.clap.specs.declared.error.kind.ErrorKind.TheVariants.{DisplayHelp, DisplayVersion, OutOfMemory}
+use Rattle.clap.specs.declared.builder.value_parser.ValueParser.{ValueParser}
+use Rattle.clap.specs.declared.parser.matches.ArgMatches.{ArgMatches}
+use Rattle.clap.specs.declared.parser.matches.Found.{Found}
+use Rattle.clap.proofs.OnLiterals.{clap_on_literals}
+use Rattle.clap.proofs.WalkLemmas.{one_text-rows}
+use Rattle.resp_args.specs.CommandWords.{AnswersStatus, AreWrong, AskFor, Enters, FindsWords, HasFlag, HasNumber, HasTapping, IsAsked, flag_text, task_word}
+use Rattle.std.specs.Str.{bytes_eq}
+use Rattle.std.specs.Prelude.{not, unwrap_or, if◌then◌else◌}
+use Rattle.resp_args.specs.Program.{IsProgram, resp_app}
+use Rattle.resp_args.proofs.CommandLemmas.{names_take_versions}
+use Rattle.std.specs.Borrow.{Bor}
+use Rattle.clap.specs.declared.builder.value_parser.ValueParser.TheVariants as vp
+use Rattle.resp_args.specs.declared.asked.Asked.{Asked}
+use Rattle.resp_args.specs.declared.asked.Asked.TheVariants.{Stream, Play, Serve, Tap}
+use Rattle.resp_args.specs.declared.options.Options.{Options}
+use Rattle.resp_args.specs.declared.options.Task.{Task}
+use Rattle.resp_args.specs.declared.options.Task.TheVariants.{Show, Check, Canon}
+use Rattle.resp_args.specs.declared.tapping.Tapping.{Tapping}
+
+none≢some : {X : Type 0} (x : X) → Some x ≡ None → ⊥
+none≢some x e = cc
+
+module _ {E : Type 0} (f : Found) (name : Text) where
+  -- a number that was read is the option's, and where none was read the option has none
+  pub number_read : (G : List ℕ → Result ℕ E → Type 0) (r : Option ℕ) → ((t : Text) (x : Result ℕ E) → G t x → ParsesUnsigned 64 10 t x) →
+      (one_text f name ≡ None → r ≡ None) → ((t : Text) → one_text f name ≡ Some t → ReadsOne G t r) →
+      IfSome r (HasNumber (rows_of f) name)
+  number_read G None parses none value = tt
+  number_read G (Some v) parses none value = go (one_text f name) refl
+    where
+      go : (o : Option Text) → one_text f name ≡ o → HasNumber (rows_of f) name v
+      go None e = absurd (none≢some v (none e))
+      go (Some t) e =
+          let p = parses t (Ok v) (value t e) in
+          (t, sym (one_text-rows f name) ∙ e, p.0.0, sym p.1, rw p.1 p.0.1)
+
+  pub no_number_read : (G : List ℕ → Result ℕ E → Type 0) (r : Option ℕ) → ((t : Text) (x : Result ℕ E) → G t x → ParsesUnsigned 64 10 t x) →
+      ((t : Text) → one_text f name ≡ Some t → ReadsOne G t r) →
+      IfNone r ((n : ℕ) → HasNumber (rows_of f) name n → ⊥)
+  no_number_read G (Some v) parses value = tt
+  no_number_read G None parses value = λ n has.
+      let got = value has.0 (one_text-rows f name ∙ has.1) in
+      parses has.0 (Err got.0) got.1 (has.2, rw has.3 has.4)
+
+-- and so of a flag
+module _ (E : Type 0) (f : Found) (name : Text) where
+  pub flag_read : (r : Option Bool) → (one_text f name ≡ None → r ≡ None) →
+      ((t : Text) → one_text f name ≡ Some t → ReadsOne (ParsesBool {E = E}) t r) → IfSome r (HasFlag (rows_of f) name)
+  flag_read None none value = tt
+  flag_read (Some on) none value = go (one_text f name) refl on none value
+    where
+      go : (o : Option Text) → one_text f name ≡ o → (b : Bool) → (one_text f name ≡ None → Some b ≡ None) →
+          ((t : Text) → one_text f name ≡ Some t → ParsesBool {E = E} t (Ok b)) → HasFlag (rows_of f) name b
+      go None e b none value = absurd (none≢some b (none e))
+      go (Some t) e true none value = sym (one_text-rows f name) ∙ e ∙ ap (λ (w : Text). Some w) (value t e)
+      go (Some t) e false none value = sym (one_text-rows f name) ∙ e ∙ ap (λ (w : Text). Some w) (value t e)
+
+  pub no_flag_read : (r : Option Bool) → ((t : Text) → one_text f name ≡ Some t → ReadsOne (ParsesBool {E = E}) t r) →
+      IfNone r ((on : Bool) → HasFlag (rows_of f) name on → ⊥)
+  no_flag_read (Some b) value = tt
+  no_flag_read None value = go
+    where
+      go : (on : Bool) → HasFlag (rows_of f) name on → ⊥
+      go true has = (value (codes "true") (one_text-rows f name ∙ has)).1.0 refl
+      go false has = (value (codes "false") (one_text-rows f name ∙ has)).1.1 refl
+
+pub if_none : {X : Type 0} (r : Option X) (P : Type 0) → P → IfNone r P
+if_none (Some x) P p = tt
+if_none None P p = p
+
+-- the program is one of which the matches are known
+program_is_free : (versions : ValueParser) → is_simple_and_free (resp_app versions) ≡ true
+unfolding clap_on_literals
+program_is_free versions = refl
+
+first_true : (a b : Bool) → (a && b) ≡ true → a ≡ true
+first_true true b e = refl
+first_true false b e = e
+
+program_is_simple : (versions : ValueParser) → is_simple (resp_app versions) ≡ true
+program_is_simple versions = first_true (is_simple (resp_app versions)) _ (program_is_free versions)
+
+-- what the parser finds is what the program's definition says
+pub found_by_program : (versions : ValueParser) (app : App) (words : List Text) (found : Result ArgMatches Error) → app ≡ resp_app versions →
+    (is_simple_and_free app ≡ true → FailsBy (fault_of app words) found) → IfOk found (HasMatchesOf app words) →
+    FindsWords (resp_app versions) words found
+found_by_program versions app words (Ok m) is fails matches =
+    let known = rw is at matches in
+    let taken = rw is at fails in
+    (taken (program_is_free versions), (known (program_is_simple versions)).1)
+found_by_program versions app words (Err e) is fails matches =
+    let taken = rw is at fails in
+    taken (program_is_free versions)
+
+-- what was entered is what the words ask for
+module _ (program : App) (words : List Text) (found : Result ArgMatches Error) (m : ArgMatches) (finds : FindsWords program words found)
+    (is : found ≡ Ok m) where
+  pub asks_if_entered : (asked : Asked) → Enters (subcommand_rows_of m) asked → AskFor program words asked
+  asks_if_entered asked enters =
+      let all = rw is at finds in
+      (all.0, subst (λ (entered : Option (Text × List Row)). Enters entered asked) all.1 enters)
+
+  entered_if_asks : (asked : Asked) → AskFor program words asked → Enters (subcommand_rows_of m) asked
+  entered_if_asks asked asks =
+      let all = rw is at finds in
+      subst (λ (entered : Option (Text × List Row)). Enters entered asked) (sym all.1) asks.1
+
+  -- and words that enter nothing are wrong
+  pub asked_for_nothing : ((asked : Asked) → Enters (subcommand_rows_of m) asked → ⊥) → AnswersStatus AskFor program words (Err 2)
+  asked_for_nothing none =
+      (λ two. absurd (omega arith), λ two. inr ((rw is at finds).0, λ asked asks. none asked (entered_if_asks asked asks)))
+
+-- ---- subcommands
+
+-- whether it is that of a task, or which of the others, by its name and by what it is asked for
+abbrev sort_of_word : Text → ℕ
+sort_of_word word = if bytes_eq word (codes "loop") then 1 else if bytes_eq word (codes "serve") then 2 else
+    if bytes_eq word (codes "tap") then 3 else 0
+
+abbrev pub sort_of : Asked → ℕ
+sort_of (Stream options) = 0
+sort_of (Play explains) = 1
+sort_of (Serve serving) = 2
+sort_of (Tap tapping) = 3
+
+sort_of_task : (task : Task) → sort_of_word (task_word task) ≡ 0
+sort_of_task Show = refl
+sort_of_task Check = refl
+sort_of_task Canon = refl
+
+sort_by_word : (name : Text) (given : List Row) (asked : Asked) → IsAsked name given asked → sort_of_word name ≡ sort_of asked
+sort_by_word name given (Stream options) is = ap sort_of_word is.0 ∙ sort_of_task options.task
+sort_by_word name given (Play explains) is = ap sort_of_word is.0
+sort_by_word name given (Serve serving) is = ap sort_of_word is.0
+sort_by_word name given (Tap tapping) is = ap sort_of_word is.0
+
+-- where `tap` can't be asked for what is tapped it can't be asked for anything
+pub no_tapping : (given : List Row) → ((tapping : Tapping) → HasTapping given tapping → ⊥) → (asked : Asked) →
+    IsAsked (codes "tap") given asked → ⊥
+no_tapping given none asked is = go asked is (sort_by_word (codes "tap") given asked is)
+  where
+    go : (asked : Asked) → IsAsked (codes "tap") given asked → 3 ≡ sort_of asked → ⊥
+    go (Tap tapping) is sort = none tapping is.1
+    go other is sort = omega arith
+
+-- what was entered is of one sort
+pub one_sort : (entered : Option (Text × List Row)) (a b : Asked) → Enters entered a → Enters entered b → sort_of a ≡ sort_of b
+one_sort None a b enters enters' = absurd enters
+one_sort (Some entered) a b enters enters' = sym (sort_by_word _ _ a enters) ∙ sort_by_word _ _ b enters'
+
+-- it is the program's definition, where `--proto` takes the two names
+pub is_program : (names : Bor (List (Bor Text))) (words : List Text) (found : Result ArgMatches Error) →
+    FindsWords (resp_app (vp.Names names)) words found → map (λ s. s.now) names.now ≡ codes "2" ∷ codes "3" ∷ [] →
+    (program : App) × IsProgram program × FindsWords program words found
+is_program names words found finds are =
+    (resp_app (vp.Names names), (vp.Names names, names_take_versions names are, refl), finds)
+
+-- ---- statuses
+
+among : (k k' : ErrorKind) (kinds : List ErrorKind) → k ≡ k' → IsAmong k kinds → IsAmong k' kinds
+among k k' kinds is h = rw is at h
+
+-- the status of what the parser refuses or helps with
+pub refused_by_program : {X : Type 0} (Ask : App → List Text → X → Type 0) (program : App) (words : List Text) (error : Error) (status : ℕ) →
+    HasKind (fault_of program words) error → (status ≡ 0 → (kind_of error ≡ DisplayHelp) ⊎ (kind_of error ≡ DisplayVersion)) →
+    (status ≡ 2 → (kind_of error ≢ OutOfMemory) × (kind_of error ≢ DisplayHelp) × (kind_of error ≢ DisplayVersion)) →
+    AnswersStatus Ask program words (Err status)
+refused_by_program Ask program words error status (inl memory) helps refuses = (
+  λ none. elim (helps none) [
+    | inl help ↦ let bad : OutOfMemory ≡ DisplayHelp = sym memory ∙ help in cc
+    | inr version ↦ let bad : OutOfMemory ≡ DisplayVersion = sym memory ∙ version in cc
+  ],
+  λ two. absurd ((refuses two).0 memory),
+)
+refused_by_program Ask program words error status (inr kind) helps refuses = (
+  λ none. elim (helps none) [
+    | inl help ↦ inl (among _ _ _ help kind)
+    | inr version ↦ inr (among _ _ _ version kind)
+  ],
+  λ two. inl (kind_of error, kind, (refuses two).1, (refuses two).2),
+)

@@ -1,0 +1,4 @@
+pub mod Tried
+pub mod CommandLemmas
+pub mod AskingLemmas
+pub mod CommandExamples

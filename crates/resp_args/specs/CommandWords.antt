@@ -1,0 +1,150 @@
+-- The meaning of the words of a command line.
+use Rattle.std.specs.Prelude.{◌≡◌, ◌≢◌, ◌⊎◌, ◌≤◌, ◌<◌, ◌^◌, ℕ, Bool, false, true, not, if◌then◌else◌, codes}
+use Rattle.std.specs.Prelude.{List, [], Option, Some, None, Result, Ok, Err}
+use Rattle.std.specs.Net.Grammar.{IsSocketText}
+use Rattle.std.specs.Str.Parse.{IsNumeral, digits_value, without_leading_plus}
+use Rattle.clap.specs.Words.{App, HasKind, IsAmong, Row, Text, fault_of, first_of, one_of, subcommand_of}
+use Rattle.clap.specs.Words.{subcommand_rows_of}
+use Rattle.clap.specs.declared.error.Error.{Error}
+use Rattle.clap.specs.declared.error.kind.ErrorKind.{ErrorKind}
+use Rattle.clap.specs.declared.error.kind.ErrorKind.TheVariants.{DisplayHelp, DisplayVersion}
+use Rattle.clap.specs.declared.parser.matches.ArgMatches.{ArgMatches}
+use Rattle.resp_value.specs.Bounds.{AreBounds, Bounds}
+use Rattle.resp_value.specs.declared.version.Version.{Version}
+use Rattle.resp_value.specs.declared.version.Version.TheVariants.{Two, Three}
+use Rattle.resp_args.specs.declared.asked.Asked.{Asked}
+use Rattle.resp_args.specs.declared.asked.Asked.TheVariants.{Stream, Play, Serve, Tap}
+use Rattle.resp_args.specs.declared.options.Options.{Options}
+use Rattle.resp_args.specs.declared.options.Task.{Task}
+use Rattle.resp_args.specs.declared.options.Task.TheVariants.{Show, Check, Canon}
+use Rattle.resp_args.specs.declared.serving.Serving.{Serving}
+use Rattle.resp_args.specs.declared.tapping.Tapping.{Tapping}
+
+-- ---- one option, by the texts that the words or the defaults give for the options of a subcommand
+
+-- the option is this number, which fits into 64 bits
+abbrev pub HasNumber : List Row → Text → ℕ → Type 0
+HasNumber given name number = (text : Text) × (one_of name given ≡ Some text) ×
+    IsNumeral 10 (without_leading_plus text) × (digits_value 10 (without_leading_plus text) ≡ number)
+    × (number < 2 ^ 64)
+
+-- the option is this number, which is from 1 to 65,536
+abbrev pub HasSmallNumber : List Row → Text → ℕ → Type 0
+HasSmallNumber given name number = HasNumber given name number × (1 ≤ number) × (number ≤ 65536)
+
+abbrev pub flag_text : Bool → Text
+flag_text on = if on then codes "true" else codes "false"
+
+-- the option is given, or is not given
+abbrev pub HasFlag : List Row → Text → Bool → Type 0
+HasFlag given name on = one_of name given ≡ Some (flag_text on)
+
+abbrev pub version_word : Version → Text
+version_word Two = codes "2"
+version_word Three = codes "3"
+
+-- `--proto` is this version
+abbrev pub HasProto : List Row → Version → Type 0
+HasProto given version = first_of (codes "proto") given ≡ Some (version_word version)
+
+-- ---- all options of a subcommand
+
+pub record HasLimits (given : List Row) (limits : Bounds) : Type 0 where
+  pub depth : HasNumber given (codes "depth") limits.depth
+  pub length : HasNumber given (codes "length") limits.length
+  pub total : HasNumber given (codes "total") limits.total
+  pub items : HasNumber given (codes "items") limits.items
+  pub streamed : HasFlag given (codes "no-streamed") (not limits.streamed)
+  pub in_range : AreBounds limits
+
+-- the options of `show`, `check` and `canon`
+pub record HasOptions (given : List Row) (options : Options) : Type 0 where
+  pub version : HasProto given options.version
+  pub limits : HasLimits given options.limits
+  pub doubles : HasFlag given (codes "doubles") options.limits.doubles
+  pub piece : HasSmallNumber given (codes "piece") options.piece
+  pub file : first_of (codes "file") given ≡ Some options.file.now
+  pub explains : HasFlag given (codes "explain") options.explains
+
+-- the options of `serve`, with the text of its address
+pub record HasServeWords (given : List Row) (address : Text) (limits : Bounds) (clients : ℕ) : Type 0 where
+  pub in_limits : HasLimits given limits
+  pub no_doubles : limits.doubles ≡ false
+  pub at_once : HasSmallNumber given (codes "clients") clients
+  pub text : first_of (codes "address") given ≡ Some address
+
+-- the options of `serve`, with its address
+abbrev pub HasServing : List Row → Serving → Type 0
+HasServing given serving = HasServeWords given serving.address_text.now serving.limits serving.clients ×
+    IsSocketText serving.address_text.now serving.address
+
+-- the options of `tap`, with the texts of its addresses
+pub record HasTapWords (given : List Row) (address server : Text) (limits : Bounds) (clients : ℕ) (tells_time : Bool) :
+    Type 0 where
+  pub in_limits : HasLimits given limits
+  pub with_doubles : limits.doubles ≡ true
+  pub at_once : HasSmallNumber given (codes "clients") clients
+  pub tells : HasFlag given (codes "time") tells_time
+  pub listen_text : first_of (codes "listen") given ≡ Some address
+  pub server_text : first_of (codes "server") given ≡ Some server
+
+-- the options of `tap`, with its addresses
+abbrev pub HasTapping : List Row → Tapping → Type 0
+HasTapping given tapping = (server_text : Text) ×
+    HasTapWords given tapping.address_text.now server_text tapping.limits tapping.clients tapping.tells_time ×
+    IsSocketText tapping.address_text.now tapping.address × IsSocketText server_text tapping.server
+
+abbrev pub task_word : Task → Text
+task_word Show = codes "show"
+task_word Check = codes "check"
+task_word Canon = codes "canon"
+
+-- ---- all words, of which the first is the name of the program
+
+-- the subcommand with this name asks for this with these options
+abbrev pub IsAsked : Text → List Row → Asked → Type 0
+IsAsked name given (Stream options) = (name ≡ task_word options.task) × HasOptions given options
+IsAsked name given (Play explains) = (name ≡ codes "loop") × HasFlag given (codes "explain") explains
+IsAsked name given (Serve serving) = (name ≡ codes "serve") × HasServing given serving
+IsAsked name given (Tap tapping) = (name ≡ codes "tap") × HasTapping given tapping
+
+-- the subcommand that was given asks for this
+abbrev pub Enters : Option (Text × List Row) → Asked → Type 0
+Enters None asked = ⊥
+Enters (Some entered) asked = IsAsked entered.0 entered.1 asked
+
+-- the program accepts the words, and they ask for this
+abbrev pub AskFor : App → List Text → Asked → Type 0
+AskFor program words asked = (fault_of program words ≡ []) × Enters (subcommand_of program words) asked
+
+-- the size of a read, or the most clients at once, is from 1 to 65,536
+abbrev pub IsInRange : Asked → Type 0
+IsInRange (Stream options) = (1 ≤ options.piece) × (options.piece ≤ 65536)
+IsInRange (Play explains) = Unit {0}
+IsInRange (Serve serving) = (1 ≤ serving.clients) × (serving.clients ≤ 65536)
+IsInRange (Tap tapping) = (1 ≤ tapping.clients) × (tapping.clients ≤ 65536)
+
+-- the words ask for help, or for the version of the program
+abbrev pub AskForHelp : App → List Text → Type 0
+AskForHelp program words =
+    IsAmong DisplayHelp (fault_of program words) ⊎ IsAmong DisplayVersion (fault_of program words)
+
+-- the program rejects the words, or it accepts them and they ask for nothing of this sort
+abbrev pub AreWrong : {X : Type 0} → (App → List Text → X → Type 0) → App → List Text → Type 0
+AreWrong {X} Ask program words =
+    ((kind : ErrorKind) × IsAmong kind (fault_of program words) × (kind ≢ DisplayHelp) × (kind ≢ DisplayVersion))
+    ⊎ ((fault_of program words ≡ []) × ((x : X) → Ask program words x → ⊥))
+
+-- ---- results
+
+-- the program accepts the words with these options of its subcommand, or it rejects them
+abbrev pub FindsWords : App → List Text → Result ArgMatches Error → Type 0
+FindsWords program words (Ok found) =
+    (fault_of program words ≡ []) × (subcommand_rows_of found ≡ subcommand_of program words)
+FindsWords program words (Err error) = HasKind (fault_of program words) error
+
+-- what the words ask for, or a status: 0 if they ask for help, and 2 if they are wrong
+abbrev pub AnswersStatus : {X : Type 0} → (App → List Text → X → Type 0) → App → List Text → Result X ℕ → Type 0
+AnswersStatus Ask program words (Ok x) = Ask program words x
+AnswersStatus Ask program words (Err status) =
+    (status ≡ 0 → AskForHelp program words) × (status ≡ 2 → AreWrong Ask program words)

@@ -1,0 +1,36 @@
+-- The line and the exit status for each error.
+use Rattle.std.specs.Prelude.{◌≡◌, ◌⊎◌, ◌≤◌, ℕ, List, ◌++◌, Option, codes, decimal}
+use Rattle.resp_value.specs.Causes.{name_of}
+use Rattle.resp_args.specs.Tried.{TriesText, refusal_line}
+use Rattle.resp_args.specs.declared.tool_error.ToolError.{ToolError}
+use Rattle.resp_args.specs.declared.tool_error.ToolError.TheVariants.{Refused, OverLimits, TooManyValues, Read, Write, TooManyTurns, Memory}
+
+-- the line for standard error
+abbrev pub fault_line : ToolError → List ℕ
+fault_line (Refused value cause at) = refusal_line value (name_of cause) at
+fault_line (OverLimits value) = codes "value " ++ decimal value ++ codes ": OverLimits\n"
+fault_line TooManyValues = codes "value 1000000001: TooManyValues at byte 0\n"
+fault_line Read = codes "read failed\n"
+fault_line Write = codes "write failed\n"
+fault_line TooManyTurns = codes "too many turns\n"
+fault_line Memory = codes "out of memory\n"
+
+-- 1 for an error in the input, and 3 if a device or an allocation failed
+abbrev pub status_of : ToolError → ℕ
+status_of (Refused value cause at) = 1
+status_of (OverLimits value) = 1
+status_of TooManyValues = 1
+status_of _ = 3
+
+-- the line for a file that can't be opened, with the reason
+abbrev pub open_failed_line : List ℕ → List ℕ → List ℕ
+open_failed_line name why = codes "open failed: " ++ (name ++ (codes ": " ++ (why ++ codes "\n")))
+
+-- the line of an error with exit status 3 was written, or one write of it failed
+abbrev pub TellsFailure : Option (List ℕ) → Option (List ℕ) → ℕ → ℕ → Type 0
+TellsFailure said said' failures failures' = (error : ToolError) × (status_of error ≡ 3) ×
+    TriesText said said' failures failures' (fault_line error)
+
+-- the status of words that ask for help, of wrong words, or after a failed device or allocation
+abbrev pub IsWordStatus : ℕ → Type 0
+IsWordStatus status = (status ≡ 0) ⊎ (2 ≤ status) × (status ≤ 3)

@@ -1,0 +1,141 @@
+//! The meaning of a command line: a subcommand with its options.
+
+ghost use Rattle.std.specs.Prelude.{IfOk, OnErr, codes};
+ghost use Rattle.clap.specs.Words.{found_of, rows_of, subcommand_rows_of};
+ghost use Rattle.resp_args.specs.CommandWords.{Enters, IsAsked, task_word};
+
+use crate::options::{Options, Task, flag_of, options_of};
+use crate::serving::{Serving, serving_of};
+use crate::tapping::{Tapping, tapping_of};
+use clap::ArgMatches;
+use resp_print::text::write_text;
+use resp_value::device::{DeviceFault, Sink};
+
+/// What a command line asks for.
+#[derive(Clone, Copy, Debug)]
+pub enum Asked<'a> {
+    /// Read a stream: `show`, `check` or `canon`.
+    Stream(Options<'a>),
+    /// Play a script: `loop`.
+    Play {
+        /// Whether a bad line is explained.
+        explains: bool,
+    },
+    /// Serve clients: `serve`.
+    Serve(Serving<'a>),
+    /// Forward connections: `tap`.
+    Tap(Tapping<'a>),
+}
+
+/// Why a command line asks for nothing that can be done.
+#[derive(Clone, Copy)]
+pub(crate) enum NothingAsked<'a> {
+    /// It asks for something that is not done here.
+    OtherWords,
+    /// The text is not an address.
+    BadAddress {
+        text: &'a str,
+        /// The name of the argument.
+        name: &'a str,
+    },
+}
+
+impl NothingAsked<'_> {
+    /// Writes the line for standard error.
+    pub(crate) fn write<F: Sink>(self, faults: &mut F) -> Result<(), DeviceFault> {
+        match self {
+            Self::OtherWords => write_text(faults, b"error: these words ask for nothing here\n"),
+            Self::BadAddress { text, name } => write_bad_address(text, name, faults),
+        }
+    }
+}
+
+/// Writes what is wrong with the address given for the argument `name`.
+fn write_bad_address<F: Sink>(text: &str, name: &str, faults: &mut F) -> Result<(), DeviceFault> {
+    write_text(faults, b"error: invalid value '")?;
+    write_text(faults, text.as_bytes())?;
+    write_text(faults, b"' for '<")?;
+    write_text(faults, name.as_bytes())?;
+    write_text(
+        faults,
+        b">': an IP address and a port are wanted, as 127.0.0.1:6380\n\n",
+    )?;
+    write_text(faults, b"For more information, try '--help'.\n")
+}
+
+/// Returns what the words ask for, or why they ask for nothing.
+pub(crate) fn asked_of<'a>(matches: &ArgMatches<'a>) -> Result<Asked<'a>, NothingAsked<'a>>
+    ensures ok { IfOk result (Enters (subcommand_rows_of matches.now)) }
+    ensures err { OnErr result ((asked : Asked)
+        → Enters (subcommand_rows_of matches.now) asked → ⊥) }
+{
+    match matches.subcommand() {
+        Some((name, given)) => asked_by(name, given),
+        None => Err(NothingAsked::OtherWords),
+    }
+}
+
+/// Returns what a subcommand with these options asks for.
+fn asked_by<'a>(name: &str, given: &ArgMatches<'a>) -> Result<Asked<'a>, NothingAsked<'a>>
+    ensures ok { IfOk result (IsAsked name.now (rows_of (found_of given.now))) }
+    ensures err { OnErr result ((asked : Asked)
+        → IsAsked name.now (rows_of (found_of given.now)) asked → ⊥) }
+{
+    match name {
+        "show" => stream_of(Task::Show, given),
+        "check" => stream_of(Task::Check, given),
+        "canon" => stream_of(Task::Canon, given),
+        "loop" => play_of(given),
+        "serve" => serve_of(given),
+        "tap" => tap_of(given),
+        _ => Err(NothingAsked::OtherWords),
+    }
+}
+
+/// Returns what `show`, `check` or `canon` with these options asks for.
+fn stream_of<'a>(task: Task, given: &ArgMatches<'a>) -> Result<Asked<'a>, NothingAsked<'a>>
+    ensures ok { IfOk result (IsAsked (task_word task) (rows_of (found_of given.now))) }
+    ensures err { OnErr result ((asked : Asked)
+        → IsAsked (task_word task) (rows_of (found_of given.now)) asked → ⊥) }
+{
+    match options_of(task, given) {
+        Some(options) => Ok(Asked::Stream(options)),
+        None => Err(NothingAsked::OtherWords),
+    }
+}
+
+/// Returns what `loop` with these options asks for.
+fn play_of<'a>(given: &ArgMatches<'a>) -> Result<Asked<'a>, NothingAsked<'a>>
+    ensures ok { IfOk result (IsAsked (codes "loop") (rows_of (found_of given.now))) }
+    ensures err { OnErr result ((asked : Asked)
+        → IsAsked (codes "loop") (rows_of (found_of given.now)) asked → ⊥) }
+{
+    match flag_of(given, "explain") {
+        Some(explains) => Ok(Asked::Play { explains }),
+        None => Err(NothingAsked::OtherWords),
+    }
+}
+
+/// Returns what `serve` with these options asks for.
+fn serve_of<'a>(given: &ArgMatches<'a>) -> Result<Asked<'a>, NothingAsked<'a>>
+    ensures ok { IfOk result (IsAsked (codes "serve") (rows_of (found_of given.now))) }
+    ensures err { OnErr result ((asked : Asked)
+        → IsAsked (codes "serve") (rows_of (found_of given.now)) asked → ⊥) }
+{
+    match serving_of(given) {
+        Ok(serving) => Ok(Asked::Serve(serving)),
+        Err(nothing) => Err(nothing),
+    }
+}
+
+/// Returns what `tap` with these options asks for.
+fn tap_of<'a>(given: &ArgMatches<'a>) -> Result<Asked<'a>, NothingAsked<'a>>
+    ensures ok { IfOk result (IsAsked (codes "tap") (rows_of (found_of given.now))) }
+    ensures err { OnErr result ((asked : Asked)
+        → IsAsked (codes "tap") (rows_of (found_of given.now)) asked → ⊥) }
+{
+    match tapping_of(given) {
+        Ok(tapping) => Ok(Asked::Tap(tapping)),
+        Err(nothing) => Err(nothing),
+    }
+}

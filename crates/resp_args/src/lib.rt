@@ -1,0 +1,14 @@
+//! The command line of the program `resp`: what its words ask for, and the lines and exit statuses of
+//! its errors.
+//!
+//! [`words::read_words`] reads a command line and returns an [`asked::Asked`].
+#![tactic(auto)]
+
+pub mod asked;
+pub mod laws;
+pub mod options;
+mod parser;
+pub mod serving;
+pub mod tapping;
+pub mod tool_error;
+pub mod words;

@@ -1,0 +1,145 @@
+//! The options of the command line.
+
+ghost use Rattle.std.specs.Prelude.{◌≡◌, ℕ, Bool, false, IfNone, IfOk, IfSome, OnErr, option_map};
+ghost use Rattle.std.specs.Net.Grammar.{IsSocketText};
+ghost use Rattle.clap.specs.Words.{first_of, found_of, rows_of};
+ghost use Rattle.resp_args.specs.CommandWords.{HasFlag, HasLimits, HasNumber, HasOptions, HasProto, HasSmallNumber};
+ghost use Rattle.resp_value.specs.Bounds.{Bounds};
+
+use crate::asked::NothingAsked;
+use clap::ArgMatches;
+use resp_value::limits::Limits;
+use resp_value::version::Version;
+use std::net::SocketAddr;
+
+/// The file name that stands for standard input.
+pub const STANDARD_INPUT: &str = "-";
+
+/// What is done with the values of a stream.
+#[derive(Clone, Copy, Debug, PartialEq, Eq)]
+pub enum Task {
+    /// Write them as lines of text.
+    Show,
+    /// Count them.
+    Check,
+    /// Write their canonical texts.
+    Canon,
+}
+
+/// The options of `show`, `check` and `canon`.
+#[derive(Clone, Copy, Debug)]
+pub struct Options<'a> {
+    /// What to do with the values of the stream.
+    pub task: Task,
+    /// The version of the protocol.
+    pub version: Version,
+    /// The limits of a value.
+    pub limits: Limits,
+    /// The most bytes of one read, from 1 to 65,536.
+    pub piece: usize,
+    /// The name of the file to read, or [`STANDARD_INPUT`].
+    pub file: &'a str,
+    /// Whether an error in the input is explained.
+    pub explains: bool,
+}
+
+/// Returns the limits in the options; `None` if a number is outside its range.
+pub(crate) fn limits_of(matches: &ArgMatches<'_>) -> Option<Limits>
+    ensures some { IfSome result (HasLimits (rows_of (found_of matches.now))) }
+    ensures no_doubles { IfSome result (λ limits. limits.doubles ≡ false) }
+    ensures none { IfNone result ((limits : Bounds)
+        → HasLimits (rows_of (found_of matches.now)) limits → ⊥) }
+{
+    let depth = number_of(matches, "depth")?;
+    let length = number_of(matches, "length")?;
+    let total = number_of(matches, "total")?;
+    let items = number_of(matches, "items")?;
+    let no_streamed = flag_of(matches, "no-streamed")?;
+    let limits = Limits::new(depth, length, total).ok()?;
+    let limits = limits.with_items(items).ok()?;
+    Some(limits.with_streamed(!no_streamed))
+}
+
+/// Returns the number of an option.
+fn number_of(matches: &ArgMatches<'_>, name: &str) -> Option<u64>
+    ensures some { IfSome result (HasNumber (rows_of (found_of matches.now)) name.now) }
+    ensures none { IfNone result ((number : ℕ)
+        → HasNumber (rows_of (found_of matches.now)) name.now number → ⊥) }
+{
+    matches.get_one::<u64>(name)
+}
+
+/// Returns the number of an option from 1 to 65,536; `None` if it is outside that range.
+pub(crate) fn small_number_of(matches: &ArgMatches<'_>, name: &str) -> Option<usize>
+    ensures some { IfSome result (HasSmallNumber (rows_of (found_of matches.now)) name.now) }
+    ensures none { IfNone result ((number : ℕ)
+        → HasSmallNumber (rows_of (found_of matches.now)) name.now number → ⊥) }
+{
+    let number = number_of(matches, name)?;
+    if number < 1 || number > 65_536 {
+        return None;
+    }
+    Some(number as usize)
+}
+
+/// Returns whether an option is given.
+pub(crate) fn flag_of(matches: &ArgMatches<'_>, name: &str) -> Option<bool>
+    ensures some { IfSome result (HasFlag (rows_of (found_of matches.now)) name.now) }
+    ensures none { IfNone result ((on : Bool)
+        → HasFlag (rows_of (found_of matches.now)) name.now on → ⊥) }
+{
+    matches.get_one::<bool>(name)
+}
+
+/// Returns the text of an option.
+pub(crate) fn text_of<'a>(matches: &ArgMatches<'a>, name: &str) -> Option<&'a str>
+    ensures { option_map (λ text. text.now) result
+        ≡ first_of name.now (rows_of (found_of matches.now)) }
+{
+    matches.get_str(name)
+}
+
+/// Returns the address in a text, which was given for the argument `name`.
+pub(crate) fn address_of<'a>(text: &'a str, name: &'a str) -> Result<SocketAddr, NothingAsked<'a>>
+    ensures ok { IfOk result (IsSocketText text.now) }
+    ensures err { OnErr result ((address : SocketAddr) → IsSocketText text.now address → ⊥) }
+{
+    match text.parse::<SocketAddr>() {
+        Ok(address) => Ok(address),
+        Err(_) => Err(NothingAsked::BadAddress { text, name }),
+    }
+}
+
+/// Returns the version of `--proto`.
+fn version_of(matches: &ArgMatches<'_>) -> Option<Version>
+    ensures some { IfSome result (HasProto (rows_of (found_of matches.now))) }
+    ensures none { IfNone result ((version : Version)
+        → HasProto (rows_of (found_of matches.now)) version → ⊥) }
+{
+    match text_of(matches, "proto")? {
+        "2" => Some(Version::Two),
+        "3" => Some(Version::Three),
+        _ => None,
+    }
+}
+
+/// Returns the options of a subcommand; `None` if a number is outside its range, which the parser
+/// of the command line rejects before.
+pub(crate) fn options_of<'a>(task: Task, matches: &ArgMatches<'a>) -> Option<Options<'a>>
+    ensures task { IfSome result (λ options. options.task ≡ task) }
+    ensures some { IfSome result (HasOptions (rows_of (found_of matches.now))) }
+    ensures none { IfNone result ((options : Options)
+        → HasOptions (rows_of (found_of matches.now)) options → ⊥) }
+{
+    let version = version_of(matches)?;
+    let limits = limits_of(matches)?.with_doubles(flag_of(matches, "doubles")?);
+    let piece = small_number_of(matches, "piece")?;
+    Some(Options {
+        task,
+        version,
+        limits,
+        piece,
+        file: text_of(matches, "file")?,
+        explains: flag_of(matches, "explain")?,
+    })
+}

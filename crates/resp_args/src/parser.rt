@@ -1,0 +1,439 @@
+//! The parser of the command line: the subcommands of the program with their options and their
+//! help.
+
+ghost use Rattle.std.specs.Prelude.{◌≡◌, false, [], ◌∷◌, IfErr, IfOk, codes, map};
+ghost use Rattle.clap.specs.Words.{App, app_of, kind_of, new_app, rule_of};
+ghost use Rattle.clap.specs.declared.builder.value_parser.ValueParser.TheVariants as vp;
+ghost use Rattle.resp_args.specs.CommandWords.{FindsWords};
+ghost use Rattle.resp_args.specs.Program.{GainsOptions, IsProgram, IsTask, address_word, bare_app, file_word, flag_option, limit_options, numbers_between, resp_app, serve_options, stream_options, tap_options, value_option, with_options};
+
+use crate::options::STANDARD_INPUT;
+use clap::error::ErrorKind;
+use clap::{Arg, ArgAction, ArgMatches, Command};
+use std::alloc::Global;
+use std::convert::AsStr;
+
+/// The greatest limit of total and of items.
+const MOST_TOTAL: i64 = 1_099_511_627_776;
+
+/// The values of `--proto`.
+const VERSIONS: &[&str] = &["2", "3"];
+
+/// The end of the help of `resp`.
+const EXAMPLES: &str = r"Examples:
+  printf '*2\r\n:1\r\n+two\r\n' | resp show
+  resp check --proto 3 replies.resp
+  resp tap 127.0.0.1:6380 127.0.0.1:6379
+
+'resp help <COMMAND>' prints the options and the exit status of a command.";
+
+/// The end of the help of `show`, `check` and `canon`.
+const STREAM_HELP: &str = r"Examples:
+  printf '*2\r\n:1\r\n+two\r\n' | resp show
+  resp show --proto 3 --doubles --explain replies.resp
+  resp check replies.resp
+  resp canon --proto 3 <replies.resp >canonical.resp
+
+Exit status:
+  0  All input was read
+  1  The input contains an error
+  2  Usage error
+  3  The file can't be opened, a read or a write failed, or memory is out";
+
+/// The end of the help of `loop`.
+const LOOP_HELP: &str = r"The script is read from standard input.
+
+Examples:
+  printf 'clients 1\nsend 1 PING\nflush\n' | resp loop
+  resp loop --explain <script
+
+Exit status:
+  0  The script was played
+  1  A line of the script is wrong
+  2  Usage error
+  3  A connection, a read or a write failed, or memory is out";
+
+/// The end of the help of `serve`.
+const SERVE_HELP: &str = r"Examples:
+  resp serve 127.0.0.1:6380
+  resp serve --clients 100 --total 1048576 127.0.0.1:0
+
+The server runs until it is stopped. With port 0 the system chooses the port.
+
+Exit status:
+  2  Usage error
+  3  Listening, a read or a write failed, or memory is out";
+
+/// The end of the help of `tap`.
+const TAP_HELP: &str = r"Examples:
+  resp tap 127.0.0.1:6380 127.0.0.1:6379
+  resp tap --time 127.0.0.1:6380 127.0.0.1:6379 >traffic.txt
+
+Clients connect to LISTEN instead of SERVER. Everything is printed, including
+passwords. The program runs until it is stopped.
+
+Exit status:
+  2  Usage error
+  3  Listening or a write failed, or memory is out";
+
+/// An option with a number in a range.
+#[derive(Clone, Copy)]
+struct NumberOption {
+    name: &'static str,
+    help: &'static str,
+    least: i64,
+    most: i64,
+    default: &'static str,
+    hides_default: bool,
+}
+
+/// `--depth`: the limit of depth, in aggregates inside one another.
+const DEPTH: NumberOption = NumberOption {
+    name: "depth",
+    help: "Maximum nesting of aggregates, 4 to 128",
+    least: 4,
+    most: 128,
+    default: "32",
+    hides_default: false,
+};
+
+/// `--length`: the limit of length, in bytes.
+const LENGTH: NumberOption = NumberOption {
+    name: "length",
+    help: "Maximum bytes of a string or line,\n64 to 1073741824",
+    least: 64,
+    most: 1_073_741_824,
+    default: "536870912",
+    hides_default: false,
+};
+
+/// `--total`: the limit of total, in bytes.
+const TOTAL: NumberOption = NumberOption {
+    name: "total",
+    help: "Maximum bytes of a value,\n256 to 1099511627776",
+    least: 256,
+    most: MOST_TOTAL,
+    default: "1073741824",
+    hides_default: false,
+};
+
+/// `--items`: the limit of items, in members or pairs.
+const ITEMS: NumberOption = NumberOption {
+    name: "items",
+    help: "Maximum members or pairs of an aggregate,\n16 to 1099511627776 [default: no limit]",
+    least: 16,
+    most: MOST_TOTAL,
+    default: "1099511627776",
+    hides_default: true,
+};
+
+/// `--piece`: the most bytes of one read.
+const PIECE: NumberOption = NumberOption {
+    name: "piece",
+    help: "Maximum bytes of a read, 1 to 65536",
+    least: 1,
+    most: 65_536,
+    default: "4096",
+    hides_default: false,
+};
+
+/// `--clients`: the most clients at once.
+const CLIENTS: NumberOption = NumberOption {
+    name: "clients",
+    help: "Maximum clients at once, 1 to 65536",
+    least: 1,
+    most: 65_536,
+    default: "1000",
+    hides_default: false,
+};
+
+impl NumberOption {
+    /// Returns the option for the parser, which rejects a number outside the range.
+    fn option<'a>(self, alloc: Global) -> Arg<'a>
+        ensures rule { rule_of result ≡ value_option self.name.now
+            (numbers_between self.least self.most) self.default.now }
+        ensures here { result.global ≡ false }
+    {
+        Arg::new(alloc, self.name)
+            .long(self.name)
+            .value_name("N")
+            .help(self.help)
+            .value_parser(clap::value_parser!(u64).range(self.least..=self.most))
+            .default_value(self.default)
+            .hide_default_value(self.hides_default)
+    }
+}
+
+/// Parses the words of a command line.
+///
+/// # Errors
+///
+/// The error of clap: help, a usage error, or a failed allocation.
+pub(crate) fn matches_of<'a, S: AsStr>(
+    alloc: Global,
+    words: &'a [S],
+) -> Result<ArgMatches<'a>, clap::Error>
+    ensures finds { (program : App) × IsProgram program
+        × FindsWords program (map S.text words.entry.now) result }
+{
+    matches_among(alloc, VERSIONS, words)
+}
+
+/// Parses the words, if these are the versions of `--proto`.
+fn matches_among<'a, S: AsStr>(
+    alloc: Global,
+    versions: &'a [&'a str],
+    words: &'a [S],
+) -> Result<ArgMatches<'a>, clap::Error>
+    ensures { FindsWords (resp_app (vp.Names versions.entry)) (map S.text words.entry.now) result }
+{
+    program(alloc, versions)?.try_get_matches_from(words)
+}
+
+/// Returns the parser: the program with its subcommands and their options.
+fn program<'a>(alloc: Global, versions: &'a [&'a str]) -> Result<Command<'a>, clap::Error>
+    ensures program { IfOk result (λ command.
+        app_of command ≡ resp_app (vp.Names versions.entry)) }
+    ensures memory { IfErr result (λ error. kind_of error ≡ ErrorKind.OutOfMemory) }
+{
+    let show = "Prints each value of a stream as lines of text";
+    let check = "Reads a stream and prints the number of its values and bytes";
+    let canon = "Writes the canonical text of each value of a stream";
+    Ok(
+        resp(alloc)?
+            .subcommand(stream_task(alloc, "show", show, versions)?)?
+            .subcommand(stream_task(alloc, "check", check, versions)?)?
+            .subcommand(stream_task(alloc, "canon", canon, versions)?)?
+            .subcommand(loop_task(alloc)?)?
+            .subcommand(serve_task(alloc)?)?
+            .subcommand(tap_task(alloc)?)?,
+    )
+}
+
+/// Returns the program without its subcommands.
+fn resp<'a>(alloc: Global) -> Result<Command<'a>, clap::Error>
+    ensures reads { IfOk result (λ command. IsTask command bare_app) }
+    ensures memory { IfErr result (λ error. kind_of error ≡ ErrorKind.OutOfMemory) }
+{
+    Ok(
+        Command::new(alloc, "resp")
+            .bin_name("resp")?
+            .version("0.2.0")
+            .about("Tools for RESP2 and RESP3, the wire protocol of Redis")
+            .after_help(EXAMPLES)
+            .subcommand_required(true),
+    )
+}
+
+/// Returns a subcommand without options.
+fn bare_task<'a>(alloc: Global, name: &'a str, about: &'a str) -> Command<'a>
+    ensures { IsTask result (new_app name.entry.now) }
+{
+    Command::new(alloc, name).about(about)
+}
+
+/// Returns a subcommand without options, with a text at the end of its help.
+fn bare_task_with_help<'a>(
+    alloc: Global,
+    name: &'a str,
+    about: &'a str,
+    after_help: &'a str,
+) -> Command<'a>
+    ensures { IsTask result (new_app name.entry.now) }
+{
+    Command::new(alloc, name)
+        .about(about)
+        .after_help(after_help)
+}
+
+/// Returns a subcommand that reads a stream, whose version is one of `versions`.
+fn stream_task<'a>(
+    alloc: Global,
+    name: &'a str,
+    about: &'a str,
+    versions: &'a [&'a str],
+) -> Result<Command<'a>, clap::Error>
+    ensures reads { IfOk result (λ command. IsTask command
+        (with_options (new_app name.entry.now) (stream_options (vp.Names versions.entry)))) }
+    ensures memory { IfErr result (λ error. kind_of error ≡ ErrorKind.OutOfMemory) }
+{
+    with_options(alloc, bare_task(alloc, name, about), versions)
+}
+
+/// Returns the subcommand `loop`.
+fn loop_task<'a>(alloc: Global) -> Result<Command<'a>, clap::Error>
+    ensures reads { IfOk result (λ command. IsTask command
+        (with_options (new_app (codes "loop")) (flag_option (codes "explain") ∷ []))) }
+    ensures memory { IfErr result (λ error. kind_of error ≡ ErrorKind.OutOfMemory) }
+{
+    let about = "Plays a script of clients of one server from standard input";
+    let played = bare_task_with_help(alloc, "loop", about, LOOP_HELP);
+    let why = "Says why a line of the script is wrong";
+    Ok(played.arg(flag(alloc, "explain", why))?)
+}
+
+/// Returns the subcommand `serve`.
+fn serve_task<'a>(alloc: Global) -> Result<Command<'a>, clap::Error>
+    ensures reads { IfOk result (λ command. IsTask command
+        (with_options (new_app (codes "serve")) serve_options)) }
+    ensures memory { IfErr result (λ error. kind_of error ≡ ErrorKind.OutOfMemory) }
+{
+    let about = "Serves PING, ECHO, GET, SET, DEL and HELLO to many clients at once";
+    let serve = bare_task(alloc, "serve", about);
+    with_serve_options(alloc, serve)
+}
+
+/// Adds the options of `serve` to a subcommand.
+fn with_serve_options<'a>(alloc: Global, command: Command<'a>) -> Result<Command<'a>, clap::Error>
+    ensures gains { IfOk result (GainsOptions command.entry serve_options) }
+    ensures memory { IfErr result (λ error. kind_of error ≡ ErrorKind.OutOfMemory) }
+{
+    Ok(
+        with_limits(alloc, command)?
+            .arg(CLIENTS.option(alloc))?
+            .arg(address(
+                alloc,
+                "address",
+                "ADDRESS",
+                "Address to listen on, such as 127.0.0.1:6380",
+            ))?
+            .after_help(SERVE_HELP),
+    )
+}
+
+/// Returns the subcommand `tap`.
+fn tap_task<'a>(alloc: Global) -> Result<Command<'a>, clap::Error>
+    ensures reads { IfOk result (λ command. IsTask command
+        (with_options (new_app (codes "tap")) tap_options)) }
+    ensures memory { IfErr result (λ error. kind_of error ≡ ErrorKind.OutOfMemory) }
+{
+    let about = "Forwards connections to a server and prints the traffic";
+    let tap = bare_task(alloc, "tap", about);
+    with_tap_options(alloc, tap)
+}
+
+/// Adds the options of `tap` to a subcommand.
+fn with_tap_options<'a>(alloc: Global, command: Command<'a>) -> Result<Command<'a>, clap::Error>
+    ensures gains { IfOk result (GainsOptions command.entry tap_options) }
+    ensures memory { IfErr result (λ error. kind_of error ≡ ErrorKind.OutOfMemory) }
+{
+    Ok(
+        with_limits(alloc, command)?
+            .arg(CLIENTS.option(alloc))?
+            .arg(flag(
+                alloc,
+                "time",
+                "Prints the time in UTC, and how long each reply took",
+            ))?
+            .arg(address(
+                alloc,
+                "listen",
+                "LISTEN",
+                "Address to listen on, such as 127.0.0.1:6380",
+            ))?
+            .arg(address(
+                alloc,
+                "server",
+                "SERVER",
+                "Address of the server, such as 127.0.0.1:6379",
+            ))?
+            .after_help(TAP_HELP),
+    )
+}
+
+/// Returns a required argument that is an address.
+fn address<'a>(
+    alloc: Global,
+    name: &'a str,
+    value_name: &'static str,
+    help: &'static str,
+) -> Arg<'a>
+    ensures rule { rule_of result ≡ address_word name.entry.now }
+    ensures here { result.global ≡ false }
+{
+    Arg::new(alloc, name)
+        .value_name(value_name)
+        .help(help)
+        .required(true)
+}
+
+/// Returns an option without a value.
+fn flag<'a>(alloc: Global, name: &'a str, help: &'static str) -> Arg<'a>
+    ensures rule { rule_of result ≡ flag_option name.entry.now }
+    ensures here { result.global ≡ false }
+{
+    Arg::new(alloc, name)
+        .long(name)
+        .help(help)
+        .action(ArgAction::SetTrue)
+}
+
+/// Returns the option `--proto`, with these versions.
+fn proto<'a>(alloc: Global, versions: &'a [&'a str]) -> Arg<'a>
+    ensures rule { rule_of result
+        ≡ value_option (codes "proto") (vp.Names versions.entry) (codes "2") }
+    ensures here { result.global ≡ false }
+{
+    Arg::new(alloc, "proto")
+        .long("proto")
+        .value_name("VERSION")
+        .help("Protocol version")
+        .value_parser(versions)
+        .default_value("2")
+}
+
+/// Returns the argument for the input file.
+fn file<'a>(alloc: Global) -> Arg<'a>
+    ensures rule { rule_of result ≡ file_word }
+    ensures here { result.global ≡ false }
+{
+    Arg::new(alloc, "file")
+        .value_name("FILE")
+        .help("Input file, or - for standard input")
+        .default_value(STANDARD_INPUT)
+}
+
+/// Adds the options of `show`, `check` and `canon` to a subcommand.
+fn with_options<'a>(
+    alloc: Global,
+    command: Command<'a>,
+    versions: &'a [&'a str],
+) -> Result<Command<'a>, clap::Error>
+    ensures gains { IfOk result
+        (GainsOptions command.entry (stream_options (vp.Names versions.entry))) }
+    ensures memory { IfErr result (λ error. kind_of error ≡ ErrorKind.OutOfMemory) }
+{
+    let doubles = flag(alloc, "doubles", "Accepts RESP3 doubles");
+    let explain = flag(
+        alloc,
+        "explain",
+        "Says where in the input an error is, and why",
+    );
+    Ok(
+        with_limits(alloc, command.arg(proto(alloc, versions))?)?
+            .arg(doubles)?
+            .arg(PIECE.option(alloc))?
+            .arg(explain)?
+            .arg(file(alloc))?
+            .after_help(STREAM_HELP),
+    )
+}
+
+/// Adds the options that limit values to a subcommand.
+fn with_limits<'a>(alloc: Global, command: Command<'a>) -> Result<Command<'a>, clap::Error>
+    ensures gains { IfOk result (GainsOptions command.entry limit_options) }
+    ensures memory { IfErr result (λ error. kind_of error ≡ ErrorKind.OutOfMemory) }
+{
+    Ok(
+        command
+            .arg(DEPTH.option(alloc))?
+            .arg(LENGTH.option(alloc))?
+            .arg(TOTAL.option(alloc))?
+            .arg(ITEMS.option(alloc))?
+            .arg(flag(
+                alloc,
+                "no-streamed",
+                "Rejects streamed strings and aggregates",
+            ))?,
+    )
+}
