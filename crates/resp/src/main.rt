@@ -188,10 +188,13 @@ fn run_loop<R: Source, W: Sink, F: Sink>(
         match TcpLink::connect(net) {
             Ok(link) => links.push(link)?,
             Err(error) => {
-                let why = format!(in alloc; "{error}")?;
-                let why = why.as_str().as_bytes();
-                let _ = write_no_connection(faults, index as u64 + 1, why);
-                return Ok(DEVICE_FAILED);
+                let status = stop(&ToolError::Read, faults);
+                if explains {
+                    let why = format!(in alloc; "{error}")?;
+                    let why = why.as_str().as_bytes();
+                    let _ = write_no_connection(faults, index as u64 + 1, why);
+                }
+                return Ok(status);
             }
         }
     }

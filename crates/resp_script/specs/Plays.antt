@@ -26,7 +26,7 @@ play_fault_line Memory = codes "out of memory\n"
 
 -- the line that says why no connection was opened for a client
 abbrev pub no_connection_line : ℕ → List ℕ → List ℕ
-no_connection_line client why = codes "no connection for client " ++ decimal client ++ codes ": " ++ why ++ codes "\n"
+no_connection_line client why = codes "  no connection for client " ++ decimal client ++ codes ": " ++ why ++ codes "\n"
 
 -- the most bytes that an event can move
 abbrev pub all_bytes : ℕ

@@ -77,8 +77,8 @@ impl PlayError {
     }
 }
 
-/// Writes a line, with an LF: no connection could be opened for this client, and why. Clients are
-/// counted from 1.
+/// Writes the line that explains that no connection could be opened for this client, and why, with
+/// an LF. Clients are counted from 1.
 ///
 /// # Errors
 ///
@@ -91,7 +91,7 @@ pub fn write_no_connection<W: Sink>(
     ensures { WritesText (W.written writer.old) (W.written writer.new) (W.failures writer.old)
         (W.failures writer.new) result (no_connection_line client why.now) }
 {
-    note(writer, b"no connection for client ", client, why)
+    note(writer, b"  no connection for client ", client, why)
 }
 
 /// Plays the events of a script and writes the result of each. The last line has the number of

@@ -5,13 +5,16 @@ use mio::net::TcpStream;
 use resp_server::Hub;
 use resp_value::device::Device;
 use resp_wire::ServeError;
-use resp_wire::serve::serve;
+use resp_wire::serve::serve_with;
 use std::hash::BuildHasher;
 use std::io::{Read, Write};
 use std::net::Shutdown;
 
 /// The most reads and writes of a connection before the other connections are served.
 const TURNS: u64 = 16;
+
+/// The most bytes of one read.
+pub(crate) const PIECE: usize = 16_384;
 
 /// The most reads of received bytes before a connection is closed.
 const LAST_READS: usize = 4;
@@ -49,11 +52,16 @@ impl Connection {
     }
 
     /// Answers the commands received, until a call would block or the allowed reads and writes were
-    /// made. `is_at_end` says whether the input may have ended.
-    pub(crate) fn serve<S: BuildHasher>(&self, hub: &mut Hub<S>, is_at_end: bool) -> Next {
+    /// made. `is_at_end` says whether the input may have ended. The bytes are read into `buffer`.
+    pub(crate) fn serve<S: BuildHasher>(
+        &self,
+        hub: &mut Hub<S>,
+        buffer: &mut [u8; PIECE],
+        is_at_end: bool,
+    ) -> Next {
         let mut reader = Device::new(Input::new(&self.stream, is_at_end));
         let mut writer = Device::new(Output::new(&self.stream));
-        let served = serve(&mut reader, &mut writer, hub, self.id, TURNS);
+        let served = serve_with(&mut reader, &mut writer, hub, self.id, TURNS, buffer);
         let waits = match served {
             Ok(_) | Err(ServeError::NoSession) => false,
             // The session is closing. The bytes that wait still have to be written.

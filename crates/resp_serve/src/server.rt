@@ -1,6 +1,6 @@
 //! The server: its listener, its connections, and the loop that serves those that are ready.
 
-use crate::connection::{Connection, Next, refuse};
+use crate::connection::{Connection, Next, PIECE, refuse};
 use mio::net::{TcpListener, TcpStream};
 use mio::{Events, Interest, Poll, Token};
 use resp_server::Hub;
@@ -55,6 +55,8 @@ pub struct Server<S: BuildHasher> {
     most: usize,
     /// The places of the connections that are served again without waiting for their sockets.
     queue: Vec<usize>,
+    /// The bytes of one read.
+    buffer: [u8; PIECE],
 }
 
 impl<S: BuildHasher + Drop> Server<S> {
@@ -85,6 +87,7 @@ impl<S: BuildHasher + Drop> Server<S> {
             connections: Slab::new(alloc),
             most,
             queue: Vec::new(alloc),
+            buffer: [0; PIECE],
         })
     }
 
@@ -210,7 +213,7 @@ impl<S: BuildHasher + Drop> Server<S> {
         let Some(connection) = self.connections.get_mut(place) else {
             return;
         };
-        match connection.serve(&mut self.hub, is_at_end) {
+        match connection.serve(&mut self.hub, &mut self.buffer, is_at_end) {
             Next::Wait => {}
             Next::Again if self.queue.push(place).is_ok() => connection.is_queued = true,
             Next::Again | Next::Close => self.close(place),

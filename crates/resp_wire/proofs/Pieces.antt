@@ -12,14 +12,14 @@ use Rattle.resp_wire.specs.declared.turns.Halt.TheVariants.{Failed, NoTurn}
 use Rattle.resp_wire.proofs.Turning.{has_read_more, reads_none}
 
 -- nothing was read
-pub no_pieces : {R : Type 0} → (remaining : R → Option (List ℕ)) (calls failures : R → ℕ) (r : R) → ReadsPieces remaining calls failures r r [] false
-no_pieces remaining calls failures r = record { between = r; given = refl; over = refl }
+pub no_pieces : {R : Type 0} → (most : ℕ) (remaining : R → Option (List ℕ)) (calls failures : R → ℕ) (r : R) → ReadsPieces most remaining calls failures r r [] false
+no_pieces most remaining calls failures r = record { between = r; given = refl; over = refl }
 
 -- no read was made after these pieces
-pub only_pieces : {R : Type 0} → (remaining : R → Option (List ℕ)) (calls failures : R → ℕ) (a b : R) (pieces : List (List ℕ)) (is_over : Bool) →
-    GivesPieces remaining calls failures a b pieces → is_over ≡ false → ReadsPieces remaining calls failures a b pieces is_over
-only_pieces remaining calls failures a b pieces is_over given none =
-    subst (ReadsPieces remaining calls failures a b pieces) (sym none) (record { between = b; given = given; over = refl })
+pub only_pieces : {R : Type 0} → (most : ℕ) (remaining : R → Option (List ℕ)) (calls failures : R → ℕ) (a b : R) (pieces : List (List ℕ)) (is_over : Bool) →
+    GivesPieces most remaining calls failures a b pieces → is_over ≡ false → ReadsPieces most remaining calls failures a b pieces is_over
+only_pieces most remaining calls failures a b pieces is_over given none =
+    subst (ReadsPieces most remaining calls failures a b pieces) (sym none) (record { between = b; given = given; over = refl })
 
 -- a read that halted gave nothing, if it was made
 pub halted : {R : Type 0} → (remaining : R → Option (List ℕ)) (calls : R → ℕ) (a b : R) (halt : Halt) → WereRead (remaining a) (remaining b) [] →
@@ -28,21 +28,21 @@ halted remaining calls a b Failed nothing once none = (nothing, once refl)
 halted remaining calls a b NoTurn nothing once none = none refl
 
 -- a piece more
-pub given_more : {R : Type 0} → (remaining : R → Option (List ℕ)) (calls failures : R → ℕ) (a b c : R) (pieces : List (List ℕ)) (piece : List ℕ) →
-    GivesPieces remaining calls failures a b pieces → GivesPiece remaining calls failures b c piece →
-    GivesPieces remaining calls failures a c (pieces ++ piece ∷ [])
-given_more remaining calls failures a b c [] piece same gives =
-    (c, subst (λ r. GivesPiece remaining calls failures r c piece) same gives, refl)
-given_more remaining calls failures a b c (first ∷ pieces) piece (between, gives_first, given) gives =
-    (between, gives_first, given_more remaining calls failures between b c pieces piece given gives)
+pub given_more : {R : Type 0} → (most : ℕ) (remaining : R → Option (List ℕ)) (calls failures : R → ℕ) (a b c : R) (pieces : List (List ℕ)) (piece : List ℕ) →
+    GivesPieces most remaining calls failures a b pieces → GivesPiece most remaining calls failures b c piece →
+    GivesPieces most remaining calls failures a c (pieces ++ piece ∷ [])
+given_more most remaining calls failures a b c [] piece same gives =
+    (c, subst (λ r. GivesPiece most remaining calls failures r c piece) same gives, refl)
+given_more most remaining calls failures a b c (first ∷ pieces) piece (between, gives_first, given) gives =
+    (between, gives_first, given_more most remaining calls failures between b c pieces piece given gives)
 
 -- the first bytes of what a read moved into its room
-pub gives : {R : Type 0} → (remaining : R → Option (List ℕ)) (calls failures : R → ℕ) (a b c : R) (pieces : List (List ℕ)) (into : List ℕ) (n : ℕ) →
-    GivesPieces remaining calls failures a b pieces → n ≤ length into → 0 < n → n ≤ 16384 → WereRead (remaining b) (remaining c) (take n into) →
-    calls c ≡ count_after 1 (calls b) → failures c ≡ failures b → GivesPieces remaining calls failures a c (pieces ++ take n into ∷ [])
-gives remaining calls failures a b c pieces into n given within some short read once none_failed =
+pub gives : {R : Type 0} → (most : ℕ) (remaining : R → Option (List ℕ)) (calls failures : R → ℕ) (a b c : R) (pieces : List (List ℕ)) (into : List ℕ) (n : ℕ) →
+    GivesPieces most remaining calls failures a b pieces → n ≤ length into → 0 < n → n ≤ most → WereRead (remaining b) (remaining c) (take n into) →
+    calls c ≡ count_after 1 (calls b) → failures c ≡ failures b → GivesPieces most remaining calls failures a c (pieces ++ take n into ∷ [])
+gives most remaining calls failures a b c pieces into n given within some short read once none_failed =
     let long = length-take-le n into within in
-    given_more remaining calls failures a b c pieces (take n into) given (record {
+    given_more most remaining calls failures a b c pieces (take n into) given (record {
       some = omega (arith, long);
       short = omega (arith, long);
       read = read;
@@ -51,12 +51,12 @@ gives remaining calls failures a b c pieces into n given within some short read 
     })
 
 -- what was read are the pieces, joined
-pub all_read : {R : Type 0} → (remaining : R → Option (List ℕ)) (calls failures : R → ℕ) (a b : R) (pieces : List (List ℕ)) →
-    GivesPieces remaining calls failures a b pieces → WereRead (remaining a) (remaining b) (concat pieces)
-all_read remaining calls failures a b [] same = subst (λ r. WereRead (remaining a) (remaining r) []) (sym same) (reads_none (remaining a))
-all_read remaining calls failures a b (piece ∷ pieces) (between, gives, given) =
+pub all_read : {R : Type 0} → (most : ℕ) (remaining : R → Option (List ℕ)) (calls failures : R → ℕ) (a b : R) (pieces : List (List ℕ)) →
+    GivesPieces most remaining calls failures a b pieces → WereRead (remaining a) (remaining b) (concat pieces)
+all_read most remaining calls failures a b [] same = subst (λ r. WereRead (remaining a) (remaining r) []) (sym same) (reads_none (remaining a))
+all_read most remaining calls failures a b (piece ∷ pieces) (between, gives, given) =
     has_read_more (remaining a) (remaining between) (remaining b) piece (concat pieces) gives.read
-    (all_read remaining calls failures between b pieces given)
+    (all_read most remaining calls failures between b pieces given)
 
 pub concat_more : (pieces : List (List ℕ)) (piece : List ℕ) → concat (pieces ++ piece ∷ []) ≡ concat pieces ++ piece
 concat_more pieces piece = concat-append pieces (piece ∷ []) ∙ ap (λ z. concat pieces ++ z) (append-nil piece)

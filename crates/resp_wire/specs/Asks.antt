@@ -12,12 +12,12 @@ use Rattle.resp_wire.specs.declared.asked.Asked.{Asked}
 use Rattle.resp_wire.specs.declared.asked.Request.{Request}
 use Rattle.resp_wire.specs.declared.error.AskError.{AskError}
 
--- The bytes received are these pieces, each from one read that was made while a request waited, with these replies and
--- pushes.
-pub record HearsPieces {R : Type 0} (remaining : R → Option (List ℕ)) (calls failures : R → ℕ) (reader reader' : R)
+-- The bytes received are these pieces of at most so many bytes, each from one read that was made while a request waited,
+-- with these replies and pushes.
+pub record HearsPieces {R : Type 0} (most : ℕ) (remaining : R → Option (List ℕ)) (calls failures : R → ℕ) (reader reader' : R)
     (is_over : Bool) (old : Client) (s : ClientState) (before : Asked) (IsHeard : List ℕ → Type 0) : Type 0 where
   pub pieces : List (List ℕ)
-  pub read : ReadsPieces remaining calls failures reader reader' pieces is_over
+  pub read : ReadsPieces most remaining calls failures reader reader' pieces is_over
   pub heard : WhereTaken old (λ front. IsHeard (front ++ concat pieces))
   pub waits : WhereTaken old (λ front. WaitsBefore s before front pieces)
 
@@ -41,11 +41,11 @@ pub record StopsInWriting {W R : Type 0} (written : W → Option (List ℕ)) (fa
   pub nothing_heard : heard' ≡ heard
 
 -- All was written, and the client stops in reading.
-pub record StopsInReading {W R : Type 0} (written : W → Option (List ℕ)) (remaining : R → Option (List ℕ))
+pub record StopsInReading {W R : Type 0} (most : ℕ) (written : W → Option (List ℕ)) (remaining : R → Option (List ℕ))
     (calls failures : R → ℕ) (old new : Client) (requests : List Request) (writer writer' : W) (reader reader' : R)
     (heard heard' : Asked) (error : AskError) : Type 0 where
   pub sends_all : SendsAll old requests (written writer) (written writer')
   pub fails : FailsReading (failures reader) (failures reader') (remaining reader) (remaining reader') (state_of new)
       error
-  pub came : HearsPieces remaining calls failures reader reader' (is_of_last_read error) old (sent old requests) heard
+  pub came : HearsPieces most remaining calls failures reader reader' (is_of_last_read error) old (sent old requests) heard
       (λ came. StopsListening (sent old requests) new heard heard' came error)

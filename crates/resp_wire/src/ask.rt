@@ -25,7 +25,8 @@ use resp_value::device::{Sink, Source};
 /// Queues the requests, writes all waiting bytes, and reads until no command waits for a reply. The
 /// replies and pushes of each piece that was read are added to `heard`, even if the call fails.
 ///
-/// Each read and each write is a turn, and the call makes at most `turns` of them.
+/// A read requests at most 4,096 bytes. Each read and each write is a turn, and the call makes at
+/// most `turns` of them.
 ///
 /// # Errors
 ///
@@ -80,12 +81,12 @@ pub fn ask<R: Source, W: Sink>(
     turns: u64,
 ) -> Result<(), AskError>
     // All requests and the bytes that waited before were written, and all replies received were
-    // added. The bytes received are pieces, each from one read that was made while a command
-    // waited.
+    // added. The bytes received are pieces of at most 4,096 bytes, each from one read that was made
+    // while a command waited.
     ensures sent { OnOk result (SendsAll client.old requests.now (W.written writer.old)
         (W.written writer.new)) }
-    ensures heard { OnOk result (HearsPieces R.remaining R.calls R.failures reader.old reader.new
-        false client.old (sent client.old requests.now) heard.old
+    ensures heard { OnOk result (HearsPieces 4096 R.remaining R.calls R.failures reader.old
+        reader.new false client.old (sent client.old requests.now) heard.old
         (HearsAll (sent client.old requests.now) client.new heard.old heard.new)) }
     ensures all_answered { OnOk result ((state_of client.new).waiting.asks ≡ []) }
     ensures turns { (left : ℕ) × SpendsTurns (W.calls writer.old) (W.calls writer.new)
@@ -105,8 +106,65 @@ pub fn ask<R: Source, W: Sink>(
         reader.new heard.old heard.new error ⊎
         StopsInWriting W.written W.failures client.old client.new requests.now writer.old writer.new
         reader.old reader.new heard.old heard.new error ⊎
-        StopsInReading W.written R.remaining R.calls R.failures client.old client.new requests.now
-        writer.old writer.new reader.old reader.new heard.old heard.new error) }
+        StopsInReading 4096 W.written R.remaining R.calls R.failures client.old client.new
+        requests.now writer.old writer.new reader.old reader.new heard.old heard.new error) }
+    ensures fault_is_kept { IfErr result (KeepsFault client.new) }
+{
+    ask_with(
+        reader,
+        writer,
+        client,
+        requests,
+        heard,
+        turns,
+        &mut [0; PIECE],
+    )
+}
+
+/// Asks as [`ask`] does, and reads into `buffer`. A piece has at most as many bytes as the buffer.
+///
+/// # Errors
+///
+/// The errors of [`ask`].
+pub fn ask_with<R: Source, W: Sink>(
+    reader: &mut R,
+    writer: &mut W,
+    client: &mut Client,
+    requests: &[Request],
+    heard: &mut Asked,
+    turns: u64,
+    buffer: &mut [u8],
+) -> Result<(), AskError>
+    requires { 0 < length buffer.now }
+    // All requests and the bytes that waited before were written, and all replies received were
+    // added. The bytes received are pieces, each from one read into the buffer that was made while a
+    // command waited.
+    ensures sent { OnOk result (SendsAll client.old requests.now (W.written writer.old)
+        (W.written writer.new)) }
+    ensures heard { OnOk result (HearsPieces (length buffer.old) R.remaining R.calls R.failures
+        reader.old reader.new false client.old (sent client.old requests.now) heard.old
+        (HearsAll (sent client.old requests.now) client.new heard.old heard.new)) }
+    ensures all_answered { OnOk result ((state_of client.new).waiting.asks ≡ []) }
+    ensures turns { (left : ℕ) × SpendsTurns (W.calls writer.old) (W.calls writer.new)
+        (R.calls reader.old) (R.calls reader.new) turns left ×
+        (IsErrOf result AskError.TooManyTurns → left ≡ 0) }
+
+    // A device fails once if the error says so, and otherwise never.
+    ensures write_failures { W.failures writer.new ≡
+        failures_after (failed_to_write result) (W.failures writer.old) }
+    ensures read_failures { R.failures reader.new ≡
+        failures_after (failed_to_read result) (R.failures reader.old) }
+
+    // A request is refused before anything is written, or a write fails before anything is read, or
+    // all was written and the replies received before the error were added.
+    ensures refusal { IfErr result (λ error.
+        StopsBeforeWriting client.old client.new requests.now writer.old writer.new reader.old
+        reader.new heard.old heard.new error ⊎
+        StopsInWriting W.written W.failures client.old client.new requests.now writer.old writer.new
+        reader.old reader.new heard.old heard.new error ⊎
+        StopsInReading (length buffer.old) W.written R.remaining R.calls R.failures client.old
+        client.new requests.now writer.old writer.new reader.old reader.new heard.old heard.new
+        error) }
     ensures fault_is_kept { IfErr result (KeepsFault client.new) }
 {
     if let Err(error) = queue(client, requests) {
@@ -116,7 +174,7 @@ pub fn ask<R: Source, W: Sink>(
     if let Err(error) = send_all(writer, client, &mut left) {
         return Err(error);
     }
-    if let Err(error) = hear_all(reader, client, heard, &mut left) {
+    if let Err(error) = hear_all(reader, client, heard, &mut left, buffer) {
         return Err(error);
     }
     Ok(())
@@ -208,10 +266,12 @@ fn hear_all<R: Source>(
     client: &mut Client,
     heard: &mut Asked,
     turns: &mut u64,
+    buffer: &mut [u8],
 ) -> Result<(), AskError>
-    ensures heard { (pieces : List (List ℕ)) × ReadsPieces R.remaining R.calls R.failures
-        reader.old reader.new pieces (ends_by_read result) × WhereTaken client.old (λ front.
-        OnOk result (HearsAll (state_of client.old) client.new heard.old heard.new
+    requires { 0 < length buffer.now }
+    ensures heard { (pieces : List (List ℕ)) × ReadsPieces (length buffer.old) R.remaining R.calls
+        R.failures reader.old reader.new pieces (ends_by_read result) × WhereTaken client.old
+        (λ front. OnOk result (HearsAll (state_of client.old) client.new heard.old heard.new
         (front ++ concat pieces)) ×
         IfErr result (StopsListening (state_of client.old) client.new heard.old heard.new
         (front ++ concat pieces)) × WaitsBefore (state_of client.old) heard.old front pieces) }
@@ -227,18 +287,17 @@ fn hear_all<R: Source>(
 {
     laws::readings_go_on();
     laws::hearing_goes_on();
-    let mut piece = [0; PIECE];
     while client.waiting() > 0 {
         if *turns == 0 {
             return Err(AskError::TooManyTurns);
         }
         *turns -= 1;
-        let count = match reader.read(&mut piece) {
+        let count = match reader.read(buffer) {
             Ok(0) => return Err(AskError::Ended),
             Ok(count) => count,
             Err(_) => return Err(AskError::Read),
         };
-        if let Err(error) = hear_piece(client, front(&piece, count), heard) {
+        if let Err(error) = hear_piece(client, front(buffer, count), heard) {
             return Err(error);
         }
     }

@@ -1,6 +1,6 @@
 //! The server's end of a connection.
 
-ghost use Rattle.std.specs.Prelude.{◌≡◌, ◌≢◌, ◌≤◌, ◌++◌, ℕ, List, [], length, true, false, None, Err, IfSome, IfOk, IfErr, IsErrOf, OnOk, OnErr};
+ghost use Rattle.std.specs.Prelude.{◌≡◌, ◌≢◌, ◌<◌, ◌≤◌, ◌++◌, ℕ, List, [], length, true, false, None, Err, IfSome, IfOk, IfErr, IsErrOf, OnOk, OnErr};
 ghost use Rattle.std.specs.List.{concat};
 ghost use Rattle.resp_server.specs.Hubs.{Seat, seat_at};
 ghost use Rattle.resp_server.specs.Handling.{HasAnswered, WhereOpen};
@@ -26,7 +26,7 @@ pub enum Served {
     Closed,
 }
 
-/// Serves a session: writes the bytes that wait, reads a piece of at most 16,384 bytes, and gives
+/// Serves a session: writes the bytes that wait, reads a piece of at most 4,096 bytes, and gives
 /// it to the session, until the input ends or the session is closing. Nothing is read of a session
 /// that is closing.
 ///
@@ -82,13 +82,59 @@ pub fn serve<R: Source, W: Sink, S: BuildHasher>(
     id: u64,
     turns: u64,
 ) -> Result<Served, ServeError>
-    // The bytes received are pieces, each from one read. Before each read, all replies to the bytes
-    // received before were written. The bytes written and the bytes that still wait, joined, are
-    // the bytes that waited before and the response to the bytes read before of a value together
-    // with the bytes received. The hub is in the state after that response.
-    ensures served { (pieces : List (List ℕ)) × ReadsPieces R.remaining R.calls R.failures
+    // The bytes received are pieces of at most 4,096 bytes, each from one read. Before each read,
+    // all replies to the bytes received before were written. The bytes written and the bytes that
+    // still wait, joined, are the bytes that waited before and the response to the bytes read before
+    // of a value together with the bytes received. The hub is in the state after that response.
+    ensures served { (pieces : List (List ℕ)) × ReadsPieces 4096 R.remaining R.calls R.failures
         reader.old reader.new pieces (ends_by_read result) × WhereOpen hub.old id (λ s front.
         OnOk result (Serves hub.old hub.new id s (front ++ concat pieces) (W.written writer.old)
+        (W.written writer.new) []) ×
+        IfErr result (StopsServing hub.old hub.new id s front (concat pieces)
+        (W.written writer.old) (W.written writer.new)) ×
+        AnswersBefore hub.old id s front pieces (W.written writer.old) (W.written writer.new)) }
+    ensures end { IfOk result (EndsBy hub.new id (R.remaining reader.old)
+        (R.remaining reader.new)) }
+
+    // Nothing is read of a session that is closing, and its waiting bytes are written.
+    ensures closing { IfSome (seat_at hub.old id) (λ (s : Seat). s.closing ≡ true →
+        (reader.new ≡ reader.old) × ServesClosing hub.old hub.new id (W.written writer.old)
+        (W.written writer.new) result) }
+    ensures refusal { IfErr result (FailsServing hub.old id (W.failures writer.old)
+        (W.failures writer.new) (R.failures reader.old) (R.failures reader.new)) }
+    // A device fails once if the error says so, and otherwise never.
+    ensures write_failures { W.failures writer.new ≡
+        failures_after (failed_to_write result) (W.failures writer.old) }
+    ensures read_failures { R.failures reader.new ≡
+        failures_after (failed_to_read result) (R.failures reader.old) }
+    ensures no_session { seat_at hub.old id ≡ None → (result ≡ Err ServeError.NoSession) ×
+        (hub.new ≡ hub.old) × (reader.new ≡ reader.old) × (writer.new ≡ writer.old) }
+    ensures turns { (left : ℕ) × SpendsTurns (W.calls writer.old) (W.calls writer.new)
+        (R.calls reader.old) (R.calls reader.new) turns left ×
+        (IsErrOf result ServeError.TooManyTurns → left ≡ 0) }
+{
+    serve_with(reader, writer, hub, id, turns, &mut [0; PIECE])
+}
+
+/// Serves a session as [`serve`] does, and reads into `buffer`. A piece has at most as many bytes as
+/// the buffer. Use it to serve many sessions with one buffer, or with larger pieces.
+///
+/// # Errors
+///
+/// The errors of [`serve`].
+pub fn serve_with<R: Source, W: Sink, S: BuildHasher>(
+    reader: &mut R,
+    writer: &mut W,
+    hub: &mut Hub<S>,
+    id: u64,
+    turns: u64,
+    buffer: &mut [u8],
+) -> Result<Served, ServeError>
+    requires { 0 < length buffer.now }
+    // As `serve`, except that the pieces have at most as many bytes as the buffer.
+    ensures served { (pieces : List (List ℕ)) × ReadsPieces (length buffer.old) R.remaining R.calls
+        R.failures reader.old reader.new pieces (ends_by_read result) × WhereOpen hub.old id
+        (λ s front. OnOk result (Serves hub.old hub.new id s (front ++ concat pieces) (W.written writer.old)
         (W.written writer.new) []) ×
         IfErr result (StopsServing hub.old hub.new id s front (concat pieces)
         (W.written writer.old) (W.written writer.new)) ×
@@ -118,7 +164,7 @@ pub fn serve<R: Source, W: Sink, S: BuildHasher>(
     };
     let mut left = turns;
     if !closing {
-        return serve_open(reader, writer, hub, id, &mut left);
+        return serve_open(reader, writer, hub, id, &mut left, buffer);
     }
     if let Err(error) = write_out(writer, hub, id, &mut left) {
         return Err(error);
@@ -133,13 +179,15 @@ fn serve_open<R: Source, W: Sink, S: BuildHasher>(
     hub: &mut Hub<S>,
     id: u64,
     turns: &mut u64,
+    buffer: &mut [u8],
 ) -> Result<Served, ServeError>
+    requires room { 0 < length buffer.now }
     requires is_open { IsOpen hub.old id }
     requires waiting { WhereOpen hub.old id (λ s front.
         HasAnswered hub.old hub.old id s front 0) }
-    ensures served { (pieces : List (List ℕ)) × ReadsPieces R.remaining R.calls R.failures
-        reader.old reader.new pieces (ends_by_read result) × WhereOpen hub.old id (λ s front.
-        OnOk result (Serves hub.old hub.new id s (front ++ concat pieces) (W.written writer.old)
+    ensures served { (pieces : List (List ℕ)) × ReadsPieces (length buffer.old) R.remaining R.calls
+        R.failures reader.old reader.new pieces (ends_by_read result) × WhereOpen hub.old id
+        (λ s front. OnOk result (Serves hub.old hub.new id s (front ++ concat pieces) (W.written writer.old)
         (W.written writer.new) []) ×
         IfErr result (StopsServing hub.old hub.new id s front (concat pieces)
         (W.written writer.old) (W.written writer.new)) ×
@@ -161,14 +209,13 @@ fn serve_open<R: Source, W: Sink, S: BuildHasher>(
     if let Err(error) = write_out(writer, hub, id, turns) {
         return Err(error);
     }
-    let mut piece = [0; PIECE];
     loop {
-        let count = match read_some(reader, &mut piece, turns) {
+        let count = match read_some(reader, buffer, turns) {
             Ok(0) => return Ok(Served::Ended),
             Ok(count) => count,
             Err(halt) => return Err(unread(halt)),
         };
-        let closing = match answer(writer, hub, id, front(&piece, count), turns) {
+        let closing = match answer(writer, hub, id, front(buffer, count), turns) {
             Ok(closing) => closing,
             Err(error) => return Err(error),
         };

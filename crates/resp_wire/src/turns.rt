@@ -6,8 +6,8 @@ ghost use Rattle.resp_wire.specs.Turns.{Halts, WereRead, Spends, TellsEnd, is_fa
 
 use resp_value::device::{Sink, Source};
 
-/// The number of bytes that one read requests.
-pub(crate) const PIECE: usize = 16_384;
+/// The most bytes of one read, if the caller lends no buffer.
+pub(crate) const PIECE: usize = 4_096;
 
 /// Why a read or a write moved no byte.
 #[derive(Clone, Copy, Debug, PartialEq, Eq)]

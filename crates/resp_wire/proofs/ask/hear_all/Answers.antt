@@ -1,5 +1,5 @@
 use Rattle.std.specs.List.{concat}
-use Rattle.std.proofs.Common.{rules, refl, false, [], ◌≡◌, ◌-◌, ◌∷◌, ◌++◌, take, subst, sym}
+use Rattle.std.proofs.Common.{rules, refl, false, [], ◌≡◌, ◌-◌, ◌∷◌, ◌++◌, take, subst, sym, length}
 use Rattle.resp_client.specs.Clients.{state_of}
 use Rattle.resp_wire.specs.Hearing.{HearsAll}
 use Rattle.resp_wire.specs.Stops.{StopsHearing, StopsListening, is_of_last_read}
@@ -9,8 +9,8 @@ use Rattle.resp_wire.proofs.Pieces.{all_read, concat_more, gives, only_pieces}
 use Rattle.resp_wire.proofs.Turning.{end_after, reads_end, reads_failed, reads_more, reads_none, spends_nothing, spends_one}
 use Rattle.resp_wire.proofs.ask.hear_all.Goals as goal
 
-pub loop-piece-init : goal.loop-piece-init
-loop-piece-init g c = record {
+pub loop-turns-init : goal.loop-turns-init
+loop-turns-init g c = record {
   heard = (
     [],
     refl,
@@ -23,9 +23,9 @@ loop-piece-init g c = record {
   none_failed = refl;
 }
 
-pub loop-piece-preserved : goal.loop-piece-preserved
-loop-piece-preserved g c =
-    let i = c.loop-piece.invariant in
+pub loop-turns-preserved : goal.loop-turns-preserved
+loop-turns-preserved g c =
+    let i = c.loop-turns.invariant in
     let (pieces, given, heard) = i.heard in
     let into = c.read.new.into in
     let n = c.in-Ok.count in
@@ -33,34 +33,34 @@ loop-piece-preserved g c =
     record {
       heard = (
         pieces ++ take n into ∷ [],
-        gives g.R.Source.remaining g.R.Source.calls g.R.Source.failures c.args.reader.now c.loop-piece.reader c.read.new.self pieces into n given (search rules)
+        gives (length c.args.buffer.now) g.R.Source.remaining g.R.Source.calls g.R.Source.failures c.args.reader.now c.loop-turns.reader c.read.new.self pieces into n given (search rules)
             (search rules) (search rules)
-            (reads_more (g.R.Source.remaining c.loop-piece.reader) (g.R.Source.remaining c.loop-piece.reader) (g.R.Source.remaining c.read.new.self) [] into n
-            (reads_none (g.R.Source.remaining c.loop-piece.reader)) c.in-Ok.ensures.bytes) c.in-Ok.ensures.calls c.in-Ok.ensures.failures,
+            (reads_more (g.R.Source.remaining c.loop-turns.reader) (g.R.Source.remaining c.loop-turns.reader) (g.R.Source.remaining c.read.new.self) [] into n
+            (reads_none (g.R.Source.remaining c.loop-turns.reader)) c.in-Ok.ensures.bytes) c.in-Ok.ensures.calls c.in-Ok.ensures.failures,
         λ front h.
             let (so_far, each) = heard front h in (
               subst (λ z. HearsAll s c.hear_piece.new.client c.args.heard.now c.hear_piece.new.heard (front ++ z)) (sym (concat_more pieces (take n into)))
-                  (hears_piece c.readings_go_on.ensures c.hearing_goes_on.ensures s c.loop-piece.client c.hear_piece.new.client c.args.heard.now
-                  c.loop-piece.heard c.hear_piece.new.heard front (concat pieces) (take n into) so_far
-                  (subst (λ z. HearsAll (state_of c.loop-piece.client) c.hear_piece.new.client c.loop-piece.heard c.hear_piece.new.heard (so_far.rest ++ z))
+                  (hears_piece c.readings_go_on.ensures c.hearing_goes_on.ensures s c.loop-turns.client c.hear_piece.new.client c.args.heard.now
+                  c.loop-turns.heard c.hear_piece.new.heard front (concat pieces) (take n into) so_far
+                  (subst (λ z. HearsAll (state_of c.loop-turns.client) c.hear_piece.new.client c.loop-turns.heard c.hear_piece.new.heard (so_far.rest ++ z))
                   (search rules) (c.in_default.ensures.heard so_far.rest so_far.takes))),
-              waits_for_piece s c.loop-piece.client c.args.heard.now c.loop-piece.heard front pieces (take n into) so_far (search rules) each,
+              waits_for_piece s c.loop-turns.client c.args.heard.now c.loop-turns.heard front pieces (take n into) so_far (search rules) each,
             ),
       );
-      spends = spends_one (g.R.Source.calls c.args.reader.now) (g.R.Source.calls c.loop-piece.reader) (g.R.Source.calls c.read.new.self) c.args.turns.now
-          c.loop-piece.turns (c.loop-piece.turns - 1) i.spends c.in-Ok.ensures.calls (search rules);
+      spends = spends_one (g.R.Source.calls c.args.reader.now) (g.R.Source.calls c.loop-turns.reader) (g.R.Source.calls c.read.new.self) c.args.turns.now
+          c.loop-turns.turns (c.loop-turns.turns - 1) i.spends c.in-Ok.ensures.calls (search rules);
       none_failed = search rules;
     }
 
 pub returns-in-Ok-eq0-clause-heard : goal.returns-in-Ok-eq0-clause-heard
 returns-in-Ok-eq0-clause-heard g c =
-    let (pieces, given, heard) = c.loop-piece.invariant.heard in
-    let before = g.R.Source.remaining c.loop-piece.reader in
+    let (pieces, given, heard) = c.loop-turns.invariant.heard in
+    let before = g.R.Source.remaining c.loop-turns.reader in
     let after = g.R.Source.remaining c.read.new.self in
     let none : c.in-Ok-eq0.field-0 ≡ 0 = search rules in (
       pieces,
       record {
-        between = c.loop-piece.reader;
+        between = c.loop-turns.reader;
         given = given;
         over = (
           subst (λ n. WereRead before after (take n c.read.new.into)) none
@@ -73,11 +73,11 @@ returns-in-Ok-eq0-clause-heard g c =
 
 pub returns-in-Err-clause-heard : goal.returns-in-Err-clause-heard
 returns-in-Err-clause-heard g c =
-    let (pieces, given, heard) = c.loop-piece.invariant.heard in
-    let before = g.R.Source.remaining c.loop-piece.reader in (
+    let (pieces, given, heard) = c.loop-turns.invariant.heard in
+    let before = g.R.Source.remaining c.loop-turns.reader in (
       pieces,
       record {
-        between = c.loop-piece.reader;
+        between = c.loop-turns.reader;
         given = given;
         over = (
           reads_failed before before (g.R.Source.remaining c.read.new.self) [] c.read.new.into c.in-Err.field-0 (reads_none before) c.in-Err.ensures.bytes,
@@ -88,32 +88,32 @@ returns-in-Err-clause-heard g c =
     )
 
 pub returns-in-Ok-eq0-clause-turns : goal.returns-in-Ok-eq0-clause-turns
-returns-in-Ok-eq0-clause-turns g c = spends_one (g.R.Source.calls c.args.reader.now) (g.R.Source.calls c.loop-piece.reader) (g.R.Source.calls c.read.new.self)
-    c.args.turns.now c.loop-piece.turns (c.loop-piece.turns - 1) c.loop-piece.invariant.spends c.read.ensures.calls (search rules)
+returns-in-Ok-eq0-clause-turns g c = spends_one (g.R.Source.calls c.args.reader.now) (g.R.Source.calls c.loop-turns.reader) (g.R.Source.calls c.read.new.self)
+    c.args.turns.now c.loop-turns.turns (c.loop-turns.turns - 1) c.loop-turns.invariant.spends c.read.ensures.calls (search rules)
 
 pub returns-in-Err-clause-turns : goal.returns-in-Err-clause-turns
-returns-in-Err-clause-turns g c = spends_one (g.R.Source.calls c.args.reader.now) (g.R.Source.calls c.loop-piece.reader) (g.R.Source.calls c.read.new.self)
-    c.args.turns.now c.loop-piece.turns (c.loop-piece.turns - 1) c.loop-piece.invariant.spends c.read.ensures.calls (search rules)
+returns-in-Err-clause-turns g c = spends_one (g.R.Source.calls c.args.reader.now) (g.R.Source.calls c.loop-turns.reader) (g.R.Source.calls c.read.new.self)
+    c.args.turns.now c.loop-turns.turns (c.loop-turns.turns - 1) c.loop-turns.invariant.spends c.read.ensures.calls (search rules)
 
 pub returns-in-Err-hear_piece-clause-turns : goal.returns-in-Err-hear_piece-clause-turns
-returns-in-Err-hear_piece-clause-turns g c = spends_one (g.R.Source.calls c.args.reader.now) (g.R.Source.calls c.loop-piece.reader)
-    (g.R.Source.calls c.read.new.self) c.args.turns.now c.loop-piece.turns (c.loop-piece.turns - 1) c.loop-piece.invariant.spends c.read.ensures.calls
+returns-in-Err-hear_piece-clause-turns g c = spends_one (g.R.Source.calls c.args.reader.now) (g.R.Source.calls c.loop-turns.reader)
+    (g.R.Source.calls c.read.new.self) c.args.turns.now c.loop-turns.turns (c.loop-turns.turns - 1) c.loop-turns.invariant.spends c.read.ensures.calls
     (search rules)
 
 pub returns-in-Err-hear_piece-clause-heard : goal.returns-in-Err-hear_piece-clause-heard
 returns-in-Err-hear_piece-clause-heard g c =
-    let (pieces, given, heard) = c.loop-piece.invariant.heard in
+    let (pieces, given, heard) = c.loop-turns.invariant.heard in
     let into = c.read.new.into in
     let n = c.in-Ok.count in
     let s = state_of c.args.client.now in
     let error = c.in-Err-hear_piece.error in
-    let given_all = gives g.R.Source.remaining g.R.Source.calls g.R.Source.failures c.args.reader.now c.loop-piece.reader c.read.new.self pieces into n given
+    let given_all = gives (length c.args.buffer.now) g.R.Source.remaining g.R.Source.calls g.R.Source.failures c.args.reader.now c.loop-turns.reader c.read.new.self pieces into n given
     (search rules)
     (search rules) (search rules)
-    (reads_more (g.R.Source.remaining c.loop-piece.reader) (g.R.Source.remaining c.loop-piece.reader) (g.R.Source.remaining c.read.new.self) [] into n
-    (reads_none (g.R.Source.remaining c.loop-piece.reader)) c.in-Ok.ensures.bytes) c.in-Ok.ensures.calls c.in-Ok.ensures.failures in (
+    (reads_more (g.R.Source.remaining c.loop-turns.reader) (g.R.Source.remaining c.loop-turns.reader) (g.R.Source.remaining c.read.new.self) [] into n
+    (reads_none (g.R.Source.remaining c.loop-turns.reader)) c.in-Ok.ensures.bytes) c.in-Ok.ensures.calls c.in-Ok.ensures.failures in (
       pieces ++ take n into ∷ [],
-      only_pieces g.R.Source.remaining g.R.Source.calls g.R.Source.failures c.args.reader.now c.read.new.self (pieces ++ take n into ∷ [])
+      only_pieces (length c.args.buffer.now) g.R.Source.remaining g.R.Source.calls g.R.Source.failures c.args.reader.now c.read.new.self (pieces ++ take n into ∷ [])
           (is_of_last_read error) given_all (no_last_read error c.in-Err-hear_piece.ensures.fault_or_memory),
       λ front h.
           let (so_far, each) = heard front h in (
@@ -121,11 +121,11 @@ returns-in-Err-hear_piece-clause-heard g c =
             subst (λ z. StopsListening s c.hear_piece.new.client c.args.heard.now c.hear_piece.new.heard (front ++ z) error)
                 (sym (concat_more pieces (take n into)))
                 (stops_listening s c.hear_piece.new.client c.args.heard.now c.hear_piece.new.heard (front ++ (concat pieces ++ take n into)) error
-                (stops_piece c.readings_go_on.ensures c.hearing_goes_on.ensures s c.loop-piece.client c.args.heard.now c.loop-piece.heard c.hear_piece.new.heard
+                (stops_piece c.readings_go_on.ensures c.hearing_goes_on.ensures s c.loop-turns.client c.args.heard.now c.loop-turns.heard c.hear_piece.new.heard
                 front (concat pieces) (take n into) error so_far
-                (subst (λ z. StopsHearing (state_of c.loop-piece.client) c.loop-piece.heard c.hear_piece.new.heard (so_far.rest ++ z) error)
+                (subst (λ z. StopsHearing (state_of c.loop-turns.client) c.loop-turns.heard c.hear_piece.new.heard (so_far.rest ++ z) error)
                 (search rules) (c.in-Err-hear_piece.ensures.refusal so_far.rest so_far.takes)))),
-            waits_for_piece s c.loop-piece.client c.args.heard.now c.loop-piece.heard front pieces (take n into) so_far (search rules) each,
+            waits_for_piece s c.loop-turns.client c.args.heard.now c.loop-turns.heard front pieces (take n into) so_far (search rules) each,
           ),
     )
 
@@ -136,27 +136,27 @@ returns-in-Err-hear_piece-clause-refusal g c = fails_reading (g.R.Source.failure
 
 pub returns-clause-heard : goal.returns-clause-heard
 returns-clause-heard g c =
-    let (pieces, given, heard) = c.loop-piece.invariant.heard in (
+    let (pieces, given, heard) = c.loop-turns.invariant.heard in (
       pieces,
-      only_pieces g.R.Source.remaining g.R.Source.calls g.R.Source.failures c.args.reader.now c.loop-piece.reader pieces false given refl,
+      only_pieces (length c.args.buffer.now) g.R.Source.remaining g.R.Source.calls g.R.Source.failures c.args.reader.now c.loop-turns.reader pieces false given refl,
       λ front h. let (so_far, each) = heard front h in (so_far, tt, each),
     )
 
 pub returns-then-turns-eq0-clause-heard : goal.returns-then-turns-eq0-clause-heard
 returns-then-turns-eq0-clause-heard g c =
-    let (pieces, given, heard) = c.loop-piece.invariant.heard in (
+    let (pieces, given, heard) = c.loop-turns.invariant.heard in (
       pieces,
-      only_pieces g.R.Source.remaining g.R.Source.calls g.R.Source.failures c.args.reader.now c.loop-piece.reader pieces false given refl,
+      only_pieces (length c.args.buffer.now) g.R.Source.remaining g.R.Source.calls g.R.Source.failures c.args.reader.now c.loop-turns.reader pieces false given refl,
       λ front h. let (so_far, each) = heard front h in (tt, so_far, each),
     )
 
 pub returns-in-Ok-eq0-clause-refusal : goal.returns-in-Ok-eq0-clause-refusal
 returns-in-Ok-eq0-clause-refusal g c =
-    let (pieces, given, heard) = c.loop-piece.invariant.heard in
-    let before = g.R.Source.remaining c.loop-piece.reader in
+    let (pieces, given, heard) = c.loop-turns.invariant.heard in
+    let before = g.R.Source.remaining c.loop-turns.reader in
     let after = g.R.Source.remaining c.read.new.self in (
       end_after (g.R.Source.remaining c.args.reader.now) before after (concat pieces)
-          (all_read g.R.Source.remaining g.R.Source.calls g.R.Source.failures c.args.reader.now c.loop-piece.reader pieces given)
+          (all_read (length c.args.buffer.now) g.R.Source.remaining g.R.Source.calls g.R.Source.failures c.args.reader.now c.loop-turns.reader pieces given)
           (reads_end before before after [] c.read.new.into c.in-Ok-eq0.field-0 (reads_none before) c.in-Ok-eq0.ensures.bytes (search rules)
           (search rules)).1,
       search rules,

@@ -1,4 +1,4 @@
-use Rattle.std.proofs.Common.{◌≡◌, ◌++◌, List, ℕ}
+use Rattle.std.proofs.Common.{◌≡◌, ◌++◌, List, ℕ, length}
 use Rattle.std.specs.List.{concat}
 use Rattle.resp_client.specs.Clients.{state_of}
 use Rattle.resp_client.specs.Hearing.{WhereTaken}
@@ -7,15 +7,15 @@ use Rattle.resp_wire.specs.Pieces.{GivesPieces}
 use Rattle.resp_wire.specs.Turns.{Spends}
 use Rattle.resp_wire.proofs.ask.hear_all.Given as goal
 
-abbrev pub invariant-loop-piece : goal.invariant-loop-piece
-invariant-loop-piece g l = record {
+abbrev pub invariant-loop-turns : goal.invariant-loop-turns
+invariant-loop-turns g l = record {
   heard : (pieces : List (List ℕ)) ×
-      GivesPieces g.R.Source.remaining g.R.Source.calls g.R.Source.failures l.fn.reader l.reader pieces ×
+      GivesPieces (length l.fn.buffer) g.R.Source.remaining g.R.Source.calls g.R.Source.failures l.fn.reader l.reader pieces ×
       WhereTaken l.fn.client (λ front. HearsAll (state_of l.fn.client) l.client l.fn.heard l.heard (front ++ concat pieces) ×
       WaitsBefore (state_of l.fn.client) l.fn.heard front pieces);
   spends : Spends (g.R.Source.calls l.fn.reader) (g.R.Source.calls l.reader) l.fn.turns l.turns;
   none_failed : g.R.Source.failures l.reader ≡ g.R.Source.failures l.fn.reader;
 }
 
-abbrev pub decreases-loop-piece : goal.decreases-loop-piece
-decreases-loop-piece g l = l.turns
+abbrev pub decreases-loop-turns : goal.decreases-loop-turns
+decreases-loop-turns g l = l.turns

@@ -1,6 +1,6 @@
 use Rattle.std.specs.Prelude.{⊤}
 use Rattle.std.specs.List.{concat}
-use Rattle.std.proofs.Common.{rules, refl, Err, false, [], ◌∷◌, ◌++◌, ◌≡◌, ap, subst, sym, take, ◌∙◌}
+use Rattle.std.proofs.Common.{rules, refl, Err, false, [], ◌∷◌, ◌++◌, ◌≡◌, ap, subst, sym, take, ◌∙◌, length}
 use Rattle.resp_server.specs.Handling.{HasAnswered, WhereOpen}
 use Rattle.resp_wire.specs.Serving.{AnswersBefore, FailsServing, Serves, StopsServing, is_of_reader}
 use Rattle.resp_wire.specs.Pieces.{ReadsNothing}
@@ -22,7 +22,7 @@ returns-in-Err-clause-served g c =
     let held' = g.W.Sink.written c.write_out.new.writer in
     let (waits, some, sent) = c.in-Err.ensures.part in (
       [],
-      only_pieces g.R.Source.remaining g.R.Source.calls g.R.Source.failures c.args.reader.now c.args.reader.now [] (is_of_reader c.in-Err.error) refl
+      only_pieces (length c.args.buffer.now) g.R.Source.remaining g.R.Source.calls g.R.Source.failures c.args.reader.now c.args.reader.now [] (is_of_reader c.in-Err.error) refl
           c.in-Err.ensures.no_read,
       where_open old id _ (λ s here not_closing front taken. (
         tt,
@@ -89,7 +89,7 @@ returns-in-Ok-eq0-clause-end g c =
     let none : c.in-Ok-eq0.field-0 ≡ 0 = search rules in
     let (pieces, given, served) = c.loop-count.invariant.served in (
       end_after (g.R.Source.remaining c.args.reader.now) (g.R.Source.remaining c.loop-count.reader) (g.R.Source.remaining c.read_some.new.reader)
-          (concat pieces) (all_read g.R.Source.remaining g.R.Source.calls g.R.Source.failures c.args.reader.now c.loop-count.reader pieces given)
+          (concat pieces) (all_read (length c.args.buffer.now) g.R.Source.remaining g.R.Source.calls g.R.Source.failures c.args.reader.now c.loop-count.reader pieces given)
           (c.in-Ok-eq0.ensures.end (search rules) none),
       open_is c.loop-count.hub c.args.id c.loop-count.invariant.is_open,
     )
@@ -159,11 +159,11 @@ returns-in-Err-answer-clause-served g c =
     let held'' = g.W.Sink.written c.answer.new.writer in
     let cur = c.loop-count.hub in
     let new = c.answer.new.hub in
-    let given_all = gives g.R.Source.remaining g.R.Source.calls g.R.Source.failures c.args.reader.now c.loop-count.reader c.read_some.new.reader pieces into n
+    let given_all = gives (length c.args.buffer.now) g.R.Source.remaining g.R.Source.calls g.R.Source.failures c.args.reader.now c.loop-count.reader c.read_some.new.reader pieces into n
     given
     c.in-Ok.ensures.within (search rules) (search rules) c.in-Ok.ensures.read c.in-Ok.ensures.once c.in-Ok.ensures.none_failed in (
       pieces ++ take n into ∷ [],
-      only_pieces g.R.Source.remaining g.R.Source.calls g.R.Source.failures c.args.reader.now c.read_some.new.reader (pieces ++ take n into ∷ [])
+      only_pieces (length c.args.buffer.now) g.R.Source.remaining g.R.Source.calls g.R.Source.failures c.args.reader.now c.read_some.new.reader (pieces ++ take n into ∷ [])
           (is_of_reader error) given_all c.in-Err-answer.ensures.no_read,
       piece_stops c.answers_go_on.ensures c.answers_are_added.ensures c.args.hub.now cur new id pieces (take n into)
           (g.W.Sink.written c.args.writer.now) held' held'' error served c.loop-count.invariant.is_open
@@ -186,11 +186,11 @@ returns-then-closing-clause-served g c =
     let held'' = g.W.Sink.written c.answer.new.writer in
     let cur = c.loop-count.hub in
     let new = c.answer.new.hub in
-    let given_all = gives g.R.Source.remaining g.R.Source.calls g.R.Source.failures c.args.reader.now c.loop-count.reader c.read_some.new.reader pieces into n
+    let given_all = gives (length c.args.buffer.now) g.R.Source.remaining g.R.Source.calls g.R.Source.failures c.args.reader.now c.loop-count.reader c.read_some.new.reader pieces into n
     given
     c.in-Ok.ensures.within (search rules) (search rules) c.in-Ok.ensures.read c.in-Ok.ensures.once c.in-Ok.ensures.none_failed in (
       pieces ++ take n into ∷ [],
-      only_pieces g.R.Source.remaining g.R.Source.calls g.R.Source.failures c.args.reader.now c.read_some.new.reader (pieces ++ take n into ∷ []) false
+      only_pieces (length c.args.buffer.now) g.R.Source.remaining g.R.Source.calls g.R.Source.failures c.args.reader.now c.read_some.new.reader (pieces ++ take n into ∷ []) false
           given_all refl,
       piece_serves c.answers_go_on.ensures c.answers_are_added.ensures c.args.hub.now cur new id pieces (take n into)
           (g.W.Sink.written c.args.writer.now) held' held'' served c.loop-count.invariant.is_open
@@ -222,7 +222,7 @@ loop-count-preserved g c =
     record {
       served = (
         more,
-        gives g.R.Source.remaining g.R.Source.calls g.R.Source.failures c.args.reader.now c.loop-count.reader c.read_some.new.reader pieces into n given
+        gives (length c.args.buffer.now) g.R.Source.remaining g.R.Source.calls g.R.Source.failures c.args.reader.now c.loop-count.reader c.read_some.new.reader pieces into n given
             c.in-Ok.ensures.within (search rules) (search rules) c.in-Ok.ensures.read c.in-Ok.ensures.once c.in-Ok.ensures.none_failed,
         where_open old id _ (λ s here not_closing front taken.
             let (v, _, each) = at_open old id (λ t f. Serves old new id t (f ++ concat more) held held'' [] × ⊤ × AnswersBefore old id t f more held held'') s

@@ -1,5 +1,5 @@
 use Rattle.std.specs.List.{concat}
-use Rattle.std.proofs.Common.{◌≡◌, ◌++◌, List, ℕ, []}
+use Rattle.std.proofs.Common.{◌≡◌, ◌++◌, List, ℕ, [], length}
 use Rattle.resp_server.specs.Handling.{WhereOpen}
 use Rattle.resp_wire.specs.Asking.{SpendsTurns}
 use Rattle.resp_wire.specs.Pieces.{GivesPieces}
@@ -9,7 +9,7 @@ use Rattle.resp_wire.proofs.serve.serve_open.Given as goal
 abbrev pub invariant-loop-count : goal.invariant-loop-count
 invariant-loop-count g l = record {
   served : (pieces : List (List ℕ)) ×
-      GivesPieces g.R.Source.remaining g.R.Source.calls g.R.Source.failures l.fn.reader l.reader pieces ×
+      GivesPieces (length l.fn.buffer) g.R.Source.remaining g.R.Source.calls g.R.Source.failures l.fn.reader l.reader pieces ×
       WhereOpen l.fn.hub l.fn.id (λ s front. Serves l.fn.hub l.hub l.fn.id s (front ++ concat pieces) (g.W.Sink.written l.fn.writer)
       (g.W.Sink.written l.writer) [] × AnswersBefore l.fn.hub l.fn.id s front pieces (g.W.Sink.written l.fn.writer) (g.W.Sink.written l.writer));
   is_open : IsOpen l.hub l.fn.id;

@@ -5,7 +5,7 @@ use Rattle.resp_wire.specs.Hearing.{HearsAll, WaitsBefore}
 use Rattle.resp_wire.specs.Stops.{StopsListening}
 use Rattle.resp_wire.proofs.Exchanges.{all_sent, no_fault_queued, no_fault_written, queue_takes_no_turn, sends_all, sends_part, spends_no_turns, spends_writes}
 use Rattle.resp_wire.proofs.Queueing.{keeps_on}
-use Rattle.resp_wire.proofs.ask.ask.Goals as goal
+use Rattle.resp_wire.proofs.ask.ask_with.Goals as goal
 
 pub returns-in-Err-clause-turns : goal.returns-in-Err-clause-turns
 returns-in-Err-clause-turns g c = (

@@ -1,15 +1,15 @@
-use Rattle.std.proofs.Common.{rules, refl, [], subst, true}
+use Rattle.std.proofs.Common.{rules, refl, [], subst, true, length}
 use Rattle.resp_wire.specs.Serving.{IsClosing, is_of_reader}
 use Rattle.resp_wire.proofs.Exchanges.{spends_no_turns, spends_writes}
 use Rattle.resp_wire.proofs.Seated.{closing_is_there, is_open, not_open, nowhere}
 use Rattle.resp_wire.proofs.ServedTexts.{sent_is_closing}
 use Rattle.resp_wire.proofs.ServeStops.{answering, no_turn_to_answer}
 use Rattle.resp_wire.proofs.Pieces.{no_pieces, only_pieces}
-use Rattle.resp_wire.proofs.serve.serve.Goals as goal
+use Rattle.resp_wire.proofs.serve.serve_with.Goals as goal
 
 pub returns-in_default-clause-served : goal.returns-in_default-clause-served
 returns-in_default-clause-served g c =
-    ([], no_pieces g.R.Source.remaining g.R.Source.calls g.R.Source.failures c.args.reader.now, nowhere c.args.hub.now c.args.id _ c.in_default.ensures.none)
+    ([], no_pieces (length c.args.buffer.now) g.R.Source.remaining g.R.Source.calls g.R.Source.failures c.args.reader.now, nowhere c.args.hub.now c.args.id _ c.in_default.ensures.none)
 
 pub returns-in_default-clause-turns : goal.returns-in_default-clause-turns
 returns-in_default-clause-turns g c = (
@@ -28,7 +28,7 @@ write_out-requires g c = closing_is_there c.args.hub.now c.args.id c.in-Ok.closi
 pub returns-in-Err-clause-served : goal.returns-in-Err-clause-served
 returns-in-Err-clause-served g c = (
   [],
-  only_pieces g.R.Source.remaining g.R.Source.calls g.R.Source.failures c.args.reader.now c.args.reader.now [] (is_of_reader c.in-Err.error) refl
+  only_pieces (length c.args.buffer.now) g.R.Source.remaining g.R.Source.calls g.R.Source.failures c.args.reader.now c.args.reader.now [] (is_of_reader c.in-Err.error) refl
       c.in-Err.ensures.no_read,
   not_open c.args.hub.now c.args.id _ (subst (IsClosing c.args.hub.now c.args.id) {y = true} (search rules) c.in-Ok.ensures.closing),
 )
@@ -46,7 +46,7 @@ returns-in-Err-clause-turns g c = (
 pub returns-clause-served : goal.returns-clause-served
 returns-clause-served g c = (
   [],
-  no_pieces g.R.Source.remaining g.R.Source.calls g.R.Source.failures c.args.reader.now,
+  no_pieces (length c.args.buffer.now) g.R.Source.remaining g.R.Source.calls g.R.Source.failures c.args.reader.now,
   not_open c.args.hub.now c.args.id _ (subst (IsClosing c.args.hub.now c.args.id) {y = true} (search rules) c.in-Ok.ensures.closing),
 )
 
