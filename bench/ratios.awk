@@ -1,4 +1,4 @@
-# Reads the lines `TEXT: COUNTS; N` of several files. Prints the least number for each text in each file, and the ratios
+# Reads the lines `TEXT: COUNTS; N` of several files. Prints a row for each text: the number of each file, and the ratios
 # to the last file. `names` has a name for each file. Instructions are divided by the number of replies. Fails if the
 # counts differ.
 
@@ -22,21 +22,23 @@
         sub(/.*: /, "", replies)
         number /= replies
     }
-    if (!((side, text) in least) || number < least[side, text]) least[side, text] = number
+    of[side, text] = number
 }
 
 END {
     if (failed) exit 1
     sides = split(names, name, " ")
-    printf "%-34s", unit
-    for (i = 1; i <= sides; i++) printf " %10s", name[i]
-    for (i = 1; i < sides; i++) printf " %8s", name[i]
+    printf "| %s |", unit
+    for (i = 1; i <= sides; i++) printf " %s |", name[i]
+    for (i = 1; i < sides; i++) printf " %s/%s |", name[i], name[sides]
+    printf "\n|"
+    for (i = 0; i < 2 * sides; i++) printf "---|"
     printf "\n"
     for (t = 1; t <= many; t++) {
         text = texts[t]
-        printf "%-34s", text
-        for (i = 1; i <= sides; i++) printf " %10d", least[i, text]
-        for (i = 1; i < sides; i++) printf " %8.3f", least[i, text] / least[sides, text]
+        printf "| %s |", text
+        for (i = 1; i <= sides; i++) printf " %d |", of[i, text]
+        for (i = 1; i < sides; i++) printf " %.3f |", of[i, text] / of[sides, text]
         printf "\n"
     }
 }

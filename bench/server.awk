@@ -1,20 +1,18 @@
 # Reads the lines `NAME: N commands, ..; N us` of bench server, and the lines `NAME RATE SECONDS` of redis-benchmark for
-# a million commands. Prints for each kind the most commands a second of each and their ratio.
+# a million commands. Prints for each kind the commands a second of each and their ratio.
 
 / us$/ {
     kind = tolower($1)
     sub(/:/, "", kind)
-    commands = $2
-    rate = commands * 1000000 / $(NF - 1)
-    if (rate > ours[kind]) ours[kind] = rate
+    ours[kind] = $2 * 1000000 / $(NF - 1)
     next
 }
 
 {
     kind = $1
     sub(/_mbulk/, "", kind)
-    if ($2 > theirs[kind]) theirs[kind] = $2
-    if (!(kind in seconds) || $3 < seconds[kind]) seconds[kind] = $3
+    theirs[kind] = $2
+    seconds[kind] = $3
 }
 
 END {
