@@ -5,6 +5,7 @@ use std::process::Abort;
 
 mod failing;
 mod live;
+mod screens;
 mod scripts;
 mod statuses;
 mod streams;

@@ -99,6 +99,11 @@ look_of p = record { nested = p.nested; refuses = eqb p.refuses 1 }
 abbrev pub IsAsk : ℕ → Type 0
 IsAsk hello = (hello ≡ 0) ⊎ IsVersion hello
 
+-- the version of a pairing, and the version that the waiting HELLO requests, are versions
+pub record HasVersions (p : RespPairing) : Type 0 where
+  pub version : IsVersion p.version
+  pub asked : IsAsk p.hello
+
 -- one more command waits
 abbrev pub with_ask_queued : Option Version → Waiting → Waiting
 with_ask_queued ask w = record { version = w.version; asks = w.asks ++ ask ∷ [] }

@@ -15,8 +15,8 @@ ghost use Rattle.resp_scan.specs.declared.event.TextKind.{TextKind};
 ghost use Rattle.resp_session.specs.Heard.{is_push};
 ghost use Rattle.resp_session.specs.Reading.{IsUnasked, is_refusal, reading_version, waiting_after};
 ghost use Rattle.resp_c.specs.Told.{Tells, TellsWhole};
-ghost use Rattle.resp_c.specs.Versions.{version_of};
-ghost use Rattle.resp_c.specs.Pairs.{IsAsk, after_events, ask_of, count_of_reply, hello_asks, look_of, nested_by, new_look, number_of_reply, refuses_by, waiting_of, with_ask_queued};
+ghost use Rattle.resp_c.specs.Versions.{IsVersion, version_of};
+ghost use Rattle.resp_c.specs.Pairs.{HasVersions, IsAsk, after_events, ask_of, count_of_reply, hello_asks, look_of, nested_by, new_look, number_of_reply, refuses_by, waiting_of, with_ask_queued};
 
 use crate::event::RespEvent;
 use crate::scanner::BAD_VERSION;
@@ -54,6 +54,7 @@ pub struct RespPairing {
 pub extern "C" fn resp_pairing_init(pairing: &mut RespPairing)
     ensures waiting { waiting_of pairing.new ≡ record { version = Two; asks = [] } }
     ensures none_answered { pairing.new.answered ≡ 0 }
+    ensures versions { HasVersions pairing.new }
 {
     *pairing = RespPairing {
         version: 2,
@@ -101,11 +102,14 @@ pub extern "C" fn resp_pairing_queue(pairing: &mut RespPairing, hello: u32, numb
     ensures same_value { (look_of pairing.new ≡ look_of pairing.old) ×
         (number_of_reply pairing.new ≡ number_of_reply pairing.old) }
     ensures bad_version { (result ≡ 64) ↔ (IsAsk hello → ⊥) }
-    ensures hello_waits { result ≡ 67 → (hello ≡ 0 → ⊥) × (pairing.old.hello ≡ 0 → ⊥) }
-    ensures too_many { result ≡ 24 →
-        2 ^ 63 ≤ pairing.old.answered + length (waiting_of pairing.old).asks }
+    ensures hello_waits { (result ≡ 67) ↔ (IsAsk hello × (hello ≡ 0 → ⊥) ×
+        (pairing.old.hello ≡ 0 → ⊥)) }
+    ensures too_many { (result ≡ 24) ↔ (IsAsk hello × ((hello ≡ 0) ⊎ (pairing.old.hello ≡ 0)) ×
+        (2 ^ 63 ≤ pairing.old.answered + length (waiting_of pairing.old).asks)) }
     ensures ok { IsAsk hello → ((hello ≡ 0) ⊎ (pairing.old.hello ≡ 0)) →
         pairing.old.answered + length (waiting_of pairing.old).asks < 2 ^ 63 → result ≡ 0 }
+    ensures causes { (result ≡ 0) ⊎ (result ≡ 64) ⊎ (result ≡ 67) ⊎ (result ≡ 24) }
+    ensures versions { HasVersions pairing.old → HasVersions pairing.new }
     ensures unchanged { (result ≡ 0 → ⊥) → (pairing.new ≡ pairing.old) ×
         (number.new ≡ number.old) }
 {
@@ -143,6 +147,8 @@ pub extern "C" fn resp_pairing_first(pairing: &mut RespPairing, byte: u8, versio
     ensures cause { (result ≡ 0 → ⊥) → result ≡ 20 }
     ensures version { result ≡ 0 → version_of version.new ≡
         reading_version (waiting_of pairing.old).version (waiting_of pairing.old).asks }
+    ensures is_version { result ≡ 0 → HasVersions pairing.old → IsVersion version.new }
+    ensures versions { HasVersions pairing.old → HasVersions pairing.new }
     ensures begins { result ≡ 0 → (look_of pairing.new ≡ new_look) ×
         (pairing.new.first ≡ byte) }
     ensures same_waiting { (waiting_of pairing.new ≡ waiting_of pairing.old) ×
@@ -212,6 +218,7 @@ fn answer(pairing: &mut RespPairing)
         pairing.new.answered ≡ pairing.old.answered + 1 }
     ensures same_value { (look_of pairing.new ≡ look_of pairing.old) ×
         (pairing.new.first ≡ pairing.old.first) }
+    ensures versions { HasVersions pairing.old → HasVersions pairing.new }
 {
     pairing.answered = pairing.answered.saturating_add(1);
     if pairing.before > 0 {
@@ -249,6 +256,7 @@ pub extern "C" fn resp_pairing_take(pairing: &mut RespPairing, event: &RespEvent
         (waiting_of pairing.new ≡ waiting_of pairing.old) ×
         (pairing.new.answered ≡ pairing.old.answered) }
     ensures same_byte { pairing.new.first ≡ pairing.old.first }
+    ensures versions { HasVersions pairing.old → HasVersions pairing.new }
 {
     let is_push = pairing.first == 62;
     *number = if is_push {

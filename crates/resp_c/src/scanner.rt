@@ -67,6 +67,8 @@ pub extern "C" fn resp_scanner_init(
     ensures held { result ≡ 0 → IsHeld scanner.new.scanner }
     ensures ok { (result ≡ 0) ↔ (IsVersion version × AreBounds (bounds_of limits.now)) }
     ensures version { (result ≡ 64) ↔ (IsVersion version → ⊥) }
+    ensures limits { (result ≡ 63) ↔ (IsVersion version ×
+        (AreBounds (bounds_of limits.now) → ⊥)) }
     ensures unchanged { (result ≡ 0 → ⊥) → scanner.new.scanner ≡ scanner.old.scanner }
 {
     let Some(version) = crate::scanner::version(version) else {
@@ -149,6 +151,8 @@ pub extern "C" fn resp_scanner_set_version(scanner: &mut RespScanner, version: u
     ensures nothing_read { result ≡ 0 → WhereHeld scanner.old.scanner (λ old.
         WhereRead old (λ front given. WhereHeld scanner.new.scanner (λ new. HasRead new [] []))) }
     ensures held { IsHeld scanner.new.scanner }
+    ensures version { (result ≡ 64) ↔ (IsVersion version → ⊥) }
+    ensures busy { (result ≡ 0) ⊎ (result ≡ 62) ⊎ (result ≡ 64) }
     ensures unchanged { (result ≡ 0 → ⊥) → scanner.new.scanner ≡ scanner.old.scanner }
 {
     let Some(version) = crate::scanner::version(version) else {

@@ -165,7 +165,7 @@ impl Window {
     /// Prints waiting text, as far as standard output accepts it without blocking.
     fn show<W: LiveSink>(&mut self, out: &mut W) -> io::Result<()> {
         for _ in 0..WRITES {
-            self.screen.say_what_is_left_out();
+            let _ = self.screen.say_what_is_left_out();
             let text = self.screen.text();
             if text.is_empty() || !self.terminal.is_ready() {
                 return Ok(());

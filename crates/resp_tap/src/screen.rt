@@ -1,12 +1,12 @@
 //! A bounded buffer for text that waits for the terminal.
 
-ghost use Rattle.std.specs.Prelude.{◌≡◌, ◌≤◌, length, None, IfOk};
+ghost use Rattle.std.specs.Prelude.{◌≡◌, ◌≤◌, length, None, IfOk, OnErr, OnOk};
 ghost use Rattle.resp_value.specs.Devices.{Writes, count_after, failures_after, write_fails};
 
 use bytes::BytesMut;
-use resp_print::text::write_number;
-use resp_value::device::{DeviceFault, MemorySink, Sink};
-use std::alloc::Global;
+use itoa::Buffer;
+use resp_value::device::{DeviceFault, Sink};
+use std::alloc::{AllocError, Global};
 use std::marker::Model;
 
 /// The free bytes that the line about omitted bytes needs.
@@ -14,15 +14,15 @@ const ROOM: usize = 64;
 
 /// Holds printed text until it is shown, up to a maximum number of bytes. Text that arrives while
 /// the screen is full is omitted and counted. When there is room again, a line says how many bytes
-/// were omitted.
+/// were omitted. If the text before it was cut inside a line, that line is ended first.
 ///
 /// A write to a screen never fails, so printing never delays forwarding.
 #[derive(Drop)]
 pub struct Screen {
-    alloc: Global,
     text: BytesMut,
     most: usize,
     unshown: u64,
+    in_line: bool,
     calls: u64,
     failures: u64,
 }
@@ -36,24 +36,25 @@ impl Model for Screen {
       held = s.text.items;
       most = s.most;
       unshown = s.unshown;
+      in_line = s.in_line;
       calls = s.calls;
       failures = s.failures;
     } };
 }
 
 impl Screen {
-    ghost use Rattle.std.specs.Prelude.{◌⊎◌, drop, IfSome};
-    ghost use Rattle.resp_tap.specs.Screens.{IsLead, IsLeftOutLine, KeepsOrCounts, SaysWhatIsLeftOut, new_screen};
+    ghost use Rattle.std.specs.Prelude.{drop};
+    ghost use Rattle.resp_tap.specs.Screens.{KeepsOrCounts, LineIsDue, SaysWhatIsLeftOut, new_screen};
 
     /// Returns an empty screen that holds at most `most` bytes. It allocates nothing.
     pub fn new(alloc: Global, most: usize) -> Screen
         ensures { result ≡ new_screen most }
     {
         Screen {
-            alloc,
             text: BytesMut::new(alloc),
             most,
             unshown: 0,
+            in_line: false,
             calls: 0,
             failures: 0,
         }
@@ -100,45 +101,37 @@ impl Screen {
             Err(_) => 0,
         };
         self.unshown = self.unshown.saturating_add((text.len() - kept) as u64);
+        if let Some(last) = text[..kept].last() {
+            self.in_line = *last != b'\n';
+        }
     }
 
-    /// Appends a line with the number of omitted bytes, if bytes were omitted and there is room for
-    /// the line. Call this between two texts.
-    pub fn say_what_is_left_out(&mut self)
-        ensures { (self.new ≡ self.old) ⊎ SaysWhatIsLeftOut self.old self.new }
+    /// Appends a line with the number of omitted bytes, if bytes were omitted and at least 64 more
+    /// bytes may be held. Call this between two texts.
+    ///
+    /// # Errors
+    ///
+    /// `AllocError` if an allocation fails. Nothing changes.
+    pub fn say_what_is_left_out(&mut self) -> Result<(), AllocError>
+        ensures due { OnOk result (LineIsDue self.old → SaysWhatIsLeftOut self.old self.new) }
+        ensures not_due { OnOk result ((LineIsDue self.old → ⊥) → self.new ≡ self.old) }
+        ensures unchanged { OnErr result (self.new ≡ self.old) }
     {
         let room = self.most.saturating_sub(self.text.len());
         if self.unshown == 0 || room < ROOM {
-            return;
+            return Ok(());
         }
-        if let Some(line) = self.left_out_line() {
-            self.unshown = 0;
-            self.keep(line.bytes());
+        self.text.reserve(ROOM)?;
+        let mut buffer = Buffer::new();
+        if self.in_line {
+            self.text.extend_reserved(b"\n");
         }
-    }
-
-    /// Returns the text that ends a line that was cut.
-    fn lead(&self) -> &'static [u8]
-        ensures { IsLead result.now }
-    {
-        match self.text.as_slice().last() {
-            Some(b'\n') | None => b"",
-            Some(_) => b"\n",
-        }
-    }
-
-    /// Returns the line about omitted bytes, after an LF if a line was cut; `None` if an allocation
-    /// fails.
-    fn left_out_line(&self) -> Option<MemorySink>
-        ensures { IfSome result (λ line. IsLeftOutLine self.now.unshown line.held) }
-    {
-        let Ok(mut line) = MemorySink::new(self.alloc, ROOM, ROOM) else {
-            return None;
-        };
-        match write_number(&mut line, self.lead(), self.unshown, b" bytes not shown\n") {
-            Ok(()) => Some(line),
-            Err(_) => None,
-        }
+        self.text
+            .extend_reserved(buffer.format(self.unshown).as_bytes());
+        self.text.extend_reserved(b" bytes not shown\n");
+        self.unshown = 0;
+        self.in_line = false;
+        Ok(())
     }
 }
 
