@@ -7,7 +7,7 @@ import statistics
 import subprocess
 import sys
 
-NUMBER = re.compile(r"(?<![\w.])(\d[\d,]*(?:\.\d+)?)(?![\w])")
+NUMBER = re.compile(r"(?<![\w.])(\d+(?:,\d{3})*(?:\.\d+)?)(?!\w)")
 
 
 def value_of(text):
