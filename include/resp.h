@@ -17,11 +17,12 @@
  *     resp_scanner_init(&scanner, 3, &limits);
  *
  *     struct resp_event event;
+ *     uint32_t cause;
  *     while ((cause = resp_scanner_step(&scanner, piece, length, &event)) == RESP_OK) {
+ *         if (event.kind == RESP_MORE) break;   // read the next piece
+ *         ...                                   // use the event before `piece` moves
  *         piece += event.used;
  *         length -= event.used;
- *         if (event.kind == RESP_MORE) break;   // read the next piece
- *         ...
  *     }
  */
 #ifndef RESP_H
@@ -312,7 +313,7 @@ void resp_pairing_init(struct resp_pairing *pairing);
 /* Counts a command that is sent. `hello` is the version that a HELLO asks for, and 0 for any other
  * command. Sets `*number` to the number of the command and of its reply, from 1.
  *
- * Do not queue a command that gets no reply or several replies: SUBSCRIBE, PSUBSCRIBE, SSUBSCRIBE
+ * Do not queue a command that gets no reply or several replies, such as SUBSCRIBE, PSUBSCRIBE, SSUBSCRIBE
  * and their UN- forms, MONITOR, SYNC, PSYNC, CLIENT REPLY. Later replies would be paired with the
  * wrong commands. Do not queue RESET either: it changes the version of the connection. Nothing
  * checks this.
@@ -423,7 +424,8 @@ uint32_t resp_write_big(uint8_t *room, size_t length, bool is_negative, const ui
  * items; RESP_CAUSE_TOTAL if the text is over the limit of total. */
 uint32_t resp_command_size(const struct resp_limits *limits, const size_t *lengths, size_t count, size_t *size);
 
-/* Writes a command of `argc` words, `argvlen` bytes at each `argv`, as an array of bulk strings.
+/* Writes a command of `argc` words, at least 1, `argvlen` bytes at each `argv`, as an array of bulk
+ * strings. An empty command gets no reply, and nothing checks this.
  *
  * Errors: as resp_command_size; RESP_CAUSE_NO_ROOM, with `*size` set.
  *

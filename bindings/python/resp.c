@@ -563,7 +563,7 @@ static PyMethodDef PAIRING_METHODS[] = {
     {"queue", (PyCFunction)pairing_queue, METH_VARARGS,
      "queue(hello=0)\n--\n\nCounts a command that is sent, or a HELLO that asks for protocol 2 or 3. Returns the number of its\n"
      "reply, from 1. Raises ValueError for another protocol, or if another such HELLO waits.\n\n"
-     "Do not queue a command that gets no reply or several replies (SUBSCRIBE, PSUBSCRIBE, SSUBSCRIBE and their UN- forms,\n"
+     "Do not queue a command that gets no reply or several replies (such as SUBSCRIBE, PSUBSCRIBE, SSUBSCRIBE and their UN- forms,\n"
      "MONITOR, SYNC, PSYNC, CLIENT REPLY), or RESET. Later replies would be paired with the wrong commands. Nothing checks\n"
      "this."},
     {"protocol", (PyCFunction)pairing_protocol, METH_NOARGS,

@@ -97,7 +97,7 @@ impl Pairing {
 
     /// Counts a command that is sent, and returns the number of its reply.
     ///
-    /// Do not queue a command that gets no reply or several replies: SUBSCRIBE, PSUBSCRIBE,
+    /// Do not queue a command that gets no reply or several replies, such as SUBSCRIBE, PSUBSCRIBE,
     /// SSUBSCRIBE and their UN- forms, MONITOR, SYNC, PSYNC, CLIENT REPLY. Later replies would be
     /// paired with the wrong commands. Do not queue RESET either: it changes the version of the
     /// connection. Nothing checks this.
