@@ -313,10 +313,10 @@ void resp_pairing_init(struct resp_pairing *pairing);
 /* Counts a command that is sent. `hello` is the version that a HELLO asks for, and 0 for any other
  * command. Sets `*number` to the number of the command and of its reply, from 1.
  *
- * Do not queue a command that gets no reply or several replies, such as SUBSCRIBE, PSUBSCRIBE, SSUBSCRIBE
- * and their UN- forms, MONITOR, SYNC, PSYNC, CLIENT REPLY. Later replies would be paired with the
- * wrong commands. Do not queue RESET either: it changes the version of the connection. Nothing
- * checks this.
+ * Do not queue a command that gets no reply or several replies, such as SUBSCRIBE, PSUBSCRIBE,
+ * SSUBSCRIBE and their UN- forms, MONITOR, SYNC, PSYNC, CLIENT REPLY. Later replies would be paired
+ * with the wrong commands. Do not queue RESET either: it changes the version of the connection.
+ * Nothing checks this.
  *
  * Errors: RESP_CAUSE_BAD_VERSION; RESP_CAUSE_HELLO_WAITS for a HELLO with a version while another
  * one waits; RESP_CAUSE_TOO_MANY after 2^63 commands. An error changes nothing. */

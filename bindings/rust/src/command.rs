@@ -31,6 +31,7 @@ impl fmt::Display for CommandError {
 impl Error for CommandError {}
 
 /// Returns the bytes of a command: an array of its words as bulk strings.
+///
 /// A command has at least one word: a server does not reply to an empty command.
 ///
 /// # Errors
