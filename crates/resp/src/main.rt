@@ -30,7 +30,7 @@ use std::cell::Cell;
 use std::env;
 use std::fs::File;
 use std::hash::RandomState;
-use std::io::{Read, Write};
+use std::io::{self, Read, Write};
 use std::net::{Net, TcpListener, TcpStream};
 use std::process::ExitCode;
 
@@ -187,15 +187,7 @@ fn run_loop<R: Source, W: Sink, F: Sink>(
     for index in 0..script.clients {
         match TcpLink::connect(net) {
             Ok(link) => links.push(link)?,
-            Err(error) => {
-                let status = stop(&ToolError::Read, faults);
-                if explains {
-                    let why = format!(in alloc; "{error}")?;
-                    let why = why.as_str().as_bytes();
-                    let _ = write_no_connection(faults, index as u64 + 1, why);
-                }
-                return Ok(status);
-            }
+            Err(error) => return refuse_connection(alloc, index, &error, explains, faults),
         }
     }
     let Some(hasher) = hasher else {
@@ -211,4 +203,21 @@ fn run_loop<R: Source, W: Sink, F: Sink>(
             Ok(error.status())
         }
     }
+}
+
+/// Writes the line of a connection of the loop that cannot be opened, and the reason if that is
+/// asked for. Returns the exit status.
+fn refuse_connection<F: Sink>(
+    alloc: Global,
+    index: usize,
+    error: &io::Error,
+    explains: bool,
+    faults: &mut F,
+) -> Result<u8, AllocError> {
+    let status = stop(&ToolError::Read, faults);
+    if explains {
+        let why = format!(in alloc; "{error}")?;
+        let _ = write_no_connection(faults, index as u64 + 1, why.as_str().as_bytes());
+    }
+    Ok(status)
 }

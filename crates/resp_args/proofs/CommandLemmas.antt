@@ -31,13 +31,6 @@ option_added old arg new app globals rule adds local is before = (
   or_false _ _ _ adds.globals local ∙ before.1,
 )
 
-pub argument_added : (old new : Command) (arg : Arg) (app : App) (globals : Bool) (rule : Rule) → GainsOptions old (rule_of arg ∷ []) new →
-    rule_of arg ≡ rule → IsRead old app globals → IsRead new (with_rule app rule) globals
-argument_added old new arg app globals rule gains is before = (
-  gains.0 ∙ ap (λ (a : App). with_rule a (rule_of arg)) before.0 ∙ ap (with_rule app) is,
-  gains.1 ∙ before.1,
-)
-
 -- several options more
 pub options_added : (old new : Command) (app : App) (globals : Bool) (options : List Rule) → GainsOptions old options new →
     IsRead old app globals → IsRead new (with_options app options) globals

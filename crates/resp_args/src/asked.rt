@@ -11,6 +11,9 @@ use clap::ArgMatches;
 use resp_print::text::write_text;
 use resp_value::device::{DeviceFault, Sink};
 
+/// The line for words that ask for something that is not done here.
+pub(crate) const OTHER_WORDS: &[u8] = b"error: these words ask for nothing here\n";
+
 /// What a command line asks for.
 #[derive(Clone, Copy, Debug)]
 pub enum Asked<'a> {
@@ -44,7 +47,7 @@ impl NothingAsked<'_> {
     /// Writes the line for standard error.
     pub(crate) fn write<F: Sink>(self, faults: &mut F) -> Result<(), DeviceFault> {
         match self {
-            Self::OtherWords => write_text(faults, b"error: these words ask for nothing here\n"),
+            Self::OtherWords => write_text(faults, OTHER_WORDS),
             Self::BadAddress { text, name } => write_bad_address(text, name, faults),
         }
     }

@@ -1,5 +1,5 @@
-//! The command line of the program `resp`: what its words ask for, and the lines and exit statuses of
-//! its errors.
+//! The command line of the program `resp`: its requests with their options, and the lines and exit
+//! statuses of its errors.
 //!
 //! [`words::read_words`] reads a command line and returns an [`asked::Asked`].
 #![tactic(auto)]

@@ -190,15 +190,6 @@ fn matches_among<'a, S: AsStr>(
     program(alloc, versions)?.try_get_matches_from(words)
 }
 
-/// Adds an argument of this command alone.
-fn with_arg<'a>(command: Command<'a>, arg: Arg<'a>) -> Result<Command<'a>, clap::Error>
-    requires { arg.global ≡ false }
-    ensures gains { IfOk result (GainsOptions command.entry (rule_of arg.entry ∷ [])) }
-    ensures memory { IfErr result (λ error. kind_of error ≡ ErrorKind.OutOfMemory) }
-{
-    Ok(command.arg(arg)?)
-}
-
 /// Returns the parser: the program with its subcommands and their options.
 fn program<'a>(alloc: Global, versions: &'a [&'a str]) -> Result<Command<'a>, clap::Error>
     ensures program { IfOk result (λ command.
@@ -297,11 +288,17 @@ fn with_serve_options<'a>(alloc: Global, command: Command<'a>) -> Result<Command
     ensures gains { IfOk result (GainsOptions command.entry serve_options) }
     ensures memory { IfErr result (λ error. kind_of error ≡ ErrorKind.OutOfMemory) }
 {
-    let help = "Address to listen on, such as 127.0.0.1:6380";
-    let command = with_limits(alloc, command)?;
-    let command = with_arg(command, CLIENTS.option(alloc))?;
-    let command = with_arg(command, address(alloc, "address", "ADDRESS", help))?;
-    Ok(command.after_help(SERVE_HELP))
+    Ok(
+        with_limits(alloc, command)?
+            .arg(CLIENTS.option(alloc))?
+            .arg(address(
+                alloc,
+                "address",
+                "ADDRESS",
+                "Address to listen on, such as 127.0.0.1:6380",
+            ))?
+            .after_help(SERVE_HELP),
+    )
 }
 
 /// Returns the subcommand `tap`.
@@ -320,15 +317,28 @@ fn with_tap_options<'a>(alloc: Global, command: Command<'a>) -> Result<Command<'
     ensures gains { IfOk result (GainsOptions command.entry tap_options) }
     ensures memory { IfErr result (λ error. kind_of error ≡ ErrorKind.OutOfMemory) }
 {
-    let time = "Prints the time in UTC, and how long each reply took";
-    let listen = "Address to listen on, such as 127.0.0.1:6380";
-    let server = "Address of the server, such as 127.0.0.1:6379";
-    let command = with_limits(alloc, command)?;
-    let command = with_arg(command, CLIENTS.option(alloc))?;
-    let command = with_arg(command, flag(alloc, "time", time))?;
-    let command = with_arg(command, address(alloc, "listen", "LISTEN", listen))?;
-    let command = with_arg(command, address(alloc, "server", "SERVER", server))?;
-    Ok(command.after_help(TAP_HELP))
+    Ok(
+        with_limits(alloc, command)?
+            .arg(CLIENTS.option(alloc))?
+            .arg(flag(
+                alloc,
+                "time",
+                "Prints the time in UTC, and how long each reply took",
+            ))?
+            .arg(address(
+                alloc,
+                "listen",
+                "LISTEN",
+                "Address to listen on, such as 127.0.0.1:6380",
+            ))?
+            .arg(address(
+                alloc,
+                "server",
+                "SERVER",
+                "Address of the server, such as 127.0.0.1:6379",
+            ))?
+            .after_help(TAP_HELP),
+    )
 }
 
 /// Returns a required argument that is an address.
@@ -414,11 +424,16 @@ fn with_limits<'a>(alloc: Global, command: Command<'a>) -> Result<Command<'a>, c
     ensures gains { IfOk result (GainsOptions command.entry limit_options) }
     ensures memory { IfErr result (λ error. kind_of error ≡ ErrorKind.OutOfMemory) }
 {
-    let no_streamed = "Rejects streamed strings and aggregates";
-    let command = with_arg(command, DEPTH.option(alloc))?;
-    let command = with_arg(command, LENGTH.option(alloc))?;
-    let command = with_arg(command, TOTAL.option(alloc))?;
-    let command = with_arg(command, ITEMS.option(alloc))?;
-    let command = with_arg(command, flag(alloc, "no-streamed", no_streamed))?;
-    Ok(command)
+    Ok(
+        command
+            .arg(DEPTH.option(alloc))?
+            .arg(LENGTH.option(alloc))?
+            .arg(TOTAL.option(alloc))?
+            .arg(ITEMS.option(alloc))?
+            .arg(flag(
+                alloc,
+                "no-streamed",
+                "Rejects streamed strings and aggregates",
+            ))?,
+    )
 }

@@ -8,7 +8,7 @@ ghost use Rattle.resp_args.specs.Program.{IsProgram};
 ghost use Rattle.resp_args.specs.Tried.{TriesText};
 ghost use Rattle.resp_print.specs.Written.{WritesText};
 
-use crate::asked::{Asked, asked_of};
+use crate::asked::{Asked, OTHER_WORDS, asked_of};
 use crate::parser::matches_of;
 use crate::tool_error::ToolError;
 use clap::error::ErrorKind;
@@ -93,6 +93,18 @@ pub fn refuse_words<F: Sink>(kind: IoErrorKind, faults: &mut F) -> u8
         }
         _ => stop(&ToolError::Memory, faults),
     }
+}
+
+/// Writes that the words ask for something that is not done here. Returns the exit status, 2.
+#[tactic(auto, using(crate::proofs::Tried::tries_text))]
+pub fn refuse_request<F: Sink>(faults: &mut F) -> u8
+    ensures status { result ≡ 2 }
+    ensures told { TriesText (F.written faults.old) (F.written faults.new)
+        (F.failures faults.old) (F.failures faults.new)
+        (codes "error: these words ask for nothing here\n") }
+{
+    let _ = write_text(faults, OTHER_WORDS);
+    BAD_ARGUMENTS
 }
 
 /// Writes that a file can't be opened, and why. Returns the exit status, 3.

@@ -152,7 +152,7 @@ pub extern "C" fn resp_scanner_set_version(scanner: &mut RespScanner, version: u
         WhereRead old (λ front given. WhereHeld scanner.new.scanner (λ new. HasRead new [] []))) }
     ensures held { IsHeld scanner.new.scanner }
     ensures version { (result ≡ 64) ↔ (IsVersion version → ⊥) }
-    ensures busy { (result ≡ 0) ⊎ (result ≡ 62) ⊎ (result ≡ 64) }
+    ensures causes { (result ≡ 0) ⊎ (result ≡ 62) ⊎ (result ≡ 64) }
     ensures unchanged { (result ≡ 0 → ⊥) → scanner.new.scanner ≡ scanner.old.scanner }
 {
     let Some(version) = crate::scanner::version(version) else {

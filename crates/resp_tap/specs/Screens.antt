@@ -20,7 +20,7 @@ abbrev pub new_screen : ℕ → ScreenState
 new_screen most = record { held = []; most = most; unshown = 0; in_line = false; calls = 0; failures = 0 }
 
 -- Whether the last byte of a text is not an LF. Without a byte, as before.
-pub record EndsIn (before : Bool) (text : List ℕ) (after : Bool) : Type 0 where
+pub record InLineAfter (before : Bool) (text : List ℕ) (after : Bool) : Type 0 where
   pub unchanged : text ≡ [] → after ≡ before
   pub last : (byte : ℕ) → slice_get text (length text - 1) ≡ Some byte → after ≡ not (byte == 10)
 
@@ -34,7 +34,7 @@ pub record KeepsOrCounts (old new : ScreenState) (text : List ℕ) : Type 0 wher
   pub counted : new.unshown ≡ count_after (length text - kept) old.unshown
   pub in_order : 0 < old.unshown → kept ≡ 0
   pub bounded : length old.held ≤ old.most → length new.held ≤ new.most
-  pub ends : EndsIn old.in_line (take kept text) new.in_line
+  pub ends : InLineAfter old.in_line (take kept text) new.in_line
   pub same_most : new.most ≡ old.most
 
 -- bytes were omitted, and there is room for the line about them

@@ -1,6 +1,6 @@
 -- The bytes that are forwarded in one direction.
-use Rattle.std.specs.Prelude.{◌≡◌, ℕ, List, [], ◌++◌, Option, None, Some}
-use Rattle.resp_value.specs.Devices.{Appends}
+use Rattle.std.specs.Prelude.{◌≡◌, ◌⊎◌, ℕ, ◌<◌, List, [], ◌++◌, length, Option, None, Some}
+use Rattle.resp_value.specs.Devices.{Appends, count_after}
 
 pub record WayState : Type 0 where
   -- the piece that was read last
@@ -28,6 +28,11 @@ pub record Sends (out out' : Option (List ℕ)) (waiting waiting' : List ℕ) : 
   pub gone : List ℕ
   pub written : Appends out out' gone
   pub whole : waiting ≡ gone ++ waiting'
+
+-- fewer bytes wait than before, or a write failed
+abbrev pub MovesOrFails : List ℕ → List ℕ → ℕ → ℕ → Type 0
+MovesOrFails waiting waiting' failures failures' =
+    (length waiting' < length waiting) ⊎ (failures' ≡ count_after 1 failures)
 
 -- Bytes were read from one side. The bytes that waited, followed by these, are the bytes written to the other side,
 -- followed by the bytes that wait now: no byte is lost, changed, doubled or reordered.

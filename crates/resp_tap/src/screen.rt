@@ -116,6 +116,8 @@ impl Screen {
         ensures due { OnOk result (LineIsDue self.old → SaysWhatIsLeftOut self.old self.new) }
         ensures not_due { OnOk result ((LineIsDue self.old → ⊥) → self.new ≡ self.old) }
         ensures unchanged { OnErr result (self.new ≡ self.old) }
+        ensures bounded { length self.old.held ≤ self.old.most →
+            length self.new.held ≤ self.new.most }
     {
         let room = self.most.saturating_sub(self.text.len());
         if self.unshown == 0 || room < ROOM {

@@ -1,6 +1,6 @@
 //! Forwards the bytes of one direction.
 
-ghost use Rattle.std.specs.Prelude.{◌≡◌, ◌⊎◌, ◌≤◌, [], length, IfOk, IsErr, OnErr};
+ghost use Rattle.std.specs.Prelude.{◌≡◌, ◌⊎◌, ◌++◌, ◌≤◌, [], length, IfOk, IsErr, OnErr};
 ghost use Rattle.resp_value.specs.Devices.{count_after};
 
 use resp_value::device::{DeviceFault, Sink, Source};
@@ -51,7 +51,7 @@ pub enum Visited {
 
 impl Way {
     ghost use Rattle.std.specs.Prelude.{IsTrue, take, ◌<◌, ◌↔◌};
-    ghost use Rattle.resp_tap.specs.Ways.{AtItsEnd, HandsOn, Sends, TakesIn};
+    ghost use Rattle.resp_tap.specs.Ways.{AtItsEnd, HandsOn, MovesOrFails, Sends, TakesIn};
 
     /// Returns a way that has read nothing. It allocates room for one piece.
     ///
@@ -99,6 +99,7 @@ impl Way {
             R.failures reader.new ≡ count_after 1 (R.failures reader.old) }
         ensures end { IfOk result (λ count. count ≡ 0 →
             AtItsEnd (R.remaining reader.old)) }
+        ensures once { R.calls reader.new ≡ count_after 1 (R.calls reader.old) }
     {
         self.start = 0;
         self.end = 0;
@@ -112,6 +113,9 @@ impl Way {
         ensures sent { Sends (W.written writer.old) (W.written writer.new) self.old.waiting
             self.new.waiting }
         ensures same_piece { self.new.piece ≡ self.old.piece }
+        ensures once { W.calls writer.new ≡ count_after 1 (W.calls writer.old) }
+        ensures progress { MovesOrFails self.old.waiting self.new.waiting
+            (W.failures writer.old) (W.failures writer.new) }
     {
         let count = writer.write(self.waiting())?;
         self.start += count;
@@ -133,6 +137,13 @@ impl Way {
         ensures not_read { result.1 ≡ Visited.NotRead → (self.old.waiting ≡ []) ×
             (R.failures reader.new ≡ count_after 1 (R.failures reader.old)) }
         ensures not_written { result.1 ≡ Visited.NotWritten → 0 < length self.new.waiting }
+        ensures reads { self.old.waiting ≡ [] →
+            R.calls reader.new ≡ count_after 1 (R.calls reader.old) }
+        ensures writes { (result.1 ≡ Visited.Onward) ⊎ (result.1 ≡ Visited.NotWritten) →
+            W.calls writer.new ≡ count_after 1 (W.calls writer.old) }
+        ensures progress { result.1 ≡ Visited.NotWritten →
+            MovesOrFails (self.old.waiting ++ take result.0 self.new.piece) self.new.waiting
+            (W.failures writer.old) (W.failures writer.new) }
     {
         if self.waits() {
             return (0, self.send_on(writer));
@@ -155,6 +166,9 @@ impl Way {
         ensures onward { result ≡ Visited.Onward → self.new.waiting ≡ [] }
         ensures or_not { (result ≡ Visited.Onward) ⊎ (result ≡ Visited.NotWritten) }
         ensures not_written { result ≡ Visited.NotWritten → 0 < length self.new.waiting }
+        ensures once { W.calls writer.new ≡ count_after 1 (W.calls writer.old) }
+        ensures progress { MovesOrFails self.old.waiting self.new.waiting
+            (W.failures writer.old) (W.failures writer.new) }
     {
         let _ = self.send(writer);
         if self.waits() {

@@ -15,7 +15,7 @@ use crate::stream::MOST_READS;
 use resp_args::asked::Asked;
 use resp_args::options::{Options, STANDARD_INPUT, Task};
 use resp_args::tool_error::ToolError;
-use resp_args::words::{read_words, stop};
+use resp_args::words::{read_words, refuse_request, stop};
 use resp_print::live::{LiveSink, LiveSource};
 use resp_print::text::write_text;
 use resp_value::device::Sink;
@@ -124,8 +124,7 @@ pub fn command<S: AsStr, R: LiveSource<W>, W: LiveSink, F: Sink>(
         Err(status) => return status,
     };
     let Asked::Stream(options) = asked else {
-        let _ = write_text(faults, b"error: these words ask for nothing here\n");
-        return BAD_ARGUMENTS;
+        return refuse_request(faults);
     };
     if options.file != STANDARD_INPUT {
         let _ = write_text(faults, b"error: these words name a file\n");

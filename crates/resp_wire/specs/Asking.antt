@@ -33,3 +33,8 @@ pub record SpendsTurns (writes writes' reads reads' turns left : ℕ) : Type 0 w
   pub between : ℕ
   pub written : Spends writes writes' turns between
   pub read : Spends reads reads' between left
+
+-- At most this many writes and reads were made. If the call is out of turns, no turn is left.
+abbrev pub SpendsAtMost : ℕ → ℕ → ℕ → ℕ → ℕ → Type 0 → Type 0
+SpendsAtMost writes writes' reads reads' turns IsOutOfTurns =
+    (left : ℕ) × SpendsTurns writes writes' reads reads' turns left × (IsOutOfTurns → left ≡ 0)

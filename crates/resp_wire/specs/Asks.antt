@@ -1,5 +1,5 @@
 -- How far a call of `ask` came when it stopped, and the replies and pushes of the bytes received.
-use Rattle.std.specs.Prelude.{◌≡◌, ℕ, ◌++◌, Bool, List, Option}
+use Rattle.std.specs.Prelude.{◌≡◌, ◌⊎◌, ℕ, ◌++◌, Bool, List, Option}
 use Rattle.std.specs.List.{concat}
 use Rattle.resp_client.specs.Clients.{ClientState, state_of}
 use Rattle.resp_client.specs.Hearing.{KeepsReading, WhereTaken}
@@ -12,7 +12,7 @@ use Rattle.resp_wire.specs.declared.asked.Asked.{Asked}
 use Rattle.resp_wire.specs.declared.asked.Request.{Request}
 use Rattle.resp_wire.specs.declared.error.AskError.{AskError}
 
--- The bytes received are these pieces of at most so many bytes, each from one read that was made while a request waited,
+-- The bytes received are these pieces of at most `most` bytes, each from one read that was made while a request waited,
 -- with these replies and pushes.
 pub record HearsPieces {R : Type 0} (most : ℕ) (remaining : R → Option (List ℕ)) (calls failures : R → ℕ) (reader reader' : R)
     (is_over : Bool) (old : Client) (s : ClientState) (before : Asked) (IsHeard : List ℕ → Type 0) : Type 0 where
@@ -49,3 +49,13 @@ pub record StopsInReading {W R : Type 0} (most : ℕ) (written : W → Option (L
       error
   pub came : HearsPieces most remaining calls failures reader reader' (is_of_last_read error) old (sent old requests) heard
       (λ came. StopsListening (sent old requests) new heard heard' came error)
+
+-- A request is refused before anything is written, or a write fails before anything is read, or all was written and the
+-- replies received before the error were added.
+abbrev pub StopsAsking : {W R : Type 0} → ℕ → (W → Option (List ℕ)) → (W → ℕ) → (R → Option (List ℕ)) → (R → ℕ) →
+    (R → ℕ) → Client → Client → List Request → W → W → R → R → Asked → Asked → AskError → Type 0
+StopsAsking most written write_failures remaining calls failures old new requests writer writer' reader reader' heard
+    heard' error =
+    StopsBeforeWriting old new requests writer writer' reader reader' heard heard' error ⊎
+    StopsInWriting written write_failures old new requests writer writer' reader reader' heard heard' error ⊎
+    StopsInReading most written remaining calls failures old new requests writer writer' reader reader' heard heard' error

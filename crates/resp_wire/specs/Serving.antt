@@ -1,11 +1,12 @@
 -- The results of a server's end, in terms of its hub and of the bytes written.
-use Rattle.std.specs.Prelude.{◌≡◌, ◌⊎◌, ℕ, ◌<◌, Bool, true, false, List, [], ◌++◌, length, take, Option, Some, None, Result, Ok, Err}
+use Rattle.std.specs.Prelude.{◌≡◌, ◌⊎◌, ℕ, ◌<◌, Bool, true, false, List, [], ◌++◌, length, take, Option, Some, None, Result, Ok, Err, IfErr, OnOk}
 use Rattle.std.specs.List.{concat}
 use Rattle.std.specs.Option.{option_map}
 use Rattle.resp_value.specs.Devices.{Appends, HasRisen}
-use Rattle.resp_server.specs.Handling.{HasAnswered, HasCutShort}
+use Rattle.resp_server.specs.Handling.{HasAnswered, HasCutShort, WhereOpen}
 use Rattle.resp_server.specs.Hubs.{HubState, Seat, seat_at, seated}
 use Rattle.resp_server.specs.Reading.{HasReadFront}
+use Rattle.resp_wire.specs.Pieces.{ReadsPieces}
 use Rattle.resp_wire.specs.Turns.{TellsEnd}
 use Rattle.resp_wire.specs.declared.error.ServeError.{ServeError}
 use Rattle.resp_wire.specs.declared.error.ServeError.TheVariants.{NoSession, OutOfMemory, Read, Write, TooManyTurns}
@@ -124,6 +125,20 @@ abbrev pub ends_by_read : Result Served ServeError → Bool
 ends_by_read (Ok Ended) = true
 ends_by_read (Ok Closed) = false
 ends_by_read (Err error) = is_of_reader error
+
+-- The bytes received are pieces of at most `most` bytes, each from one read. Before each read, all replies to the bytes
+-- received before were written. The bytes written and the bytes that still wait, joined, are the bytes that waited
+-- before and the response to the bytes read before of a value together with the bytes received. The hub is in the state
+-- after that response.
+abbrev pub ServesPieces : {W R : Type 0} → ℕ → (W → Option (List ℕ)) → (R → Option (List ℕ)) → (R → ℕ) → (R → ℕ) →
+    W → W → R → R → HubState → HubState → ℕ → Result Served ServeError → Type 0
+ServesPieces most written remaining calls failures writer writer' reader reader' old new id result =
+    (pieces : List (List ℕ)) ×
+    ReadsPieces most remaining calls failures reader reader' pieces (ends_by_read result) ×
+    WhereOpen old id (λ s front.
+    OnOk result (Serves old new id s (front ++ concat pieces) (written writer) (written writer') []) ×
+    IfErr result (StopsServing old new id s front (concat pieces) (written writer) (written writer')) ×
+    AnswersBefore old id s front pieces (written writer) (written writer'))
 
 -- whether a call stopped because a write failed
 abbrev pub failed_to_write : {T : Type 0} → Result T ServeError → Bool

@@ -7,8 +7,8 @@ ghost use Rattle.resp_wire.specs.Requests.{request_of};
 ghost use Rattle.resp_client.specs.Hearing.{KeepsReading, WhereTaken};
 ghost use Rattle.resp_value.specs.Devices.{Appends, failures_after};
 ghost use Rattle.resp_wire.specs.Hearing.{HearsAll, WaitsBefore};
-ghost use Rattle.resp_wire.specs.Asking.{SendsAll, SendsPart, SpendsTurns, sent};
-ghost use Rattle.resp_wire.specs.Asks.{HearsPieces, StopsBeforeWriting, StopsInReading, StopsInWriting};
+ghost use Rattle.resp_wire.specs.Asking.{SendsAll, SpendsAtMost, sent};
+ghost use Rattle.resp_wire.specs.Asks.{HearsPieces, StopsAsking};
 ghost use Rattle.resp_wire.specs.Stops.{FailsReading, FailsWriting, KeepsFault, QueuesFirst, StopsListening, StopsQueueing, ends_by_read, error_at, failed_to_read, failed_to_write, is_of_last_read, is_of_reader, is_of_writer};
 ghost use Rattle.resp_wire.specs.Pieces.{ReadsPieces};
 ghost use Rattle.resp_wire.specs.Turns.{Halts, Spends, has_failed};
@@ -89,9 +89,8 @@ pub fn ask<R: Source, W: Sink>(
         reader.new false client.old (sent client.old requests.now) heard.old
         (HearsAll (sent client.old requests.now) client.new heard.old heard.new)) }
     ensures all_answered { OnOk result ((state_of client.new).waiting.asks ≡ []) }
-    ensures turns { (left : ℕ) × SpendsTurns (W.calls writer.old) (W.calls writer.new)
-        (R.calls reader.old) (R.calls reader.new) turns left ×
-        (IsErrOf result AskError.TooManyTurns → left ≡ 0) }
+    ensures turns { SpendsAtMost (W.calls writer.old) (W.calls writer.new) (R.calls reader.old)
+        (R.calls reader.new) turns (IsErrOf result AskError.TooManyTurns) }
 
     // A device fails once if the error says so, and otherwise never.
     ensures write_failures { W.failures writer.new ≡
@@ -99,15 +98,9 @@ pub fn ask<R: Source, W: Sink>(
     ensures read_failures { R.failures reader.new ≡
         failures_after (failed_to_read result) (R.failures reader.old) }
 
-    // A request is refused before anything is written, or a write fails before anything is read, or
-    // all was written and the replies received before the error were added.
-    ensures refusal { IfErr result (λ error.
-        StopsBeforeWriting client.old client.new requests.now writer.old writer.new reader.old
-        reader.new heard.old heard.new error ⊎
-        StopsInWriting W.written W.failures client.old client.new requests.now writer.old writer.new
-        reader.old reader.new heard.old heard.new error ⊎
-        StopsInReading 4096 W.written R.remaining R.calls R.failures client.old client.new
-        requests.now writer.old writer.new reader.old reader.new heard.old heard.new error) }
+    ensures refusal { IfErr result (StopsAsking 4096 W.written W.failures R.remaining R.calls
+        R.failures client.old client.new requests.now writer.old writer.new reader.old reader.new
+        heard.old heard.new) }
     ensures fault_is_kept { IfErr result (KeepsFault client.new) }
 {
     ask_with(
@@ -121,7 +114,8 @@ pub fn ask<R: Source, W: Sink>(
     )
 }
 
-/// Asks as [`ask`] does, and reads into `buffer`. A piece has at most as many bytes as the buffer.
+/// Asks as [`ask`] does, and reads into `buffer`, which must not be empty. A piece has at most as many
+/// bytes as the buffer.
 ///
 /// # Errors
 ///
@@ -145,9 +139,8 @@ pub fn ask_with<R: Source, W: Sink>(
         reader.old reader.new false client.old (sent client.old requests.now) heard.old
         (HearsAll (sent client.old requests.now) client.new heard.old heard.new)) }
     ensures all_answered { OnOk result ((state_of client.new).waiting.asks ≡ []) }
-    ensures turns { (left : ℕ) × SpendsTurns (W.calls writer.old) (W.calls writer.new)
-        (R.calls reader.old) (R.calls reader.new) turns left ×
-        (IsErrOf result AskError.TooManyTurns → left ≡ 0) }
+    ensures turns { SpendsAtMost (W.calls writer.old) (W.calls writer.new) (R.calls reader.old)
+        (R.calls reader.new) turns (IsErrOf result AskError.TooManyTurns) }
 
     // A device fails once if the error says so, and otherwise never.
     ensures write_failures { W.failures writer.new ≡
@@ -155,16 +148,9 @@ pub fn ask_with<R: Source, W: Sink>(
     ensures read_failures { R.failures reader.new ≡
         failures_after (failed_to_read result) (R.failures reader.old) }
 
-    // A request is refused before anything is written, or a write fails before anything is read, or
-    // all was written and the replies received before the error were added.
-    ensures refusal { IfErr result (λ error.
-        StopsBeforeWriting client.old client.new requests.now writer.old writer.new reader.old
-        reader.new heard.old heard.new error ⊎
-        StopsInWriting W.written W.failures client.old client.new requests.now writer.old writer.new
-        reader.old reader.new heard.old heard.new error ⊎
-        StopsInReading (length buffer.old) W.written R.remaining R.calls R.failures client.old
-        client.new requests.now writer.old writer.new reader.old reader.new heard.old heard.new
-        error) }
+    ensures refusal { IfErr result (StopsAsking (length buffer.old) W.written W.failures
+        R.remaining R.calls R.failures client.old client.new requests.now writer.old writer.new
+        reader.old reader.new heard.old heard.new) }
     ensures fault_is_kept { IfErr result (KeepsFault client.new) }
 {
     if let Err(error) = queue(client, requests) {

@@ -1,13 +1,11 @@
 //! The server's end of a connection.
 
 ghost use Rattle.std.specs.Prelude.{◌≡◌, ◌≢◌, ◌<◌, ◌≤◌, ◌++◌, ℕ, List, [], length, true, false, None, Err, IfSome, IfOk, IfErr, IsErrOf, OnOk, OnErr};
-ghost use Rattle.std.specs.List.{concat};
 ghost use Rattle.resp_server.specs.Hubs.{Seat, seat_at};
 ghost use Rattle.resp_server.specs.Handling.{HasAnswered, WhereOpen};
 ghost use Rattle.resp_value.specs.Devices.{failures_after};
-ghost use Rattle.resp_wire.specs.Asking.{SpendsTurns};
-ghost use Rattle.resp_wire.specs.Serving.{AnswersBefore, EndsBy, FailsServing, HasSent, HasSentPart, IsClosing, IsOpen, IsThere, Serves, ServesClosing, StopsAnswering, StopsReading, StopsServing, StopsWriting, ends_by_read, failed_to_read, failed_to_write, is_of_reader, is_of_writer};
-ghost use Rattle.resp_wire.specs.Pieces.{ReadsPieces};
+ghost use Rattle.resp_wire.specs.Asking.{SpendsAtMost, SpendsTurns};
+ghost use Rattle.resp_wire.specs.Serving.{EndsBy, FailsServing, HasSent, HasSentPart, IsClosing, IsOpen, IsThere, Serves, ServesClosing, ServesPieces, StopsAnswering, StopsReading, StopsServing, StopsWriting, failed_to_read, failed_to_write, is_of_reader, is_of_writer};
 ghost use Rattle.resp_wire.specs.Turns.{Halts, Spends, has_failed};
 
 use crate::error::ServeError;
@@ -86,13 +84,8 @@ pub fn serve<R: Source, W: Sink, S: BuildHasher>(
     // all replies to the bytes received before were written. The bytes written and the bytes that
     // still wait, joined, are the bytes that waited before and the response to the bytes read before
     // of a value together with the bytes received. The hub is in the state after that response.
-    ensures served { (pieces : List (List ℕ)) × ReadsPieces 4096 R.remaining R.calls R.failures
-        reader.old reader.new pieces (ends_by_read result) × WhereOpen hub.old id (λ s front.
-        OnOk result (Serves hub.old hub.new id s (front ++ concat pieces) (W.written writer.old)
-        (W.written writer.new) []) ×
-        IfErr result (StopsServing hub.old hub.new id s front (concat pieces)
-        (W.written writer.old) (W.written writer.new)) ×
-        AnswersBefore hub.old id s front pieces (W.written writer.old) (W.written writer.new)) }
+    ensures served { ServesPieces 4096 W.written R.remaining R.calls R.failures writer.old
+        writer.new reader.old reader.new hub.old hub.new id result }
     ensures end { IfOk result (EndsBy hub.new id (R.remaining reader.old)
         (R.remaining reader.new)) }
 
@@ -109,15 +102,15 @@ pub fn serve<R: Source, W: Sink, S: BuildHasher>(
         failures_after (failed_to_read result) (R.failures reader.old) }
     ensures no_session { seat_at hub.old id ≡ None → (result ≡ Err ServeError.NoSession) ×
         (hub.new ≡ hub.old) × (reader.new ≡ reader.old) × (writer.new ≡ writer.old) }
-    ensures turns { (left : ℕ) × SpendsTurns (W.calls writer.old) (W.calls writer.new)
-        (R.calls reader.old) (R.calls reader.new) turns left ×
-        (IsErrOf result ServeError.TooManyTurns → left ≡ 0) }
+    ensures turns { SpendsAtMost (W.calls writer.old) (W.calls writer.new) (R.calls reader.old)
+        (R.calls reader.new) turns (IsErrOf result ServeError.TooManyTurns) }
 {
     serve_with(reader, writer, hub, id, turns, &mut [0; PIECE])
 }
 
-/// Serves a session as [`serve`] does, and reads into `buffer`. A piece has at most as many bytes as
-/// the buffer. Use it to serve many sessions with one buffer, or with larger pieces.
+/// Serves a session as [`serve`] does, and reads into `buffer`, which must not be empty. A piece has
+/// at most as many bytes as the buffer. Use it to serve many sessions with one buffer, or with larger
+/// pieces.
 ///
 /// # Errors
 ///
@@ -132,13 +125,8 @@ pub fn serve_with<R: Source, W: Sink, S: BuildHasher>(
 ) -> Result<Served, ServeError>
     requires { 0 < length buffer.now }
     // As `serve`, except that the pieces have at most as many bytes as the buffer.
-    ensures served { (pieces : List (List ℕ)) × ReadsPieces (length buffer.old) R.remaining R.calls
-        R.failures reader.old reader.new pieces (ends_by_read result) × WhereOpen hub.old id
-        (λ s front. OnOk result (Serves hub.old hub.new id s (front ++ concat pieces) (W.written writer.old)
-        (W.written writer.new) []) ×
-        IfErr result (StopsServing hub.old hub.new id s front (concat pieces)
-        (W.written writer.old) (W.written writer.new)) ×
-        AnswersBefore hub.old id s front pieces (W.written writer.old) (W.written writer.new)) }
+    ensures served { ServesPieces (length buffer.old) W.written R.remaining R.calls R.failures
+        writer.old writer.new reader.old reader.new hub.old hub.new id result }
     ensures end { IfOk result (EndsBy hub.new id (R.remaining reader.old)
         (R.remaining reader.new)) }
 
@@ -155,9 +143,8 @@ pub fn serve_with<R: Source, W: Sink, S: BuildHasher>(
         failures_after (failed_to_read result) (R.failures reader.old) }
     ensures no_session { seat_at hub.old id ≡ None → (result ≡ Err ServeError.NoSession) ×
         (hub.new ≡ hub.old) × (reader.new ≡ reader.old) × (writer.new ≡ writer.old) }
-    ensures turns { (left : ℕ) × SpendsTurns (W.calls writer.old) (W.calls writer.new)
-        (R.calls reader.old) (R.calls reader.new) turns left ×
-        (IsErrOf result ServeError.TooManyTurns → left ≡ 0) }
+    ensures turns { SpendsAtMost (W.calls writer.old) (W.calls writer.new) (R.calls reader.old)
+        (R.calls reader.new) turns (IsErrOf result ServeError.TooManyTurns) }
 {
     let Ok(closing) = hub.is_closing(id) else {
         return Err(ServeError::NoSession);
@@ -185,13 +172,8 @@ fn serve_open<R: Source, W: Sink, S: BuildHasher>(
     requires is_open { IsOpen hub.old id }
     requires waiting { WhereOpen hub.old id (λ s front.
         HasAnswered hub.old hub.old id s front 0) }
-    ensures served { (pieces : List (List ℕ)) × ReadsPieces (length buffer.old) R.remaining R.calls
-        R.failures reader.old reader.new pieces (ends_by_read result) × WhereOpen hub.old id
-        (λ s front. OnOk result (Serves hub.old hub.new id s (front ++ concat pieces) (W.written writer.old)
-        (W.written writer.new) []) ×
-        IfErr result (StopsServing hub.old hub.new id s front (concat pieces)
-        (W.written writer.old) (W.written writer.new)) ×
-        AnswersBefore hub.old id s front pieces (W.written writer.old) (W.written writer.new)) }
+    ensures served { ServesPieces (length buffer.old) W.written R.remaining R.calls R.failures
+        writer.old writer.new reader.old reader.new hub.old hub.new id result }
     ensures end { IfOk result (EndsBy hub.new id (R.remaining reader.old)
         (R.remaining reader.new)) }
     ensures refusal { IfErr result (FailsServing hub.old id (W.failures writer.old)
