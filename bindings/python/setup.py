@@ -1,19 +1,28 @@
-"""Builds the module resp over the library that ./build c installs in out/c, or in the folder that PREFIX names."""
+"""Builds the module resp over the library: the one in the folder that RESP_PREFIX names, or the one inside this folder,
+or the one that ./build c installs in out/c."""
 import os
 import re
 
 from setuptools import Extension, setup
 
 HERE = os.path.dirname(os.path.realpath(__file__))
-PREFIX = os.environ.get("PREFIX") or os.path.join(HERE, "..", "..", "out", "c")
+PLACES = [os.environ.get("RESP_PREFIX"), os.path.join(HERE, "libresp"), os.path.join(HERE, "..", "..", "out", "c")]
+
+
+def prefix():
+    """The folder of the library."""
+    for place in PLACES:
+        if place and os.path.isfile(os.path.join(place, "include", "resp.h")):
+            return place
+    raise SystemExit("libresp was not found: run ./build c, or set RESP_PREFIX to the folder that has include/resp.h")
+
+
+PREFIX = prefix()
 
 
 def version():
     """The version that the header of the library has."""
-    header = os.path.join(PREFIX, "include", "resp.h")
-    if not os.path.isfile(header):
-        raise SystemExit(f"{header} is missing: run ./build c first, or set PREFIX")
-    with open(header, encoding="utf-8") as file:
+    with open(os.path.join(PREFIX, "include", "resp.h"), encoding="utf-8") as file:
         return re.search(r'#define RESP_VERSION "(.*)"', file.read())[1]
 
 
@@ -21,6 +30,8 @@ setup(
     name="resp",
     version=version(),
     description="Reads RESP2 and RESP3, the wire protocol of Redis, with a proved scanner",
+    python_requires=">=3.11",
+    py_modules=[],
     ext_modules=[
         Extension(
             "resp",
@@ -30,6 +41,7 @@ setup(
             extra_objects=[os.path.join(PREFIX, "lib", "libresp.a")],
             # Each member of an array needs a call or two of Python. These options make such calls faster.
             extra_compile_args=["-O3", "-fno-plt"],
+            extra_link_args=["-Wl,--exclude-libs,ALL"],
             py_limited_api=True,
         )
     ],

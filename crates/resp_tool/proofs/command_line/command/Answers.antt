@@ -17,7 +17,7 @@ returns-in_default g c =
       does = (
         asked.0,
         asked.1,
-        inr (inl (refl, refl, runs_no_stream asked.0 (map g.S.AsStr.text c.args.words.now) c.in-Ok.asked asked.2 c.in_default.not-Stream)),
+        inr (inl (refl, c.refuse_request.ensures.status, runs_no_stream asked.0 (map g.S.AsStr.text c.args.words.now) c.in-Ok.asked asked.2 c.in_default.not-Stream)),
       );
       reads_bounded = omega arith;
       nothing_told_at_zero = λ none. absurd (omega arith);

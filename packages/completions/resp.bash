@@ -1,0 +1,31 @@
+# Completions of resp for bash.
+_resp() {
+    local word=${COMP_WORDS[COMP_CWORD]} before=${COMP_WORDS[COMP_CWORD - 1]} command=${COMP_WORDS[1]-} options
+    local commands="show check canon loop serve tap help"
+    local limits="--depth --length --total --items --no-streamed"
+    COMPREPLY=()
+    if [ "$COMP_CWORD" -eq 1 ]; then
+        COMPREPLY=($(compgen -W "$commands -h --help -V --version" -- "$word"))
+        return
+    fi
+    case $before in
+    --proto) COMPREPLY=($(compgen -W "2 3" -- "$word")) && return ;;
+    --depth | --length | --total | --items | --piece | --clients) return ;;
+    esac
+    case $command in
+    show | check | canon) options="--proto $limits --doubles --piece --explain -h --help" ;;
+    loop) options="--explain -h --help" ;;
+    serve) options="$limits --clients -h --help" ;;
+    tap) options="$limits --clients --time -h --help" ;;
+    help) [ "$COMP_CWORD" -ne 2 ] || COMPREPLY=($(compgen -W "$commands" -- "$word")) ;;
+    esac
+    case $word in
+    -*) COMPREPLY=($(compgen -W "${options-}" -- "$word")) ;;
+    *)
+        case $command in
+        show | check | canon) compopt -o filenames && COMPREPLY=($(compgen -f -- "$word")) ;;
+        esac
+        ;;
+    esac
+}
+complete -F _resp resp

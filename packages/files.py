@@ -1,0 +1,203 @@
+"""The files of an installation: of the program, of the shared library, and for those who build with the library."""
+import contextlib
+import os
+import re
+import shutil
+import subprocess
+import sys
+import tempfile
+
+from archives import Entry
+
+HERE = os.path.dirname(os.path.realpath(__file__))
+TOP = os.path.dirname(HERE)
+SONAME = "libresp.so.0"
+ABOUT = "share/doc/resp"
+PROCESSOR = "x86-64"
+# The crates that are installed, with the file that each is built as.
+MADE = {"resp": "resp", "resp_c": "libresp_c.a"}
+EXPORTS = "RESP_0 { global: resp_*; local: *; };\n"
+CC = os.environ.get("CC", "cc")
+
+
+def content(path):
+    with open(path, "rb") as file:
+        return file.read()
+
+
+def version():
+    """Returns the version that the header of the library has."""
+    return re.search(rb'#define RESP_VERSION "(.*)"', content(f"{TOP}/include/resp.h"))[1].decode()
+
+
+def call(*words):
+    subprocess.run(words, check=True)
+
+
+def toolchain():
+    """Returns the module of rt that knows the crates, or ends."""
+    rt = shutil.which("rt") or sys.exit("build: there is no rt on the path")
+    sys.path.insert(0, os.path.dirname(os.path.realpath(rt)))
+    sys.dont_write_bytecode = True
+    import rtlib
+
+    return rtlib
+
+
+def made(name):
+    """Returns the path of the program or of the library's archive."""
+    return f"{TOP}/crates/{name}/out/{MADE[name]}"
+
+
+def crates(tree=TOP):
+    """Returns the crates of a tree as rt knows them, by their names."""
+    return {it.name: it for it in toolchain().crates_below(tree)}
+
+
+def sum_of(crate):
+    """Returns a sum of a built program or library, and of all that it was proved and built from."""
+    return f"{PROCESSOR} {crate.stamp()} {toolchain().sum_of(f'{crate.folder}/out/{MADE[crate.name]}')}\n"
+
+
+def mark(tree, name):
+    """Writes beside a program or library that it was proved and built from the sources of its tree."""
+    crate = crates(tree)[name]
+    with open(f"{crate.folder}/out/{MADE[name]}.proved", "w", encoding="ascii") as file:
+        file.write(sum_of(crate))
+
+
+def is_proved(tree, name):
+    """Returns whether the program or library was proved and built from the sources as they are now."""
+    crate = crates(tree)[name]
+    return toolchain().text_of(f"{crate.folder}/out/{MADE[name]}.proved") == sum_of(crate)
+
+
+def stripped(path, *words, tool="strip"):
+    """Returns a file without what only a debugger needs."""
+    with tempfile.TemporaryDirectory() as room:
+        call(tool, *words, "-o", f"{room}/file", path)
+        return content(f"{room}/file")
+
+
+def shared(archive, compiler=CC, tool="strip"):
+    """Returns the shared library over an archive. It exports the calls of resp.h alone."""
+    with tempfile.TemporaryDirectory() as room:
+        with open(f"{room}/exports", "w", encoding="ascii") as file:
+            file.write(EXPORTS)
+        whole = ["-Wl,--whole-archive", archive, "-Wl,--no-whole-archive"]
+        hard = ["-Wl,-z,relro", "-Wl,-z,now", "-Wl,-z,noexecstack", "-Wl,--no-undefined", "-Wl,--build-id=none"]
+        words = ["-shared", f"-Wl,-soname,{SONAME}", f"-Wl,--version-script,{room}/exports", *hard, *whole]
+        call(compiler, *words, "-o", f"{room}/shared")
+        return stripped(f"{room}/shared", "--strip-unneeded", tool=tool)
+
+
+def pkg_config(libraries):
+    """Returns resp.pc for a folder of libraries below the prefix. It finds the prefix from its own place."""
+    up = "/".join([".."] * (libraries.count("/") + 2))
+    return (
+        f"prefix=${{pcfiledir}}/{up}\nlibdir=${{prefix}}/{libraries}\n\nName: resp\n"
+        "Description: Reads RESP2 and RESP3, the wire protocol of Redis\n"
+        f"Version: {version()}\nCflags: -I${{prefix}}/include\nLibs: -L${{libdir}} -lresp\n"
+    ).encode()
+
+
+def program_files(path, completions_of_zsh="share/zsh/site-functions"):
+    """Returns the files of the program, below the prefix."""
+    return [
+        Entry("bin/resp", stripped(path), 0o755),
+        Entry("share/man/man1/resp.1", content(f"{HERE}/man/resp.1")),
+        Entry("share/man/man5/resp-script.5", content(f"{HERE}/man/resp-script.5")),
+        Entry("share/bash-completion/completions/resp", content(f"{HERE}/completions/resp.bash")),
+        Entry(f"{completions_of_zsh}/_resp", content(f"{HERE}/completions/_resp")),
+        Entry("share/fish/vendor_completions.d/resp.fish", content(f"{HERE}/completions/resp.fish")),
+    ]
+
+
+def shared_files(archive, libraries="lib", **how):
+    """Returns the file that programs need to run with the shared library."""
+    return [Entry(f"{libraries}/{SONAME}", shared(archive, **how))]
+
+
+def development_files(archive, libraries="lib", tool="strip"):
+    """Returns the files for those who build with the library."""
+    return [
+        Entry(f"{libraries}/libresp.a", stripped(archive, "--strip-debug", "-D", tool=tool)),
+        Entry(f"{libraries}/libresp.so", link=SONAME),
+        Entry(f"{libraries}/pkgconfig/resp.pc", pkg_config(libraries)),
+        Entry("include/resp.h", content(f"{TOP}/include/resp.h")),
+        Entry("share/man/man3/libresp.3", content(f"{HERE}/man/libresp.3")),
+    ]
+
+
+def pages(names, to):
+    """Returns these pages of the repository, below a folder."""
+    return [Entry(f"{to}/{os.path.basename(name)}", content(f"{TOP}/{name}")) for name in names]
+
+
+def documents(to=ABOUT):
+    """Returns the pages for users."""
+    left = "DECISIONS.md"
+    names = sorted(f"docs/{it}" for it in os.listdir(f"{TOP}/docs") if it.endswith((".md", ".svg")) and it != left)
+    return pages(["README.md", "CHANGELOG.md", "SECURITY.md", *names], to)
+
+
+def notices():
+    """Returns the notices of the libraries of the kit that are linked into the program and the library."""
+    rtlib, known = toolchain(), crates()
+    names, text = [], "No licence has been chosen for resp yet. These are the licences of the libraries in it.\n"
+    for crate in [known[name] for name in MADE]:
+        for it in [*crate.below(), crate]:
+            names += [name for name in it.of_kit if name not in names]
+    for name in names:
+        with open(f"{rtlib.KIT}/rlibs/{name}.rlib/format", encoding="utf-8") as file:
+            names += [it for it in re.findall(r"^dep (\w+)$", file.read(), re.M) if it not in names]
+    for name in sorted(names):
+        folder = f"{rtlib.KIT}/rattle/{name}"
+        found = sorted(it for it in os.listdir(folder) if re.match(r"LICEN[SC]E|NOTICE|COPYING", it))
+        for file in found:
+            # Of two licences that are offered, the shorter one is taken.
+            if file != "LICENSE-APACHE" or "LICENSE-MIT" not in found:
+                text += f"\n\n==== {name}, {file} ====\n\n{content(f'{folder}/{file}').decode()}"
+    return text.encode()
+
+
+def put(entries, root):
+    """Writes files below a folder. A file is replaced at once, so a program that runs is not disturbed."""
+    for entry in entries:
+        path = f"{root}/{entry.name}"
+        os.makedirs(os.path.dirname(path), exist_ok=True)
+        new = f"{path}.{os.getpid()}"
+        with contextlib.suppress(FileNotFoundError):
+            os.remove(new)
+        if entry.link:
+            os.symlink(entry.link, new)
+        else:
+            with open(new, "wb") as file:
+                file.write(entry.data)
+            os.chmod(new, entry.mode)
+        os.replace(new, path)
+
+
+def root():
+    """Returns the folder to install in: PREFIX, below DESTDIR."""
+    return os.environ.get("DESTDIR", "") + os.path.abspath(os.environ.get("PREFIX") or "/usr/local")
+
+
+def listed(entries):
+    """Returns a file with the names of all files that are installed."""
+    names = sorted([it.name for it in entries] + [f"{ABOUT}/FILES"])
+    return Entry(f"{ABOUT}/FILES", "".join(f"{name}\n" for name in names).encode())
+
+
+def take_away(root):
+    """Removes the files that were installed below a folder."""
+    try:
+        names = content(f"{root}/{ABOUT}/FILES").decode().split()
+    except FileNotFoundError:
+        sys.exit(f"build: resp is not installed in {root}")
+    for name in names:
+        with contextlib.suppress(FileNotFoundError):
+            os.remove(f"{root}/{name}")
+    with contextlib.suppress(OSError):
+        os.rmdir(f"{root}/{ABOUT}")
+    print(f"resp is removed from {root}")

@@ -1,0 +1,194 @@
+"""Makes the packages of the program and of the library, in a folder: packages.make(folder, build_library)."""
+import hashlib
+import os
+import re
+import shutil
+import subprocess
+import sys
+import sysconfig
+import tempfile
+from email.utils import formatdate
+
+import archives
+import files
+from archives import Entry
+from files import HERE, TOP, content
+
+SUMMARY = "Reads RESP2 and RESP3, the wire protocol of Redis"
+LONG = " The parser is proved to follow the grammar of the protocol, in whatever\n pieces the input arrives."
+PYTHON = ["resp.c", "bytes.h", "values.h", "setup.py", "test.py", "README.md"]
+RUST = ["Cargo.toml", "README.md", "build.rs"]
+# The processors with a package of the library: the name for Debian, for rt, and for the tools of gcc.
+OTHER = ("arm64", "aarch64-unknown-linux-gnu", "aarch64-linux-gnu")
+
+
+def moment():
+    """Returns the time of all files: SOURCE_DATE_EPOCH, or the time of the last commit."""
+    given = os.environ.get("SOURCE_DATE_EPOCH")
+    return int(given or said("git", "-C", TOP, "log", "-1", "--format=%ct") or 0)
+
+
+def said(*words):
+    how = {"stdout": subprocess.PIPE, "stderr": subprocess.DEVNULL, "text": True}
+    return subprocess.run(words, check=False, **how).stdout.strip()
+
+
+def libc_needed(data):
+    """Returns the version of the C library that a program or a shared library needs."""
+    found = re.findall(rb"GLIBC_(\d+(?:\.\d+)+)\0", data)
+    return max(found, key=lambda it: [*map(int, it.split(b"."))], default=b"2.2.5").decode()
+
+
+def provenance():
+    """Returns what was packaged: the commit, the toolchain, and the crates that are proved, each with a sum of its
+    sources, of the toolchain and of the crates below it."""
+    commit = said("git", "-C", TOP, "rev-parse", "HEAD") or "unknown"
+    changed = said("git", "-C", TOP, "status", "--porcelain", "--untracked-files=no")
+    known = files.crates()
+    crates = {it.name: it for name in files.MADE for it in [*known[name].below(), known[name]]}
+    lines = [f"commit {commit}{' with changes' if changed else ''}", f"toolchain {said('rt', 'version')}"]
+    lines += [f"proved {name} {crates[name].stamp()}" for name in sorted(crates)]
+    return "".join(f"{line}\n" for line in lines).encode()
+
+
+class Debian:
+    """Makes the packages for Debian."""
+
+    def __init__(self, version, time, licences):
+        self.version, self.time, self.licences = version, time, licences
+        self.maintainer = said("git", "-C", TOP, "log", "-1", "--format=%an <%ae>") or "resp <resp@example.org>"
+
+    def package(self, name, processor, section, summary, depends, entries, more=()):
+        """Returns the file name and the text of a package of these files below /usr."""
+        control = {
+            "Package": name,
+            "Version": self.version,
+            "Architecture": processor,
+            "Maintainer": self.maintainer,
+            "Section": section,
+            "Priority": "optional",
+            "Depends": depends,
+            "Description": f"{summary}\n{LONG}",
+        }
+        if section != "utils":
+            control["Source"] = "resp"
+            control["Multi-Arch"] = "same"
+        about = f"share/doc/{name}"
+        log = f"resp ({self.version}) unstable; urgency=low\n\n  * CHANGELOG.md in the package resp has all changes.\n\n"
+        log += f" -- {self.maintainer}  {formatdate(self.time)}\n"
+        zipped = [self.zipped(it) for it in [*entries, Entry(f"{about}/changelog", log.encode())]]
+        whole = [it._replace(name=f"usr/{it.name}") for it in [*zipped, Entry(f"{about}/copyright", self.licences)]]
+        return f"{name}_{self.version}_{processor}.deb", archives.deb(control, whole, self.time, more)
+
+    @staticmethod
+    def zipped(entry):
+        """Returns a manual page or a list of changes compressed, as Debian wants it."""
+        if "/man/" in entry.name or entry.name.endswith("/changelog"):
+            return Entry(f"{entry.name}.gz", archives.gz(entry.data))
+        return entry
+
+    def libraries(self, processor, triple, archive, **how):
+        """Yields the packages of the library for a processor."""
+        place = f"lib/{triple}"
+        shared = files.shared_files(archive, place, **how)
+        more = [("shlibs", f"libresp 0 libresp0 (>= {self.version})\n"), ("triggers", "activate-noawait ldconfig\n")]
+        libc = f"libc6 (>= {libc_needed(shared[0].data)})"
+        yield self.package("libresp0", processor, "libs", f"{SUMMARY} (library)", libc, shared, more)
+        tools = {name: how[name] for name in how if name == "tool"}
+        built = files.development_files(archive, place, **tools)
+        depends = f"libresp0 (= {self.version})"
+        yield self.package("libresp-dev", processor, "libdevel", f"{SUMMARY} (development)", depends, built)
+
+    def program(self, path):
+        entries = files.program_files(path, "share/zsh/vendor-completions")
+        depends = f"libc6 (>= {libc_needed(entries[0].data)}), libgcc-s1"
+        return self.package("resp", "amd64", "utils", f"{SUMMARY} (program)", depends, [*entries, *files.documents()])
+
+
+def wheel(version, time, archive):
+    """Returns the file name and the text of the wheel: the module with the library inside."""
+    tag = "cp311-abi3-linux_x86_64"
+    with tempfile.TemporaryDirectory() as room:
+        source = f"{TOP}/bindings/python"
+        words = ["-shared", "-fPIC", "-O3", "-fno-plt", "-DNDEBUG", f"-ffile-prefix-map={source}=.", "-Wl,--build-id=none"]
+        words += ["-Wl,-z,relro", "-Wl,-z,now", f"-I{sysconfig.get_path('include')}", f"-I{TOP}/include"]
+        hidden = "-Wl,--exclude-libs,ALL"
+        files.call(files.CC, *words, f"{source}/resp.c", archive, hidden, "-o", f"{room}/resp.abi3.so")
+        module = Entry("resp.abi3.so", files.stripped(f"{room}/resp.abi3.so", "--strip-unneeded"), 0o755)
+    return f"resp-{version}-{tag}.whl", archives.wheel("resp", version, tag, metadata(version), [module], time)
+
+
+def metadata(version):
+    """Returns the description of the module for Python."""
+    about = content(f"{TOP}/bindings/python/README.md").decode()
+    return (
+        f"Metadata-Version: 2.1\nName: resp\nVersion: {version}\nSummary: {SUMMARY}\nRequires-Python: >=3.11\n"
+        f"Description-Content-Type: text/markdown\n\n{about}"
+    )
+
+
+def source_of_python(version, time, archive):
+    """Returns the file name and the text of the source distribution, with the library inside."""
+    folder = f"resp-{version}"
+    entries = [Entry(f"{folder}/{name}", content(f"{TOP}/bindings/python/{name}")) for name in PYTHON]
+    entries += [
+        Entry(f"{folder}/PKG-INFO", metadata(version).encode()),
+        Entry(f"{folder}/libresp/lib/libresp.a", files.stripped(archive, "--strip-debug", "-D")),
+        Entry(f"{folder}/libresp/include/resp.h", content(f"{TOP}/include/resp.h")),
+    ]
+    return f"{folder}.tar.gz", archives.gz(archives.tar(entries, time))
+
+
+def source_of_rust(version, time, archive):
+    """Returns the file name and the text of the crate for cargo, with the library inside."""
+    folder, source = f"resp-{version}", f"{TOP}/bindings/rust"
+    names = [*RUST, *(f"{part}/{it}" for part in ("src", "tests") for it in sorted(os.listdir(f"{source}/{part}")))]
+    entries = [Entry(f"{folder}/{name}", content(f"{source}/{name}")) for name in names]
+    entries.append(Entry(f"{folder}/lib/x86_64-linux/libresp.a", files.stripped(archive, "--strip-debug", "-D")))
+    return f"{folder}.crate", archives.gz(archives.tar(entries, time))
+
+
+def tarball(version, time, entries):
+    """Returns the file name and the text of the archive for any Linux."""
+    name = f"resp-{version}-x86_64-linux"
+    return f"{name}.tar.gz", archives.gz(archives.tar([it._replace(name=f"{name}/{it.name}") for it in entries], time))
+
+
+def make(to, build_library):
+    """Writes all packages to a folder. `build_library` returns the archive of the library for a target of rt."""
+    version, time = files.version(), moment()
+    program, archive = (files.made(name) for name in files.MADE)
+    if not all(files.is_proved(TOP, name) for name in files.MADE):
+        sys.exit("packages: the program or the library is not proved as it is now")
+    licences, origin = files.notices(), provenance()
+    whole = [*files.program_files(program), *files.shared_files(archive), *files.development_files(archive), *files.documents()]
+    whole += [Entry("share/doc/resp/NOTICES", licences), Entry("share/doc/resp/PROVENANCE", origin)]
+    extra = [Entry("README.md", content(f"{TOP}/README.md")), Entry("PROVENANCE", origin)]
+    extra.append(Entry("install.sh", content(f"{HERE}/install.sh"), 0o755))
+    debian = Debian(version, time, licences)
+    written = [
+        tarball(version, time, [*whole, *extra]),
+        debian.program(program),
+        *debian.libraries("amd64", "x86_64-linux-gnu", archive),
+        wheel(version, time, archive),
+        source_of_python(version, time, archive),
+        source_of_rust(version, time, archive),
+        ("PROVENANCE", origin),
+    ]
+    processor, target, triple = OTHER
+    if shutil.which(f"{triple}-gcc"):
+        with tempfile.TemporaryDirectory() as room:
+            other = f"{room}/libresp.a"
+            with open(other, "wb") as file:
+                file.write(build_library(target))
+            tools = {"compiler": f"{triple}-gcc", "tool": f"{triple}-strip"}
+            written += debian.libraries(processor, triple, other, **tools)
+    else:
+        print(f"packages: skipped {processor}: {triple}-gcc is not installed", file=sys.stderr)
+    shutil.rmtree(to, ignore_errors=True)
+    os.makedirs(to)
+    sums = "".join(f"{hashlib.sha256(data).hexdigest()}  {name}\n" for name, data in sorted(written))
+    for name, data in [*written, ("SHA256SUMS", sums.encode())]:
+        with open(f"{to}/{name}", "wb") as file:
+            file.write(data)
+        print(f"{len(data):9,} {name}")
