@@ -1,6 +1,7 @@
 //! One connection of the server.
 
 use crate::non_blocking::{Input, Output};
+use crate::service::Next;
 use mio::net::TcpStream;
 use resp_server::Hub;
 use resp_value::device::Device;
@@ -19,17 +20,6 @@ pub(crate) const PIECE: usize = 16_384;
 /// The most reads of received bytes before a connection is closed.
 const LAST_READS: usize = 4;
 
-/// When a connection is served next.
-#[derive(Clone, Copy, Debug, PartialEq, Eq)]
-pub(crate) enum Next {
-    /// When its socket is ready.
-    Wait,
-    /// After the other connections were served.
-    Again,
-    /// Never: it is closed.
-    Close,
-}
-
 /// A connection of a client.
 #[derive(Drop)]
 pub(crate) struct Connection {
@@ -37,18 +27,12 @@ pub(crate) struct Connection {
     stream: TcpStream,
     /// The id of its session in the hub.
     pub(crate) id: u64,
-    /// Whether it is served again without waiting for its socket.
-    pub(crate) is_queued: bool,
 }
 
 impl Connection {
     /// Returns a connection of which nothing was read.
     pub(crate) fn new(stream: TcpStream, id: u64) -> Self {
-        Connection {
-            stream,
-            id,
-            is_queued: false,
-        }
+        Connection { stream, id }
     }
 
     /// Answers the commands received, until a call would block or the allowed reads and writes were

@@ -9,8 +9,10 @@
 #![tactic(auto)]
 
 mod connection;
+mod event_loop;
 mod non_blocking;
 mod server;
+mod service;
 mod tapped;
 mod terminal;
 mod timing;

@@ -1,7 +1,7 @@
 //! One forwarded connection.
 
-use crate::connection::Next;
 use crate::non_blocking::{Input, Output};
+use crate::service::Next;
 use crate::timing::Timing;
 use mio::net::TcpStream;
 use resp_tap::TimedTap;
@@ -45,8 +45,6 @@ pub(crate) struct Tapped {
     tap: TimedTap,
     /// The client's number, from 1.
     pub(crate) number: u64,
-    /// Whether it is visited again without waiting for a socket.
-    pub(crate) is_queued: bool,
 }
 
 impl Lane {
@@ -137,7 +135,6 @@ impl Tapped {
             to_client: Lane::new(alloc)?,
             tap: TimedTap::new(alloc, limits),
             number,
-            is_queued: false,
         })
     }
 

@@ -1,0 +1,239 @@
+//! The loop over the listener and the connections that are ready.
+
+ghost use Rattle.std.specs.Prelude.{◌≡◌, ◌≤◌, length};
+
+use crate::connection::refuse;
+use crate::service::{Next, Service, Tokens};
+use mio::net::{TcpListener, TcpStream};
+use mio::{Events, Interest, Poll, Token};
+use resp_schedule::{Backlog, OpenError, Schedule, State, Wait};
+use std::alloc::Global;
+use std::io;
+use std::io::ErrorKind;
+use std::net::{Net, SocketAddr};
+use std::time::Duration;
+
+/// The token of the listener. The tokens of the connection in a place are twice the place plus 1
+/// and plus 2.
+const LISTENER: usize = 0;
+
+/// The most events that one wait returns.
+const EVENTS: usize = 1_024;
+
+/// The most connections that are accepted before the ready connections are visited.
+const ACCEPTED: usize = 256;
+
+/// The time until connections are accepted again after a failure, in milliseconds.
+const PAUSE: u64 = 100;
+
+/// The reply to a connection beyond the maximum.
+const TOO_MANY: &[u8] = b"-ERR max number of clients reached\r\n";
+
+/// A listener and its connections, of which each has a place of the schedule.
+///
+/// A place is opened before its connection is made, and closed when the connection is dropped, so
+/// that no two connections have the same place.
+#[derive(Drop)]
+pub(crate) struct Loop<C> {
+    alloc: Global,
+    poll: Poll,
+    listener: TcpListener,
+    schedule: Schedule,
+    /// The connection in each place.
+    connections: Vec<Option<C>>,
+}
+
+impl<C: Drop> Loop<C> {
+    ghost use Rattle.resp_schedule.specs.Places.{without};
+    ghost use Rattle.resp_schedule.specs.Plans.{due_of, state_of};
+
+    /// Listens on an address, for at most `most` connections at once.
+    ///
+    /// # Errors
+    ///
+    /// The error of the system if the address can't be opened.
+    pub(crate) fn listen(
+        net: &impl Net,
+        alloc: Global,
+        address: SocketAddr,
+        most: usize,
+    ) -> io::Result<Self> {
+        let poll = Poll::new(net)?;
+        let mut listener = TcpListener::bind(net, address)?;
+        poll.registry()
+            .register(&mut listener, Token(LISTENER), Interest::READABLE)?;
+        Ok(Loop {
+            alloc,
+            poll,
+            listener,
+            schedule: Schedule::new(alloc, most),
+            connections: Vec::new(alloc),
+        })
+    }
+
+    /// Returns the address that the loop listens on.
+    ///
+    /// # Errors
+    ///
+    /// The error of the system if it can't be read.
+    pub(crate) fn address(&self) -> io::Result<SocketAddr> {
+        self.listener.local_addr()
+    }
+
+    /// Returns room for the events of one wait.
+    ///
+    /// # Errors
+    ///
+    /// An error of kind `OutOfMemory` if the allocation fails.
+    pub(crate) fn events(&self) -> io::Result<Events> {
+        match Events::with_capacity(self.alloc, EVENTS) {
+            Ok(events) => Ok(events),
+            Err(_) => Err(ErrorKind::OutOfMemory.into()),
+        }
+    }
+
+    /// Visits the connections that are ready, until waiting for them or the service's own work
+    /// fails. Nothing is accepted after that.
+    ///
+    /// # Errors
+    ///
+    /// The error of that wait or work.
+    pub(crate) fn run<T: Service<C>>(
+        &mut self,
+        service: &mut T,
+        events: &mut Events,
+    ) -> io::Result<()> {
+        for _ in 0..u64::MAX {
+            if let Err(error) = self.turn(service, events) {
+                self.schedule.stop();
+                return Err(error);
+            }
+        }
+        Ok(())
+    }
+
+    /// Waits until a socket is ready, visits the connections that are ready or queued, and accepts
+    /// connections.
+    fn turn<T: Service<C>>(&mut self, service: &mut T, events: &mut Events) -> io::Result<()> {
+        let timeout = self.timeout(service);
+        self.poll.poll(events, timeout)?;
+        for event in events.iter() {
+            match event.token() {
+                Token(LISTENER) => self.schedule.set_backlog(Backlog::Waiting),
+                Token(token) => {
+                    self.visit_ready(service, (token - 1) / 2, event.is_read_closed());
+                }
+            }
+        }
+        self.visit_due(service);
+        if self.schedule.accepts() {
+            self.accept_some(service);
+        }
+        service.work()
+    }
+
+    /// Returns the longest time of the next wait.
+    fn timeout<T: Service<C>>(&self, service: &T) -> Option<Duration> {
+        match (self.schedule.wait(), service.patience()) {
+            (Wait::No, _) => Some(Duration::from_millis(0)),
+            (Wait::Short, None) => Some(Duration::from_millis(PAUSE)),
+            (Wait::Short | Wait::Long, patience) => patience,
+        }
+    }
+
+    /// Visits a connection after a socket of it became ready. A queued connection is visited when
+    /// it is its turn.
+    fn visit_ready<T: Service<C>>(&mut self, service: &mut T, place: usize, is_at_end: bool) {
+        if let State::Idle = self.schedule.state(place) {
+            self.visit(service, place, is_at_end);
+        }
+    }
+
+    /// Visits each connection that was queued before this round.
+    fn visit_due<T: Service<C>>(&mut self, service: &mut T) {
+        while let Some(place) = self.schedule.next_due() {
+            // The event that reports the end of the input may already have passed.
+            self.visit(service, place, true);
+        }
+    }
+
+    /// Visits the connection in a place.
+    fn visit<T: Service<C>>(&mut self, service: &mut T, place: usize, is_at_end: bool)
+        ensures due { length (due_of self.new.schedule) ≤ length (due_of self.old.schedule) }
+    {
+        let Some(Some(connection)) = self.connections.get_mut(place) else {
+            return;
+        };
+        match service.visit(connection, is_at_end) {
+            Next::Wait => {}
+            Next::Again => self.schedule.enqueue(place),
+            Next::Close => self.close(service, place),
+        }
+    }
+
+    /// Closes the connection in a place, and the place.
+    fn close<T: Service<C>>(&mut self, service: &mut T, place: usize)
+        ensures due { due_of self.new.schedule ≡ without place (due_of self.old.schedule) }
+        ensures closed { state_of self.new.schedule place ≡ State.Closed }
+    {
+        self.schedule.close(place);
+        if let Some(slot) = self.connections.get_mut(place) {
+            if let Some(connection) = slot.take() {
+                service.close(connection);
+            }
+        }
+    }
+
+    /// Accepts waiting connections.
+    fn accept_some<T: Service<C>>(&mut self, service: &mut T) {
+        for _ in 0..ACCEPTED {
+            match self.listener.accept() {
+                Ok((client, _)) => self.admit(service, client),
+                Err(error) => {
+                    self.schedule.set_backlog(match error.kind() {
+                        ErrorKind::WouldBlock => Backlog::Empty,
+                        _ => Backlog::Failing,
+                    });
+                    return;
+                }
+            }
+        }
+        self.schedule.set_backlog(Backlog::Waiting);
+    }
+
+    /// Admits an accepted client to a place, or rejects it if the maximum is reached.
+    fn admit<T: Service<C>>(&mut self, service: &mut T, client: TcpStream) {
+        match self.open() {
+            Ok(place) => self.fill(service, client, place),
+            Err(OpenError::Full) => refuse(&client, TOO_MANY),
+            Err(OpenError::Stopped | OpenError::OutOfMemory) => service.lose(),
+        }
+    }
+
+    /// Opens a place, with room for its connection.
+    fn open(&mut self) -> Result<usize, OpenError> {
+        let place = self.schedule.open()?;
+        for _ in self.connections.len()..=place {
+            if self.connections.push(None).is_err() {
+                self.schedule.close(place);
+                return Err(OpenError::OutOfMemory);
+            }
+        }
+        Ok(place)
+    }
+
+    /// Puts the connection of an accepted client into an open place. Without memory, or if a socket
+    /// fails, the client and the place are closed.
+    fn fill<T: Service<C>>(&mut self, service: &mut T, client: TcpStream, place: usize) {
+        let first = place.saturating_mul(2);
+        let tokens = Tokens {
+            client: Token(first.saturating_add(1)),
+            server: Token(first.saturating_add(2)),
+        };
+        let admitted = service.admit(client, self.poll.registry(), tokens);
+        match (admitted, self.connections.get_mut(place)) {
+            (Ok(connection), Some(slot)) => *slot = Some(connection),
+            _ => self.schedule.close(place),
+        }
+    }
+}
