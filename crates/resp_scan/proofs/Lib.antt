@@ -4,3 +4,4 @@ pub mod HeadMoves
 pub mod DueEvents
 pub mod CallClauses
 pub mod Soundness
+pub mod Wholes

@@ -1,5 +1,6 @@
 -- The machine, byte by byte: a place, the effect of one byte on it, and the meaning of the bytes it has read.
 pub mod Magnitudes
+pub mod Wholes
 pub mod Tokens
 pub mod Room
 pub mod Heads

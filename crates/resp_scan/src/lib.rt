@@ -29,6 +29,7 @@ pub mod slot;
 mod start;
 mod step;
 mod step_into;
+pub mod whole;
 
 pub use event::{Busy, Event, Fault, ScanError, Scanned, Step, TextKind};
 pub use listener::Listener;

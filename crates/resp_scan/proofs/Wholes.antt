@@ -1,0 +1,5 @@
+-- What lies completely at the beginning of a text.
+pub mod HeadNumbers
+pub mod WordFronts
+pub mod ManyWords
+pub mod Commands

@@ -1,0 +1,227 @@
+//! Recognises what lies completely at the beginning of some bytes: heads, bulk strings and
+//! commands. Nothing is copied, and nothing is allocated.
+
+ghost use Rattle.std.specs.Prelude.{◌≡◌, ◌≤◌, ◌<◌, ◌^◌, ◌∷◌, List, ℕ, length, IfNone, IfSome};
+ghost use Rattle.std.specs.Iterator.{at_most};
+ghost use Rattle.std.specs.Map.Iter.{TakesFirst};
+ghost use Rattle.std.specs.Str.{byte};
+ghost use Rattle.resp_value.specs.Bytes.{crlf};
+ghost use Rattle.resp_value.specs.Words.{word_datum, command_of};
+ghost use Rattle.resp_scan.specs.Whole.{BeginsWith, BeginsWithHead, BeginsWithWord, BeginsWithWords};
+ghost use Rattle.resp_scan.specs.Machine.Wholes.{BeginsWithDigits, HasNoDigit, HasTooMany};
+
+use resp_value::limits::Limits;
+use std::marker::Model;
+
+/// The head of an array or a bulk string, and the bytes after it.
+#[derive(Clone, Copy, Debug)]
+pub struct Head<'a> {
+    /// The number in the head.
+    pub number: u64,
+    /// The bytes after the head.
+    pub rest: &'a [u8],
+}
+
+/// Returns the number of the digits at the beginning of some bytes, if it is at most this one, and
+/// the bytes from the first that is not a digit.
+#[inline(always)]
+fn digits(text: &[u8], most: u64) -> Option<Head<'_>>
+    requires { most < 2 ^ 60 }
+    ensures begins { IfSome result (λ head. BeginsWithDigits text.now head.number head.rest.now) }
+    ensures ends { IfSome result (λ head. HasNoDigit head.rest.now) }
+    ensures within { IfSome result (λ head. head.number ≤ most) }
+    ensures none { IfNone result (HasTooMany text.now most) }
+{
+    let mut number = 0;
+    let mut rest = text;
+    while let Some((digit, after)) = rest.split_first() {
+        if *digit < b'0' || b'9' < *digit {
+            break;
+        }
+        number = number * 10 + u64::from(*digit - b'0');
+        if number > most {
+            return None;
+        }
+        rest = after;
+    }
+    Some(Head { number, rest })
+}
+
+/// Returns the bytes after the CR LF at the beginning of some bytes.
+#[inline(always)]
+fn after_line_end(text: &[u8]) -> Option<&[u8]>
+    ensures begins { IfSome result (λ rest. text.now ≡ crlf rest.now) }
+    ensures none { IfNone result ((rest : List ℕ) → text.now ≡ crlf rest → ⊥) }
+{
+    if text.len() < 2 || text[0] != b'\r' || text[1] != b'\n' {
+        return None;
+    }
+    Some(&text[2..])
+}
+
+/// Returns the head of this type byte at the beginning of some bytes, if its number is at most this
+/// one.
+#[inline(always)]
+fn head_of(text: &[u8], kind: u8, most: u64) -> Option<Head<'_>>
+    requires { most < 2 ^ 60 }
+    ensures begins { IfSome result (λ head.
+        BeginsWithHead text.now kind head.number head.rest.now) }
+    ensures within { IfSome result (λ head. head.number ≤ most) }
+    ensures none { IfNone result ((n : ℕ) (rest : List ℕ) → n ≤ most →
+        BeginsWithHead text.now kind n rest → ⊥) }
+{
+    let (first, line) = text.split_first()?;
+    if *first != kind {
+        return None;
+    }
+    let found = digits(line, most)?;
+    if found.rest.len() == line.len() {
+        return None;
+    }
+    let rest = after_line_end(found.rest)?;
+    Some(Head {
+        number: found.number,
+        rest,
+    })
+}
+
+/// A bulk string, and the bytes after it.
+#[derive(Clone, Copy, Debug)]
+pub struct Text<'a> {
+    /// The content.
+    pub content: &'a [u8],
+    /// The bytes after the bulk string.
+    pub rest: &'a [u8],
+}
+
+/// Returns the bulk string at the beginning of some bytes, if its content has at most this many
+/// bytes.
+#[inline(always)]
+fn word(text: &[u8], most: u64) -> Option<Text<'_>>
+    requires { most < 2 ^ 60 }
+    ensures begins { IfSome result (λ found.
+        BeginsWithWord most text.now found.content.now found.rest.now) }
+    ensures none { IfNone result ((word rest : List ℕ) →
+        BeginsWithWord most text.now word rest → ⊥) }
+{
+    let head = head_of(text, b'$', most)?;
+    let length = head.number as usize;
+    if head.rest.len() < length {
+        return None;
+    }
+    let (content, after) = head.rest.split_at(length);
+    let rest = after_line_end(after)?;
+    Some(Text { content, rest })
+}
+
+/// Returns the bytes after this many bulk strings, each of at most `most` bytes.
+fn after_words(text: &[u8], count: u64, most: u64) -> Option<&[u8]>
+    requires { most < 2 ^ 60 }
+    ensures begins { IfSome result (λ rest. (words : List (List ℕ)) × (length words ≡ count) ×
+        BeginsWithWords most text.now words rest.now) }
+    ensures none { IfNone result ((words : List (List ℕ)) (rest : List ℕ) →
+        length words ≡ count → BeginsWithWords most text.now words rest → ⊥) }
+{
+    let mut rest = text;
+    for _ in 0..count {
+        rest = word(rest, most)?.rest;
+    }
+    Some(rest)
+}
+
+/// The greatest limit of length.
+const GREATEST_LENGTH: u64 = 1_073_741_824;
+
+/// The words of a command, the name first. They are borrowed, and reading them again does not
+/// allocate.
+#[derive(Debug, Drop)]
+pub struct Words<'a> {
+    text: &'a [u8],
+    left: u64,
+}
+
+impl<'a> Model for Words<'a> {
+    ghost use Rattle.std.specs.Prelude.{ℕ, List};
+    ghost use Rattle.resp_scan.specs.Whole.{HasWords, words_in};
+
+    ghost Value = { List (List ℕ) };
+
+    ghost view = { λ words. words_in words.left words.text.now };
+
+    ghost invariant = { λ words. HasWords 1_073_741_824 words.left words.text.now };
+}
+
+impl<'a> Words<'a> {
+    /// Returns the number of words that are left.
+    pub fn len(&self) -> u64
+        ensures { result ≡ length self.now }
+    {
+        self.left
+    }
+}
+
+impl<'a> Iterator for Words<'a> {
+    type Item = &'a [u8];
+
+    ghost next_gives = { TakesFirst (λ word. word.now) };
+
+    ghost remaining = { λ words. at_most (length words) };
+
+    fn next(&mut self) -> Option<&'a [u8]> {
+        if self.left == 0 {
+            return None;
+        }
+        let Some(found) = word(self.text, GREATEST_LENGTH) else {
+            unreachable!()
+        };
+        self.text = found.rest;
+        self.left -= 1;
+        Some(found.content)
+    }
+}
+
+/// A command, and the bytes after it.
+#[derive(Debug, Drop)]
+pub struct WholeCommand<'a> {
+    /// The words, the name first.
+    pub words: Words<'a>,
+    /// The bytes after the command.
+    pub rest: &'a [u8],
+}
+
+/// Returns the head of an array at the beginning of some bytes, if its number is within the limit
+/// of items.
+pub fn array_head<'a>(text: &'a [u8], limits: &Limits) -> Option<Head<'a>>
+    ensures begins { IfSome result (λ head.
+        BeginsWithHead text.now (byte "*") head.number head.rest.now) }
+    ensures within { IfSome result (λ head. head.number ≤ limits.now.items) }
+    ensures none { IfNone result ((n : ℕ) (rest : List ℕ) → n ≤ limits.now.items →
+        BeginsWithHead text.now (byte "*") n rest → ⊥) }
+{
+    head_of(text, b'*', limits.items())
+}
+
+/// Returns the command at the beginning of some bytes: an array of at least one bulk string and of
+/// nothing else, within the limits.
+pub fn command<'a>(text: &'a [u8], limits: &Limits) -> Option<WholeCommand<'a>>
+    ensures begins { IfSome result (λ command.
+        BeginsWith limits.now text.now (command_of command.words) command.rest.now) }
+    ensures named { IfSome result (λ command. 0 < length command.words) }
+    ensures none { IfNone result ((name : List ℕ) (arguments : List (List ℕ)) (rest : List ℕ) →
+        BeginsWith limits.now text.now (command_of (name ∷ arguments)) rest → ⊥) }
+{
+    limits.are_in_range();
+    let head = array_head(text, limits)?;
+    if head.number == 0 {
+        return None;
+    }
+    let rest = after_words(head.rest, head.number, limits.length())?;
+    if (text.len() - rest.len()) as u64 > limits.total() {
+        return None;
+    }
+    let words = Words {
+        text: head.rest,
+        left: head.number,
+    };
+    Some(WholeCommand { words, rest })
+}
