@@ -8,8 +8,6 @@ pub mod PushVerdicts
 pub mod FaultLines
 pub mod ValueAnswers
 pub mod Readings
-pub mod WholeHeads
-pub mod WholeCommands
 pub mod Turns
 pub mod WholeTurns
 pub mod AnsweredPieces

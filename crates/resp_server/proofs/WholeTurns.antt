@@ -1,38 +1,19 @@
 -- The turn of a command that lies whole in the piece.
-use Rattle.std.proofs.Common.{◌≡◌, ℕ, ◌+◌, ◌-◌, ◌≤◌, false, List, [], ◌∷◌, ◌++◌, length, take, refl, sym, ap, subst, ◌∙◌, arith, length-append, take_at}
+use Rattle.std.proofs.Common.{◌≡◌, ℕ, ◌+◌, ◌-◌, ◌<◌, ◌≤◌, false, List, [], ◌∷◌, ◌++◌, length, take, refl, sym, ap, subst, ◌∙◌, arith, length-append, take_at}
 use Rattle.resp_value.specs.Bounds.{Bounds, AreBounds}
 use Rattle.resp_value.specs.Laws.{NoSpellingIsEmpty, TheEmptyTextIsViable}
 use Rattle.resp_value.specs.Spellings.{IsSpelling}
 use Rattle.resp_value.specs.Words.{command_of}
-use Rattle.resp_value.specs.declared.version.Version.{Version}
+use Rattle.resp_scan.specs.Whole.{BeginsWith}
 use Rattle.resp_session.specs.AnswerLaws.{ACommandIsItsWords}
 use Rattle.resp_session.specs.Answers.{server_rules}
-use Rattle.resp_session.specs.Fitting.{EffectsFit, FitsEffect, FitsStore}
-use Rattle.resp_session.specs.Operations.{Operation, operation_of}
-use Rattle.resp_session.specs.Stores.{Store, effect_of}
-use Rattle.resp_server.specs.Answering.{AnswersBytes}
+use Rattle.resp_session.specs.Stores.{Store, effect_of_words}
+use Rattle.resp_server.specs.Answering.{AnswersBytes, IsAnswerTo}
 use Rattle.resp_server.specs.Reading.{HasReadFront}
 use Rattle.resp_server.specs.Running.{HasEffect, HasSameRest}
-use Rattle.resp_server.specs.Whole.{BeginsWithCommand, lent_operation}
 use Rattle.resp_server.specs.declared.session.Session.{Session}
-use Rattle.resp_server.specs.declared.whole.Lent.{Lent}
-use Rattle.resp_server.specs.declared.whole.Lent.TheVariants as lent
 use Rattle.resp_server.proofs.Turns.{none_taken, spelled_turn}
-use Rattle.resp_server.proofs.ValueAnswers.{asked_fits, command_answer}
-
--- a command of lent words does the same in each session
-pub same_in_each : (store : Store) (version : Version) (id : ℕ) (command : Lent) →
-    effect_of store version 0 (lent_operation command) ≡ effect_of store version id (lent_operation command)
-same_in_each store version id lent.Ping = refl
-same_in_each store version id (lent.Get key) = refl
-same_in_each store version id (lent.Set key value) = refl
-
--- what it leaves is within the limits
-pub lent_fits : EffectsFit → (limits : Bounds) → AreBounds limits → (store : Store) (version : Version) (piece rest : List ℕ) (operation : Operation) →
-    FitsStore limits store → BeginsWithCommand limits piece operation rest → FitsEffect limits (effect_of store version 0 operation)
-lent_fits fit limits bounds store version piece rest operation stored begins =
-    asked_fits fit limits bounds store version 0 operation (begins.name ∷ begins.arguments) stored (omega arith) (begins.written, begins.spelled)
-    (omega arith) begins.asks
+use Rattle.resp_server.proofs.ValueAnswers.{command_answer}
 
 -- the bytes that are used are the spelling
 used_is : (piece written rest : List ℕ) → piece ≡ written ++ rest →
@@ -44,19 +25,24 @@ used_is piece written rest whole =
       omega arith,
     )
 
+-- a command of these words had its effect
+answered_by : ACommandIsItsWords → (id : ℕ) (words : List (List ℕ)) (store store' : Store) (before after : Session) → 0 < length words →
+    before.closing ≡ false → HasEffect store' before after (effect_of_words store before.version id words) → HasSameRest before after →
+    IsAnswerTo id (command_of words) store store' before after 1
+answered_by words_law id [] store store' before after named is_open effect same = absurd (omega (arith, named))
+answered_by words_law id (name ∷ arguments) store store' before after named is_open effect same =
+    command_answer id (command_of (name ∷ arguments)) (name ∷ arguments) store store' before after named
+    (sym ((words_law (command_of (name ∷ arguments)) name arguments).1 refl)) is_open effect same
+
 pub whole_turn : NoSpellingIsEmpty → TheEmptyTextIsViable → ACommandIsItsWords → (limits : Bounds) → AreBounds limits → (id : ℕ) (store store' : Store)
-    (before after : Session) (piece rest : List ℕ) (command : Lent) → HasReadFront before.decoder [] → before.closing ≡ false →
-    (begins : BeginsWithCommand limits piece (lent_operation command) rest) →
-    HasEffect store' before after (effect_of store before.version 0 (lent_operation command)) → HasSameRest before after →
+    (before after : Session) (piece : List ℕ) (words : List (List ℕ)) (rest : List ℕ) → HasReadFront before.decoder [] → before.closing ≡ false →
+    0 < length words → BeginsWith limits piece (command_of words) rest →
+    HasEffect store' before after (effect_of_words store before.version id words) → HasSameRest before after →
     AnswersBytes limits id store store' before after [] piece (length piece - length rest) 1
-whole_turn full empty words_law limits bounds id store store' before after piece rest command between is_open begins effect same =
-    let all : List (List ℕ) = begins.name ∷ begins.arguments in
+whole_turn full empty words_law limits bounds id store store' before after piece words rest between is_open named begins effect same =
     let (bytes, within) = used_is piece begins.written rest begins.whole in
-    let did : HasEffect store' before after (effect_of store before.version id (operation_of begins.name begins.arguments)) =
-    subst (λ e. HasEffect store' before after e) (same_in_each store before.version id command ∙ ap (effect_of store before.version id) begins.asks) effect in
-    spelled_turn full empty limits bounds id store store' before after [] piece (command_of all) (length piece - length rest) 1
+    spelled_turn full empty limits bounds id store store' before after [] piece (command_of words) (length piece - length rest) 1
     (none_taken before.decoder [] between)
-    (subst (IsSpelling (server_rules limits) (command_of all)) (sym bytes) begins.spelled) within
+    (subst (IsSpelling (server_rules limits) (command_of words)) (sym bytes) begins.spelled) within
     (subst (λ d. HasReadFront d []) (sym same.same_decoder) between)
-    (command_answer id (command_of all) all store store' before after (omega arith)
-    (sym ((words_law (command_of all) begins.name begins.arguments).1 refl)) is_open did same)
+    (answered_by words_law id words store store' before after named is_open effect same)

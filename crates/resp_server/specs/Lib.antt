@@ -1,9 +1,9 @@
 pub mod Entries
+pub mod Words
 pub mod Operations
 pub mod Greetings
 pub mod Running
 pub mod Reading
-pub mod Whole
 pub mod Hubs
 pub mod PushRefusals
 pub mod Answering

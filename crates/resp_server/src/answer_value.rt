@@ -10,14 +10,16 @@ ghost use Rattle.resp_session.specs.Fitting.{FitsStore};
 ghost use Rattle.resp_session.specs.Stores.{effect_of_words};
 ghost use Rattle.resp_server.specs.Answering.{IsAnswerTo};
 ghost use Rattle.resp_server.specs.Running.{HasEffect, IsAsBefore, HasSameRest};
+ghost use Rattle.resp_server.specs.Words.{words_left};
 
 use crate::fault_line::append_fault;
 use crate::operation::operation_of;
 use crate::run::run;
 use crate::session::Session;
 use crate::store::Store;
+use crate::words::Words;
 use resp_session::laws;
-use resp_session::words::{Asked, Words, asked_by};
+use resp_session::words::{Asked, asked_by};
 use resp_value::limits::Limits;
 use resp_value::value::Value;
 use std::alloc::{AllocError, Global};
@@ -25,27 +27,28 @@ use std::hash::BuildHasher;
 
 /// Runs a command of the given words, and queues the reply. When out of memory, the store, the
 /// session's version and the waiting bytes are unchanged.
-fn run_words<S: BuildHasher>(
-    words: Words,
+pub(crate) fn run_words<S: BuildHasher>(
+    words: Words<'_>,
     store: &mut Store<S>,
     session: &mut Session,
     id: u64,
     limits: &Limits,
+    alloc: Global,
 ) -> Result<(), AllocError>
     requires stored { FitsStore limits.now store.old }
     requires small { id < 2 ^ 63 }
-    requires named { 0 < length words }
+    requires named { 0 < length (words_left words) }
     requires spelled { (written : List ℕ) ×
-        IsSpelling (server_rules limits.now) (command_of words) written }
+        IsSpelling (server_rules limits.now) (command_of (words_left words)) written }
     ensures done { OnOk result (HasEffect store.new session.old session.new
-        (effect_of_words store.old session.old.version id words)) }
+        (effect_of_words store.old session.old.version id (words_left words.entry))) }
     ensures unchanged { OnErr result (IsAsBefore store.old store.new session.old session.new) }
     ensures stored { FitsStore limits.now store.new }
     ensures rest { HasSameRest session.old session.new }
 {
     laws::effects_fit();
     limits.are_in_range();
-    run(operation_of(words), store, session, id, limits)
+    run(operation_of(words), store, session, id, limits, alloc)
 }
 
 /// Answers a value that was read, and returns the number of commands that were run, 0 or 1. When
@@ -73,7 +76,8 @@ pub(crate) fn answer_value<S: BuildHasher>(
     laws::a_command_is_its_words();
     match asked_by(value) {
         Asked::Command(words) => {
-            run_words(words, store, session, id, limits)?;
+            let words = Words::Read(words.into_words());
+            run_words(words, store, session, id, limits, alloc)?;
             Ok(1)
         }
         Asked::Nothing => Ok(0),

@@ -15,12 +15,11 @@ mod refusal;
 mod reply;
 mod row;
 mod run;
-mod run_lent;
 mod session;
 mod store;
 mod stored;
 mod turn;
-mod whole;
+mod words;
 
 pub use entries::Entries;
 pub use error::{HubError, NoSession, OpenError, PushError};

@@ -1,14 +1,13 @@
 //! The request of a command, found from its words.
 
-ghost use Rattle.std.specs.Prelude.{◌≡◌, ◌<◌, ◌∷◌, List, ℕ, drop, length, slice_index_or, []};
+ghost use Rattle.std.specs.Prelude.{◌≡◌, ◌<◌, ◌≤◌, ◌∷◌, List, ℕ, drop, length, slice_index_or, []};
 ghost use Rattle.std.specs.Str.{str_to_ascii_lowercase};
-ghost use Rattle.resp_value.specs.Values.{content_bytes};
 ghost use Rattle.resp_session.specs.Operations as spec;
-ghost use Rattle.resp_server.specs.Operations.{operation_in, operation_by, condition_in};
+ghost use Rattle.resp_server.specs.Operations.{conditional_by, operation_in, operation_by};
+ghost use Rattle.resp_server.specs.Words.{word_bytes, words_left};
 
 use crate::refusal::{Refusal, Verb};
-use resp_session::words::Words;
-use resp_value::content::Content;
+use crate::words::{Word, Words};
 use resp_value::version::Version;
 
 /// The condition of a SET.
@@ -24,17 +23,17 @@ pub(crate) enum Condition {
 
 /// The request of a command.
 #[derive(Drop)]
-pub(crate) enum Operation {
+pub(crate) enum Operation<'a> {
     /// PING without a word: reply `PONG`.
     Ping,
     /// Reply with this word.
-    Echo(Content),
+    Echo(Word<'a>),
     /// Reply with the value of the key.
-    Get(Content),
+    Get(Word<'a>),
     /// Set the key to the value.
-    Set(Condition, Content, Content),
-    /// Remove the keys, which are the words after the name.
-    Del(Words),
+    Set(Condition, Word<'a>, Word<'a>),
+    /// Remove the keys.
+    Del(Words<'a>),
     /// Describe the session, and change the version if one is given.
     Hello(Option<Version>),
     /// Reply with an error.
@@ -73,12 +72,15 @@ pub(crate) fn verb_of(name: &[u8]) -> Option<Verb>
 }
 
 /// Returns the operation that a command of the given words asks for.
-pub(crate) fn operation_of(words: Words) -> Operation
-    requires { 0 < length words }
-    ensures { operation_in result ≡
-        spec.operation_of (slice_index_or words 0 []) (drop 1 words) }
+pub(crate) fn operation_of(mut words: Words<'_>) -> Operation<'_>
+    requires { 0 < length (words_left words) }
+    ensures { operation_in result ≡ spec.operation_of
+        (slice_index_or (words_left words.entry) 0 []) (drop 1 (words_left words.entry)) }
 {
-    match verb_of(words.word(0)) {
+    let Some(name) = words.take() else {
+        unreachable!()
+    };
+    match verb_of(name.bytes()) {
         Some(Verb::Ping) => ping(words),
         Some(Verb::Echo) => echo(words),
         Some(Verb::Get) => get(words),
@@ -89,120 +91,117 @@ pub(crate) fn operation_of(words: Words) -> Operation
     }
 }
 
-/// Returns the request of a PING.
-fn ping(mut words: Words) -> Operation
-    requires { 0 < length words }
-    ensures { operation_in result ≡ spec.ping_operation (drop 1 words) }
+/// Returns the request of a PING with these words after its name.
+fn ping(words: Words<'_>) -> Operation<'_>
+    ensures { operation_in result ≡ spec.ping_operation (words_left words.entry) }
 {
     match words.len() {
-        1 => Operation::Ping,
-        2 => match words.pop() {
-            Some(word) => Operation::Echo(word),
-            None => unreachable!(),
-        },
+        0 => Operation::Ping,
+        1 => Operation::Echo(only(words)),
         _ => Operation::Refused(Refusal::WrongNumber(Verb::Ping)),
     }
 }
 
-/// Returns the request of an ECHO.
-fn echo(mut words: Words) -> Operation
-    requires { 0 < length words }
-    ensures { operation_in result ≡ spec.echo_operation (drop 1 words) }
+/// Returns the only word.
+fn only(mut words: Words<'_>) -> Word<'_>
+    requires { length (words_left words) ≡ 1 }
+    ensures { words_left words.entry ≡ word_bytes result ∷ [] }
 {
-    if words.len() != 2 {
-        return Operation::Refused(Refusal::WrongNumber(Verb::Echo));
-    }
-    match words.pop() {
-        Some(word) => Operation::Echo(word),
+    match words.take() {
+        Some(word) => word,
         None => unreachable!(),
     }
 }
 
-/// Returns the request of a GET.
-fn get(mut words: Words) -> Operation
-    requires { 0 < length words }
-    ensures { operation_in result ≡ spec.get_operation (drop 1 words) }
-{
-    if words.len() != 2 {
-        return Operation::Refused(Refusal::WrongNumber(Verb::Get));
-    }
-    match words.pop() {
-        Some(key) => Operation::Get(key),
-        None => unreachable!(),
-    }
-}
-
-/// Returns the request of a SET.
-fn set(mut words: Words) -> Operation
-    requires { 0 < length words }
-    ensures { operation_in result ≡ spec.set_operation (drop 1 words) }
+/// Returns the request of an ECHO with these words after its name.
+fn echo(words: Words<'_>) -> Operation<'_>
+    ensures { operation_in result ≡ spec.echo_operation (words_left words.entry) }
 {
     match words.len() {
-        1 | 2 => Operation::Refused(Refusal::WrongNumber(Verb::Set)),
-        3 => set_key(words, Condition::Always),
-        4 => match words.pop() {
-            Some(option) => set_by(words, option.list()),
-            None => unreachable!(),
-        },
+        1 => Operation::Echo(only(words)),
+        _ => Operation::Refused(Refusal::WrongNumber(Verb::Echo)),
+    }
+}
+
+/// Returns the request of a GET with these words after its name.
+fn get(words: Words<'_>) -> Operation<'_>
+    ensures { operation_in result ≡ spec.get_operation (words_left words.entry) }
+{
+    match words.len() {
+        1 => Operation::Get(only(words)),
+        _ => Operation::Refused(Refusal::WrongNumber(Verb::Get)),
+    }
+}
+
+/// Returns the request of a SET with these words after its name.
+fn set(words: Words<'_>) -> Operation<'_>
+    ensures { operation_in result ≡ spec.set_operation (words_left words.entry) }
+{
+    match words.len() {
+        0 | 1 => Operation::Refused(Refusal::WrongNumber(Verb::Set)),
+        2 | 3 => set_key(words),
         _ => Operation::Refused(Refusal::Syntax),
     }
 }
 
-/// Returns the request of a SET of a key and a value with an option.
-fn set_by(words: Words, option: &[u8]) -> Operation
-    requires { length words ≡ 3 }
-    ensures { operation_in result ≡ spec.conditional_operation
-        (slice_index_or words 1 []) (slice_index_or words 2 []) option.now }
+/// Returns the request of a SET of a key and a value, with an option if there is a third word.
+fn set_key(mut words: Words<'_>) -> Operation<'_>
+    requires some { 2 ≤ length (words_left words) }
+    requires few { length (words_left words) ≤ 3 }
+    ensures { operation_in result ≡ spec.set_operation (words_left words.entry) }
+{
+    let Some(key) = words.take() else {
+        unreachable!()
+    };
+    let Some(value) = words.take() else {
+        unreachable!()
+    };
+    match words.take() {
+        None => Operation::Set(Condition::Always, key, value),
+        Some(option) => match condition_of(option.bytes()) {
+            Some(condition) => Operation::Set(condition, key, value),
+            None => Operation::Refused(Refusal::Syntax),
+        },
+    }
+}
+
+/// Returns the condition that an option of a SET asks for, or `None` if the option is unknown.
+fn condition_of(option: &[u8]) -> Option<Condition>
+    ensures { (key value : List ℕ) →
+        conditional_by result key value ≡ spec.conditional_operation key value option.now }
 {
     if is_name(option, b"nx") {
-        set_key(words, Condition::IfAbsent)
+        Some(Condition::IfAbsent)
     } else if is_name(option, b"xx") {
-        set_key(words, Condition::IfPresent)
+        Some(Condition::IfPresent)
     } else {
-        Operation::Refused(Refusal::Syntax)
+        None
     }
 }
 
-/// Returns the request of a SET of a key and a value under this condition.
-fn set_key(mut words: Words, condition: Condition) -> Operation
-    requires { length words ≡ 3 }
-    ensures { operation_in result ≡ spec.Set (condition_in condition)
-        (slice_index_or words 1 []) (slice_index_or words 2 []) }
-{
-    let Some(value) = words.pop() else {
-        unreachable!()
-    };
-    let Some(key) = words.pop() else {
-        unreachable!()
-    };
-    Operation::Set(condition, key, value)
-}
-
-/// Returns the request of a DEL.
-fn del(words: Words) -> Operation
-    requires { 0 < length words }
-    ensures { operation_in result ≡ spec.del_operation (drop 1 words) }
-{
-    if words.len() == 1 {
-        return Operation::Refused(Refusal::WrongNumber(Verb::Del));
-    }
-    Operation::Del(words)
-}
-
-/// Returns the request of a HELLO.
-fn hello(words: Words) -> Operation
-    requires { 0 < length words }
-    ensures { operation_in result ≡ spec.hello_operation (drop 1 words) }
+/// Returns the request of a DEL with these words after its name.
+fn del(words: Words<'_>) -> Operation<'_>
+    ensures { operation_in result ≡ spec.del_operation (words_left words.entry) }
 {
     match words.len() {
-        1 => Operation::Hello(None),
-        2 => hello_of(words.word(1)),
+        0 => Operation::Refused(Refusal::WrongNumber(Verb::Del)),
+        _ => Operation::Del(words),
+    }
+}
+
+/// Returns the request of a HELLO with these words after its name.
+fn hello(words: Words<'_>) -> Operation<'_>
+    ensures { operation_in result ≡ spec.hello_operation (words_left words.entry) }
+{
+    match words.len() {
+        0 => Operation::Hello(None),
+        1 => hello_of(only(words).bytes()),
         _ => Operation::Refused(Refusal::Syntax),
     }
 }
 
 /// Returns the request of a HELLO with a word for the version.
-fn hello_of(word: &[u8]) -> Operation
+fn hello_of<'a>(word: &[u8]) -> Operation<'a>
     ensures { operation_in result ≡ spec.version_operation word.now }
 {
     if word == b"2".as_slice() {

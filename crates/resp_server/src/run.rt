@@ -1,65 +1,61 @@
 //! Runs a command. All allocations come first, and after them nothing can fail.
 
-ghost use Rattle.std.specs.Prelude.{◌≡◌, ◌<◌, ◌^◌, ℕ, List, drop, OnOk, OnErr};
-ghost use Rattle.resp_value.specs.Values.{content_bytes};
+ghost use Rattle.std.specs.Prelude.{◌≡◌, ◌<◌, ◌^◌, ℕ, List, OnOk, OnErr};
 ghost use Rattle.resp_session.specs.Fitting.{FitsEffect};
 ghost use Rattle.resp_session.specs.Operations as spec;
 ghost use Rattle.resp_session.specs.Stores.{effect_of, value_at};
 ghost use Rattle.resp_session.specs.Stores as stores;
 ghost use Rattle.resp_server.specs.Operations.{operation_in, condition_in};
 ghost use Rattle.resp_server.specs.Running.{HasEffect, IsAsBefore, HasSameRest};
+ghost use Rattle.resp_server.specs.Words.{word_bytes, words_left};
 
 use crate::operation::{Condition, Operation};
 use crate::reply::{NUMBER_ROOM, reply, reply_greeting, reply_number};
 use crate::session::Session;
 use crate::store::Store;
-use resp_session::words::Words;
-use resp_value::content::Content;
+use crate::words::{Word, Words};
 use resp_value::limits::Limits;
 use resp_value::value::Value;
 use resp_value::version::Version;
-use std::alloc::AllocError;
+use std::alloc::{AllocError, Global};
 use std::hash::BuildHasher;
 
 /// Runs a command in the session of this number, and queues the reply. When out of memory, the
 /// store, the session's version and the waiting bytes are unchanged.
 pub(crate) fn run<S: BuildHasher>(
-    operation: Operation,
+    operation: Operation<'_>,
     store: &mut Store<S>,
     session: &mut Session,
     id: u64,
     limits: &Limits,
+    alloc: Global,
 ) -> Result<(), AllocError>
     requires fits { FitsEffect limits.now
         (effect_of store.old session.old.version id (operation_in operation)) }
     requires small { id < 2 ^ 63 }
     ensures done { OnOk result (HasEffect store.new session.old session.new
-        (effect_of store.old session.old.version id (operation_in operation))) }
+        (effect_of store.old session.old.version id (operation_in operation.entry))) }
     ensures unchanged { OnErr result (IsAsBefore store.old store.new session.old session.new) }
     ensures rest { HasSameRest session.old session.new }
 {
     match operation {
         Operation::Ping => session.out.extend_from_slice(b"+PONG\r\n"),
         Operation::Echo(word) => {
-            reply(
-                &mut session.out,
-                session.version,
-                limits,
-                &Value::Bulk(word),
-            )
+            let word = Value::Bulk(word.into_content(alloc)?);
+            reply(&mut session.out, session.version, limits, &word)
         }
-        Operation::Get(key) => get(key.list(), store, session, limits),
+        Operation::Get(key) => get(key.bytes(), store, session, limits),
         Operation::Set(condition, key, value) => {
-            set(condition, key, value, store, session, limits)
+            set(condition, key, value, store, session, limits, alloc)
         }
-        Operation::Del(words) => del(&words, store, session, limits),
+        Operation::Del(keys) => del(keys, store, session, limits),
         Operation::Hello(asked) => hello(asked, session, id, limits),
         Operation::Refused(refusal) => session.out.extend_from_slice(refusal.line()),
     }
 }
 
 /// Replies with the value of a key.
-pub(crate) fn get<S: BuildHasher>(
+fn get<S: BuildHasher>(
     key: &[u8],
     store: &Store<S>,
     session: &mut Session,
@@ -93,45 +89,46 @@ fn is_met<S: BuildHasher>(condition: Condition, key: &[u8], store: &Store<S>) ->
 /// Sets a key if its condition holds, and replies whether the key was set.
 fn set<S: BuildHasher>(
     condition: Condition,
-    key: Content,
-    value: Content,
+    key: Word<'_>,
+    value: Word<'_>,
     store: &mut Store<S>,
     session: &mut Session,
     limits: &Limits,
+    alloc: Global,
 ) -> Result<(), AllocError>
     requires { FitsEffect limits.now (effect_of store.old session.old.version 0
-        (spec.Set (condition_in condition) (content_bytes key) (content_bytes value))) }
+        (spec.Set (condition_in condition) (word_bytes key) (word_bytes value))) }
     ensures done { OnOk result (HasEffect store.new session.old session.new
         (effect_of store.old session.old.version 0
-        (spec.Set (condition_in condition) (content_bytes key) (content_bytes value)))) }
+        (spec.Set (condition_in condition) (word_bytes key.entry) (word_bytes value.entry)))) }
     ensures unchanged { OnErr result (IsAsBefore store.old store.new session.old session.new) }
     ensures rest { HasSameRest session.old session.new }
 {
-    if !is_met(condition, key.list(), store) {
+    if !is_met(condition, key.bytes(), store) {
         return reply(&mut session.out, session.version, limits, &Value::Null);
     }
     session.out.reserve(5)?;
-    store.set(key, value)?;
+    store.set(key, value, alloc)?;
     session.out.extend_reserved(b"+OK\r\n");
     Ok(())
 }
 
-/// Removes the keys after the name, and replies with the number of keys that existed.
+/// Removes the keys, and replies with the number of keys that existed.
 fn del<S: BuildHasher>(
-    words: &Words,
+    keys: Words<'_>,
     store: &mut Store<S>,
     session: &mut Session,
     limits: &Limits,
 ) -> Result<(), AllocError>
     requires { FitsEffect limits.now (effect_of store.old session.old.version 0
-        (spec.Del (drop 1 words.now))) }
+        (spec.Del (words_left keys))) }
     ensures done { OnOk result (HasEffect store.new session.old session.new
-        (effect_of store.old session.old.version 0 (spec.Del (drop 1 words.now)))) }
+        (effect_of store.old session.old.version 0 (spec.Del (words_left keys.entry)))) }
     ensures unchanged { OnErr result (IsAsBefore store.old store.new session.old session.new) }
     ensures rest { HasSameRest session.old session.new }
 {
     session.out.reserve(NUMBER_ROOM)?;
-    let removed = store.remove(words);
+    let removed = store.remove(keys);
     reply_number(&mut session.out, session.version, limits, removed);
     Ok(())
 }

@@ -1,18 +1,19 @@
 //! The store: keys with their values, in the order in which the keys were added.
 
-ghost use Rattle.std.specs.Prelude.{◌≡◌, ◌+◌, ◌<◌, ◌≤◌, ◌∷◌, [], ℕ, None, Some, Vec, drop, length, slice_get, IfNone, IfSome, IsSome, OnOk, OnErr};
+ghost use Rattle.std.specs.Prelude.{◌≡◌, ◌+◌, ◌<◌, ◌≤◌, ◌∷◌, [], ℕ, None, Some, Vec, length, slice_get, IfNone, IfSome, IsSome, OnOk, OnErr};
 ghost use Rattle.std.proofs.Common.{Global};
 ghost use Rattle.std.specs.Option.{option_map};
 ghost use Rattle.resp_value.specs.Values.{content_bytes};
 ghost use Rattle.indexmap.specs.IndexMap.{index_map_len, set_value_at};
 ghost use Rattle.resp_server.specs.declared.row.Row.{Row};
+ghost use Rattle.resp_server.specs.Words.{word_bytes, words_left};
 ghost use Rattle.resp_session.specs.Stores.{value_at, store_with, store_without};
 
 use crate::entries::Entries;
 use crate::row::Row;
 use crate::stored::Stored;
+use crate::words::{Word, Words};
 use indexmap::IndexMap;
-use resp_session::words::Words;
 use resp_value::content::Content;
 use std::alloc::{AllocError, Global};
 use std::hash::BuildHasher;
@@ -68,33 +69,22 @@ impl<S: BuildHasher> Store<S> {
         Entries::new(self.rows.as_slice(), self.places.as_slice())
     }
 
-    /// Sets the value of a key. Changes nothing if an allocation fails.
-    pub(crate) fn set(&mut self, key: Content, value: Content) -> Result<(), AllocError>
-        ensures set { OnOk result (self.new ≡
-            store_with self.old (content_bytes key) (content_bytes value)) }
-        ensures unchanged { OnErr result (self.new ≡ self.old) }
-    {
-        match self.replace(key.list(), value) {
-            Some(value) => self.add(key, value),
-            None => Ok(()),
-        }
-    }
-
-    /// Sets the value of a key, copying borrowed bytes. Changes nothing if an allocation fails.
-    pub(crate) fn set_lent(
+    /// Sets the value of a key. Borrowed words are copied. Changes nothing if an allocation fails.
+    pub(crate) fn set(
         &mut self,
-        key: &[u8],
-        value: &[u8],
+        key: Word<'_>,
+        value: Word<'_>,
         alloc: Global,
     ) -> Result<(), AllocError>
-        ensures set { OnOk result (self.new ≡ store_with self.old key.now value.now) }
+        ensures set { OnOk result (self.new ≡
+            store_with self.old (word_bytes key.entry) (word_bytes value.entry)) }
         ensures unchanged { OnErr result (self.new ≡ self.old) }
     {
-        let value = Content::new(Vec::from_slice(alloc, value)?);
-        let Some(value) = self.replace(key, value) else {
+        let value = value.into_content(alloc)?;
+        let Some(value) = self.replace(key.bytes(), value) else {
             return Ok(());
         };
-        let key = Content::new(Vec::from_slice(alloc, key)?);
+        let key = key.into_content(alloc)?;
         self.add(key, value)
     }
 
@@ -139,14 +129,17 @@ impl<S: BuildHasher> Store<S> {
         }
     }
 
-    /// Removes the keys after the name in these words, and returns the number of keys that existed.
-    pub(crate) fn remove(&mut self, words: &Words) -> u64
-        ensures removed { self.new ≡ store_without self.old (drop 1 words.now) }
+    /// Removes the keys, and returns the number of keys that existed.
+    pub(crate) fn remove(&mut self, mut keys: Words<'_>) -> u64
+        ensures removed { self.new ≡ store_without self.old (words_left keys.entry) }
         ensures count { result + length self.new ≡ length self.old }
     {
         let mut removed = 0;
-        for index in 1..words.len() {
-            removed += self.remove_key(words.word(index));
+        for _ in 0..keys.len() {
+            let Some(key) = keys.take() else {
+                unreachable!()
+            };
+            removed += self.remove_key(key.bytes());
         }
         self.close_up();
         removed

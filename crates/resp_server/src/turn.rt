@@ -1,21 +1,22 @@
 //! One turn of a session: it reads up to the end of a value or of the piece.
 
-ghost use Rattle.std.specs.Prelude.{◌≡◌, ◌<◌, ◌≤◌, ◌^◌, List, [], ℕ, false, IfOk, OnOk, OnErr};
+ghost use Rattle.std.specs.Prelude.{◌≡◌, ◌<◌, ◌≤◌, ◌^◌, List, [], ℕ, false, length, IfOk, OnOk, OnErr};
 ghost use Rattle.resp_value.specs.declared.cause.Cause.TheVariants.{OutOfMemory};
 ghost use Rattle.resp_session.specs.Answers.{server_rules};
 ghost use Rattle.resp_session.specs.Fitting.{FitsStore};
 ghost use Rattle.resp_server.specs.Answering.{AnswersBytes, AnswersFault, IsNamedFault};
 ghost use Rattle.resp_server.specs.Reading.{HasReadFront, ReadsBy, WhereFrontRead};
 ghost use Rattle.resp_server.specs.Running.{IsAsBefore};
-ghost use Rattle.resp_server.specs.Whole.{BeginsWithCommand, lent_operation};
+ghost use Rattle.resp_scan.specs.Whole.{BeginsWith};
+ghost use Rattle.resp_value.specs.Words.{command_of};
 
-use crate::answer_value::answer_value;
+use crate::answer_value::{answer_value, run_words};
 use crate::fault_line::append_fault;
-use crate::run_lent::run_lent;
 use crate::session::Session;
 use crate::store::Store;
-use crate::whole::{Whole, whole_command};
+use crate::words::Words;
 use resp_scan::event::Fault;
+use resp_scan::whole::{self, WholeCommand};
 use resp_session::laws;
 use resp_value::cause::Cause;
 use resp_value::laws as grammar;
@@ -56,8 +57,8 @@ pub(crate) fn take_turn<S: BuildHasher>(
     ensures at_most_one { IfOk result (λ turn. turn.commands ≤ 1) }
 {
     if session.decoder.is_between() {
-        if let Some(whole) = whole_command(piece, limits) {
-            return run_whole(whole, store, session, id, limits, alloc, piece);
+        if let Some(command) = whole::command(piece, limits) {
+            return run_whole(command, store, session, id, limits, alloc, piece);
         }
     }
     read_turn(store, session, id, limits, alloc, piece)
@@ -65,7 +66,7 @@ pub(crate) fn take_turn<S: BuildHasher>(
 
 /// Runs a command that lies completely in the piece.
 fn run_whole<S: BuildHasher>(
-    whole: Whole<'_>,
+    command: WholeCommand<'_>,
     store: &mut Store<S>,
     session: &mut Session,
     id: u64,
@@ -77,8 +78,9 @@ fn run_whole<S: BuildHasher>(
     requires stored { FitsStore limits.now store.old }
     requires small { id < 2 ^ 63 }
     requires between { HasReadFront session.old.decoder [] }
-    requires begins { BeginsWithCommand limits.now piece.now (lent_operation whole.command)
-        whole.rest.now }
+    requires named { 0 < length command.words }
+    requires begins { BeginsWith limits.now piece.now (command_of command.words)
+        command.rest.now }
     ensures answered { IfOk result (λ turn. AnswersBytes limits.now id store.old store.new
         session.old session.new [] piece.now turn.used turn.commands) }
     ensures unchanged { OnErr result (IsAsBefore store.old store.new session.old session.new) }
@@ -86,13 +88,13 @@ fn run_whole<S: BuildHasher>(
     ensures same_decoder { session.new.decoder ≡ session.old.decoder }
     ensures at_most_one { IfOk result (λ turn. turn.commands ≤ 1) }
 {
-    laws::effects_fit();
     laws::a_command_is_its_words();
     grammar::no_spelling_is_empty();
     grammar::the_empty_text_is_viable();
     limits.are_in_range();
-    let used = piece.len() - whole.rest.len();
-    run_lent(whole.command, store, session, limits, alloc)?;
+    let used = piece.len() - command.rest.len();
+    let words = Words::Lent(command.words);
+    run_words(words, store, session, id, limits, alloc)?;
     Ok(Turn { used, commands: 1 })
 }
 

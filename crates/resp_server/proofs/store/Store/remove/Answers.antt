@@ -1,24 +1,28 @@
-use Rattle.std.proofs.Common.{◌∷◌, [], drop, take, sym, ap, ◌∙◌, arith}
+use Rattle.std.proofs.Common.{◌≡◌, ◌∷◌, [], List, ℕ, length, sym, ap, refl, ◌∙◌, arith}
 use Rattle.resp_session.specs.Stores.{store_without}
-use Rattle.resp_server.proofs.StoreEntries.{without_none, without_one_more, no_word_yet, one_word_more}
+use Rattle.resp_server.specs.Words.{words_left}
+use Rattle.resp_server.proofs.StoreEntries.{without_first, without_none}
 use Rattle.resp_server.proofs.store.Store.remove.Goals as goal
 
-pub loop-index-init : goal.loop-index-init
-loop-index-init g c = record {
-  kept = sym (without_none c.args.self.now) ∙ ap (store_without c.args.self.now) (sym (no_word_yet c.args.words.now));
-  count = omega arith;
-  few = omega arith;
-}
+none_left : (words : List (List ℕ)) → length words ≡ 0 → words ≡ []
+none_left [] none = refl
+none_left (word ∷ words) none = absurd (omega (arith, none))
 
-pub loop-index-preserved : goal.loop-index-preserved
-loop-index-preserved g c =
-    let i = c.loop-index.index in
-    let word = c.word.result.now in
-    let words = c.args.words.now in
+pub loop-preserved : goal.loop-preserved
+loop-preserved g c =
+    let left = words_left c.take.new.self in
+    let first = ap length c.in-Some.ensures in
+    let same = c.loop.invariant in
     record {
-      kept = c.remove_key-removed.ensures.removed ∙ ap (λ store. store_without store (word ∷ [])) c.loop-index.invariant.kept ∙
-          sym (without_one_more c.args.self.now (drop 1 (take i words)) word) ∙
-          ap (store_without c.args.self.now) (one_word_more words i word c.loop-index.auto.index (omega arith) c.word.ensures);
-      count = let h = c.loop-index.invariant.count in omega (arith, h, c.remove_key-removed.ensures.count);
-      few = let h = c.loop-index.invariant.few in omega (arith, h, c.remove_key-removed.ensures.at_most_one);
+      left = ap (λ store. store_without store left) c.remove_key-removed.ensures.removed ∙ sym (without_first c.loop.self c.bytes.result.now left) ∙
+          ap (λ key. store_without c.loop.self (key ∷ left)) c.bytes.ensures ∙ ap (store_without c.loop.self) (sym c.in-Some.ensures) ∙ same.left;
+      taken = omega (arith, first, same.taken);
+      count = omega (arith, same.count, c.remove_key-removed.ensures.count);
+      few = omega (arith, same.few, c.remove_key-removed.ensures.at_most_one);
     }
+
+pub returns-clause-removed : goal.returns-clause-removed
+returns-clause-removed g c =
+    let same = c.loop.invariant in
+    let none = none_left (words_left c.loop.keys) (omega (arith, same.taken, c.loop-test.false, c.len-end.ensures)) in
+    c.close_up.ensures ∙ sym (without_none c.loop.self) ∙ ap (store_without c.loop.self) (sym none) ∙ same.left
