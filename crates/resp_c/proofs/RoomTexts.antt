@@ -22,7 +22,7 @@ writes_whole old text new size at stands last room = record {
   size_told = last ∙ stands.place;
   written = λ _. stands.filled;
   has_room = λ _. omega (arith, last, stands.place, room);
-  no_room = λ wrong. absurd (wrong refl);
+  too_short = λ wrong. absurd (wrong refl);
   nothing_written = λ wrong. absurd (wrong refl);
   cause = λ wrong. absurd (wrong refl);
 }
@@ -34,7 +34,7 @@ writes_nothing old text size told short = record {
   size_told = told;
   written = λ wrong. absurd (cc);
   has_room = λ wrong. absurd (cc);
-  no_room = λ _. omega (arith, told, short);
+  too_short = λ _. omega (arith, told, short);
   nothing_written = λ _. refl;
   cause = λ _. refl;
 }

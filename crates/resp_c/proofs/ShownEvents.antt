@@ -13,7 +13,8 @@ use Rattle.resp_scan.specs.declared.event.Event.TheVariants as event
 use Rattle.resp_scan.specs.declared.event.TextKind.{TextKind}
 use Rattle.resp_scan.specs.declared.event.TextKind.TheVariants as text
 use Rattle.resp_c.specs.Pairs.{ValueLook, after_events, closed, is_error_kind, nested_by, opened, refuses_at_open, refuses_by, seen, where_seen}
-use Rattle.resp_c.specs.Told.{Tells, TellsWhole, kind_form, text_form}
+use Rattle.resp_c.specs.EventNumbers.{kind_form, text_form}
+use Rattle.resp_c.specs.Told.{Tells, TellsWhole}
 use Rattle.resp_c.specs.declared.event.RespEvent.{RespEvent}
 
 -- what numbers show of an event

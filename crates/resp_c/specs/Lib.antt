@@ -1,9 +1,12 @@
 -- The events that C receives, in the scanner's terms.
+pub mod EventNumbers
 pub mod Told
 pub mod Scans
 pub mod Steps
 pub mod Limits
 pub mod Versions
+-- The answers of each call.
+pub mod Answers
 -- The memory of the caller.
 pub mod Memory
 pub mod Lent

@@ -1,12 +1,15 @@
 -- The reply that an event belongs to, whether the reply is an error, and the waiting commands, as C stores them.
 use Rattle.std.specs.Prelude.{◌≡◌, ◌⊎◌, ℕ, zero, suc, ◌+◌, ◌-◌, Bool, true, false, List, [], ◌∷◌, ◌++◌, Option, None, Some, cond, eqb}
-use Rattle.resp_value.specs.Data.{Kind, Attr}
-use Rattle.resp_value.specs.Trees.{Tree, IsTree}
+use Rattle.resp_value.specs.Data.{Kind, Attr, Push}
+use Rattle.resp_value.specs.Trees.{Tree, IsTree, kind_byte}
 use Rattle.resp_value.specs.TreeValues.{value}
+use Rattle.resp_value.specs.declared.kind.OpenKind.TheVariants as kinds
 use Rattle.resp_value.specs.declared.version.Version.{Version}
 use Rattle.resp_fronts.specs.Events.{Event, TextKind, events, without_places}
 use Rattle.resp_fronts.specs.Events as e
+use Rattle.resp_scan.specs.declared.event.TextKind.TheVariants as texts
 use Rattle.resp_session.specs.Reading.{Waiting, is_refusal}
+use Rattle.resp_c.specs.EventNumbers.{bool_number, close_number, int_number, kind_form, null_number, open_number, text_form, text_number, whole_number}
 use Rattle.resp_c.specs.Versions.{IsVersion, version_of}
 use Rattle.resp_c.specs.declared.pairing.RespPairing.{RespPairing}
 
@@ -108,23 +111,31 @@ pub record HasVersions (p : RespPairing) : Type 0 where
 abbrev pub with_ask_queued : Option Version → Waiting → Waiting
 with_ask_queued ask w = record { version = w.version; asks = w.asks ++ ask ∷ [] }
 
+-- whether the value is a push
+abbrev pub reads_push : RespPairing → Bool
+reads_push p = eqb p.first (kind_byte Push)
+
 -- the number of the reply, or 0 for a push
 abbrev pub number_of_reply : RespPairing → ℕ
-number_of_reply p = cond (eqb p.first 62) 0 (p.answered + 1)
+number_of_reply p = cond (reads_push p) 0 (p.answered + 1)
 
 -- 1 for a reply, and 0 for a push
 abbrev pub count_of_reply : RespPairing → ℕ
-count_of_reply p = cond (eqb p.first 62) 0 1
+count_of_reply p = cond (reads_push p) 0 1
 
 -- the effect of an event as C receives it
 abbrev pub nested_by : ℕ → ℕ → ℕ → ℕ
-nested_by nested kind form = cond (eqb kind 7) (cond (eqb nested 0) (cond (eqb form 3) 0 1) (nested + 1))
-    (cond (eqb kind 8) (nested - 1) nested)
+nested_by nested kind form =
+    cond (eqb kind open_number) (cond (eqb nested 0) (cond (eqb form (kind_form kinds.Attr)) 0 1) (nested + 1))
+    (cond (eqb kind close_number) (nested - 1) nested)
+
+-- whether a text of this kind is an error
+abbrev pub is_error_form : ℕ → Bool
+is_error_form form = cond (eqb form (text_form texts.Error)) true (eqb form (text_form texts.BulkError))
 
 abbrev pub refuses_by : ℕ → Bool → ℕ → ℕ → Bool
 refuses_by nested before kind form = cond (eqb nested 0)
-    (cond (eqb kind 7) (cond (eqb form 3) before false)
-    (cond (eqb kind 4) (cond (eqb form 1) true (eqb form 4))
-    (cond (eqb kind 10) (cond (eqb form 1) true (eqb form 4))
-    (cond (eqb kind 1) false (cond (eqb kind 2) false (cond (eqb kind 3) false before))))))
+    (cond (eqb kind open_number) (cond (eqb form (kind_form kinds.Attr)) before false)
+    (cond (eqb kind text_number) (is_error_form form) (cond (eqb kind whole_number) (is_error_form form)
+    (cond (eqb kind null_number) false (cond (eqb kind bool_number) false (cond (eqb kind int_number) false before))))))
     before

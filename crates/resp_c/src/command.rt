@@ -4,8 +4,10 @@ ghost use Rattle.std.specs.Prelude.{◌≡◌, ◌↔◌, ℕ, List, length};
 ghost use Rattle.resp_encode.specs.Lengths.{HaveLengths};
 ghost use Rattle.resp_value.specs.Bounds.{AreBounds};
 ghost use Rattle.resp_value.specs.Canonical.{Fits, IsFirstOver, canonical_text};
+ghost use Rattle.resp_value.specs.Causes.{number_of};
 ghost use Rattle.resp_value.specs.Rules.{rules_under};
 ghost use Rattle.resp_value.specs.Words.{command_of};
+ghost use Rattle.resp_value.specs.declared.cause.Cause.TheVariants as cause;
 ghost use Rattle.resp_value.specs.declared.cause.Limit.{Limit};
 ghost use Rattle.resp_value.specs.declared.version.Version.TheVariants.{Two};
 ghost use Rattle.resp_c.specs.Limits.{bounds_of};
@@ -42,7 +44,7 @@ pub extern "C" fn resp_command_size(limits: &RespLimits, lengths: &[usize], size
         AreBounds (bounds_of limits.now) → (result ≡ 0 → ⊥) → (limit : Limit) ×
         (result ≡ limit_number limit) ×
         IsFirstOver (rules_under Two (bounds_of limits.now)) (command_of words) limit }
-    ensures bad_limits { (result ≡ 63) ↔ (AreBounds (bounds_of limits.now) → ⊥) }
+    ensures bad_limits { (result ≡ number_of cause.BadLimits) ↔ (AreBounds (bounds_of limits.now) → ⊥) }
     ensures unchanged { (result ≡ 0 → ⊥) → size.new ≡ size.old }
 {
     let limits = match checked(limits) {

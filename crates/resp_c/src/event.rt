@@ -1,8 +1,10 @@
 //! Events, as C receives them.
 
 ghost use Rattle.std.specs.Prelude.{◌≡◌, [], ◌∷◌, Some, length};
-ghost use Rattle.resp_c.specs.Told.{Tells, TellsMore, TellsWhole, kind_form, text_form, truth_number};
+ghost use Rattle.resp_c.specs.EventNumbers.{kind_form, part_number, text_form, text_number};
+ghost use Rattle.resp_c.specs.Told.{Tells, TellsMore, TellsWhole, truth_number};
 
+use crate::number;
 use resp_scan::event::{Event, TextKind};
 use resp_scan::slot::Slot;
 use resp_value::kind::OpenKind;
@@ -34,18 +36,15 @@ pub struct RespEvent {
     pub digit: u8,
 }
 
-/// The number of members of a streamed aggregate.
-const STREAMED: u64 = u64::MAX;
-
 /// Stores a text that begins, apart from the number of its bytes.
 #[inline(always)]
 fn tell_text(event: &mut RespEvent, kind: TextKind)
     ensures used { event.new.used ≡ event.old.used }
-    ensures kind { event.new.kind ≡ 4 }
+    ensures kind { event.new.kind ≡ text_number }
     ensures form { event.new.form ≡ text_form kind }
     ensures more { TellsMore event.new kind }
 {
-    event.kind = 4;
+    event.kind = number::TEXT;
     event.form = text_form(kind);
     match kind {
         TextKind::Verbatim(format) => event.format = format,
@@ -60,13 +59,13 @@ fn text_form(kind: TextKind) -> u32
     ensures { result ≡ text_form kind }
 {
     match kind {
-        TextKind::Simple => 0,
-        TextKind::Error => 1,
-        TextKind::Double => 2,
-        TextKind::Bulk => 3,
-        TextKind::BulkError => 4,
-        TextKind::Verbatim(_) => 5,
-        TextKind::Big { .. } => 6,
+        TextKind::Simple => number::TEXT_SIMPLE,
+        TextKind::Error => number::TEXT_ERROR,
+        TextKind::Double => number::TEXT_DOUBLE,
+        TextKind::Bulk => number::TEXT_BULK,
+        TextKind::BulkError => number::TEXT_BULK_ERROR,
+        TextKind::Verbatim(_) => number::TEXT_VERBATIM,
+        TextKind::Big { .. } => number::TEXT_BIG,
     }
 }
 
@@ -75,11 +74,11 @@ fn kind_form(kind: OpenKind) -> u32
     ensures { result ≡ kind_form kind }
 {
     match kind {
-        OpenKind::Array => 0,
-        OpenKind::Set => 1,
-        OpenKind::Map => 2,
-        OpenKind::Attr => 3,
-        OpenKind::Push => 4,
+        OpenKind::Array => number::ARRAY,
+        OpenKind::Set => number::SET,
+        OpenKind::Map => number::MAP,
+        OpenKind::Attr => number::ATTRIBUTE,
+        OpenKind::Push => number::PUSH,
     }
 }
 
@@ -94,11 +93,11 @@ fn truth_number(truth: bool) -> i64
 #[inline(always)]
 fn tell_part(event: &mut RespEvent, bytes: &[u8])
     ensures used { event.new.used ≡ event.old.used }
-    ensures kind { event.new.kind ≡ 5 }
+    ensures kind { event.new.kind ≡ part_number }
     ensures part { event.new.part ≡ length bytes.now }
     ensures digit { length bytes.now ≡ 1 → bytes.now ≡ event.new.digit ∷ [] }
 {
-    event.kind = 5;
+    event.kind = number::PART;
     event.part = bytes.len();
     event.digit = match bytes.first() {
         Some(byte) => *byte,
@@ -113,25 +112,25 @@ pub(crate) fn tell(event: &mut RespEvent, told: Event<'_>)
     ensures tells { Tells event.new (Some told.entry) }
 {
     match told {
-        Event::Null => event.kind = 1,
+        Event::Null => event.kind = number::NULL,
         Event::Bool(truth) => {
-            event.kind = 2;
+            event.kind = number::BOOL;
             event.number = truth_number(truth);
         }
         Event::Int(number) => {
-            event.kind = 3;
+            event.kind = number::INT;
             event.number = number;
         }
         Event::Text(kind) => tell_text(event, kind),
         Event::Part(bytes) => tell_part(event, bytes),
-        Event::TextEnd => event.kind = 6,
+        Event::TextEnd => event.kind = number::TEXT_END,
         Event::Open(kind, members) => {
-            event.kind = 7;
+            event.kind = number::OPEN;
             event.form = kind_form(kind);
-            event.members = members.unwrap_or(STREAMED);
+            event.members = members.unwrap_or(number::STREAMED);
         }
-        Event::Close => event.kind = 8,
-        Event::Done => event.kind = 9,
+        Event::Close => event.kind = number::CLOSE,
+        Event::Done => event.kind = number::DONE,
     }
 }
 
@@ -147,7 +146,7 @@ impl Slot for RespEvent {
 
     #[inline(always)]
     fn text(&mut self, kind: TextKind, bytes: &[u8]) {
-        self.kind = 10;
+        self.kind = number::WHOLE;
         self.form = text_form(kind);
         self.part = bytes.len();
     }

@@ -12,12 +12,14 @@
 //! call runs on a scanner at a time. Each pointer points to what its type says.
 #![tactic(auto)]
 
+mod answer;
 pub mod command;
 pub mod event;
 pub mod laws;
 mod lends;
 pub mod limits;
 pub mod memory;
+mod number;
 pub mod pairing;
 mod room;
 pub mod scan;

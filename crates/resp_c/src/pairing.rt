@@ -7,6 +7,8 @@
 
 ghost use Rattle.std.specs.Prelude.{◌≡◌, ◌↔◌, ◌⊎◌, ℕ, ◌+◌, ◌-◌, ◌<◌, ◌≤◌, ◌^◌, false, List, [], ◌∷◌, length, min, eqb, Some};
 ghost use Rattle.resp_value.specs.Data.{Datum};
+ghost use Rattle.resp_value.specs.Causes.{number_of};
+ghost use Rattle.resp_value.specs.declared.cause.Cause.TheVariants as cause;
 ghost use Rattle.resp_value.specs.declared.version.Version.TheVariants.{Two};
 ghost use Rattle.resp_scan.specs.Reading.{events_of};
 ghost use Rattle.resp_scan.specs.Listening.{whole_text_events};
@@ -14,16 +16,19 @@ ghost use Rattle.resp_scan.specs.declared.event.Event.{Event};
 ghost use Rattle.resp_scan.specs.declared.event.TextKind.{TextKind};
 ghost use Rattle.resp_session.specs.Heard.{is_push};
 ghost use Rattle.resp_session.specs.Reading.{IsUnasked, is_refusal, reading_version, waiting_after};
+ghost use Rattle.resp_c.specs.Answers.{bad_version, hello_waits};
+ghost use Rattle.resp_c.specs.EventNumbers.{done_number};
 ghost use Rattle.resp_c.specs.Told.{Tells, TellsWhole};
 ghost use Rattle.resp_c.specs.Versions.{IsVersion, version_of};
-ghost use Rattle.resp_c.specs.Pairs.{HasVersions, IsAsk, after_events, ask_of, count_of_reply, hello_asks, look_of, nested_by, new_look, number_of_reply, refuses_by, waiting_of, with_ask_queued};
+ghost use Rattle.resp_c.specs.Pairs.{HasVersions, IsAsk, after_events, ask_of, count_of_reply, hello_asks, look_of, nested_by, new_look, number_of_reply, reads_push, refuses_by, waiting_of, with_ask_queued};
 
+use crate::answer::{BAD_VERSION, HELLO_WAITS};
 use crate::event::RespEvent;
-use crate::scanner::BAD_VERSION;
+use crate::number;
 use resp_value::cause::Cause;
 
-/// The error number of a HELLO while another HELLO waits.
-const HELLO_WAITS: u32 = 67;
+/// The first byte of a push.
+const PUSH_BYTE: u8 = b'>';
 
 /// The commands that wait for replies, and the state of the value that is being read.
 #[repr(C)]
@@ -101,14 +106,15 @@ pub extern "C" fn resp_pairing_queue(pairing: &mut RespPairing, hello: u32, numb
         number.new ≡ pairing.old.answered + length (waiting_of pairing.old).asks + 1 }
     ensures same_value { (look_of pairing.new ≡ look_of pairing.old) ×
         (number_of_reply pairing.new ≡ number_of_reply pairing.old) }
-    ensures bad_version { (result ≡ 64) ↔ (IsAsk hello → ⊥) }
-    ensures hello_waits { (result ≡ 67) ↔ (IsAsk hello × (hello ≡ 0 → ⊥) ×
+    ensures bad_version { (result ≡ bad_version) ↔ (IsAsk hello → ⊥) }
+    ensures hello_waits { (result ≡ hello_waits) ↔ (IsAsk hello × (hello ≡ 0 → ⊥) ×
         (pairing.old.hello ≡ 0 → ⊥)) }
-    ensures too_many { (result ≡ 24) ↔ (IsAsk hello × ((hello ≡ 0) ⊎ (pairing.old.hello ≡ 0)) ×
+    ensures too_many { (result ≡ number_of cause.TooMany) ↔ (IsAsk hello × ((hello ≡ 0) ⊎ (pairing.old.hello ≡ 0)) ×
         (2 ^ 63 ≤ pairing.old.answered + length (waiting_of pairing.old).asks)) }
     ensures ok { IsAsk hello → ((hello ≡ 0) ⊎ (pairing.old.hello ≡ 0)) →
         pairing.old.answered + length (waiting_of pairing.old).asks < 2 ^ 63 → result ≡ 0 }
-    ensures causes { (result ≡ 0) ⊎ (result ≡ 64) ⊎ (result ≡ 67) ⊎ (result ≡ 24) }
+    ensures causes { (result ≡ 0) ⊎ (result ≡ bad_version) ⊎ (result ≡ hello_waits) ⊎
+        (result ≡ number_of cause.TooMany) }
     ensures versions { HasVersions pairing.old → HasVersions pairing.new }
     ensures unchanged { (result ≡ 0 → ⊥) → (pairing.new ≡ pairing.old) ×
         (number.new ≡ number.old) }
@@ -144,7 +150,7 @@ pub extern "C" fn resp_pairing_queue(pairing: &mut RespPairing, hello: u32, numb
 pub extern "C" fn resp_pairing_first(pairing: &mut RespPairing, byte: u8, version: &mut u32) -> u32
     ensures unasked { (beyond : List ℕ) →
         (result ≡ 0 → ⊥) ↔ IsUnasked (waiting_of pairing.old) (byte ∷ beyond) }
-    ensures cause { (result ≡ 0 → ⊥) → result ≡ 20 }
+    ensures cause { (result ≡ 0 → ⊥) → result ≡ number_of cause.Unasked }
     ensures version { result ≡ 0 → version_of version.new ≡
         reading_version (waiting_of pairing.old).version (waiting_of pairing.old).asks }
     ensures is_version { result ≡ 0 → HasVersions pairing.old → IsVersion version.new }
@@ -157,7 +163,7 @@ pub extern "C" fn resp_pairing_first(pairing: &mut RespPairing, byte: u8, versio
         (version.new ≡ version.old) }
 {
     let waits_for_hello = pairing.before == 0 && pairing.hello != 0;
-    if byte != b'>' && pairing.before == 0 && !waits_for_hello {
+    if byte != PUSH_BYTE && pairing.before == 0 && !waits_for_hello {
         return Cause::Unasked.number();
     }
     *version = if waits_for_hello && pairing.version == 2 {
@@ -176,14 +182,14 @@ fn nested_after(nested: u64, event: &RespEvent) -> u64
     ensures { nested < 2 ^ 64 - 1 → result ≡ nested_by nested event.now.kind event.now.form }
 {
     match event.kind {
-        7 => {
-            if nested == 0 && event.form == 3 {
+        number::OPEN => {
+            if nested == 0 && event.form == number::ATTRIBUTE {
                 0
             } else {
                 nested.saturating_add(1)
             }
         }
-        8 => nested.saturating_sub(1),
+        number::CLOSE => nested.saturating_sub(1),
         _ => nested,
     }
 }
@@ -197,15 +203,21 @@ fn refuses_after(nested: u64, refuses: u32, event: &RespEvent) -> u32
         return refuses;
     }
     match event.kind {
-        7 => { if event.form == 3 { refuses } else { 0 } }
-        4 | 10 => {
-            if event.form == 1 || event.form == 4 {
+        number::OPEN => {
+            if event.form == number::ATTRIBUTE {
+                refuses
+            } else {
+                0
+            }
+        }
+        number::TEXT | number::WHOLE => {
+            if event.form == number::TEXT_ERROR || event.form == number::TEXT_BULK_ERROR {
                 1
             } else {
                 0
             }
         }
-        1 | 2 | 3 => 0,
+        number::NULL | number::BOOL | number::INT => 0,
         _ => refuses,
     }
 }
@@ -247,24 +259,24 @@ pub extern "C" fn resp_pairing_take(pairing: &mut RespPairing, event: &RespEvent
     ensures shown_whole { pairing.old.nested < 2 ^ 63 → (kind : TextKind) → (bytes : List ℕ) →
         TellsWhole event.now kind bytes →
         look_of pairing.new ≡ after_events (look_of pairing.old) (whole_text_events kind bytes) }
-    ensures answered { event.now.kind ≡ 9 → (x : Datum) → is_push x ≡ eqb pairing.old.first 62 →
+    ensures answered { event.now.kind ≡ done_number → (x : Datum) → is_push x ≡ reads_push pairing.old →
         is_refusal x ≡ (look_of pairing.old).refuses →
         waiting_of pairing.new ≡ waiting_after (waiting_of pairing.old) x }
-    ensures counted { event.now.kind ≡ 9 → pairing.old.answered < 2 ^ 63 →
+    ensures counted { event.now.kind ≡ done_number → pairing.old.answered < 2 ^ 63 →
         pairing.new.answered ≡ pairing.old.answered + count_of_reply pairing.old }
-    ensures same_waiting { (event.now.kind ≡ 9 → ⊥) →
+    ensures same_waiting { (event.now.kind ≡ done_number → ⊥) →
         (waiting_of pairing.new ≡ waiting_of pairing.old) ×
         (pairing.new.answered ≡ pairing.old.answered) }
     ensures same_byte { pairing.new.first ≡ pairing.old.first }
     ensures versions { HasVersions pairing.old → HasVersions pairing.new }
 {
-    let is_push = pairing.first == 62;
+    let is_push = pairing.first == u32::from(PUSH_BYTE);
     *number = if is_push {
         0
     } else {
         pairing.answered.saturating_add(1)
     };
-    if event.kind == 9 {
+    if event.kind == number::DONE {
         if !is_push {
             answer(pairing);
         }

@@ -5,10 +5,8 @@ ghost use Rattle.resp_value.specs.Bytes.{crlf};
 ghost use Rattle.resp_value.specs.Numbers.{decimal};
 ghost use Rattle.resp_c.specs.Writes.{StandsInRoom, Writes};
 
+use crate::answer::NO_ROOM;
 use itoa::Buffer;
-
-/// The error number of a buffer that is shorter than a text.
-const NO_ROOM: u32 = 65;
 
 /// Copies these bytes into the buffer from index `at` on, and returns the index after them.
 #[inline(always)]

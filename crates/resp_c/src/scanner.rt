@@ -1,6 +1,10 @@
 //! The functions of the scanner for C.
 
+ghost use prog.Memory.{align, size};
+ghost use denote.Memory.{lone};
+ghost use Rattle.resp_scan.specs.contracts.scanner.Scanner.{the_row};
 ghost use Rattle.std.specs.Prelude.{◌≡◌, ◌↔◌, ◌≤◌, ◌+◌, ◌⊎◌, [], length, Option, Some, IfSome, Result, Ok, Err};
+ghost use Rattle.resp_c.specs.Answers.{bad_version};
 ghost use Rattle.resp_c.specs.Limits.{bounds_of};
 ghost use Rattle.resp_c.specs.Steps.{IsHeld, StepsInMemory, WhereHeld};
 ghost use Rattle.resp_c.specs.Told.{Tells};
@@ -16,26 +20,29 @@ ghost use Rattle.resp_value.specs.Causes.{number_of};
 ghost use Rattle.resp_value.specs.Rules.{rules_under};
 ghost use Rattle.resp_value.specs.declared.cause.Cause.TheVariants as cause;
 
+use crate::answer::BAD_VERSION;
 use crate::event::{RespEvent, tell};
 use crate::limits::{RespLimits, checked};
 use crate::memory::RespScanner;
+use crate::number;
 use resp_scan::scanner::Scanner;
 use resp_value::cause::Cause;
 use resp_value::version::Version;
 use std::mem::{align_of, size_of};
 
-/// The error number of a version other than 2 and 3.
-pub(crate) const BAD_VERSION: u32 = 64;
-
 /// Returns the number of bytes of a scanner's memory.
 #[unsafe(no_mangle)]
-pub extern "C" fn resp_scanner_size() -> usize {
+pub extern "C" fn resp_scanner_size() -> usize
+    ensures { result ≡ size (lone the_row.mir) }
+{
     size_of::<Scanner>()
 }
 
 /// Returns the alignment of a scanner's memory.
 #[unsafe(no_mangle)]
-pub extern "C" fn resp_scanner_align() -> usize {
+pub extern "C" fn resp_scanner_align() -> usize
+    ensures { result ≡ align (lone the_row.mir) }
+{
     align_of::<Scanner>()
 }
 
@@ -66,8 +73,8 @@ pub extern "C" fn resp_scanner_init(
         (rules_of new ≡ rules_under (version_of version) (bounds_of limits.now))) }
     ensures held { result ≡ 0 → IsHeld scanner.new.scanner }
     ensures ok { (result ≡ 0) ↔ (IsVersion version × AreBounds (bounds_of limits.now)) }
-    ensures version { (result ≡ 64) ↔ (IsVersion version → ⊥) }
-    ensures limits { (result ≡ 63) ↔ (IsVersion version ×
+    ensures version { (result ≡ bad_version) ↔ (IsVersion version → ⊥) }
+    ensures limits { (result ≡ number_of cause.BadLimits) ↔ (IsVersion version ×
         (AreBounds (bounds_of limits.now) → ⊥)) }
     ensures unchanged { (result ≡ 0 → ⊥) → scanner.new.scanner ≡ scanner.old.scanner }
 {
@@ -107,7 +114,7 @@ pub extern "C" fn resp_scanner_step(
         Ok(step) => {
             event.used = step.used;
             match step.event {
-                None => event.kind = 0,
+                None => event.kind = number::MORE,
                 Some(told) => tell(event, told),
             }
             0
@@ -150,9 +157,12 @@ pub extern "C" fn resp_scanner_set_version(scanner: &mut RespScanner, version: u
         rules_under (version_of version) (rules_of old).limits)) }
     ensures nothing_read { result ≡ 0 → WhereHeld scanner.old.scanner (λ old.
         WhereRead old (λ front given. WhereHeld scanner.new.scanner (λ new. HasRead new [] []))) }
+    ensures never_after_a_fault { WhereHeld scanner.old.scanner (λ old. (fault : Fault) →
+        IsFaulted old fault → result ≡ 0 → ⊥) }
     ensures held { IsHeld scanner.new.scanner }
-    ensures version { (result ≡ 64) ↔ (IsVersion version → ⊥) }
-    ensures causes { (result ≡ 0) ⊎ (result ≡ 62) ⊎ (result ≡ 64) }
+    ensures version { (result ≡ bad_version) ↔ (IsVersion version → ⊥) }
+    ensures causes { (result ≡ 0) ⊎ (result ≡ number_of cause.Busy) ⊎
+        (result ≡ bad_version) }
     ensures unchanged { (result ≡ 0 → ⊥) → scanner.new.scanner ≡ scanner.old.scanner }
 {
     let Some(version) = crate::scanner::version(version) else {

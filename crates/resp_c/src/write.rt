@@ -8,34 +8,35 @@
 ghost use Rattle.std.specs.Prelude.{◌≡◌, ◌↔◌, ◌<◌, ◌≤◌, ◌++◌, [], All, IsTrue, IfSome, length};
 ghost use Rattle.resp_value.specs.Bytes.{IsLine, crlf};
 ghost use Rattle.resp_value.specs.Canonical.{canonical_text};
+ghost use Rattle.resp_value.specs.Causes.{number_of};
 ghost use Rattle.resp_value.specs.Data.{scalar};
 ghost use Rattle.resp_value.specs.Data as d;
 ghost use Rattle.resp_value.specs.Kinds.{kind_of};
 ghost use Rattle.resp_value.specs.Numbers.{IsDigit, IsKept};
 ghost use Rattle.resp_value.specs.declared.version.Version.{Version};
+ghost use Rattle.resp_value.specs.declared.cause.Cause.TheVariants as cause;
+ghost use Rattle.resp_c.specs.Answers.{bad_kind, bad_version};
 ghost use Rattle.resp_c.specs.Versions.{IsVersion, version_of};
 ghost use Rattle.resp_c.specs.Writes.{IsAggregate, Writes, WritesNothing, aggregate_of, head_text};
 
+use crate::answer::{BAD_KIND, BAD_VERSION};
+use crate::number;
 use crate::room::{write_line, write_number, write_string};
-use crate::scanner::BAD_VERSION;
 use resp_value::cause::Cause;
 use resp_value::kind::OpenKind;
 use resp_value::version::Version;
 
-/// The error number of an unknown kind of aggregate.
-const BAD_KIND: u32 = 66;
-
 /// Returns the kind of aggregate of this number, `RESP_ARRAY` to `RESP_PUSH`.
-fn kind(number: u32) -> Option<OpenKind>
-    ensures some { IfSome result (λ kind. (kind ≡ aggregate_of number) × IsAggregate number) }
-    ensures none { result ≡ None → IsAggregate number → ⊥ }
+fn kind(kind: u32) -> Option<OpenKind>
+    ensures some { IfSome result (λ named. (named ≡ aggregate_of kind) × IsAggregate kind) }
+    ensures none { result ≡ None → IsAggregate kind → ⊥ }
 {
-    match number {
-        0 => Some(OpenKind::Array),
-        1 => Some(OpenKind::Set),
-        2 => Some(OpenKind::Map),
-        3 => Some(OpenKind::Attr),
-        4 => Some(OpenKind::Push),
+    match kind {
+        number::ARRAY => Some(OpenKind::Array),
+        number::SET => Some(OpenKind::Set),
+        number::MAP => Some(OpenKind::Map),
+        number::ATTRIBUTE => Some(OpenKind::Attr),
+        number::PUSH => Some(OpenKind::Push),
         _ => None,
     }
 }
@@ -46,7 +47,7 @@ fn kind(number: u32) -> Option<OpenKind>
 pub extern "C" fn resp_write_head(room: &mut [u8], kind: u32, members: u64, size: &mut usize) -> u32
     ensures head { IsAggregate kind → Writes room.old room.new
         (head_text (kind_of (aggregate_of kind)) members) size.new result }
-    ensures bad_kind { (IsAggregate kind → ⊥) → (result ≡ 66) ×
+    ensures bad_kind { (IsAggregate kind → ⊥) → (result ≡ bad_kind) ×
         WritesNothing room.old room.new size.old size.new }
 {
     let Some(kind) = crate::write::kind(kind) else {
@@ -108,7 +109,7 @@ pub extern "C" fn resp_write_int(room: &mut [u8], number: i64, size: &mut usize)
 pub extern "C" fn resp_write_null(room: &mut [u8], version: u32, size: &mut usize) -> u32
     ensures null { IsVersion version → Writes room.old room.new
         (canonical_text (version_of version) (scalar d.Null)) size.new result }
-    ensures bad_version { (IsVersion version → ⊥) → (result ≡ 64) ×
+    ensures bad_version { (IsVersion version → ⊥) → (result ≡ bad_version) ×
         WritesNothing room.old room.new size.old size.new }
 {
     match crate::scanner::version(version) {
@@ -143,7 +144,7 @@ fn write_plain(room: &mut [u8], front: &[u8], text: &[u8], size: &mut usize) -> 
     requires { length front.now ≤ 8 }
     ensures line { IsLine text.now → Writes room.old room.new
         (front.now ++ (text.now ++ crlf [])) size.new result }
-    ensures bad_line { (IsLine text.now → ⊥) → (result ≡ 60) ×
+    ensures bad_line { (IsLine text.now → ⊥) → (result ≡ number_of cause.BadLine) ×
         WritesNothing room.old room.new size.old size.new }
 {
     if !is_line(text) {
@@ -157,7 +158,7 @@ fn write_plain(room: &mut [u8], front: &[u8], text: &[u8], size: &mut usize) -> 
 pub extern "C" fn resp_write_simple(room: &mut [u8], text: &[u8], size: &mut usize) -> u32
     ensures simple { IsLine text.now → (version : Version) → Writes room.old room.new
         (canonical_text version (scalar (d.Simple text.now))) size.new result }
-    ensures bad_line { (IsLine text.now → ⊥) → (result ≡ 60) ×
+    ensures bad_line { (IsLine text.now → ⊥) → (result ≡ number_of cause.BadLine) ×
         WritesNothing room.old room.new size.old size.new }
 {
     write_plain(room, b"+", text, size)
@@ -168,7 +169,7 @@ pub extern "C" fn resp_write_simple(room: &mut [u8], text: &[u8], size: &mut usi
 pub extern "C" fn resp_write_error(room: &mut [u8], text: &[u8], size: &mut usize) -> u32
     ensures error { IsLine text.now → (version : Version) → Writes room.old room.new
         (canonical_text version (scalar (d.Error text.now))) size.new result }
-    ensures bad_line { (IsLine text.now → ⊥) → (result ≡ 60) ×
+    ensures bad_line { (IsLine text.now → ⊥) → (result ≡ number_of cause.BadLine) ×
         WritesNothing room.old room.new size.old size.new }
 {
     write_plain(room, b"-", text, size)
@@ -180,7 +181,7 @@ pub extern "C" fn resp_write_error(room: &mut [u8], text: &[u8], size: &mut usiz
 pub extern "C" fn resp_write_double(room: &mut [u8], text: &[u8], size: &mut usize) -> u32
     ensures double { IsLine text.now → (version : Version) → Writes room.old room.new
         (canonical_text version (scalar (d.Double text.now))) size.new result }
-    ensures bad_line { (IsLine text.now → ⊥) → (result ≡ 60) ×
+    ensures bad_line { (IsLine text.now → ⊥) → (result ≡ number_of cause.BadLine) ×
         WritesNothing room.old room.new size.old size.new }
 {
     write_plain(room, b",", text, size)
@@ -222,7 +223,7 @@ pub extern "C" fn resp_write_big(
 ) -> u32
     ensures big { IsKept negative digits.now → (version : Version) → Writes room.old room.new
         (canonical_text version (scalar (d.Big negative digits.now))) size.new result }
-    ensures bad_digits { (IsKept negative digits.now → ⊥) → (result ≡ 61) ×
+    ensures bad_digits { (IsKept negative digits.now → ⊥) → (result ≡ number_of cause.BadDigits) ×
         WritesNothing room.old room.new size.old size.new }
 {
     if !is_kept(negative, digits) {

@@ -1,0 +1,18 @@
+-- The answers of include/resp.h: those that are numbers of a cause have their names in resp_value, and these do not.
+use Rattle.std.specs.Prelude.{ℕ}
+
+-- no version has this number
+abbrev pub bad_version : ℕ
+bad_version = 64
+
+-- the buffer is shorter than the text
+abbrev pub no_room : ℕ
+no_room = 65
+
+-- no aggregate has this kind
+abbrev pub bad_kind : ℕ
+bad_kind = 66
+
+-- a HELLO with a version waits
+abbrev pub hello_waits : ℕ
+hello_waits = 67
