@@ -343,7 +343,8 @@ void resp_pairing_take(struct resp_pairing *pairing, const struct resp_event *ev
  * resp_scanner_step.
  *
  * This function calls resp_pairing_first, resp_scanner_set_version, resp_scanner_step and
- * resp_pairing_take. It is tested, and they are proved. */
+ * resp_pairing_take. They are proved, and so is that such calls read values as a client does. This
+ * function itself is tested. */
 static inline uint32_t resp_pairing_step(struct resp_pairing *pairing, struct resp_scanner *scanner,
                                          const uint8_t *piece, size_t length, struct resp_event *event,
                                          uint64_t *number) {
@@ -352,8 +353,9 @@ static inline uint32_t resp_pairing_step(struct resp_pairing *pairing, struct re
         cause = resp_pairing_first(pairing, piece[0], &version);
         if (cause != RESP_OK)
             return cause;
-        /* (after an error the scanner keeps its version, and the step returns the error again) */
-        (void)resp_scanner_set_version(scanner, version);
+        /* after an error the scanner keeps its version, and the step returns the error again */
+        if (resp_scanner_set_version(scanner, version) != RESP_OK)
+            return resp_scanner_step(scanner, piece, length, event);
     }
     cause = resp_scanner_step(scanner, piece, length, event);
     if (cause == RESP_OK)

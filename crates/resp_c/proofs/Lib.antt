@@ -3,3 +3,4 @@ pub mod Refusals
 pub mod Asks
 pub mod ShownEvents
 pub mod ManyEvents
+pub mod Runs

@@ -13,7 +13,7 @@ use Rattle.resp_scan.specs.declared.event.Event.TheVariants as event
 use Rattle.resp_scan.specs.declared.event.TextKind.{TextKind}
 use Rattle.resp_scan.specs.declared.event.TextKind.TheVariants as text
 use Rattle.resp_c.specs.Pairs.{ValueLook, after_events, closed, is_error_kind, nested_by, opened, refuses_at_open, refuses_by, seen, where_seen}
-use Rattle.resp_c.specs.EventNumbers.{kind_form, text_form}
+use Rattle.resp_c.specs.EventNumbers.{kind_form, more_number, text_form}
 use Rattle.resp_c.specs.Told.{Tells, TellsWhole}
 use Rattle.resp_c.specs.declared.event.RespEvent.{RespEvent}
 
@@ -101,6 +101,10 @@ shown_by look out event.Close tells = ap (λ k. shown look k out.form) tells ∙
     look_eq _ _ _ _ (nested_at_close look.nested) (same look.nested look.refuses)
 shown_by look out event.Done tells = ap (λ k. shown look k out.form) tells ∙
     look_eq _ _ _ _ refl (same look.nested look.refuses)
+
+-- no event shows nothing
+pub none_shown_by : (look : ValueLook) (out : RespEvent) → out.kind ≡ more_number → shown look out.kind out.form ≡ look
+none_shown_by look out none = ap (λ k. shown look k out.form) none ∙ look_eq _ _ _ _ refl (same look.nested look.refuses)
 
 text_shows : (look : ValueLook) (bytes : List ℕ) → after_events look (content_events bytes ++ e.TextEnd ∷ []) ≡ look
 text_shows look [] = refl

@@ -14,3 +14,4 @@ pub mod Lent
 pub mod Writes
 -- The reply that an event belongs to.
 pub mod Pairs
+pub mod Runs

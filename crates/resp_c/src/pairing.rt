@@ -20,6 +20,7 @@ ghost use Rattle.resp_c.specs.Answers.{bad_version, hello_waits};
 ghost use Rattle.resp_c.specs.EventNumbers.{done_number};
 ghost use Rattle.resp_c.specs.Told.{Tells, TellsWhole};
 ghost use Rattle.resp_c.specs.Versions.{IsVersion, version_of};
+ghost use Rattle.resp_c.specs.Runs.{Begins, Ends, Shows};
 ghost use Rattle.resp_c.specs.Pairs.{HasVersions, IsAsk, after_events, ask_of, count_of_reply, hello_asks, look_of, nested_by, new_look, number_of_reply, reads_push, refuses_by, waiting_of, with_ask_queued};
 
 use crate::answer::{BAD_VERSION, HELLO_WAITS};
@@ -151,14 +152,9 @@ pub extern "C" fn resp_pairing_first(pairing: &mut RespPairing, byte: u8, versio
     ensures unasked { (beyond : List ℕ) →
         (result ≡ 0 → ⊥) ↔ IsUnasked (waiting_of pairing.old) (byte ∷ beyond) }
     ensures cause { (result ≡ 0 → ⊥) → result ≡ number_of cause.Unasked }
-    ensures version { result ≡ 0 → version_of version.new ≡
-        reading_version (waiting_of pairing.old).version (waiting_of pairing.old).asks }
+    ensures begins { result ≡ 0 → Begins pairing.old pairing.new byte version.new }
     ensures is_version { result ≡ 0 → HasVersions pairing.old → IsVersion version.new }
     ensures versions { HasVersions pairing.old → HasVersions pairing.new }
-    ensures begins { result ≡ 0 → (look_of pairing.new ≡ new_look) ×
-        (pairing.new.first ≡ byte) }
-    ensures same_waiting { (waiting_of pairing.new ≡ waiting_of pairing.old) ×
-        (pairing.new.answered ≡ pairing.old.answered) }
     ensures unchanged { (result ≡ 0 → ⊥) → (pairing.new ≡ pairing.old) ×
         (version.new ≡ version.old) }
 {
@@ -254,19 +250,9 @@ fn answer(pairing: &mut RespPairing)
 pub extern "C" fn resp_pairing_take(pairing: &mut RespPairing, event: &RespEvent, number: &mut u64)
     ensures number { pairing.old.answered < 2 ^ 63 →
         number.new ≡ number_of_reply pairing.old }
-    ensures shown { pairing.old.nested < 2 ^ 63 → (told : Event) → Tells event.now (Some told) →
-        look_of pairing.new ≡ after_events (look_of pairing.old) (events_of told) }
-    ensures shown_whole { pairing.old.nested < 2 ^ 63 → (kind : TextKind) → (bytes : List ℕ) →
-        TellsWhole event.now kind bytes →
-        look_of pairing.new ≡ after_events (look_of pairing.old) (whole_text_events kind bytes) }
-    ensures answered { event.now.kind ≡ done_number → (x : Datum) → is_push x ≡ reads_push pairing.old →
-        is_refusal x ≡ (look_of pairing.old).refuses →
-        waiting_of pairing.new ≡ waiting_after (waiting_of pairing.old) x }
-    ensures counted { event.now.kind ≡ done_number → pairing.old.answered < 2 ^ 63 →
-        pairing.new.answered ≡ pairing.old.answered + count_of_reply pairing.old }
-    ensures same_waiting { (event.now.kind ≡ done_number → ⊥) →
-        (waiting_of pairing.new ≡ waiting_of pairing.old) ×
-        (pairing.new.answered ≡ pairing.old.answered) }
+    ensures shows { (event.now.kind ≡ done_number → ⊥) →
+        Shows pairing.old pairing.new event.now }
+    ensures ends { event.now.kind ≡ done_number → Ends pairing.old pairing.new }
     ensures same_byte { pairing.new.first ≡ pairing.old.first }
     ensures versions { HasVersions pairing.old → HasVersions pairing.new }
 {

@@ -1,11 +1,9 @@
 //! The functions of the scanner for C.
 
-ghost use prog.Memory.{align, size};
-ghost use denote.Memory.{lone};
-ghost use Rattle.resp_scan.specs.contracts.scanner.Scanner.{the_row};
 ghost use Rattle.std.specs.Prelude.{◌≡◌, ◌↔◌, ◌≤◌, ◌+◌, ◌⊎◌, [], length, Option, Some, IfSome, Result, Ok, Err};
 ghost use Rattle.resp_c.specs.Answers.{bad_version};
 ghost use Rattle.resp_c.specs.Limits.{bounds_of};
+ghost use Rattle.resp_c.specs.Memory.{scanner_alignment, scanner_size};
 ghost use Rattle.resp_c.specs.Steps.{IsHeld, StepsInMemory, WhereHeld};
 ghost use Rattle.resp_c.specs.Told.{Tells};
 ghost use Rattle.resp_c.specs.Versions.{IsVersion, version_of};
@@ -33,7 +31,7 @@ use std::mem::{align_of, size_of};
 /// Returns the number of bytes of a scanner's memory.
 #[unsafe(no_mangle)]
 pub extern "C" fn resp_scanner_size() -> usize
-    ensures { result ≡ size (lone the_row.mir) }
+    ensures { result ≡ scanner_size }
 {
     size_of::<Scanner>()
 }
@@ -41,7 +39,7 @@ pub extern "C" fn resp_scanner_size() -> usize
 /// Returns the alignment of a scanner's memory.
 #[unsafe(no_mangle)]
 pub extern "C" fn resp_scanner_align() -> usize
-    ensures { result ≡ align (lone the_row.mir) }
+    ensures { result ≡ scanner_alignment }
 {
     align_of::<Scanner>()
 }
