@@ -10,3 +10,4 @@ pub mod AnsweredOn
 pub mod LinkStops
 pub mod worlds
 pub mod Showing
+pub mod LinkTraffic

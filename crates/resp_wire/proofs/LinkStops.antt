@@ -59,34 +59,37 @@ of_no_link {T} (Ok x) memory = tt
 of_no_link {T} (Err c) memory = ap is_of_link memory
 
 -- where no link failed and the stop, if any, is for no cause of links
-pub counts_none : {L T : Type 0} (failures : L → ℕ) (old new : List L) (r : Result T Cause) → KeepFailures failures old new →
-    IfErr r (λ c. is_of_link c ≡ false) → CountsFailures failures old new (stopped_by_link r)
-counts_none {L} {T} failures old new (Ok x) keep none = keep
-counts_none {L} {T} failures old new (Err c) keep none = subst (CountsFailures failures old new) (sym none) keep
+pub counts_none : {L T : Type 0} (failures : L → ℕ) (client : ℕ) (old new : List L) (r : Result T Cause) → KeepFailures failures old new →
+    IfErr r (λ c. is_of_link c ≡ false) → CountsFailures failures client old new (stopped_by_link r)
+counts_none {L} {T} failures client old new (Ok x) keep none = keep
+counts_none {L} {T} failures client old new (Err c) keep none = subst (CountsFailures failures client old new) (sym none) keep
 
 -- one link is another, which failed once or not
-pub counts_one : {L : Type 0} (failures : L → ℕ) (links : List L) (i : ℕ) (link link' : L) (failed : Bool) → i < length links →
-    link ≡ get_or links i link → failures link' ≡ failures_after failed (failures link) → CountsFailures failures links (set links i link') failed
-counts_one {L} failures links i link link' false within is same =
+pub counts_one : {L : Type 0} (failures : L → ℕ) (client : ℕ) (links : List L) (i : ℕ) (link link' : L) (failed : Bool) → suc i ≡ client →
+    i < length links → link ≡ get_or links i link → failures link' ≡ failures_after failed (failures link) →
+    CountsFailures failures client links (set links i link') failed
+counts_one {L} failures client links i link link' false its within is same =
     map-set failures links i link' ∙ ap (set (map failures links) i) same ∙ sym (map-set failures links i link) ∙ ap (map failures) (set_back links i is)
   where
     set_back : (xs : List L) (k : ℕ) → link ≡ get_or xs k link → set xs k link ≡ xs
     set_back [] k e = refl
     set_back (x ∷ xs) zero e = ap (λ z. z ∷ xs) e
     set_back (x ∷ xs) (suc k) e = ap (λ l. x ∷ l) (set_back xs k e)
-counts_one {L} failures links i link link' true within is risen = record {
+counts_one {L} failures client links i link link' true its within is risen = record {
   at = i;
+  is_its = its;
   before = failures link;
   there = slice_get-map failures links i ∙ ap (option_map failures) (slice_get_read links (length links) i link refl within is);
   once = map-set failures links i link' ∙ ap (set (map failures links) i) risen;
 }
 
 -- and no other did before
-pub counts_on : {L : Type 0} (failures : L → ℕ) (a b c : List L) (failed : Bool) → KeepFailures failures a b → CountsFailures failures b c failed →
-    CountsFailures failures a c failed
-counts_on {L} failures a b c false keep h = h ∙ keep
-counts_on {L} failures a b c true keep h = record {
+pub counts_on : {L : Type 0} (failures : L → ℕ) (client : ℕ) (a b c : List L) (failed : Bool) → KeepFailures failures a b → CountsFailures failures client b c failed →
+    CountsFailures failures client a c failed
+counts_on {L} failures client a b c false keep h = h ∙ keep
+counts_on {L} failures client a b c true keep h = record {
   at = h.at;
+  is_its = h.is_its;
   before = h.before;
   there = subst (λ l. slice_get l h.at ≡ Some h.before) keep h.there;
   once = h.once ∙ ap (λ l. set l h.at (count_after 1 h.before)) keep;

@@ -19,7 +19,7 @@ use Rattle.resp_client.specs.Hearing.{HasFault, HasTaken, Hears, Refuses, Unless
 use Rattle.resp_client.specs.declared.client.Client.{Client}
 use Rattle.resp_client.specs.declared.heard.What.{What}
 use Rattle.resp_client.specs.declared.heard.What.TheVariants.{Reply, Push, Shown, More}
-use Rattle.resp_wire.specs.Hearing.{Adds, AddsHeard, HearsAll, HearsFault, HearsSome, ReadsFrom, StillWaits, WaitsBefore, pushes_in, replies_in}
+use Rattle.resp_wire.specs.Hearing.{Adds, AddsHeard, HearsAll, HearsFault, HearsSome, ReadsFrom, StillWaits, StopsAtFault, WaitsBefore, pushes_in, replies_in}
 use Rattle.resp_wire.specs.Stops.{FailsReading, KeepsFault, StopsClient, StopsHearing, StopsListening, error_by, error_of, is_of_last_read}
 use Rattle.resp_wire.specs.declared.error.AskError.{AskError}
 use Rattle.resp_wire.specs.declared.error.AskError.TheVariants as error
@@ -228,32 +228,39 @@ hears_some s c before after front piece rest turns w = record {
 }
 
 -- a byte is refused
-hears_fault : (s : ClientState) (c : Client) (before after : Asked) (front piece rest : List ℕ) (turns : ℕ) (fault : Fault) →
+hears_fault : (s : ClientState) (c new : Client) (before after : Asked) (front piece rest : List ℕ) (turns : ℕ) (fault : Fault) →
     (w : HearsUpTo s c before after front piece rest turns) → (fault.cause ≡ cause.OutOfMemory → ⊥) → Refuses (state_of c) w.hears.rest rest fault →
-    HearsFault s before after (front ++ piece) fault
-hears_fault s c before after front piece rest turns fault w other (inr (asked, lacks)) = absurd (other lacks.names)
-hears_fault s c before after front piece rest turns fault w other (inl is) = record {
-  values = w.hears.values;
-  waiting = (state_of c).waiting;
-  rest = w.hears.rest ++ rest;
-  reads = reads_before s c before after front piece rest turns w;
-  heard = w.hears.heard;
-  fault_of = subst (λ limits. ClientFault limits (state_of c).waiting (w.hears.rest ++ rest) fault.cause fault.at) w.hears.same_limits is;
+    state_of new ≡ state_of c → StopsAtFault s new before after (front ++ piece) fault
+hears_fault s c new before after front piece rest turns fault w other (inr (asked, lacks)) same = absurd (other lacks.names)
+hears_fault s c new before after front piece rest turns fault w other (inl is) same = record {
+  hears = record {
+    values = w.hears.values;
+    waiting = (state_of c).waiting;
+    rest = w.hears.rest ++ rest;
+    reads = reads_before s c before after front piece rest turns w;
+    heard = w.hears.heard;
+    fault_of = subst (λ limits. ClientFault limits (state_of c).waiting (w.hears.rest ++ rest) fault.cause fault.at) w.hears.same_limits is;
+  };
+  waits = ap (λ (z : ClientState). z.waiting) same;
+  answered = ap (λ (z : ClientState). z.answered) same ∙ w.hears.answered;
+  same_limits = ap (λ (z : ClientState). z.limits) same ∙ w.hears.same_limits;
+  same_out = ap (λ (z : ClientState). z.out) same ∙ w.hears.same_out;
 }
 
 -- the client stopped
-stops_by : (k : Cause) (s : ClientState) (c : Client) (before after : Asked) (front piece rest : List ℕ) (turns : ℕ) (fault : Fault) → fault.cause ≡ k →
-    (w : HearsUpTo s c before after front piece rest turns) → Refuses (state_of c) w.hears.rest rest fault →
-    StopsHearing s before after (front ++ piece) (error_by k fault)
-stops_by cause.OutOfMemory s c before after front piece rest turns fault is w refused = hears_some s c before after front piece rest turns w
-stops_by k s c before after front piece rest turns fault is w refused =
-    hears_fault s c before after front piece rest turns fault w (λ memory. let z : k ≡ cause.OutOfMemory = sym is ∙ memory in absurd (cc)) refused
+stops_by : (k : Cause) (s : ClientState) (c new : Client) (before after : Asked) (front piece rest : List ℕ) (turns : ℕ) (fault : Fault) → fault.cause ≡ k →
+    (w : HearsUpTo s c before after front piece rest turns) → Refuses (state_of c) w.hears.rest rest fault → state_of new ≡ state_of c →
+    StopsHearing s new before after (front ++ piece) (error_by k fault)
+stops_by cause.OutOfMemory s c new before after front piece rest turns fault is w refused same = hears_some s c before after front piece rest turns w
+stops_by k s c new before after front piece rest turns fault is w refused same =
+    hears_fault s c new before after front piece rest turns fault w (λ memory. let z : k ≡ cause.OutOfMemory = sym is ∙ memory in absurd (cc)) refused same
 
-pub stops_hearing : (s : ClientState) (c : Client) (before after : Asked) (front piece rest : List ℕ) (turns : ℕ) (fault : Fault) (error : AskError) →
+pub stops_hearing : (s : ClientState) (c new : Client) (before after : Asked) (front piece rest : List ℕ) (turns : ℕ) (fault : Fault) (error : AskError) →
     error ≡ error_of fault → (w : HearsUpTo s c before after front piece rest turns) → Refuses (state_of c) w.hears.rest rest fault →
-    StopsHearing s before after (front ++ piece) error
-stops_hearing s c before after front piece rest turns fault error is w refused = subst (StopsHearing s before after (front ++ piece)) (sym is)
-    (stops_by fault.cause s c before after front piece rest turns fault refl w refused)
+    state_of new ≡ state_of c → StopsHearing s new before after (front ++ piece) error
+stops_hearing s c new before after front piece rest turns fault error is w refused same =
+    subst (StopsHearing s new before after (front ++ piece)) (sym is)
+    (stops_by fault.cause s c new before after front piece rest turns fault refl w refused same)
 
 -- a fault of the client stands where it stops the call
 keeps_by : (k : Cause) (c : Client) (fault : Fault) → HasFault c fault → KeepsFault c (error_by k fault)
@@ -299,10 +306,10 @@ hears_piece go_on goes_on s c new before mid after front came piece h p = record
   same_out = p.same_out ∙ h.same_out;
 }
 
-pub stops_piece : ReadingsGoOn → HearingGoesOn → (s : ClientState) (c : Client) (before mid after : Asked) (front came piece : List ℕ) (error : AskError) →
-    (h : HearsAll s c before mid (front ++ came)) → StopsHearing (state_of c) mid after (h.rest ++ piece) error →
-    StopsHearing s before after (front ++ (came ++ piece)) error
-stops_piece go_on goes_on s c before mid after front came piece (error.Fault fault) h p = record {
+pub fault_in_piece : ReadingsGoOn → HearingGoesOn → (s : ClientState) (c : Client) (before mid after : Asked) (front came piece : List ℕ) (fault : Fault) →
+    (h : HearsAll s c before mid (front ++ came)) → HearsFault (state_of c) mid after (h.rest ++ piece) fault →
+    HearsFault s before after (front ++ (came ++ piece)) fault
+fault_in_piece go_on goes_on s c before mid after front came piece fault h p = record {
   values = h.values ++ p.values;
   waiting = p.waiting;
   rest = p.rest;
@@ -310,21 +317,33 @@ stops_piece go_on goes_on s c before mid after front came piece (error.Fault fau
   heard = hears_values goes_on s (state_of c) before mid after h.values p.values _ _ h.answered refl refl h.heard p.heard;
   fault_of = subst (λ limits. ClientFault limits p.waiting p.rest fault.cause fault.at) h.same_limits p.fault_of;
 }
-stops_piece go_on goes_on s c before mid after front came piece error.OutOfMemory h p = record {
+
+pub stops_piece : ReadingsGoOn → HearingGoesOn → (s : ClientState) (c new : Client) (before mid after : Asked) (front came piece : List ℕ) (error : AskError) →
+    (h : HearsAll s c before mid (front ++ came)) → StopsHearing (state_of c) new mid after (h.rest ++ piece) error →
+    StopsHearing s new before after (front ++ (came ++ piece)) error
+unfolding fault_in_piece
+stops_piece go_on goes_on s c new before mid after front came piece (error.Fault fault) h p = record {
+  hears = fault_in_piece go_on goes_on s c before mid after front came piece fault h p.hears;
+  waits = p.waits;
+  answered = omega (arith, p.answered, h.answered, replies_more h.values p.hears.values);
+  same_limits = p.same_limits ∙ h.same_limits;
+  same_out = p.same_out ∙ h.same_out;
+}
+stops_piece go_on goes_on s c new before mid after front came piece error.OutOfMemory h p = record {
   values = h.values ++ p.values;
   waiting = p.waiting;
   rest = p.rest;
   reads = reads_on go_on s c h.values p.values front came piece h.rest p.rest p.waiting h.same_limits h.reads p.reads;
   heard = hears_values goes_on s (state_of c) before mid after h.values p.values _ _ h.answered refl refl h.heard p.heard;
 }
-stops_piece go_on goes_on s c before mid after front came piece (error.Refused index refusal) h p = absurd p
-stops_piece go_on goes_on s c before mid after front came piece error.Read h p = absurd p
-stops_piece go_on goes_on s c before mid after front came piece error.Write h p = absurd p
-stops_piece go_on goes_on s c before mid after front came piece error.TooManyTurns h p = absurd p
-stops_piece go_on goes_on s c before mid after front came piece error.Ended h p = absurd p
+stops_piece go_on goes_on s c new before mid after front came piece (error.Refused index refusal) h p = absurd p
+stops_piece go_on goes_on s c new before mid after front came piece error.Read h p = absurd p
+stops_piece go_on goes_on s c new before mid after front came piece error.Write h p = absurd p
+stops_piece go_on goes_on s c new before mid after front came piece error.TooManyTurns h p = absurd p
+stops_piece go_on goes_on s c new before mid after front came piece error.Ended h p = absurd p
 
 -- what a client's stop says of all that was read
-pub stops_listening : (s : ClientState) (c : Client) (before after : Asked) (came : List ℕ) (error : AskError) → StopsHearing s before after came error →
+pub stops_listening : (s : ClientState) (c : Client) (before after : Asked) (came : List ℕ) (error : AskError) → StopsHearing s c before after came error →
     StopsListening s c before after came error
 stops_listening s c before after came (error.Fault fault) h = h
 stops_listening s c before after came error.OutOfMemory h = h

@@ -18,12 +18,12 @@ use Rattle.resp_client.specs.declared.heard.What.{What}
 use Rattle.resp_client.specs.declared.heard.What.TheVariants.{Reply, Push, Shown, More}
 use Rattle.resp_server.specs.Hubs.{HubState, Seat, seat_at, seated}
 use Rattle.resp_wire.specs.Carrying.{HearsOn, StopsShowing, cause_of}
-use Rattle.resp_wire.specs.Hearing.{HearsAll}
+use Rattle.resp_wire.specs.Hearing.{HearsAll, HearsFault}
 use Rattle.resp_wire.specs.Stops.{StopsHearing, error_by, error_of}
 use Rattle.resp_wire.specs.declared.asked.Asked.{Asked}
 use Rattle.resp_wire.specs.declared.error.AskError.{AskError}
 use Rattle.resp_wire.specs.declared.error.AskError.TheVariants as error
-use Rattle.resp_wire.proofs.Listening.{HearsUpTo, hears_piece, stops_hearing, stops_piece}
+use Rattle.resp_wire.proofs.Listening.{HearsUpTo, hears_piece, stops_hearing, fault_in_piece}
 use Rattle.resp_wire.proofs.Seated.{seat_here, seated_twice}
 use Rattle.resp_wire.proofs.ServedTexts.{seat_with}
 
@@ -48,7 +48,7 @@ waits_there hub id s text here is = let z : Some s.out ≡ Some text = sym (ap (
 abbrev pub without : ℕ → Seat → Seat
 without count s = seat_with s.version (drop count s.out) s.closing s.decoder
 
-there_still : (old cur : HubState) (id : ℕ) (s : Seat) (done : ℕ) → seat_at old id ≡ Some s → cur ≡ seated old id (without done s) →
+pub there_still : (old cur : HubState) (id : ℕ) (s : Seat) (done : ℕ) → seat_at old id ≡ Some s → cur ≡ seated old id (without done s) →
     seat_at cur id ≡ Some (without done s)
 there_still old cur id s done here state = ap (λ h. seat_at h id) state ∙ seat_here old id s (without done s) here
 
@@ -97,8 +97,8 @@ stops_on go_on goes_on s c before mid after front text done failures failures' f
 stops_on go_on goes_on s c before mid after front text done failures failures' failures'' cause h none (inr (inr m)) = inr (inr (record {
   count = done + m.count;
   fault = m.fault;
-  met = subst (λ z. StopsHearing s before after (front ++ z) (error.Fault m.fault)) (sym (take-add done m.count text))
-      (stops_piece go_on goes_on s c before mid after front (take done text) (take m.count (drop done text)) (error.Fault m.fault) h m.met);
+  met = subst (λ z. HearsFault s before after (front ++ z) m.fault) (sym (take-add done m.count text))
+      (fault_in_piece go_on goes_on s c before mid after front (take done text) (take m.count (drop done text)) m.fault h m.met);
   named = m.named;
 }))
 
@@ -113,16 +113,16 @@ stops_more go_on goes_on s c before mid after old cur id seat front done failure
     (there_still old cur id seat done here state) more h.rest h.takes)
 
 -- a client's stop is OutOfMemory or a fault
-pub stops_showing : (s : ClientState) (before after : Asked) (front text : List ℕ) (n failures failures' : ℕ) (e : AskError) →
-    StopsHearing s before after (front ++ take n text) e → StopsShowing s before after front text failures failures' (cause_of e)
-stops_showing s before after front text n failures failures' (error.Fault fault) h =
-    inr (inr (record { count = n; fault = fault; met = h; named = refl }))
-stops_showing s before after front text n failures failures' error.OutOfMemory h = inl refl
-stops_showing s before after front text n failures failures' (error.Refused index refusal) h = absurd h
-stops_showing s before after front text n failures failures' error.Read h = absurd h
-stops_showing s before after front text n failures failures' error.Write h = absurd h
-stops_showing s before after front text n failures failures' error.TooManyTurns h = absurd h
-stops_showing s before after front text n failures failures' error.Ended h = absurd h
+pub stops_showing : (s : ClientState) (c : Client) (before after : Asked) (front text : List ℕ) (n failures failures' : ℕ) (e : AskError) →
+    StopsHearing s c before after (front ++ take n text) e → StopsShowing s before after front text failures failures' (cause_of e)
+stops_showing s c before after front text n failures failures' (error.Fault fault) h =
+    inr (inr (record { count = n; fault = fault; met = h.hears; named = refl }))
+stops_showing s c before after front text n failures failures' error.OutOfMemory h = inl refl
+stops_showing s c before after front text n failures failures' (error.Refused index refusal) h = absurd h
+stops_showing s c before after front text n failures failures' error.Read h = absurd h
+stops_showing s c before after front text n failures failures' error.Write h = absurd h
+stops_showing s c before after front text n failures failures' error.TooManyTurns h = absurd h
+stops_showing s c before after front text n failures failures' error.Ended h = absurd h
 
 -- What an empty piece tells of what was taken.
 
@@ -181,5 +181,5 @@ stops_settled s c before after front text count failures failures' cause h (faul
     let came = take count text in
     let w : HearsUpTo s c before after front came [] 0 = record { done = came; parts = sym (append-nil came); few = omega arith; hears = h } in
     subst (StopsShowing s before after front text failures failures') (cause_by fault.cause fault refl ∙ named)
-    (stops_showing s before after front text count failures failures' (error_of fault)
-    (stops_hearing s c before after front came [] 0 fault (error_of fault) refl w refused))
+    (stops_showing s c before after front text count failures failures' (error_of fault)
+    (stops_hearing s c c before after front came [] 0 fault (error_of fault) refl w refused refl))

@@ -7,7 +7,7 @@ use Rattle.resp_value.specs.declared.cause.Cause.TheVariants.{OutOfMemory}
 use Rattle.resp_value.specs.declared.version.Version.TheVariants.{Two}
 use Rattle.resp_session.specs.Runs as runs
 use Rattle.resp_session.specs.Runs.{Run, Step}
-use Rattle.resp_session.specs.Worlds.{World, WorldEvent, Drop, after_event}
+use Rattle.resp_session.specs.Worlds.{World, WorldEvent, Drop, after_event, client_of}
 use Rattle.resp_server.specs.Hubs.{HubState, seat_at}
 use Rattle.resp_server.specs.Reading.{HasReadFront, Reading}
 use Rattle.resp_wire.specs.Ends.{IsNew}
@@ -57,7 +57,8 @@ pub record StopsAt {L : Type 0} (is_honest : L → Type 0) (failures : L → ℕ
   pub before : RunsTo is_honest old between (take stop.event events)
   pub stopped : IfSome old.stopped (λ cause. (stop.event ≡ 0) × (stop.cause ≡ cause))
   pub reason : old.stopped ≡ None → Fails is_honest failures old new stop.cause
-  pub links : old.stopped ≡ None → CountsFailures failures old.links new.links (is_of_link stop.cause)
+  pub links : old.stopped ≡ None → IfSome (slice_get events stop.event) (λ event.
+      CountsFailures failures (client_of event) old.links new.links (is_of_link stop.cause))
   pub memory : old.stopped ≡ None → stop.cause ≡ OutOfMemory →
       IfSome (slice_get events stop.event) (MayLackMemory is_honest between)
 

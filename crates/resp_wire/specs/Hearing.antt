@@ -76,6 +76,14 @@ pub record HearsFault (s : ClientState) (before after : Asked) (came : List ℕ)
   pub heard : Adds before after (numbered_replies (next_number s) values) (pushes_of values)
   pub fault_of : ClientFault s.limits waiting rest fault.cause fault.at
 
+-- The same. The client's commands up to the last reply before the rejected byte are answered, and the others still wait.
+pub record StopsAtFault (s : ClientState) (c : Client) (before after : Asked) (came : List ℕ) (fault : Fault) : Type 0 where
+  pub hears : HearsFault s before after came fault
+  pub waits : (state_of c).waiting ≡ hears.waiting
+  pub answered : (state_of c).answered ≡ s.answered + length (replies_of hears.values)
+  pub same_limits : (state_of c).limits ≡ s.limits
+  pub same_out : (state_of c).out ≡ s.out
+
 -- An allocation failed, and the first of the values are added.
 pub record HearsSome (s : ClientState) (before after : Asked) (came : List ℕ) : Type 0 where
   pub values : List Datum

@@ -8,6 +8,7 @@ pub mod Asking
 pub mod Asks
 pub mod Serving
 pub mod Links
+pub mod TcpLinks
 pub mod Carrying
 pub mod Worlds
 pub mod Ends

@@ -10,7 +10,7 @@ use Rattle.resp_client.specs.Sending.{DeclinesRequest}
 use Rattle.resp_client.specs.declared.client.Client.{Client}
 use Rattle.resp_client.specs.declared.send_error.SendError.{SendError}
 use Rattle.resp_client.specs.declared.send_error.SendError.TheVariants as send
-use Rattle.resp_wire.specs.Hearing.{HearsAll, HearsFault, HearsSome}
+use Rattle.resp_wire.specs.Hearing.{HearsAll, HearsSome, StopsAtFault}
 use Rattle.resp_wire.specs.Requests.{MayAllBeSent, request_of, with_requests}
 use Rattle.resp_wire.specs.Turns.{TellsEnd}
 use Rattle.resp_wire.specs.declared.asked.Asked.{Asked}
@@ -64,10 +64,10 @@ KeepsFault c (Fault fault) = HasFault c fault
 KeepsFault c _ = Unit {0}
 
 -- the replies and pushes received of a piece in which the client stopped
-abbrev pub StopsHearing : ClientState → Asked → Asked → List ℕ → AskError → Type 0
-StopsHearing s before after came (Fault fault) = HearsFault s before after came fault
-StopsHearing s before after came OutOfMemory = HearsSome s before after came
-StopsHearing s before after came _ = ⊥
+abbrev pub StopsHearing : ClientState → Client → Asked → Asked → List ℕ → AskError → Type 0
+StopsHearing s c before after came (Fault fault) = StopsAtFault s c before after came fault
+StopsHearing s c before after came OutOfMemory = HearsSome s before after came
+StopsHearing s c before after came _ = ⊥
 
 -- whether the call stopped because a write failed
 abbrev pub is_of_writer : AskError → Bool
@@ -108,7 +108,7 @@ FailsWriting failures failures' waits _ = ⊥
 -- The replies and pushes received of all bytes that were read, when a call stopped: if no byte was rejected and no
 -- allocation failed, they are all of them.
 abbrev pub StopsListening : ClientState → Client → Asked → Asked → List ℕ → AskError → Type 0
-StopsListening s c before after came (Fault fault) = HearsFault s before after came fault
+StopsListening s c before after came (Fault fault) = StopsAtFault s c before after came fault
 StopsListening s c before after came OutOfMemory = HearsSome s before after came
 StopsListening s c before after came Read = HearsAll s c before after came
 StopsListening s c before after came TooManyTurns = HearsAll s c before after came

@@ -1,5 +1,5 @@
 -- The state that a world shows, and how its clients and sessions relate to the world of the definitions.
-use Rattle.std.specs.Prelude.{◌≡◌, ◌⊎◌, ℕ, suc, ◌<◌, ◌^◌, Bool, true, false, Result, Ok, Err, List, ◌++◌, length, map, take, drop, Option, None, Some, set}
+use Rattle.std.specs.Prelude.{◌≡◌, ◌⊎◌, ℕ, suc, ◌<◌, ◌-◌, ◌^◌, ◌≢◌, IfSome, Bool, true, false, Result, Ok, Err, List, ◌++◌, length, map, take, drop, Option, None, Some, set}
 use Rattle.std.specs.List.{AllByRecursion, slice_get}
 use Rattle.resp_value.specs.Bounds.{Bounds, AreBounds}
 use Rattle.resp_value.specs.Commands.{words_of}
@@ -25,8 +25,10 @@ use Rattle.resp_client.specs.Clients.{queued, state_of}
 use Rattle.resp_client.specs.Hearing.{HasTaken}
 use Rattle.resp_server.specs.Hubs.{HubState, Seat, seat_at}
 use Rattle.resp_server.specs.Reading as server
-use Rattle.resp_wire.specs.Links.{IsLinkCause, is_of_link}
+use Rattle.resp_wire.specs.Links.{Carries, IsLinkCause, Traffic, is_of_link}
 use Rattle.resp_wire.specs.Requests.{request_of}
+use Rattle.resp_wire.specs.declared.link.Direction.{Direction}
+use Rattle.resp_wire.specs.declared.link.Direction.TheVariants.{ToServer, ToClient}
 use Rattle.resp_wire.specs.declared.asked.Request.{Request}
 use Rattle.resp_wire.specs.declared.end.End.{End}
 use Rattle.resp_wire.specs.declared.event.Event.{Event}
@@ -134,17 +136,41 @@ HasFailed {L} failures old new = HasFailedIn (map failures old) (map failures ne
 abbrev pub KeepFailures : {L : Type 0} → (L → ℕ) → List L → List L → Type 0
 KeepFailures {L} failures old new = map failures new ≡ map failures old
 
--- one of these links failed once, and the others did not fail
-pub record FailsOnce {L : Type 0} (failures : L → ℕ) (old new : List L) : Type 0 where
+-- the link of this client failed once, and the others did not fail
+pub record FailsOnce {L : Type 0} (failures : L → ℕ) (client : ℕ) (old new : List L) : Type 0 where
   pub at : ℕ
+  pub is_its : suc at ≡ client
   pub before : ℕ
   pub there : slice_get (map failures old) at ≡ Some before
   pub once : map failures new ≡ set (map failures old) at (count_after 1 before)
 
--- one link failed once, or no link failed
-abbrev pub CountsFailures : {L : Type 0} → (L → ℕ) → List L → List L → Bool → Type 0
-CountsFailures {L} failures old new true = FailsOnce failures old new
-CountsFailures {L} failures old new false = KeepFailures failures old new
+-- this client's link failed once, or no link failed
+abbrev pub CountsFailures : {L : Type 0} → (L → ℕ) → ℕ → List L → List L → Bool → Type 0
+CountsFailures {L} failures client old new true = FailsOnce failures client old new
+CountsFailures {L} failures client old new false = KeepFailures failures old new
+
+-- every link but this client's is unchanged
+abbrev pub OthersStay : {L : Type 0} → ℕ → List L → List L → Type 0
+OthersStay {L} client old new = (k : ℕ) → suc k ≢ client → slice_get new k ≡ slice_get old k
+
+-- the link of this index has carried these bytes in this direction, and the others are unchanged
+pub record LinkCarries {L : Type 0} (traffic : L → Option Traffic) (at : ℕ) (way : Direction) (bytes : List ℕ)
+    (old new : List L) : Type 0 where
+  pub before : L
+  pub after : L
+  pub there : slice_get old at ≡ Some before
+  pub others_stay : new ≡ set old at after
+  pub carries : Carries way bytes (traffic before) (traffic after)
+
+-- The bytes of an event go over the link of its client, and in its direction: the first that wait in the client or in
+-- its session. Otherwise the links are unchanged.
+abbrev pub LinksAfter : {L : Type 0} → (L → Option Traffic) → WorldState L → WorldState L → WorldEvent → Outcome → Type 0
+LinksAfter {L} traffic old new (session_worlds.ToServer i count) outcome.Done =
+    IfSome (slice_get old.ends (i - 1)) (λ e.
+    LinkCarries traffic (i - 1) ToServer (take count (state_of e.client).out) old.links new.links)
+LinksAfter {L} traffic old new (session_worlds.ToClient i count) outcome.Done =
+    IfSome (seat_at old.hub i) (λ s. LinkCarries traffic (i - 1) ToClient (take count s.out) old.links new.links)
+LinksAfter {L} traffic old new _ _ = new.links ≡ old.links
 
 -- whether a stop has a cause of links
 abbrev pub stop_is_of_link : {X : Type 0} → Result X Stop → Bool

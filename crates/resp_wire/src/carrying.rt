@@ -10,7 +10,7 @@ ghost use Rattle.resp_server.specs.Handling.{WhereOpen};
 ghost use Rattle.resp_server.specs.Hubs.{Seat, seat_at, seated};
 ghost use Rattle.resp_wire.specs.Carrying.{HasBrought, HearsOn, StopsCarrying, StopsShowing, cause_of};
 ghost use Rattle.resp_wire.specs.Hearing.{HearsAll};
-ghost use Rattle.resp_wire.specs.Links.{is_of_link, stopped_by_link};
+ghost use Rattle.resp_wire.specs.Links.{Carries, is_of_link, stopped_by_link};
 
 use crate::asked::Asked;
 use crate::error::AskError;
@@ -44,6 +44,8 @@ pub(crate) fn carry_to_server<L: Link, S: BuildHasher>(
         (StopsCarrying hub.old id s front (state_of client.old).out (L.failures link.old)
         (L.failures link.new))) }
     ensures sent { OnOk result (state_of client.new ≡ without_front count (state_of client.old)) }
+    ensures traffic { OnOk result (Carries Direction.ToServer
+        (take count (state_of client.old).out) (L.traffic link.old) (L.traffic link.new)) }
     ensures same_reading { KeepsReading client.old client.new }
     ensures honest { L.is_honest link.old → L.is_honest link.new }
     ensures none_failed { OnOk result (L.failures link.new ≡ L.failures link.old) }
@@ -90,6 +92,8 @@ pub(crate) fn carry_to_client<L: Link, S: BuildHasher>(
         heard.old heard.new front s.out (L.failures link.old) (L.failures link.new)))) }
     ensures dropped { OnOk result (IfSome (seat_at hub.old id) (λ (s : Seat).
         hub.new ≡ seated hub.old id (record s { out = drop count s.out }))) }
+    ensures traffic { OnOk result (IfSome (seat_at hub.old id) (λ (s : Seat).
+        Carries Direction.ToClient (take count s.out) (L.traffic link.old) (L.traffic link.new))) }
     ensures honest { L.is_honest link.old → L.is_honest link.new }
     ensures none_failed { OnOk result (L.failures link.new ≡ L.failures link.old) }
     ensures failures { L.failures link.new ≡
@@ -137,6 +141,8 @@ fn give<L: Link, S: BuildHasher>(
         (L.failures link.new))) }
     ensures sent { OnOk result (state_of client.new ≡
         without_front (length room.old) (state_of client.old)) }
+    ensures traffic { OnOk result (Carries Direction.ToServer (take (length room.old)
+        (state_of client.old).out) (L.traffic link.old) (L.traffic link.new)) }
     ensures same_reading { KeepsReading client.old client.new }
     ensures honest { L.is_honest link.old → L.is_honest link.new }
     ensures none_failed { OnOk result (L.failures link.new ≡ L.failures link.old) }
@@ -197,6 +203,9 @@ fn show<L: Link, S: BuildHasher>(
         heard.old heard.new front s.out (L.failures link.old) (L.failures link.new)))) }
     ensures dropped { OnOk result (IfSome (seat_at hub.old id) (λ (s : Seat).
         hub.new ≡ seated hub.old id (record s { out = drop (length room.old) s.out }))) }
+    ensures traffic { OnOk result (IfSome (seat_at hub.old id) (λ (s : Seat).
+        Carries Direction.ToClient (take (length room.old) s.out) (L.traffic link.old)
+        (L.traffic link.new))) }
     ensures honest { L.is_honest link.old → L.is_honest link.new }
     ensures none_failed { OnOk result (L.failures link.new ≡ L.failures link.old) }
     ensures failures { L.failures link.new ≡

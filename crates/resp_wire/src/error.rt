@@ -17,7 +17,8 @@ pub enum AskError {
         error: SendError,
     },
     /// A byte received is not valid, or it begins a reply while no command waits. The replies
-    /// before it were added, and the client returns this fault from then on.
+    /// before it were added, and the commands after theirs still wait. The client returns this
+    /// fault from then on.
     #[error(transparent)]
     Fault(Fault),
     /// An allocation failed. Either it was for a request, and nothing was written, or it was for

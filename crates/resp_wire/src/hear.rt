@@ -39,7 +39,8 @@ pub(crate) fn hear_piece(
     ensures heard { WhereTaken client.old (λ front. OnOk result
         (HearsAll (state_of client.old) client.new heard.old heard.new (front ++ piece.now))) }
     ensures refusal { WhereTaken client.old (λ front. IfErr result
-        (StopsHearing (state_of client.old) heard.old heard.new (front ++ piece.now))) }
+        (StopsHearing (state_of client.old) client.new heard.old heard.new
+        (front ++ piece.now))) }
     ensures fault_or_memory { IfErr result StopsClient }
     ensures no_link { IfErr result (λ error. is_of_link (cause_of error) ≡ false) }
     ensures fault_is_kept { IfErr result (KeepsFault client.new) }

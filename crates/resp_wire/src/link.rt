@@ -1,8 +1,8 @@
 //! Links, which carry bytes between a client and its session.
 
-ghost use Rattle.std.specs.Prelude.{◌≡◌, ◌≤◌, ◌+◌, ℕ, length, is_err, IfErr, OnOk};
+ghost use Rattle.std.specs.Prelude.{◌≡◌, ◌≤◌, ◌+◌, ℕ, Option, length, is_err, IfErr, OnOk};
 ghost use Rattle.resp_value.specs.Devices.{failures_after};
-ghost use Rattle.resp_wire.specs.Links.{IsLinkCause};
+ghost use Rattle.resp_wire.specs.Links.{Carries, IsLinkCause, Traffic};
 
 use resp_value::cause::Cause;
 use thiserror::Error;
@@ -39,6 +39,10 @@ pub trait Link: Drop {
     /// nothing about its bytes.
     ghost is_honest: { Self → Type 0 };
 
+    /// The bytes that were carried in each direction, or `None` if the link states nothing about
+    /// them.
+    ghost traffic: { Self → Option Traffic };
+
     /// The number of calls that failed.
     ghost failures: { Self → ℕ };
 
@@ -56,6 +60,8 @@ pub trait Link: Drop {
         requires same_length { length piece.now ≡ length into.old }
         requires short { length piece.now ≤ 1_024 }
         ensures carried { is_honest self.old → OnOk result (into.new ≡ piece.now) }
+        ensures traffic { OnOk result
+            (Carries direction piece.now (traffic self.old) (traffic self.new)) }
         ensures honest { is_honest self.old → is_honest self.new }
         ensures cause { IfErr result (λ fault. IsLinkCause fault.cause) }
         ensures failures { failures self.new ≡

@@ -34,6 +34,7 @@ pub(crate) fn write_text<W: Sink>(writer: &mut W, text: &[u8], turns: &mut u64) 
         (take result.count text.now) }
     ensures whole { OnOk result.end (result.count ≡ length text.now) }
     ensures part { OnErr result.end (result.count < length text.now) }
+    ensures onward { OnOk result.end (0 < length text.now → turns.new < turns.old) }
     ensures none_failed { OnOk result.end (W.failures writer.new ≡ W.failures writer.old) }
     ensures failures { W.failures writer.new ≡
         failures_after (is_failed result.end) (W.failures writer.old) }

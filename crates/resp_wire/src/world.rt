@@ -9,11 +9,11 @@ ghost use Rattle.resp_session.specs.Connections.{shown_pushes, shown_replies};
 ghost use Rattle.resp_session.specs.Runs.{Run};
 ghost use Rattle.resp_session.specs.Serving.{clients_in};
 ghost use Rattle.resp_session.specs.Worlds as session;
-ghost use Rattle.resp_session.specs.Worlds.{connection_at, new_world};
+ghost use Rattle.resp_session.specs.Worlds.{client_of, connection_at, new_world};
 ghost use Rattle.resp_wire.specs.Ends.{outcome_of_push};
 ghost use Rattle.resp_wire.specs.Happening.{AreOpened, Fails, Happens, IsOpenEnd, MayLackMemory, RunsTo, StopsAt};
 ghost use Rattle.resp_wire.specs.Links.{stopped_by_link};
-ghost use Rattle.resp_wire.specs.Worlds.{CountsFailures, KeepFailures, Shows, event_of, pushes_with, requests_of, stop_is_of_link, values_in};
+ghost use Rattle.resp_wire.specs.Worlds.{CountsFailures, KeepFailures, LinksAfter, OthersStay, Shows, event_of, pushes_with, requests_of, stop_is_of_link, values_in};
 
 use crate::asked::{Asked, Request};
 use crate::carrying::{carry_to_client, carry_to_server};
@@ -169,10 +169,16 @@ impl<L: Link, S: BuildHasher + Drop> World<L, S> {
         ensures index { IfErr result (λ stop. stop.event ≡ 0) }
         ensures none_failed { OnOk result
             (KeepFailures L.failures self.old.links self.new.links) }
-        // Whatever the links are: if the cause of the stop is a link's, exactly one link has
-        // failed, once.
-        ensures links { self.old.stopped ≡ None → CountsFailures L.failures self.old.links
-            self.new.links (stop_is_of_link result) }
+        // Whatever the links are: if the cause of the stop is a link's, the link of the event's
+        // client has failed, once, and no other link.
+        ensures links { self.old.stopped ≡ None → CountsFailures L.failures
+            (client_of (event_of event.now)) self.old.links self.new.links
+            (stop_is_of_link result) }
+        // The bytes of an event go over the link of its client, and in its direction.
+        ensures traffic { IfOk result
+            (LinksAfter L.traffic self.old self.new (event_of event.now)) }
+        ensures others { OthersStay (client_of (event_of event.now)) self.old.links
+            self.new.links }
         ensures as_many { length self.new.ends ≡ length self.old.ends }
     {
         if let Some(cause) = self.stopped {
@@ -226,8 +232,13 @@ impl<L: Link, S: BuildHasher + Drop> World<L, S> {
         ensures going { self.new.stopped ≡ self.old.stopped }
         ensures none_failed { OnOk result
             (KeepFailures L.failures self.old.links self.new.links) }
-        ensures links { CountsFailures L.failures self.old.links self.new.links
+        ensures links { CountsFailures L.failures (client_of (event_of event.now))
+            self.old.links self.new.links
             (stopped_by_link result) }
+        ensures traffic { IfOk result
+            (LinksAfter L.traffic self.old self.new (event_of event.now)) }
+        ensures others { OthersStay (client_of (event_of event.now)) self.old.links
+            self.new.links }
         ensures as_many { length self.new.ends ≡ length self.old.ends }
     {
         let number = event.client();
@@ -259,8 +270,9 @@ impl<L: Link, S: BuildHasher + Drop> World<L, S> {
         ensures going { self.new.stopped ≡ self.old.stopped }
         ensures none_failed { OnOk result
             (KeepFailures L.failures self.old.links self.new.links) }
-        ensures links { CountsFailures L.failures self.old.links self.new.links
+        ensures links { CountsFailures L.failures number self.old.links self.new.links
             (stopped_by_link result) }
+        ensures same_links { self.new.links ≡ self.old.links }
         ensures as_many { length self.new.ends ≡ length self.old.ends }
     {
         laws::readings_stay();
@@ -281,8 +293,9 @@ impl<L: Link, S: BuildHasher + Drop> World<L, S> {
         ensures going { self.new.stopped ≡ self.old.stopped }
         ensures none_failed { OnOk result
             (KeepFailures L.failures self.old.links self.new.links) }
-        ensures links { CountsFailures L.failures self.old.links self.new.links
+        ensures links { CountsFailures L.failures number self.old.links self.new.links
             (stopped_by_link result) }
+        ensures same_links { self.new.links ≡ self.old.links }
         ensures as_many { length self.new.ends ≡ length self.old.ends }
     {
         laws::readings_stay();
@@ -303,8 +316,11 @@ impl<L: Link, S: BuildHasher + Drop> World<L, S> {
         ensures going { self.new.stopped ≡ self.old.stopped }
         ensures none_failed { OnOk result
             (KeepFailures L.failures self.old.links self.new.links) }
-        ensures links { CountsFailures L.failures self.old.links self.new.links
+        ensures links { CountsFailures L.failures number self.old.links self.new.links
             (stopped_by_link result) }
+        ensures traffic { IfOk result
+            (LinksAfter L.traffic self.old self.new (session.ToServer number count)) }
+        ensures others { OthersStay number self.old.links self.new.links }
         ensures as_many { length self.new.ends ≡ length self.old.ends }
     {
         laws::what_arrives_is_answered();
@@ -338,8 +354,11 @@ impl<L: Link, S: BuildHasher + Drop> World<L, S> {
         ensures going { self.new.stopped ≡ self.old.stopped }
         ensures none_failed { OnOk result
             (KeepFailures L.failures self.old.links self.new.links) }
-        ensures links { CountsFailures L.failures self.old.links self.new.links
+        ensures links { CountsFailures L.failures number self.old.links self.new.links
             (stopped_by_link result) }
+        ensures traffic { IfOk result
+            (LinksAfter L.traffic self.old self.new (session.ToClient number count)) }
+        ensures others { OthersStay number self.old.links self.new.links }
         ensures as_many { length self.new.ends ≡ length self.old.ends }
     {
         laws::readings_go_on();
@@ -372,8 +391,9 @@ impl<L: Link, S: BuildHasher + Drop> World<L, S> {
         ensures going { self.new.stopped ≡ self.old.stopped }
         ensures none_failed { OnOk result
             (KeepFailures L.failures self.old.links self.new.links) }
-        ensures links { CountsFailures L.failures self.old.links self.new.links
+        ensures links { CountsFailures L.failures number self.old.links self.new.links
             (stopped_by_link result) }
+        ensures same_links { self.new.links ≡ self.old.links }
         ensures as_many { length self.new.ends ≡ length self.old.ends }
     {
         laws::what_is_shown_is_read();
@@ -396,8 +416,9 @@ impl<L: Link, S: BuildHasher + Drop> World<L, S> {
         ensures going { self.new.stopped ≡ self.old.stopped }
         ensures none_failed { OnOk result
             (KeepFailures L.failures self.old.links self.new.links) }
-        ensures links { CountsFailures L.failures self.old.links self.new.links
+        ensures links { CountsFailures L.failures number self.old.links self.new.links
             (stopped_by_link result) }
+        ensures same_links { self.new.links ≡ self.old.links }
         ensures as_many { length self.new.ends ≡ length self.old.ends }
     {
         laws::a_change_is_of_one_connection();

@@ -1,5 +1,7 @@
 //! Scripts of `loop` over memory: their greatest length, and errors that stop a script.
 
+ghost use Rattle.std.specs.Prelude.{None};
+
 use super::check_equal;
 use resp_script::play::{PlayError, play};
 use resp_script::script::reasons::BadLine;
@@ -90,6 +92,8 @@ struct CutLink {
 
 impl Link for CutLink {
     ghost is_honest = { λ _. Unit {0} };
+
+    ghost traffic = { λ _. None };
 
     ghost failures = { λ link. link.failures };
 

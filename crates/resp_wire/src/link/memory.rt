@@ -1,6 +1,6 @@
 //! A link over memory.
 
-ghost use Rattle.std.specs.Prelude.{◌≡◌, ◌≤◌, length, IsOk};
+ghost use Rattle.std.specs.Prelude.{◌≡◌, ◌≤◌, None, length, IsOk};
 
 use super::{Carried, Direction, Link};
 
@@ -10,6 +10,8 @@ pub struct MemoryLink;
 
 impl Link for MemoryLink {
     ghost is_honest = { λ _. Unit {0} };
+
+    ghost traffic = { λ _. None };
 
     ghost failures = { λ _. 0 };
 

@@ -1,7 +1,11 @@
 //! A link over TCP.
 
-ghost use Rattle.std.specs.Prelude.{◌≡◌, ◌+◌, ◌≤◌, IfErr, IfOk, OnOk};
-ghost use Rattle.resp_wire.specs.Links.{IsLinkCause};
+ghost use Rattle.std.specs.Prelude.{◌≡◌, ◌+◌, ◌<◌, ◌≤◌, None, length, is_err, IfErr, IfOk, OnOk};
+ghost use Rattle.resp_value.specs.Devices.{HasRisen, failures_after};
+ghost use Rattle.resp_wire.specs.Asking.{SpendsAtMost};
+ghost use Rattle.resp_wire.specs.Links.{IsLinkCause, IsOutOfTurns, StopsPassing, StopsReceiving, cause_of_halt};
+ghost use Rattle.resp_wire.specs.TcpLinks.{UsesBothEnds, receiving_end, sending_end};
+ghost use Rattle.resp_wire.specs.Turns.{Spends};
 
 use super::{Carried, Direction, Link, LinkFault};
 use crate::turns::{Halt, read_some, write_text};
@@ -50,6 +54,14 @@ impl TcpLink {
     /// Writes a piece at one end, and reads it at the other.
     fn pass_along(&mut self, direction: Direction, piece: &[u8], into: &mut [u8]) -> Carried
         ensures refusal { IfErr result (λ fault. IsLinkCause fault.cause) }
+        ensures write_failed { IfErr result (λ fault. fault.cause ≡ Cause.Write →
+            HasRisen (sending_end direction self.old).failures
+            (sending_end direction self.new).failures) }
+        ensures used { OnOk result (0 < length piece.now → 0 < length into.old →
+            UsesBothEnds self.old self.new) }
+        ensures turns { SpendsAtMost (sending_end direction self.old).calls
+            (sending_end direction self.new).calls (receiving_end direction self.old).calls
+            (receiving_end direction self.new).calls TURNS (IsOutOfTurns result) }
         ensures calls { self.new.client_end.calls + self.new.server_end.calls ≤
             self.old.client_end.calls + self.old.server_end.calls + TURNS }
         ensures same_failures { self.new.failures ≡ self.old.failures }
@@ -76,11 +88,33 @@ fn connect(
 impl Link for TcpLink {
     ghost is_honest = { λ _. Unit {0} };
 
+    ghost traffic = { λ _. None };
+
     ghost failures = { λ link. link.failures };
 
     ghost calls = { λ link. link.client_end.calls + link.server_end.calls };
 
-    fn carry(&mut self, direction: Direction, piece: &[u8], into: &mut [u8]) -> Carried {
+    fn carry(&mut self, direction: Direction, piece: &[u8], into: &mut [u8]) -> Carried
+        requires same_length { length piece.now ≡ length into.old }
+        requires short { length piece.now ≤ 1_024 }
+        ensures carried { OnOk result (into.new ≡ piece.now) }
+        ensures cause { IfErr result (λ fault. IsLinkCause fault.cause) }
+
+        // A piece that is not empty is written at the end of its sender and read at the other end.
+        // A failed write is one of the sender's end.
+        ensures used { OnOk result (0 < length piece.now → UsesBothEnds self.old self.new) }
+        ensures write_failed { IfErr result (λ fault. fault.cause ≡ Cause.Write →
+            HasRisen (sending_end direction self.old).failures
+            (sending_end direction self.new).failures) }
+        ensures turns { SpendsAtMost (sending_end direction self.old).calls
+            (sending_end direction self.new).calls (receiving_end direction self.old).calls
+            (receiving_end direction self.new).calls TURNS (IsOutOfTurns result) }
+
+        ensures failures { self.new.failures ≡
+            failures_after (is_err result) self.old.failures }
+        ensures calls { self.new.client_end.calls + self.new.server_end.calls ≤
+            self.old.client_end.calls + self.old.server_end.calls + 65_536 }
+    {
         let passed = match self.pass_along(direction, piece, into) {
             Ok(()) => compare(piece, into),
             Err(fault) => Err(fault),
@@ -95,7 +129,7 @@ impl Link for TcpLink {
 /// Checks that the bytes received are those that were written. Fails with `Read` if they are not.
 fn compare(written: &[u8], came: &[u8]) -> Carried
     ensures same { OnOk result (came.now ≡ written.now) }
-    ensures refusal { IfErr result (λ fault. IsLinkCause fault.cause) }
+    ensures refusal { IfErr result (λ fault. fault.cause ≡ Cause.Read) }
 {
     if came != written {
         return Err(LinkFault { cause: Cause::Read });
@@ -105,16 +139,33 @@ fn compare(written: &[u8], came: &[u8]) -> Carried
 
 /// Writes a piece at one end, and reads at the other end as many bytes as there is room for.
 fn pass<W: Sink, R: Source>(from: &mut W, to: &mut R, piece: &[u8], into: &mut [u8]) -> Carried
-    ensures refusal { IfErr result (λ fault. IsLinkCause fault.cause) }
+    ensures refusal { IfErr result (λ fault. StopsPassing (W.failures from.old)
+        (W.failures from.new) (R.failures to.old) (R.failures to.new) (R.remaining to.old)
+        (R.remaining to.new) fault.cause) }
+    ensures turns { SpendsAtMost (W.calls from.old) (W.calls from.new) (R.calls to.old)
+        (R.calls to.new) TURNS (IsOutOfTurns result) }
+    ensures used { OnOk result (0 < length piece.now → 0 < length into.old →
+        HasRisen (W.calls from.old) (W.calls from.new) ×
+        HasRisen (R.calls to.old) (R.calls to.new)) }
     ensures calls { W.calls from.new + R.calls to.new ≤ W.calls from.old + R.calls to.old + TURNS }
 {
     let mut turns = TURNS;
     if let Err(halt) = write_text(from, piece, &mut turns).end {
         return Err(stop(halt, Cause::Write));
     }
+    receive(to, into, &mut turns)
+}
+
+/// Reads as many bytes as there is room for.
+fn receive<R: Source>(to: &mut R, into: &mut [u8], turns: &mut u64) -> Carried
+    ensures refusal { IfErr result (λ fault. StopsReceiving (R.failures to.old) (R.failures to.new)
+        (R.remaining to.old) (R.remaining to.new) turns.new fault.cause) }
+    ensures turns { Spends (R.calls to.old) (R.calls to.new) turns.old turns.new }
+    ensures onward { OnOk result (0 < length into.old → turns.new < turns.old) }
+{
     let mut count = 0;
     while count < into.len() {
-        match read_some(to, &mut into[count..], &mut turns) {
+        match read_some(to, &mut into[count..], turns) {
             Ok(0) => return Err(LinkFault { cause: Cause::Read }),
             Ok(more) => count += more,
             Err(halt) => return Err(stop(halt, Cause::Read)),
@@ -125,7 +176,7 @@ fn pass<W: Sink, R: Source>(from: &mut W, to: &mut R, piece: &[u8], into: &mut [
 
 /// Returns the error of the link for a read or write that moved no byte.
 fn stop(halt: Halt, failed: Cause) -> LinkFault
-    ensures { IsLinkCause failed → IsLinkCause result.cause }
+    ensures { result.cause ≡ cause_of_halt failed halt }
 {
     let cause = match halt {
         Halt::Failed => failed,

@@ -121,9 +121,9 @@ returns-in-Err-hear_piece-clause-heard g c =
             subst (λ z. StopsListening s c.hear_piece.new.client c.args.heard.now c.hear_piece.new.heard (front ++ z) error)
                 (sym (concat_more pieces (take n into)))
                 (stops_listening s c.hear_piece.new.client c.args.heard.now c.hear_piece.new.heard (front ++ (concat pieces ++ take n into)) error
-                (stops_piece c.readings_go_on.ensures c.hearing_goes_on.ensures s c.loop-turns.client c.args.heard.now c.loop-turns.heard c.hear_piece.new.heard
+                (stops_piece c.readings_go_on.ensures c.hearing_goes_on.ensures s c.loop-turns.client c.hear_piece.new.client c.args.heard.now c.loop-turns.heard c.hear_piece.new.heard
                 front (concat pieces) (take n into) error so_far
-                (subst (λ z. StopsHearing (state_of c.loop-turns.client) c.loop-turns.heard c.hear_piece.new.heard (so_far.rest ++ z) error)
+                (subst (λ z. StopsHearing (state_of c.loop-turns.client) c.hear_piece.new.client c.loop-turns.heard c.hear_piece.new.heard (so_far.rest ++ z) error)
                 (search rules) (c.in-Err-hear_piece.ensures.refusal so_far.rest so_far.takes)))),
             waits_for_piece s c.loop-turns.client c.args.heard.now c.loop-turns.heard front pieces (take n into) so_far (search rules) each,
           ),

@@ -2,9 +2,12 @@ use Rattle.std.proofs.Common.{rules, ◌≡◌, ◌≤◌, ◌+◌, ◌++◌, �
 use Rattle.std.proofs.lemmas.List.{take_min}
 use Rattle.resp_client.specs.Clients.{state_of}
 use Rattle.resp_client.specs.Hearing.{WhereTaken}
-use Rattle.resp_server.specs.Hubs.{seat_at, seated}
+use Rattle.resp_server.specs.Hubs.{Seat, seat_at, seated}
 use Rattle.resp_wire.specs.Carrying.{HearsOn}
 use Rattle.resp_wire.specs.Hearing.{HearsAll}
+use Rattle.resp_wire.specs.Links.{Carries}
+use Rattle.resp_wire.specs.declared.link.Direction.TheVariants.{ToClient}
+use Rattle.resp_wire.proofs.LinkTraffic.{shown_none, shown_part, shown_whole}
 use Rattle.resp_wire.proofs.Listening.{hears_no_bytes}
 use Rattle.resp_wire.proofs.Seated.{seated_same}
 use Rattle.resp_wire.proofs.Showing.{at_there, drops_more, hears_settled, if_there, shows_more, stops_more, stops_settled, waits_still, waits_there, without}
@@ -17,6 +20,7 @@ loop-done-init g c =
     record {
       heard = λ honest. if_there old id _ (λ s here front taken. hears_no_bytes c.args.client.now c.args.heard.now front taken);
       dropped = if_there old id _ (λ s here. seated_same old id s here);
+      traffic = shown_none old id (g.L.Link.traffic c.args.link.now);
       honest = λ honest. honest;
       none_failed = refl;
       within = omega arith;
@@ -61,6 +65,11 @@ loop-done-preserved g c =
           (c.in_default-show.ensures.heard (i.honest honest)));
       dropped = drops_more c.args.hub.now mid c.show.new.hub c.args.id done n i.dropped
           (subst (λ k. IfSome (seat_at mid c.args.id) (λ t. c.show.new.hub ≡ seated mid c.args.id (without k t))) full c.in_default-show.ensures.dropped);
+      traffic = shown_part c.args.hub.now mid c.args.id done n (g.L.Link.traffic c.args.link.now) (g.L.Link.traffic c.loop-done.link)
+          (g.L.Link.traffic c.show.new.link) i.dropped i.traffic
+          (subst (λ k. IfSome (seat_at mid c.args.id) (λ (t : Seat).
+          Carries ToClient (take k t.out) (g.L.Link.traffic c.loop-done.link) (g.L.Link.traffic c.show.new.link))) full
+          c.in_default-show.ensures.traffic);
       honest = λ honest. c.in_default-show.ensures.honest (i.honest honest);
       none_failed = c.in_default-show.ensures.none_failed ∙ i.none_failed;
       within = search rules;
@@ -99,3 +108,12 @@ returns-clause-heard g c honest =
     ap (λ k. take k s.out) (all ∙ ap (λ z. min c.args.count (length z)) (sym same)) ∙ take_min c.args.count s.out in
     subst (λ z. HearsOn client new c.args.heard.now heard (front ++ z)) whole
     (hears_settled client cur new c.args.heard.now heard (front ++ take done s.out) h (c.in_default-settle.ensures.taken h.rest h.takes)))
+
+pub returns-clause-traffic : goal.returns-clause-traffic
+returns-clause-traffic g c =
+    let old = c.args.hub.now in
+    let id = c.args.id in
+    let text = c.in-Ok.out.now in
+    let all : c.loop-done.done ≡ min c.args.count (length text) = search rules in
+    shown_whole old id c.loop-done.done c.args.count text (g.L.Link.traffic c.args.link.now) (g.L.Link.traffic c.loop-done.link)
+    (λ s here. waits_there old id s text here c.in-Ok.ensures.waiting) all c.loop-done.invariant.traffic

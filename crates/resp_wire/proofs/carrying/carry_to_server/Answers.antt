@@ -3,6 +3,9 @@ use Rattle.resp_client.specs.Clients.{ClientState, state_of, without_front}
 use Rattle.resp_server.specs.Handling.{HasAnswered, WhereOpen}
 use Rattle.resp_wire.specs.Carrying.{HasBrought, StopsCarrying}
 use Rattle.resp_wire.proofs.AnsweredOn.{brings_more, brings_none, brings_whole, sent_twice, stops_more}
+use Rattle.resp_wire.specs.Links.{Carries}
+use Rattle.resp_wire.specs.declared.link.Direction.TheVariants.{ToServer}
+use Rattle.resp_wire.proofs.LinkTraffic.{carries_none, carries_part, carries_whole}
 use Rattle.resp_wire.proofs.Queueing.{keeps_on}
 use Rattle.resp_wire.proofs.Seated.{at_open, where_open}
 use Rattle.resp_wire.proofs.carrying.carry_to_server.Goals as goal
@@ -19,6 +22,7 @@ loop-done-init g c =
       honest = λ honest. honest;
       none_failed = refl;
       sent = refl;
+      traffic = carries_none ToServer (g.L.Link.traffic c.args.link.now);
       same_reading = record { same_front = λ front h. h; same_fault = λ fault h. h };
       within = omega arith;
     }
@@ -72,6 +76,9 @@ loop-done-preserved g c =
       none_failed = c.in_default-give.ensures.none_failed ∙ i.none_failed;
       sent = c.in_default-give.ensures.sent ∙ ap (λ k. without_front k (state_of c.loop-done.client)) full ∙ ap (without_front n) i.sent ∙
           sent_twice (state_of c.args.client.now) done n;
+      traffic = carries_part ToServer (g.L.Link.traffic c.args.link.now) (g.L.Link.traffic c.loop-done.link) (g.L.Link.traffic c.give.new.link) out done n
+          i.traffic (subst (λ z. Carries ToServer z (g.L.Link.traffic c.loop-done.link) (g.L.Link.traffic c.give.new.link)) piece
+          c.in_default-give.ensures.traffic);
       same_reading = keeps_on c.args.client.now c.loop-done.client c.give.new.client i.same_reading c.give.ensures.same_reading;
       within = search rules;
     }
@@ -82,3 +89,10 @@ returns-clause-brought g c honest =
     let all : c.loop-done.done ≡ min c.args.count (length out) = search rules in
     brings_whole c.args.hub.now c.loop-done.hub c.args.id out c.args.order.now.items c.loop-done.order.items c.args.number c.loop-done.done c.args.count all
     (c.loop-done.invariant.brought honest)
+
+pub returns-clause-traffic : goal.returns-clause-traffic
+returns-clause-traffic g c =
+    let out = (state_of c.args.client.now).out in
+    let all : c.loop-done.done ≡ min c.args.count (length out) = search rules in
+    carries_whole ToServer (g.L.Link.traffic c.args.link.now) (g.L.Link.traffic c.loop-done.link) out c.loop-done.done c.args.count all
+    c.loop-done.invariant.traffic

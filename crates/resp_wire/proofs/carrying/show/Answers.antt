@@ -18,6 +18,6 @@ returns-in-Err-hear_piece-clause-refusal g c honest =
     let failures' = g.L.Link.failures c.carry.new.self in
     if_there old id _ (λ s here front taken.
     subst (StopsShowing client c.args.heard.now c.hear_piece.new.heard front s.out failures failures') (sym c.cause_of.ensures)
-    (stops_showing client c.args.heard.now c.hear_piece.new.heard front s.out count failures failures' e
-    (subst (λ z. StopsHearing client c.args.heard.now c.hear_piece.new.heard (front ++ z) e)
+    (stops_showing client c.hear_piece.new.client c.args.heard.now c.hear_piece.new.heard front s.out count failures failures' e
+    (subst (λ z. StopsHearing client c.hear_piece.new.client c.args.heard.now c.hear_piece.new.heard (front ++ z) e)
     (same ∙ ap (take count) (sym (waits_there old id s c.in-Ok.out.now here c.in-Ok.ensures.waiting))) (c.in-Err-hear_piece.ensures.refusal front taken))))

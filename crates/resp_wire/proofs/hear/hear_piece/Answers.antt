@@ -31,8 +31,9 @@ returns-clause-heard c = λ front h.
 pub returns-in-Err-clause-refusal : goal.returns-in-Err-clause-refusal
 returns-in-Err-clause-refusal c = λ front h.
     let w = c.loop-turn.invariant front h in
-    stops_hearing (state_of c.args.client.now) c.loop-turn.client c.args.heard.now c.loop-turn.heard front c.args.piece.now c.loop-turn.rest.now
+    stops_hearing (state_of c.args.client.now) c.loop-turn.client c.feed.new.self c.args.heard.now c.loop-turn.heard front c.args.piece.now c.loop-turn.rest.now
     c.loop-turn.turn c.in-Err.fault c.stop.result c.stop.ensures.error w (c.in-Err.ensures.refusal w.hears.rest w.hears.takes)
+    c.in-Err.ensures.only_replies_answer
 
 pub returns-then-is_err-clause-refusal : goal.returns-then-is_err-clause-refusal
 returns-then-is_err-clause-refusal c = λ front h.

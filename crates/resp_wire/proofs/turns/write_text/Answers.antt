@@ -17,6 +17,7 @@ loop-count-preserved g c =
           c.in-Ok.ensures.bytes);
       spends = spends_one (g.W.Sink.calls c.args.writer.now) (g.W.Sink.calls c.loop-count.writer) (g.W.Sink.calls c.write.new.self) c.args.turns.now
           c.loop-count.turns (c.loop-count.turns - 1) i.spends c.in-Ok.ensures.calls (search rules);
+      onward = λ some. let spent = i.spends.spent in search rules;
       none_failed = search rules;
     }
 

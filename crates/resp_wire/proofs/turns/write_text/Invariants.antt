@@ -1,4 +1,4 @@
-use Rattle.std.proofs.Common.{◌≡◌, ◌≤◌, length, take}
+use Rattle.std.proofs.Common.{◌≡◌, ◌<◌, ◌≤◌, length, take}
 use Rattle.resp_value.specs.Devices.{Appends}
 use Rattle.resp_wire.specs.Turns.{Spends}
 use Rattle.resp_wire.proofs.turns.write_text.Given as goal
@@ -8,6 +8,7 @@ invariant-loop-count g l = record {
   within : l.count ≤ length l.fn.text;
   appended : Appends (g.W.Sink.written l.fn.writer) (g.W.Sink.written l.writer) (take l.count l.fn.text);
   spends : Spends (g.W.Sink.calls l.fn.writer) (g.W.Sink.calls l.writer) l.fn.turns l.turns;
+  onward : 0 < l.count → l.turns < l.fn.turns;
   none_failed : g.W.Sink.failures l.writer ≡ g.W.Sink.failures l.fn.writer;
 }
 

@@ -41,5 +41,5 @@ returns-clause-memory g c =
 pub returns-clause-links : goal.returns-clause-links
 returns-clause-links g c =
     let s = c.self.inside in
-    subst (λ (z : WorldState g.row.L.Denot). CountsFailures g.L.Link.failures z.links s.links.items (stopped_by_link c.hello.result)) c.self.view_is
-    (counts_none g.L.Link.failures s.links.items s.links.items c.hello.result refl (of_no_link c.hello.result c.hello.ensures.memory))
+    subst (λ (z : WorldState g.row.L.Denot). CountsFailures g.L.Link.failures c.args.number z.links s.links.items (stopped_by_link c.hello.result)) c.self.view_is
+    (counts_none g.L.Link.failures c.args.number s.links.items s.links.items c.hello.result refl (of_no_link c.hello.result c.hello.ensures.memory))

@@ -82,6 +82,6 @@ pub returns-in-Err-clause-links : goal.returns-in-Err-clause-links
 returns-in-Err-clause-links g c =
     let s = c.self.inside in
     let r = c.outcome_of_push.result in
-    subst (λ (z : WorldState g.row.L.Denot). CountsFailures g.L.Link.failures z.links s.links.items (stopped_by_link r)) c.self.view_is
-    (counts_none g.L.Link.failures s.links.items s.links.items r refl
+    subst (λ (z : WorldState g.row.L.Denot). CountsFailures g.L.Link.failures c.args.number z.links s.links.items (stopped_by_link r)) c.self.view_is
+    (counts_none g.L.Link.failures c.args.number s.links.items s.links.items r refl
     (subst (λ o. IfErr o (λ k. is_of_link k ≡ false)) (sym c.outcome_of_push.ensures) (push_of_no_link c.in-Err.error)))

@@ -1,7 +1,8 @@
-use Rattle.std.proofs.Common.{◌≡◌, ◌∙◌, ◌<◌, None, arith, length, map, refl, subst, sym, take}
+use Rattle.std.proofs.Common.{◌≡◌, ◌∙◌, ◌<◌, IfSome, None, arith, length, map, refl, subst, sym, take}
 use Rattle.resp_wire.specs.Happening.{RunsTo}
 use Rattle.resp_wire.specs.Links.{is_of_link}
-use Rattle.resp_wire.specs.Worlds.{event_of}
+use Rattle.resp_session.specs.Worlds.{client_of}
+use Rattle.resp_wire.specs.Worlds.{CountsFailures, event_of}
 use Rattle.resp_wire.proofs.LinkStops.{counts_on}
 use Rattle.resp_wire.proofs.world.World.run.Goals as goal
 use Rattle.resp_wire.proofs.worlds.Lacking.{lacks_at}
@@ -28,8 +29,13 @@ returns-in-Err-clause-stops g c =
           c.in-Err.ensures.stopped_before;
       reason = λ none. fails_in_run g.L.Link.is_honest g.L.Link.failures c.args.self.now c.loop-index.self c.step.new.self (take c.loop-index.index (map event_of
           c.args.events.now)) c.in-Err.stop.cause i.happens i.keep (c.in-Err.ensures.stops (i.same ∙ none));
-      links = λ none. counts_on g.L.Link.failures c.args.self.now.links c.loop-index.self.links c.step.new.self.links (is_of_link c.in-Err.stop.cause) i.keep
-          (c.in-Err.ensures.links (i.same ∙ none));
+      links = λ none.
+          let event = event_of c.index-events-index.result in
+          subst (λ o. IfSome o (λ e. CountsFailures g.L.Link.failures (client_of e) c.args.self.now.links c.step.new.self.links
+          (is_of_link c.in-Err.stop.cause)))
+          (sym (event_there c.args.events.now c.loop-index.index c.index-events-index.result c.loop-index-test.true c.index-events-index.is))
+          (counts_on g.L.Link.failures (client_of event) c.args.self.now.links c.loop-index.self.links c.step.new.self.links (is_of_link c.in-Err.stop.cause)
+          i.keep (c.in-Err.ensures.links (i.same ∙ none)));
       memory = λ none out. lacks_at g.L.Link.is_honest c.loop-index.self (map event_of c.args.events.now) c.loop-index.index
           (event_of c.index-events-index.result) (event_there c.args.events.now c.loop-index.index c.index-events-index.result c.loop-index-test.true
           c.index-events-index.is) (c.in-Err.ensures.memory (i.same ∙ none) out);

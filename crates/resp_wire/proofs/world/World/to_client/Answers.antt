@@ -11,7 +11,8 @@ use Rattle.resp_wire.proofs.worlds.Moves.{err_of, keep_failures, moves_to_client
 use Rattle.resp_wire.proofs.worlds.Places.{world_of}
 use Rattle.resp_wire.specs.Happening.{MayLackMemory}
 use Rattle.resp_wire.proofs.worlds.Lacking.{all_errs, to_client_lacks}
-use Rattle.resp_wire.specs.Worlds.{CountsFailures}
+use Rattle.resp_wire.specs.Worlds.{CountsFailures, OthersStay}
+use Rattle.resp_wire.proofs.LinkTraffic.{others_stay}
 use Rattle.resp_wire.specs.Links.{is_of_link, stopped_by_link}
 use Rattle.resp_wire.proofs.LinkStops.{counts_none, counts_one, of_no_link}
 use Rattle.resp_wire.proofs.world.World.to_client.Goals as goal
@@ -98,16 +99,32 @@ returns-in-Err-clause-links g c =
     let as_many = c.self.invariant in
     let link' = c.carry_to_client-carried.new.link in
     subst (λ (z : WorldState g.row.L.Denot). (1 ≤ n) × (n ≤ length z.ends) →
-    CountsFailures g.L.Link.failures z.links (set s.links.items (n - 1) link') (is_of_link c.in-Err.cause)) c.self.view_is
-    (λ there. counts_one g.L.Link.failures s.links.items (n - 1) c.index_mut.result.now link' (is_of_link c.in-Err.cause)
-    (omega (arith, there.0, there.1, as_many)) c.index_mut.ensures.value c.in-Err.ensures.failures) c.requires.there
+    CountsFailures g.L.Link.failures n z.links (set s.links.items (n - 1) link') (is_of_link c.in-Err.cause)) c.self.view_is
+    (λ there. counts_one g.L.Link.failures n s.links.items (n - 1) c.index_mut.result.now link' (is_of_link c.in-Err.cause)
+    (omega (arith, there.0)) (omega (arith, there.0, there.1, as_many)) c.index_mut.ensures.value c.in-Err.ensures.failures) c.requires.there
 
 pub returns-clause-links : goal.returns-clause-links
 returns-clause-links g c =
     let s = c.self.inside in
     let n = c.args.number in
     let link' = c.carry_to_client-carried.new.link in
-    subst (λ (z : WorldState g.row.L.Denot). CountsFailures g.L.Link.failures z.links (set s.links.items (n - 1) link') (stopped_by_link c.keep.result))
-    c.self.view_is (counts_none g.L.Link.failures s.links.items (set s.links.items (n - 1) link') c.keep.result
+    subst (λ (z : WorldState g.row.L.Denot). CountsFailures g.L.Link.failures n z.links (set s.links.items (n - 1) link') (stopped_by_link c.keep.result))
+    c.self.view_is (counts_none g.L.Link.failures n s.links.items (set s.links.items (n - 1) link') c.keep.result
     (keep_failures g.L.Link.failures s.links.items (n - 1) c.index_mut.result.now link' c.index_mut.ensures.value c.in_default.ensures.none_failed)
     (of_no_link c.keep.result c.keep.ensures.memory))
+
+pub returns-in-Err-clause-others : goal.returns-in-Err-clause-others
+returns-in-Err-clause-others g c =
+    let s = c.self.inside in
+    let n = c.args.number in
+    let link' = c.carry_to_client-carried.new.link in
+    subst (λ (z : WorldState g.row.L.Denot). (1 ≤ n) × (n ≤ length z.ends) → OthersStay n z.links (set s.links.items (n - 1) link')) c.self.view_is
+    (λ there. others_stay s.links.items n link' there.0) c.requires.there
+
+pub returns-clause-others : goal.returns-clause-others
+returns-clause-others g c =
+    let s = c.self.inside in
+    let n = c.args.number in
+    let link' = c.carry_to_client-carried.new.link in
+    subst (λ (z : WorldState g.row.L.Denot). (1 ≤ n) × (n ≤ length z.ends) → OthersStay n z.links (set s.links.items (n - 1) link')) c.self.view_is
+    (λ there. others_stay s.links.items n link' there.0) c.requires.there

@@ -10,7 +10,8 @@ use Rattle.resp_wire.specs.Happening.{MayLackMemory}
 use Rattle.resp_wire.proofs.worlds.Lacking.{to_server_lacks}
 use Rattle.resp_wire.proofs.LinkStops.{counts_one}
 use Rattle.resp_wire.specs.Links.{is_of_link}
-use Rattle.resp_wire.specs.Worlds.{CountsFailures}
+use Rattle.resp_wire.specs.Worlds.{CountsFailures, OthersStay}
+use Rattle.resp_wire.proofs.LinkTraffic.{others_stay}
 use Rattle.resp_wire.proofs.world.World.to_server.Goals as goal
 
 pub returns-clause-happens : goal.returns-clause-happens
@@ -68,9 +69,9 @@ returns-in-Err-clause-links g c =
     let as_many = c.self.invariant in
     let link' = c.carry_to_server-carried.new.link in
     subst (λ (z : WorldState g.row.L.Denot). (1 ≤ n) × (n ≤ length z.ends) →
-    CountsFailures g.L.Link.failures z.links (set s.links.items (n - 1) link') (is_of_link c.in-Err.cause)) c.self.view_is
-    (λ there. counts_one g.L.Link.failures s.links.items (n - 1) c.index_mut.result.now link' (is_of_link c.in-Err.cause)
-    (omega (arith, there.0, there.1, as_many)) c.index_mut.ensures.value c.in-Err.ensures.failures) c.requires.there
+    CountsFailures g.L.Link.failures n z.links (set s.links.items (n - 1) link') (is_of_link c.in-Err.cause)) c.self.view_is
+    (λ there. counts_one g.L.Link.failures n s.links.items (n - 1) c.index_mut.result.now link' (is_of_link c.in-Err.cause)
+    (omega (arith, there.0)) (omega (arith, there.0, there.1, as_many)) c.index_mut.ensures.value c.in-Err.ensures.failures) c.requires.there
 
 pub returns-clause-links : goal.returns-clause-links
 returns-clause-links g c =
@@ -79,6 +80,22 @@ returns-clause-links g c =
     let as_many = c.self.invariant in
     let link' = c.carry_to_server-carried.new.link in
     subst (λ (z : WorldState g.row.L.Denot). (1 ≤ n) × (n ≤ length z.ends) →
-    CountsFailures g.L.Link.failures z.links (set s.links.items (n - 1) link') false) c.self.view_is
-    (λ there. counts_one g.L.Link.failures s.links.items (n - 1) c.index_mut.result.now link' false
-    (omega (arith, there.0, there.1, as_many)) c.index_mut.ensures.value c.in_default.ensures.failures) c.requires.there
+    CountsFailures g.L.Link.failures n z.links (set s.links.items (n - 1) link') false) c.self.view_is
+    (λ there. counts_one g.L.Link.failures n s.links.items (n - 1) c.index_mut.result.now link' false
+    (omega (arith, there.0)) (omega (arith, there.0, there.1, as_many)) c.index_mut.ensures.value c.in_default.ensures.failures) c.requires.there
+
+pub returns-in-Err-clause-others : goal.returns-in-Err-clause-others
+returns-in-Err-clause-others g c =
+    let s = c.self.inside in
+    let n = c.args.number in
+    let link' = c.carry_to_server-carried.new.link in
+    subst (λ (z : WorldState g.row.L.Denot). (1 ≤ n) × (n ≤ length z.ends) → OthersStay n z.links (set s.links.items (n - 1) link')) c.self.view_is
+    (λ there. others_stay s.links.items n link' there.0) c.requires.there
+
+pub returns-clause-others : goal.returns-clause-others
+returns-clause-others g c =
+    let s = c.self.inside in
+    let n = c.args.number in
+    let link' = c.carry_to_server-carried.new.link in
+    subst (λ (z : WorldState g.row.L.Denot). (1 ≤ n) × (n ≤ length z.ends) → OthersStay n z.links (set s.links.items (n - 1) link')) c.self.view_is
+    (λ there. others_stay s.links.items n link' there.0) c.requires.there
