@@ -187,7 +187,10 @@ fn run_loop<R: Source, W: Sink, F: Sink>(
     for index in 0..script.clients {
         match TcpLink::connect(net) {
             Ok(link) => links.push(link)?,
-            Err(error) => return refuse_connection(alloc, index, &error, explains, faults),
+            Err(error) => {
+                let client = index as u64 + 1;
+                return refuse_connection(alloc, client, &error, explains, faults);
+            }
         }
     }
     let Some(hasher) = hasher else {
@@ -209,7 +212,7 @@ fn run_loop<R: Source, W: Sink, F: Sink>(
 /// asked for. Returns the exit status.
 fn refuse_connection<F: Sink>(
     alloc: Global,
-    index: usize,
+    client: u64,
     error: &io::Error,
     explains: bool,
     faults: &mut F,
@@ -217,7 +220,7 @@ fn refuse_connection<F: Sink>(
     let status = stop(&ToolError::Read, faults);
     if explains {
         let why = format!(in alloc; "{error}")?;
-        let _ = write_no_connection(faults, index as u64 + 1, why.as_str().as_bytes());
+        let _ = write_no_connection(faults, client, why.as_str().as_bytes());
     }
     Ok(status)
 }

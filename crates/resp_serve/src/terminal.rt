@@ -1,15 +1,18 @@
-//! Standard output, which is written only if the write does not block.
+//! Standard output, which is written only as far as a write does not block.
 
 use mio::unix::SourceFd;
 use mio::{Events, Interest, Poll, Token};
+use resp_print::live::LiveSink;
 use std::alloc::Global;
+use std::fs::{File, Files, OpenOptions};
 use std::io;
-use std::io::ErrorKind;
+use std::io::{ErrorKind, Write};
 use std::net::Net;
-use std::os::fd::RawFd;
+use std::os::fd::{OwnedFd, RawFd};
+use std::os::unix::net::UnixStream;
 use std::time::Duration;
 
-/// The bytes that a ready pipe accepts without blocking.
+/// The bytes that a ready pipe or socket accepts without blocking.
 const FEW: usize = 4_096;
 
 /// The bytes that are written to a file at once.
@@ -18,19 +21,25 @@ const MANY: usize = 65_536;
 /// The descriptor of standard output.
 const STANDARD_OUTPUT: RawFd = 1;
 
-/// Asks whether standard output accepts bytes without blocking. A file always does.
+/// The name by which standard output is opened anew.
+const NAME: &str = "/proc/self/fd/1";
+
+/// Writes to standard output without blocking.
 #[derive(Drop)]
 pub(crate) struct Terminal {
     poll: Poll,
     events: Events,
     /// Whether a write may block, as for a pipe or a terminal.
     may_wait: bool,
+    /// A pipe or a terminal, opened anew so that a write to it does not block.
+    opened: Option<File>,
 }
 
 impl Terminal {
-    /// Returns a `Terminal` that asks the system about standard output.
-    pub(crate) fn new(net: &impl Net, alloc: Global) -> io::Result<Self> {
-        let poll = Poll::new(net)?;
+    /// Returns a `Terminal` over standard output. A pipe or a terminal is opened anew. A socket
+    /// can't be; it is asked before each write whether it accepts one.
+    pub(crate) fn new<R: Net + Files<File = File>>(rt: &R, alloc: Global) -> io::Result<Self> {
+        let poll = Poll::new(rt)?;
         let Ok(events) = Events::with_capacity(alloc, 1) else {
             return Err(ErrorKind::OutOfMemory.into());
         };
@@ -38,21 +47,47 @@ impl Terminal {
         let registered = poll
             .registry()
             .register(&mut source, Token(0), Interest::WRITABLE);
+        let may_wait = registered.is_ok();
+        let opened = match may_wait {
+            true => open_anew(rt).ok(),
+            false => None,
+        };
         Ok(Terminal {
             poll,
             events,
-            may_wait: registered.is_ok(),
+            may_wait,
+            opened,
         })
     }
 
-    /// Returns the most bytes of one write: as many as standard output accepts without blocking
-    /// when it is ready.
-    pub(crate) fn most(&self) -> usize {
-        if self.may_wait { FEW } else { MANY }
+    /// Writes some bytes from the beginning of `text`, as many as standard output accepts without
+    /// blocking, and returns their number. It is 0 if no byte is accepted now.
+    ///
+    /// # Errors
+    ///
+    /// An error of kind `WriteZero` if a write fails.
+    pub(crate) fn print<W: LiveSink>(&mut self, text: &[u8], out: &mut W) -> io::Result<usize> {
+        if let Some(file) = &mut self.opened {
+            match file.write(text) {
+                Ok(count) => return Ok(count.min(text.len())),
+                Err(error) if error.kind() == ErrorKind::WouldBlock => return Ok(0),
+                // The write below fails too, and `out` learns why.
+                Err(_) => self.opened = None,
+            }
+        }
+        if !self.is_ready() {
+            return Ok(0);
+        }
+        let most = if self.may_wait { FEW } else { MANY };
+        let written = out.write(&text[..most.min(text.len())]);
+        match (written, out.flush()) {
+            (Ok(count), Ok(())) if count > 0 => Ok(count),
+            _ => Err(ErrorKind::WriteZero.into()),
+        }
     }
 
-    /// Returns whether standard output accepts a write now.
-    pub(crate) fn is_ready(&mut self) -> bool {
+    /// Returns whether standard output accepts a write now. A file always does.
+    fn is_ready(&mut self) -> bool {
         if !self.may_wait {
             return true;
         }
@@ -70,4 +105,14 @@ impl Terminal {
             .poll(&mut self.events, Some(Duration::from_millis(0)));
         polled.is_ok() && self.events.iter().next().is_some()
     }
+}
+
+/// Opens standard output anew. A write to the file that is returned does not block, and standard
+/// output itself, which other programs may share, keeps its setting.
+fn open_anew<R: Files<File = File>>(rt: &R) -> io::Result<File> {
+    let file = OpenOptions::new().write(true).open(rt, NAME)?;
+    // The setting belongs to the open file, and only sockets have a call for it.
+    let same = UnixStream::from(OwnedFd::from(file.try_clone()?));
+    same.set_nonblocking(true)?;
+    Ok(file)
 }

@@ -13,6 +13,7 @@ use resp_tap::screen::Screen;
 use resp_tap::stamp::Stamp;
 use resp_value::limits::Limits;
 use std::alloc::Global;
+use std::fs::{File, Files};
 use std::io;
 use std::io::ErrorKind;
 use std::net::{Net, SocketAddr};
@@ -70,7 +71,7 @@ impl Window {
     ///
     /// The error of the system if the address can't be opened or a clock can't be read, or an error
     /// of kind `OutOfMemory` if an allocation fails.
-    pub fn listen<R: Net + Clock>(
+    pub fn listen<R: Net + Clock + Files<File = File>>(
         rt: &R,
         alloc: Global,
         address: SocketAddr,
@@ -126,16 +127,12 @@ impl View {
         for _ in 0..WRITES {
             let _ = self.screen.say_what_is_left_out();
             let text = self.screen.text();
-            if text.is_empty() || !self.terminal.is_ready() {
+            if text.is_empty() {
                 return Ok(());
             }
-            let part = &text[..self.terminal.most().min(text.len())];
-            match out.write(part) {
-                Ok(0) | Err(_) => return Err(ErrorKind::WriteZero.into()),
-                Ok(count) => self.screen.shown(count),
-            }
-            if out.flush().is_err() {
-                return Err(ErrorKind::WriteZero.into());
+            match self.terminal.print(text, out)? {
+                0 => return Ok(()),
+                count => self.screen.shown(count),
             }
         }
         Ok(())
