@@ -1,3 +1,4 @@
 pub mod Places
 pub mod Plans
 pub mod Stands
+pub mod Rounds

@@ -1,5 +1,5 @@
 -- What a schedule knows.
-use Rattle.std.specs.Prelude.{◌≡◌, ◌≢◌, ℕ, ◌+◌, Bool, true, false, List, [], ◌∷◌, ◌++◌, slice_index_or, take}
+use Rattle.std.specs.Prelude.{◌≡◌, ◌≢◌, ℕ, ◌+◌, Bool, true, false, List, [], ◌∷◌, ◌++◌, length, slice_index_or, take}
 use Rattle.std.specs.List.{count_by}
 use Rattle.resp_schedule.specs.declared.schedule.Backlog.{Backlog}
 use Rattle.resp_schedule.specs.declared.schedule.Backlog.TheVariants.{Empty, Waiting, Failing, Stopped}
@@ -60,3 +60,21 @@ pub record Closes (old new : Plan) (place : ℕ) : Type 0 where
   pub counted : open_count new + 1 ≡ open_count old
   pub backlog : new.backlog ≡ resumed old.backlog
   pub most : new.most ≡ old.most
+
+-- the first place that is due is visited, and idle
+pub record VisitsNext (old new : Plan) (place : ℕ) : Type 0 where
+  pub due : due_of old ≡ place ∷ due_of new
+  pub queue : old.queue ≡ place ∷ new.queue
+  pub idle : Changes old new place Queued Idle
+  pub counted : open_count new ≡ open_count old
+  pub gone : new.gone ≡ old.gone
+  pub backlog : new.backlog ≡ old.backlog
+  pub most : new.most ≡ old.most
+
+-- a new round begins: all that is queued is due, and the places that were closed are forgotten
+abbrev pub next_round : Plan → Plan
+next_round plan = record plan { due = length plan.queue; gone = [] }
+
+-- a place is queued behind all others
+abbrev pub queued_last : ℕ → List State → Plan → Plan
+queued_last place states plan = record plan { states = states; queue = plan.queue ++ place ∷ [] }

@@ -9,6 +9,7 @@
 //! same round, so a late event of its old connection never reaches a new one.
 #![tactic(auto)]
 
+pub mod laws;
 mod queue;
 mod schedule;
 

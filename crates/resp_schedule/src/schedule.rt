@@ -113,7 +113,7 @@ impl Model for Schedule {
 
 impl Schedule {
     ghost use Rattle.resp_schedule.specs.Places.{times, without};
-    ghost use Rattle.resp_schedule.specs.Plans.{Changes, Closes, due_of, new_plan, open_count, resumed, state_of};
+    ghost use Rattle.resp_schedule.specs.Plans.{Changes, Closes, VisitsNext, due_of, new_plan, next_round, open_count, queued_last, state_of};
 
     /// Returns a schedule with at most `most` open places. It allocates nothing.
     pub fn new(alloc: Global, most: usize) -> Schedule
@@ -230,21 +230,9 @@ impl Schedule {
     /// round is over: what is queued now is visited in the next round, and the places that were
     /// closed may be opened again.
     pub fn next_due(&mut self) -> Option<usize>
-        ensures first { IfSome result (λ place. due_of self.old ≡ place ∷ due_of self.new) }
-        ensures queue { IfSome result (λ place. self.old.queue ≡ place ∷ self.new.queue) }
-        ensures idle { IfSome result (λ place.
-            Changes self.old self.new place State.Queued State.Idle) }
-        ensures rest { OnSome result (self.new ≡ record self.old {
-          states = self.new.states;
-          queue = self.new.queue;
-          due = self.new.due;
-        }) }
-        ensures counted { open_count self.new ≡ open_count self.old }
+        ensures next { IfSome result (λ place. VisitsNext self.old self.new place) }
         ensures over { IfNone result (due_of self.old ≡ []) }
-        ensures next_round { IfNone result (self.new ≡ record self.old {
-          due = length self.old.queue;
-          gone = [];
-        }) }
+        ensures next_round { IfNone result (self.new ≡ next_round self.old) }
     {
         if self.due == 0 {
             self.due = self.queue.len();
@@ -263,10 +251,7 @@ impl Schedule {
         ensures queued { state_of self.old place ≡ State.Idle →
             Changes self.old self.new place State.Idle State.Queued }
         ensures last { state_of self.old place ≡ State.Idle →
-            self.new ≡ record self.old {
-              states = self.new.states;
-              queue = self.old.queue ++ place ∷ [];
-            } }
+            self.new ≡ queued_last place self.new.states self.old }
         ensures same_due { due_of self.new ≡ due_of self.old }
         ensures counted { open_count self.new ≡ open_count self.old }
         ensures not_idle { state_of self.old place ≢ State.Idle → self.new ≡ self.old }
@@ -317,12 +302,8 @@ impl Schedule {
     fn close_idle(&mut self, place: usize)
         requires { state_of self.old place ≡ State.Idle }
         ensures closed { Changes self.old self.new place State.Idle State.Closed }
-        ensures rest { self.new ≡ record self.old {
-          states = self.new.states;
-          gone = self.old.gone ++ place ∷ [];
-          backlog = resumed self.old.backlog;
-        } }
-        ensures counted { open_count self.new + 1 ≡ open_count self.old }
+        ensures rest { Closes self.old self.new place }
+        ensures same_queue { (self.new.queue ≡ self.old.queue) × (self.new.due ≡ self.old.due) }
     {
         self.states[place] = State::Closed;
         self.free.push_back_reserved(place);

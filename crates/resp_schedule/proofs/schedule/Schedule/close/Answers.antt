@@ -1,5 +1,5 @@
-use Rattle.std.proofs.Common.{sym, ap, ◌∙◌}
-use Rattle.resp_schedule.specs.Plans.{Plan, due_of}
+use Rattle.std.proofs.Common.{sym, ◌∙◌}
+use Rattle.resp_schedule.proofs.Shown.{due_is}
 use Rattle.resp_schedule.proofs.Lists.{without-none, without-take}
 use Rattle.resp_schedule.proofs.schedule.Schedule.close.Goals as goal
 
@@ -13,10 +13,10 @@ returns-in-Closed-clause-due c =
 
 pub returns-in-Idle-clause-queue : goal.returns-in-Idle-clause-queue
 returns-in-Idle-clause-queue c =
-    ap (λ (p : Plan). p.queue) c.close_idle.ensures.rest ∙
+    c.close_idle.ensures.same_queue.0 ∙
     sym (without-none c.args.place c.args.self.now.queue (c.in-Idle.ensures.not_queued (λ e. cc)))
 
 pub returns-in-Idle-clause-due : goal.returns-in-Idle-clause-due
 returns-in-Idle-clause-due c =
-    ap due_of c.close_idle.ensures.rest ∙
+    due_is c.args.self.now c.close_idle.new.self c.close_idle.ensures.same_queue.0 c.close_idle.ensures.same_queue.1 ∙
     sym (without-take c.args.place c.args.self.now.due c.args.self.now.queue (c.in-Idle.ensures.not_queued (λ e. cc)))
