@@ -12,6 +12,7 @@ mod framing;
 mod given;
 mod outcome;
 mod pipelining;
+mod scheduling;
 mod serving;
 mod worlds;
 
@@ -60,7 +61,7 @@ fn print(rt: &impl Print, parts: &[Part]) -> Result<()> {
 }
 
 /// Runs each part, and returns their outcomes in order.
-fn parts(alloc: Global) -> [Part; 30] {
+fn parts(alloc: Global) -> [Part; 31] {
     [
         ("decode a piece", decoding::of_one_piece(alloc)),
         ("decode bytes", decoding::of_single_bytes(alloc)),
@@ -88,6 +89,7 @@ fn parts(alloc: Global) -> [Part; 30] {
         ("hub push", serving::of_push(alloc)),
         ("ask", engines::of_ask(alloc)),
         ("serve", engines::of_serve(alloc)),
+        ("schedule open", scheduling::of_open(alloc)),
         ("world", worlds::of_run(alloc)),
         ("framed values in", framing::of_values_in(alloc)),
         ("framed commands in", framing::of_commands_in(alloc)),

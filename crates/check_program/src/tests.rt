@@ -5,10 +5,12 @@ use std::process::Abort;
 
 mod failing;
 mod live;
+mod schedules;
 mod screens;
 mod scripts;
 mod statuses;
 mod streams;
+mod visits;
 
 /// Asserts that two values are equal. The tests call it instead of `assert_eq!`, which would be
 /// proved anew at each place.

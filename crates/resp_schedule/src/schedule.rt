@@ -8,7 +8,7 @@ use std::collections::VecDeque;
 use std::marker::Model;
 
 /// The state of a place.
-#[derive(Clone, Copy)]
+#[derive(Clone, Copy, Debug, PartialEq, Eq)]
 pub enum State {
     /// The place has no connection.
     Closed,
@@ -19,7 +19,7 @@ pub enum State {
 }
 
 /// Whether connections wait to be accepted.
-#[derive(Clone, Copy)]
+#[derive(Clone, Copy, Debug, PartialEq, Eq)]
 pub enum Backlog {
     /// No connection is known to wait.
     Empty,
@@ -46,7 +46,7 @@ impl Backlog {
 }
 
 /// How long a loop may wait for its sockets.
-#[derive(Clone, Copy)]
+#[derive(Clone, Copy, Debug, PartialEq, Eq)]
 pub enum Wait {
     /// Not at all, because there is work.
     No,
@@ -57,7 +57,7 @@ pub enum Wait {
 }
 
 /// Why no place was opened.
-#[derive(Clone, Copy)]
+#[derive(Clone, Copy, Debug, PartialEq, Eq)]
 pub enum OpenError {
     /// The most places are open.
     Full,

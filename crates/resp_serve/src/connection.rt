@@ -1,5 +1,8 @@
 //! One connection of the server.
 
+ghost use Rattle.std.specs.Prelude.{◌≡◌, None};
+ghost use Rattle.resp_server.specs.Hubs.{seat_at};
+
 use crate::non_blocking::{Input, Output};
 use crate::service::Next;
 use mio::net::TcpStream;
@@ -15,7 +18,7 @@ use std::net::Shutdown;
 const TURNS: u64 = 16;
 
 /// The most bytes of one read.
-pub(crate) const PIECE: usize = 16_384;
+pub const PIECE: usize = 16_384;
 
 /// The most reads of received bytes before a connection is closed.
 const LAST_READS: usize = 4;
@@ -35,25 +38,14 @@ impl Connection {
         Connection { stream, id }
     }
 
-    /// Answers the commands received, until a call would block or the allowed reads and writes were
-    /// made. `is_at_end` says whether the input may have ended. The bytes are read into `buffer`.
+    /// Answers the commands received, as [`answer`] does.
     pub(crate) fn serve<S: BuildHasher>(
         &self,
         hub: &mut Hub<S>,
         buffer: &mut [u8; PIECE],
         is_at_end: bool,
     ) -> Next {
-        let mut reader = Device::new(Input::new(&self.stream, is_at_end));
-        let mut writer = Device::new(Output::new(&self.stream));
-        let served = serve_with(&mut reader, &mut writer, hub, self.id, TURNS, buffer);
-        let waits = match served {
-            Ok(_) | Err(ServeError::NoSession) => false,
-            // The session is closing. The bytes that wait still have to be written.
-            Err(ServeError::TooManyTurns | ServeError::OutOfMemory) => return Next::Again,
-            Err(ServeError::Read) => reader.into_inner().would_wait(),
-            Err(ServeError::Write) => writer.into_inner().would_wait(),
-        };
-        if waits { Next::Wait } else { Next::Close }
+        answer(&self.stream, &self.stream, hub, self.id, buffer, is_at_end)
     }
 
     /// Closes the connection.
@@ -61,6 +53,35 @@ impl Connection {
         let Connection { stream, .. } = self;
         close(&stream);
     }
+}
+
+/// Answers the commands that a client has sent, until a read or write would block, or 16 of them
+/// were made. The session `id` reads them into `buffer`. `is_at_end` says whether the input may have
+/// ended: only then is it read again after a read that did not fill the buffer.
+///
+/// The replies to what was read are written before more is read. If they cannot be written yet,
+/// they wait in the hub.
+pub fn answer<R: Read + Drop, W: Write + Drop, S: BuildHasher>(
+    reader: R,
+    writer: W,
+    hub: &mut Hub<S>,
+    id: u64,
+    buffer: &mut [u8; PIECE],
+    is_at_end: bool,
+) -> Next
+    ensures no_session { seat_at hub.old id ≡ None → (result ≡ Next.Close) ×
+        (hub.new ≡ hub.old) }
+{
+    let mut reader = Device::new(Input::new(reader, is_at_end));
+    let mut writer = Device::new(Output::new(writer));
+    let waits = match serve_with(&mut reader, &mut writer, hub, id, TURNS, buffer) {
+        Ok(_) | Err(ServeError::NoSession) => false,
+        // The session is closing. The bytes that wait still have to be written.
+        Err(ServeError::TooManyTurns | ServeError::OutOfMemory) => return Next::Again,
+        Err(ServeError::Read) => reader.into_inner().would_wait(),
+        Err(ServeError::Write) => writer.into_inner().would_wait(),
+    };
+    if waits { Next::Wait } else { Next::Close }
 }
 
 /// Sends a line to a client that is not served, and closes the connection.

@@ -6,8 +6,8 @@ use std::io;
 use std::time::Duration;
 
 /// When a connection is visited next.
-#[derive(Clone, Copy)]
-pub(crate) enum Next {
+#[derive(Clone, Copy, Debug, PartialEq, Eq)]
+pub enum Next {
     /// When one of its sockets is ready.
     Wait,
     /// After the other connections were visited.
