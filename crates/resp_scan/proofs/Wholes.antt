@@ -2,4 +2,5 @@
 pub mod HeadNumbers
 pub mod WordFronts
 pub mod ManyWords
+pub mod FirstWords
 pub mod Commands

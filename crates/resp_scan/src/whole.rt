@@ -3,7 +3,7 @@
 
 ghost use Rattle.std.specs.Prelude.{◌≡◌, ◌≤◌, ◌<◌, ◌^◌, ◌∷◌, List, ℕ, length, IfNone, IfSome};
 ghost use Rattle.std.specs.Iterator.{at_most};
-ghost use Rattle.std.specs.Map.Iter.{TakesFirst};
+ghost use Rattle.std.specs.Map.Iter.{TakesFirst, deref};
 ghost use Rattle.std.specs.Str.{byte};
 ghost use Rattle.resp_value.specs.Bytes.{crlf};
 ghost use Rattle.resp_value.specs.Words.{word_datum, command_of};
@@ -129,10 +129,27 @@ fn after_words(text: &[u8], count: u64, most: u64) -> Option<&[u8]>
     Some(rest)
 }
 
-/// The greatest limit of length.
-const GREATEST_LENGTH: u64 = 1_073_741_824;
+/// Returns the bulk string at the beginning of some bytes that begin with one. It checks less than
+/// `word`.
+#[inline(always)]
+fn first_word(text: &[u8]) -> Text<'_>
+    requires { (word rest : List ℕ) × BeginsWithWord 1_073_741_824 text.now word rest }
+    ensures { BeginsWithWord 1_073_741_824 text.now result.content.now result.rest.now }
+{
+    let mut length = 0;
+    let mut end = 1;
+    while text[end] != b'\r' {
+        length = length * 10 + usize::from(text[end] - b'0');
+        end += 1;
+    }
+    let (content, after) = text[end + 2..].split_at(length);
+    Text {
+        content,
+        rest: &after[2..],
+    }
+}
 
-/// The words of a command, the name first. They are borrowed, and reading them again does not
+/// The words of a command after its name, in order. They are borrowed, and taking them does not
 /// allocate.
 #[derive(Debug, Drop)]
 pub struct Words<'a> {
@@ -153,6 +170,7 @@ impl<'a> Model for Words<'a> {
 
 impl<'a> Words<'a> {
     /// Returns the number of words that are left.
+    #[inline]
     pub fn len(&self) -> u64
         ensures { result ≡ length self.now }
     {
@@ -163,17 +181,16 @@ impl<'a> Words<'a> {
 impl<'a> Iterator for Words<'a> {
     type Item = &'a [u8];
 
-    ghost next_gives = { TakesFirst (λ word. word.now) };
+    ghost next_gives = { TakesFirst deref };
 
     ghost remaining = { λ words. at_most (length words) };
 
+    #[inline(always)]
     fn next(&mut self) -> Option<&'a [u8]> {
         if self.left == 0 {
             return None;
         }
-        let Some(found) = word(self.text, GREATEST_LENGTH) else {
-            unreachable!()
-        };
+        let found = first_word(self.text);
         self.text = found.rest;
         self.left -= 1;
         Some(found.content)
@@ -183,14 +200,17 @@ impl<'a> Iterator for Words<'a> {
 /// A command, and the bytes after it.
 #[derive(Debug, Drop)]
 pub struct WholeCommand<'a> {
-    /// The words, the name first.
-    pub words: Words<'a>,
+    /// The first word.
+    pub name: &'a [u8],
+    /// The other words.
+    pub arguments: Words<'a>,
     /// The bytes after the command.
     pub rest: &'a [u8],
 }
 
 /// Returns the head of an array at the beginning of some bytes, if its number is within the limit
 /// of items.
+#[inline(always)]
 pub fn array_head<'a>(text: &'a [u8], limits: &Limits) -> Option<Head<'a>>
     ensures begins { IfSome result (λ head.
         BeginsWithHead text.now (byte "*") head.number head.rest.now) }
@@ -203,10 +223,10 @@ pub fn array_head<'a>(text: &'a [u8], limits: &Limits) -> Option<Head<'a>>
 
 /// Returns the command at the beginning of some bytes: an array of at least one bulk string and of
 /// nothing else, within the limits.
+#[inline(always)]
 pub fn command<'a>(text: &'a [u8], limits: &Limits) -> Option<WholeCommand<'a>>
-    ensures begins { IfSome result (λ command.
-        BeginsWith limits.now text.now (command_of command.words) command.rest.now) }
-    ensures named { IfSome result (λ command. 0 < length command.words) }
+    ensures begins { IfSome result (λ command. BeginsWith limits.now text.now
+        (command_of (command.name.now ∷ command.arguments)) command.rest.now) }
     ensures none { IfNone result ((name : List ℕ) (arguments : List (List ℕ)) (rest : List ℕ) →
         BeginsWith limits.now text.now (command_of (name ∷ arguments)) rest → ⊥) }
 {
@@ -215,13 +235,20 @@ pub fn command<'a>(text: &'a [u8], limits: &Limits) -> Option<WholeCommand<'a>>
     if head.number == 0 {
         return None;
     }
-    let rest = after_words(head.rest, head.number, limits.length())?;
+    let most = limits.length();
+    let count = head.number - 1;
+    let name = word(head.rest, most)?;
+    let rest = after_words(name.rest, count, most)?;
     if (text.len() - rest.len()) as u64 > limits.total() {
         return None;
     }
-    let words = Words {
-        text: head.rest,
-        left: head.number,
+    let arguments = Words {
+        text: name.rest,
+        left: count,
     };
-    Some(WholeCommand { words, rest })
+    Some(WholeCommand {
+        name: name.content,
+        arguments,
+        rest,
+    })
 }

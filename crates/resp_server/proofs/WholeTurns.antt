@@ -1,5 +1,5 @@
 -- The turn of a command that lies whole in the piece.
-use Rattle.std.proofs.Common.{◌≡◌, ℕ, ◌+◌, ◌-◌, ◌<◌, ◌≤◌, false, List, [], ◌∷◌, ◌++◌, length, take, refl, sym, ap, subst, ◌∙◌, arith, length-append, take_at}
+use Rattle.std.proofs.Common.{◌≡◌, ℕ, ◌+◌, ◌-◌, ◌≤◌, false, List, [], ◌∷◌, ◌++◌, length, take, refl, sym, ap, subst, ◌∙◌, arith, length-append, take_at}
 use Rattle.resp_value.specs.Bounds.{Bounds, AreBounds}
 use Rattle.resp_value.specs.Laws.{NoSpellingIsEmpty, TheEmptyTextIsViable}
 use Rattle.resp_value.specs.Spellings.{IsSpelling}
@@ -7,8 +7,9 @@ use Rattle.resp_value.specs.Words.{command_of}
 use Rattle.resp_scan.specs.Whole.{BeginsWith}
 use Rattle.resp_session.specs.AnswerLaws.{ACommandIsItsWords}
 use Rattle.resp_session.specs.Answers.{server_rules}
-use Rattle.resp_session.specs.Stores.{Store, effect_of_words}
-use Rattle.resp_server.specs.Answering.{AnswersBytes, IsAnswerTo}
+use Rattle.resp_session.specs.Operations.{operation_of}
+use Rattle.resp_session.specs.Stores.{Store, effect_of}
+use Rattle.resp_server.specs.Answering.{AnswersBytes}
 use Rattle.resp_server.specs.Reading.{HasReadFront}
 use Rattle.resp_server.specs.Running.{HasEffect, HasSameRest}
 use Rattle.resp_server.specs.declared.session.Session.{Session}
@@ -25,24 +26,16 @@ used_is piece written rest whole =
       omega arith,
     )
 
--- a command of these words had its effect
-answered_by : ACommandIsItsWords → (id : ℕ) (words : List (List ℕ)) (store store' : Store) (before after : Session) → 0 < length words →
-    before.closing ≡ false → HasEffect store' before after (effect_of_words store before.version id words) → HasSameRest before after →
-    IsAnswerTo id (command_of words) store store' before after 1
-answered_by words_law id [] store store' before after named is_open effect same = absurd (omega (arith, named))
-answered_by words_law id (name ∷ arguments) store store' before after named is_open effect same =
-    command_answer id (command_of (name ∷ arguments)) (name ∷ arguments) store store' before after named
-    (sym ((words_law (command_of (name ∷ arguments)) name arguments).1 refl)) is_open effect same
-
 pub whole_turn : NoSpellingIsEmpty → TheEmptyTextIsViable → ACommandIsItsWords → (limits : Bounds) → AreBounds limits → (id : ℕ) (store store' : Store)
-    (before after : Session) (piece : List ℕ) (words : List (List ℕ)) (rest : List ℕ) → HasReadFront before.decoder [] → before.closing ≡ false →
-    0 < length words → BeginsWith limits piece (command_of words) rest →
-    HasEffect store' before after (effect_of_words store before.version id words) → HasSameRest before after →
+    (before after : Session) (piece name : List ℕ) (arguments : List (List ℕ)) (rest : List ℕ) → HasReadFront before.decoder [] →
+    before.closing ≡ false → BeginsWith limits piece (command_of (name ∷ arguments)) rest →
+    HasEffect store' before after (effect_of store before.version id (operation_of name arguments)) → HasSameRest before after →
     AnswersBytes limits id store store' before after [] piece (length piece - length rest) 1
-whole_turn full empty words_law limits bounds id store store' before after piece words rest between is_open named begins effect same =
+whole_turn full empty words_law limits bounds id store store' before after piece name arguments rest between is_open begins effect same =
+    let x = command_of (name ∷ arguments) in
     let (bytes, within) = used_is piece begins.written rest begins.whole in
-    spelled_turn full empty limits bounds id store store' before after [] piece (command_of words) (length piece - length rest) 1
+    spelled_turn full empty limits bounds id store store' before after [] piece x (length piece - length rest) 1
     (none_taken before.decoder [] between)
-    (subst (IsSpelling (server_rules limits) (command_of words)) (sym bytes) begins.spelled) within
+    (subst (IsSpelling (server_rules limits) x) (sym bytes) begins.spelled) within
     (subst (λ d. HasReadFront d []) (sym same.same_decoder) between)
-    (answered_by words_law id words store store' before after named is_open effect same)
+    (command_answer id x name arguments store store' before after (sym ((words_law x name arguments).1 refl)) is_open effect same)

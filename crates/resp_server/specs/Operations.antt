@@ -1,7 +1,7 @@
 -- The requests of the program's operations, in the terms of commands.
 use Rattle.std.specs.Prelude.{ℕ, List, ◌++◌, Option, None, Some, codes}
 use Rattle.resp_session.specs.Operations as spec
-use Rattle.resp_server.specs.Words.{word_bytes, words_left}
+use Rattle.resp_server.specs.Words.{words_left}
 use Rattle.resp_server.specs.declared.operation.Condition.{Condition}
 use Rattle.resp_server.specs.declared.operation.Condition.TheVariants.{Always, IfAbsent, IfPresent}
 use Rattle.resp_server.specs.declared.operation.Operation.{Operation}
@@ -50,9 +50,9 @@ conditional_by None key value = spec.syntax_error
 -- the request of an operation
 abbrev pub operation_in : Operation → spec.Operation
 operation_in operation.Ping = spec.Ping
-operation_in (operation.Echo word) = spec.Echo (word_bytes word)
-operation_in (operation.Get key) = spec.Get (word_bytes key)
-operation_in (operation.Set condition key value) = spec.Set (condition_in condition) (word_bytes key) (word_bytes value)
+operation_in (operation.Echo word) = spec.Echo word.now
+operation_in (operation.Get key) = spec.Get key.now
+operation_in (operation.Set condition key value) = spec.Set (condition_in condition) key.now value.now
 operation_in (operation.Del keys) = spec.Del (words_left keys)
 operation_in (operation.Hello asked) = spec.Hello asked
 operation_in (operation.Refused refusal) = spec.Refused (refusal_text refusal)

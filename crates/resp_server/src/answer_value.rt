@@ -1,13 +1,14 @@
 //! The response to a complete value.
 
-ghost use Rattle.std.specs.Prelude.{◌≡◌, ◌<◌, ◌≤◌, ◌^◌, List, ℕ, false, length, IfOk, OnOk, OnErr};
+ghost use Rattle.std.specs.Prelude.{◌≡◌, ◌<◌, ◌≤◌, ◌^◌, ◌∷◌, List, ℕ, false, IfOk, OnOk, OnErr};
 ghost use Rattle.resp_value.specs.Bounds.{AreBounds};
 ghost use Rattle.resp_value.specs.Spellings.{IsSpelling};
 ghost use Rattle.resp_value.specs.Values.{datum_of};
 ghost use Rattle.resp_value.specs.Words.{command_of};
 ghost use Rattle.resp_session.specs.Answers.{server_rules};
 ghost use Rattle.resp_session.specs.Fitting.{FitsStore};
-ghost use Rattle.resp_session.specs.Stores.{effect_of_words};
+ghost use Rattle.resp_session.specs.Operations.{operation_of};
+ghost use Rattle.resp_session.specs.Stores.{effect_of};
 ghost use Rattle.resp_server.specs.Answering.{IsAnswerTo};
 ghost use Rattle.resp_server.specs.Running.{HasEffect, IsAsBefore, HasSameRest};
 ghost use Rattle.resp_server.specs.Words.{words_left};
@@ -25,10 +26,12 @@ use resp_value::value::Value;
 use std::alloc::{AllocError, Global};
 use std::hash::BuildHasher;
 
-/// Runs a command of the given words, and queues the reply. When out of memory, the store, the
-/// session's version and the waiting bytes are unchanged.
-pub(crate) fn run_words<S: BuildHasher>(
-    words: Words<'_>,
+/// Runs a command of this name with these words after it, and queues the reply. When out of memory,
+/// the store, the session's version and the waiting bytes are unchanged.
+#[inline(always)]
+pub(crate) fn run_command<S: BuildHasher>(
+    name: &[u8],
+    arguments: Words<'_>,
     store: &mut Store<S>,
     session: &mut Session,
     id: u64,
@@ -37,18 +40,19 @@ pub(crate) fn run_words<S: BuildHasher>(
 ) -> Result<(), AllocError>
     requires stored { FitsStore limits.now store.old }
     requires small { id < 2 ^ 63 }
-    requires named { 0 < length (words_left words) }
-    requires spelled { (written : List ℕ) ×
-        IsSpelling (server_rules limits.now) (command_of (words_left words)) written }
+    requires spelled { (written : List ℕ) × IsSpelling (server_rules limits.now)
+        (command_of (name.now ∷ words_left arguments)) written }
     ensures done { OnOk result (HasEffect store.new session.old session.new
-        (effect_of_words store.old session.old.version id (words_left words.entry))) }
+        (effect_of store.old session.old.version id
+        (operation_of name.now (words_left arguments.entry)))) }
     ensures unchanged { OnErr result (IsAsBefore store.old store.new session.old session.new) }
     ensures stored { FitsStore limits.now store.new }
     ensures rest { HasSameRest session.old session.new }
 {
     laws::effects_fit();
     limits.are_in_range();
-    run(operation_of(words), store, session, id, limits, alloc)
+    let operation = operation_of(name, arguments);
+    run(operation, store, session, id, limits, alloc)
 }
 
 /// Answers a value that was read, and returns the number of commands that were run, 0 or 1. When
@@ -76,8 +80,8 @@ pub(crate) fn answer_value<S: BuildHasher>(
     laws::a_command_is_its_words();
     match asked_by(value) {
         Asked::Command(words) => {
-            let words = Words::Read(words.into_words());
-            run_words(words, store, session, id, limits, alloc)?;
+            let arguments = Words::Read(&words, 1);
+            run_command(words.word(0), arguments, store, session, id, limits, alloc)?;
             Ok(1)
         }
         Asked::Nothing => Ok(0),

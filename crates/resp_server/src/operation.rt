@@ -1,13 +1,13 @@
 //! The request of a command, found from its words.
 
-ghost use Rattle.std.specs.Prelude.{◌≡◌, ◌<◌, ◌≤◌, ◌∷◌, List, ℕ, drop, length, slice_index_or, []};
+ghost use Rattle.std.specs.Prelude.{◌≡◌, ◌≤◌, ◌∷◌, List, ℕ, length, []};
 ghost use Rattle.std.specs.Str.{str_to_ascii_lowercase};
 ghost use Rattle.resp_session.specs.Operations as spec;
 ghost use Rattle.resp_server.specs.Operations.{conditional_by, operation_in, operation_by};
-ghost use Rattle.resp_server.specs.Words.{word_bytes, words_left};
+ghost use Rattle.resp_server.specs.Words.{words_left};
 
 use crate::refusal::{Refusal, Verb};
-use crate::words::{Word, Words};
+use crate::words::Words;
 use resp_value::version::Version;
 
 /// The condition of a SET.
@@ -27,11 +27,11 @@ pub(crate) enum Operation<'a> {
     /// PING without a word: reply `PONG`.
     Ping,
     /// Reply with this word.
-    Echo(Word<'a>),
+    Echo(&'a [u8]),
     /// Reply with the value of the key.
-    Get(Word<'a>),
+    Get(&'a [u8]),
     /// Set the key to the value.
-    Set(Condition, Word<'a>, Word<'a>),
+    Set(Condition, &'a [u8], &'a [u8]),
     /// Remove the keys.
     Del(Words<'a>),
     /// Describe the session, and change the version if one is given.
@@ -71,27 +71,24 @@ pub(crate) fn verb_of(name: &[u8]) -> Option<Verb>
     }
 }
 
-/// Returns the operation that a command of the given words asks for.
-pub(crate) fn operation_of(mut words: Words<'_>) -> Operation<'_>
-    requires { 0 < length (words_left words) }
-    ensures { operation_in result ≡ spec.operation_of
-        (slice_index_or (words_left words.entry) 0 []) (drop 1 (words_left words.entry)) }
+/// Returns the operation that a command of this name asks for, with these words after the name.
+#[inline(always)]
+pub(crate) fn operation_of<'a>(name: &[u8], arguments: Words<'a>) -> Operation<'a>
+    ensures { operation_in result ≡ spec.operation_of name.now (words_left arguments.entry) }
 {
-    let Some(name) = words.take() else {
-        unreachable!()
-    };
-    match verb_of(name.bytes()) {
-        Some(Verb::Ping) => ping(words),
-        Some(Verb::Echo) => echo(words),
-        Some(Verb::Get) => get(words),
-        Some(Verb::Set) => set(words),
-        Some(Verb::Del) => del(words),
-        Some(Verb::Hello) => hello(words),
+    match verb_of(name) {
+        Some(Verb::Ping) => ping(arguments),
+        Some(Verb::Echo) => echo(arguments),
+        Some(Verb::Get) => get(arguments),
+        Some(Verb::Set) => set(arguments),
+        Some(Verb::Del) => del(arguments),
+        Some(Verb::Hello) => hello(arguments),
         None => Operation::Refused(Refusal::UnknownCommand),
     }
 }
 
 /// Returns the request of a PING with these words after its name.
+#[inline(always)]
 fn ping(words: Words<'_>) -> Operation<'_>
     ensures { operation_in result ≡ spec.ping_operation (words_left words.entry) }
 {
@@ -103,9 +100,10 @@ fn ping(words: Words<'_>) -> Operation<'_>
 }
 
 /// Returns the only word.
-fn only(mut words: Words<'_>) -> Word<'_>
+#[inline(always)]
+fn only(mut words: Words<'_>) -> &[u8]
     requires { length (words_left words) ≡ 1 }
-    ensures { words_left words.entry ≡ word_bytes result ∷ [] }
+    ensures { words_left words.entry ≡ result.now ∷ [] }
 {
     match words.take() {
         Some(word) => word,
@@ -114,6 +112,7 @@ fn only(mut words: Words<'_>) -> Word<'_>
 }
 
 /// Returns the request of an ECHO with these words after its name.
+#[inline(always)]
 fn echo(words: Words<'_>) -> Operation<'_>
     ensures { operation_in result ≡ spec.echo_operation (words_left words.entry) }
 {
@@ -124,6 +123,7 @@ fn echo(words: Words<'_>) -> Operation<'_>
 }
 
 /// Returns the request of a GET with these words after its name.
+#[inline(always)]
 fn get(words: Words<'_>) -> Operation<'_>
     ensures { operation_in result ≡ spec.get_operation (words_left words.entry) }
 {
@@ -134,6 +134,7 @@ fn get(words: Words<'_>) -> Operation<'_>
 }
 
 /// Returns the request of a SET with these words after its name.
+#[inline(always)]
 fn set(words: Words<'_>) -> Operation<'_>
     ensures { operation_in result ≡ spec.set_operation (words_left words.entry) }
 {
@@ -145,6 +146,7 @@ fn set(words: Words<'_>) -> Operation<'_>
 }
 
 /// Returns the request of a SET of a key and a value, with an option if there is a third word.
+#[inline(always)]
 fn set_key(mut words: Words<'_>) -> Operation<'_>
     requires some { 2 ≤ length (words_left words) }
     requires few { length (words_left words) ≤ 3 }
@@ -158,7 +160,7 @@ fn set_key(mut words: Words<'_>) -> Operation<'_>
     };
     match words.take() {
         None => Operation::Set(Condition::Always, key, value),
-        Some(option) => match condition_of(option.bytes()) {
+        Some(option) => match condition_of(option) {
             Some(condition) => Operation::Set(condition, key, value),
             None => Operation::Refused(Refusal::Syntax),
         },
@@ -180,6 +182,7 @@ fn condition_of(option: &[u8]) -> Option<Condition>
 }
 
 /// Returns the request of a DEL with these words after its name.
+#[inline(always)]
 fn del(words: Words<'_>) -> Operation<'_>
     ensures { operation_in result ≡ spec.del_operation (words_left words.entry) }
 {
@@ -190,12 +193,13 @@ fn del(words: Words<'_>) -> Operation<'_>
 }
 
 /// Returns the request of a HELLO with these words after its name.
+#[inline(always)]
 fn hello(words: Words<'_>) -> Operation<'_>
     ensures { operation_in result ≡ spec.hello_operation (words_left words.entry) }
 {
     match words.len() {
         0 => Operation::Hello(None),
-        1 => hello_of(only(words).bytes()),
+        1 => hello_of(only(words)),
         _ => Operation::Refused(Refusal::Syntax),
     }
 }

@@ -7,13 +7,14 @@ ghost use Rattle.resp_session.specs.Stores.{effect_of, value_at};
 ghost use Rattle.resp_session.specs.Stores as stores;
 ghost use Rattle.resp_server.specs.Operations.{operation_in, condition_in};
 ghost use Rattle.resp_server.specs.Running.{HasEffect, IsAsBefore, HasSameRest};
-ghost use Rattle.resp_server.specs.Words.{word_bytes, words_left};
+ghost use Rattle.resp_server.specs.Words.{words_left};
 
 use crate::operation::{Condition, Operation};
 use crate::reply::{NUMBER_ROOM, reply, reply_greeting, reply_number};
 use crate::session::Session;
 use crate::store::Store;
-use crate::words::{Word, Words};
+use crate::words::Words;
+use resp_value::content::Content;
 use resp_value::limits::Limits;
 use resp_value::value::Value;
 use resp_value::version::Version;
@@ -22,6 +23,7 @@ use std::hash::BuildHasher;
 
 /// Runs a command in the session of this number, and queues the reply. When out of memory, the
 /// store, the session's version and the waiting bytes are unchanged.
+#[inline(never)]
 pub(crate) fn run<S: BuildHasher>(
     operation: Operation<'_>,
     store: &mut Store<S>,
@@ -41,10 +43,10 @@ pub(crate) fn run<S: BuildHasher>(
     match operation {
         Operation::Ping => session.out.extend_from_slice(b"+PONG\r\n"),
         Operation::Echo(word) => {
-            let word = Value::Bulk(word.into_content(alloc)?);
+            let word = Value::Bulk(Content::new(Vec::from_slice(alloc, word)?));
             reply(&mut session.out, session.version, limits, &word)
         }
-        Operation::Get(key) => get(key.bytes(), store, session, limits),
+        Operation::Get(key) => get(key, store, session, limits),
         Operation::Set(condition, key, value) => {
             set(condition, key, value, store, session, limits, alloc)
         }
@@ -89,22 +91,22 @@ fn is_met<S: BuildHasher>(condition: Condition, key: &[u8], store: &Store<S>) ->
 /// Sets a key if its condition holds, and replies whether the key was set.
 fn set<S: BuildHasher>(
     condition: Condition,
-    key: Word<'_>,
-    value: Word<'_>,
+    key: &[u8],
+    value: &[u8],
     store: &mut Store<S>,
     session: &mut Session,
     limits: &Limits,
     alloc: Global,
 ) -> Result<(), AllocError>
     requires { FitsEffect limits.now (effect_of store.old session.old.version 0
-        (spec.Set (condition_in condition) (word_bytes key) (word_bytes value))) }
+        (spec.Set (condition_in condition) key.now value.now)) }
     ensures done { OnOk result (HasEffect store.new session.old session.new
         (effect_of store.old session.old.version 0
-        (spec.Set (condition_in condition) (word_bytes key.entry) (word_bytes value.entry)))) }
+        (spec.Set (condition_in condition) key.now value.now))) }
     ensures unchanged { OnErr result (IsAsBefore store.old store.new session.old session.new) }
     ensures rest { HasSameRest session.old session.new }
 {
-    if !is_met(condition, key.bytes(), store) {
+    if !is_met(condition, key, store) {
         return reply(&mut session.out, session.version, limits, &Value::Null);
     }
     session.out.reserve(5)?;

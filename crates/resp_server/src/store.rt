@@ -6,13 +6,13 @@ ghost use Rattle.std.specs.Option.{option_map};
 ghost use Rattle.resp_value.specs.Values.{content_bytes};
 ghost use Rattle.indexmap.specs.IndexMap.{index_map_len, set_value_at};
 ghost use Rattle.resp_server.specs.declared.row.Row.{Row};
-ghost use Rattle.resp_server.specs.Words.{word_bytes, words_left};
+ghost use Rattle.resp_server.specs.Words.{words_left};
 ghost use Rattle.resp_session.specs.Stores.{value_at, store_with, store_without};
 
 use crate::entries::Entries;
 use crate::row::Row;
 use crate::stored::Stored;
-use crate::words::{Word, Words};
+use crate::words::Words;
 use indexmap::IndexMap;
 use resp_value::content::Content;
 use std::alloc::{AllocError, Global};
@@ -69,22 +69,16 @@ impl<S: BuildHasher> Store<S> {
         Entries::new(self.rows.as_slice(), self.places.as_slice())
     }
 
-    /// Sets the value of a key. Borrowed words are copied. Changes nothing if an allocation fails.
-    pub(crate) fn set(
-        &mut self,
-        key: Word<'_>,
-        value: Word<'_>,
-        alloc: Global,
-    ) -> Result<(), AllocError>
-        ensures set { OnOk result (self.new ≡
-            store_with self.old (word_bytes key.entry) (word_bytes value.entry)) }
+    /// Sets the value of a key, copying both. Changes nothing if an allocation fails.
+    pub(crate) fn set(&mut self, key: &[u8], value: &[u8], alloc: Global) -> Result<(), AllocError>
+        ensures set { OnOk result (self.new ≡ store_with self.old key.now value.now) }
         ensures unchanged { OnErr result (self.new ≡ self.old) }
     {
-        let value = value.into_content(alloc)?;
-        let Some(value) = self.replace(key.bytes(), value) else {
+        let value = Content::new(Vec::from_slice(alloc, value)?);
+        let Some(value) = self.replace(key, value) else {
             return Ok(());
         };
-        let key = key.into_content(alloc)?;
+        let key = Content::new(Vec::from_slice(alloc, key)?);
         self.add(key, value)
     }
 
@@ -139,7 +133,7 @@ impl<S: BuildHasher> Store<S> {
             let Some(key) = keys.take() else {
                 unreachable!()
             };
-            removed += self.remove_key(key.bytes());
+            removed += self.remove_key(key);
         }
         self.close_up();
         removed

@@ -1,6 +1,6 @@
 //! One turn of a session: it reads up to the end of a value or of the piece.
 
-ghost use Rattle.std.specs.Prelude.{◌≡◌, ◌<◌, ◌≤◌, ◌^◌, List, [], ℕ, false, length, IfOk, OnOk, OnErr};
+ghost use Rattle.std.specs.Prelude.{◌≡◌, ◌<◌, ◌≤◌, ◌^◌, ◌∷◌, List, [], ℕ, false, length, IfOk, OnOk, OnErr};
 ghost use Rattle.resp_value.specs.declared.cause.Cause.TheVariants.{OutOfMemory};
 ghost use Rattle.resp_session.specs.Answers.{server_rules};
 ghost use Rattle.resp_session.specs.Fitting.{FitsStore};
@@ -10,7 +10,7 @@ ghost use Rattle.resp_server.specs.Running.{IsAsBefore};
 ghost use Rattle.resp_scan.specs.Whole.{BeginsWith};
 ghost use Rattle.resp_value.specs.Words.{command_of};
 
-use crate::answer_value::{answer_value, run_words};
+use crate::answer_value::{answer_value, run_command};
 use crate::fault_line::append_fault;
 use crate::session::Session;
 use crate::store::Store;
@@ -78,9 +78,8 @@ fn run_whole<S: BuildHasher>(
     requires stored { FitsStore limits.now store.old }
     requires small { id < 2 ^ 63 }
     requires between { HasReadFront session.old.decoder [] }
-    requires named { 0 < length command.words }
-    requires begins { BeginsWith limits.now piece.now (command_of command.words)
-        command.rest.now }
+    requires begins { BeginsWith limits.now piece.now
+        (command_of (command.name.now ∷ command.arguments)) command.rest.now }
     ensures answered { IfOk result (λ turn. AnswersBytes limits.now id store.old store.new
         session.old session.new [] piece.now turn.used turn.commands) }
     ensures unchanged { OnErr result (IsAsBefore store.old store.new session.old session.new) }
@@ -93,8 +92,8 @@ fn run_whole<S: BuildHasher>(
     grammar::the_empty_text_is_viable();
     limits.are_in_range();
     let used = piece.len() - command.rest.len();
-    let words = Words::Lent(command.words);
-    run_words(words, store, session, id, limits, alloc)?;
+    let arguments = Words::Lent(command.arguments);
+    run_command(command.name, arguments, store, session, id, limits, alloc)?;
     Ok(Turn { used, commands: 1 })
 }
 

@@ -1,73 +1,48 @@
-//! The words of a command, borrowed from a piece or read by the decoder.
+//! The words of a command, borrowed from a piece or from a value that the decoder has read.
 
-ghost use Rattle.std.specs.Prelude.{◌≡◌, length, IfOk};
-ghost use Rattle.std.specs.Map.Iter.{TakesFirst};
-ghost use Rattle.resp_value.specs.Values.{content_bytes};
-ghost use Rattle.resp_server.specs.Words.{word_bytes, words_left};
+ghost use Rattle.std.specs.Prelude.{◌≡◌, length};
+ghost use Rattle.std.specs.Map.Iter.{TakesFirst, deref};
+ghost use Rattle.resp_server.specs.Words.{words_left};
 
 use resp_scan::whole;
-use resp_session::words::IntoWords;
-use resp_value::content::Content;
-use std::alloc::{AllocError, Global};
-
-/// A word of a command.
-#[derive(Drop)]
-pub(crate) enum Word<'a> {
-    /// It is borrowed from the piece.
-    Lent(&'a [u8]),
-    /// The decoder has read it.
-    Read(Content),
-}
-
-impl<'a> Word<'a> {
-    /// Returns the bytes.
-    pub(crate) fn bytes(&self) -> &[u8]
-        ensures { result.now ≡ word_bytes self.now }
-    {
-        match self {
-            Word::Lent(bytes) => bytes,
-            Word::Read(content) => content.list(),
-        }
-    }
-
-    /// Returns the bytes as a content. Copies them only if they are borrowed.
-    pub(crate) fn into_content(self, alloc: Global) -> Result<Content, AllocError>
-        ensures { IfOk result (λ content. content_bytes content ≡ word_bytes self.entry) }
-    {
-        match self {
-            Word::Lent(bytes) => Ok(Content::new(Vec::from_slice(alloc, bytes)?)),
-            Word::Read(content) => Ok(content),
-        }
-    }
-}
+use resp_session::words as read;
 
 /// The words of a command that were not taken yet, in order.
 #[derive(Drop)]
 pub(crate) enum Words<'a> {
-    /// They are borrowed from the piece.
+    /// They are in the piece.
     Lent(whole::Words<'a>),
-    /// The decoder has read them.
-    Read(IntoWords),
+    /// The decoder has read them. The number counts the words taken.
+    Read(&'a read::Words, usize),
 }
 
 impl<'a> Words<'a> {
     /// Returns the number of words.
+    #[inline(always)]
     pub(crate) fn len(&self) -> u64
         ensures { result ≡ length (words_left self.now) }
     {
         match self {
             Words::Lent(words) => words.len(),
-            Words::Read(words) => words.len() as u64,
+            Words::Read(words, taken) => words.len().saturating_sub(*taken) as u64,
         }
     }
 
     /// Takes the first word.
-    pub(crate) fn take(&mut self) -> Option<Word<'a>>
-        ensures { TakesFirst word_bytes (words_left self.old) result (words_left self.new) }
+    #[inline(always)]
+    pub(crate) fn take(&mut self) -> Option<&'a [u8]>
+        ensures { TakesFirst deref (words_left self.old) result (words_left self.new) }
     {
         match self {
-            Words::Lent(words) => Some(Word::Lent(words.next()?)),
-            Words::Read(words) => Some(Word::Read(words.next()?)),
+            Words::Lent(words) => words.next(),
+            Words::Read(words, taken) => {
+                if *taken >= words.len() {
+                    return None;
+                }
+                let word = words.word(*taken);
+                *taken += 1;
+                Some(word)
+            }
         }
     }
 }

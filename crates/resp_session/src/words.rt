@@ -2,9 +2,7 @@
 
 ghost use Rattle.std.specs.Prelude.{◌≡◌, ◌<◌, [], ◌∷◌, ◌++◌, ◌↔◌, length, slice_index_or, map, None, IsSome, IfSome, IfNone};
 ghost use Rattle.std.specs.Bool.{MatchBool};
-ghost use Rattle.std.specs.Iterator.{at_most};
 ghost use Rattle.std.specs.List.{AllByRecursion};
-ghost use Rattle.std.specs.Map.Iter.{TakesFirst};
 ghost use Rattle.resp_value.specs.Data.{data_of_list};
 ghost use Rattle.resp_value.specs.Values.{datum_of, content_bytes};
 ghost use Rattle.resp_session.specs.Commands.{meaning_of, array_meaning, bulk_contents};
@@ -13,7 +11,6 @@ ghost use Rattle.resp_session.specs.Bulks.{IsBulk};
 use resp_value::content::Content;
 use resp_value::value::Value;
 use std::marker::Model;
-use std::vec::IntoIter;
 
 /// The words of a command, as they were read: the bulk strings of an array. The first is the name.
 #[derive(Drop)]
@@ -148,59 +145,6 @@ impl Words {
         match last {
             Value::Bulk(content) => Some(content),
             _ => unreachable!(),
-        }
-    }
-
-    /// Returns an iterator that takes the words in order, the name first. Does not allocate.
-    pub fn into_words(self) -> IntoWords
-        ensures { result ≡ self }
-    {
-        IntoWords {
-            members: self.members.into_iter(),
-        }
-    }
-}
-
-/// An iterator that takes the words of a command in order, the name first. It does not allocate.
-#[derive(Drop)]
-pub struct IntoWords {
-    members: IntoIter<Value>,
-}
-
-impl Model for IntoWords {
-    ghost use Rattle.std.specs.Prelude.{ℕ, List, map};
-    ghost use Rattle.std.specs.List.{AllByRecursion};
-    ghost use Rattle.std.specs.Vec.Iter.{into_iter_items};
-    ghost use Rattle.resp_session.specs.Bulks.{bulk_bytes, IsBulk};
-
-    ghost Value = { List (List ℕ) };
-
-    ghost view = { λ words. map bulk_bytes (into_iter_items words.members) };
-
-    ghost invariant = { λ words. AllByRecursion IsBulk (into_iter_items words.members) };
-}
-
-impl IntoWords {
-    /// Returns the number of words that are left.
-    pub fn len(&self) -> usize
-        ensures { result ≡ length self.now }
-    {
-        self.members.len()
-    }
-}
-
-impl Iterator for IntoWords {
-    type Item = Content;
-
-    ghost next_gives = { TakesFirst content_bytes };
-
-    ghost remaining = { λ words. at_most (length words) };
-
-    fn next(&mut self) -> Option<Content> {
-        match self.members.next() {
-            Some(Value::Bulk(content)) => Some(content),
-            Some(_) => unreachable!(),
-            None => None,
         }
     }
 }

@@ -1,4 +1,4 @@
-use Rattle.std.proofs.Common.{subst, sym, ◌∙◌, ap}
+use Rattle.std.proofs.Common.{◌∷◌, drop, subst, sym, ap, ◌∙◌}
 use Rattle.resp_value.specs.Spellings.{IsSpelling}
 use Rattle.resp_value.specs.Values.{datum_of}
 use Rattle.resp_value.specs.Words.{command_of}
@@ -6,12 +6,12 @@ use Rattle.resp_session.specs.Answers.{server_rules}
 use Rattle.resp_server.proofs.ValueAnswers.{words_value}
 use Rattle.resp_server.proofs.answer_value.answer_value.Goals as goal
 
-pub run_words-requires-clause-spelled : goal.run_words-requires-clause-spelled
-run_words-requires-clause-spelled g c =
+pub run_command-requires-clause-spelled : goal.run_command-requires-clause-spelled
+run_command-requires-clause-spelled g c =
     let (written, spelled) = c.requires.spelled in (
       written,
       subst (λ x. IsSpelling (server_rules c.args.limits.now) x written)
           (words_value c.a_command_is_its_words.ensures (datum_of c.args.value) c.in-Command.words c.in-Command.ensures.has_name
-          c.in-Command.ensures.meaning ∙ ap command_of (sym c.into_words.ensures))
+          c.in-Command.ensures.meaning ∙ ap (λ name. command_of (name ∷ drop 1 c.in-Command.words)) (sym c.word.ensures))
           spelled,
     )

@@ -4,6 +4,6 @@ use Rattle.resp_server.proofs.turn.run_whole.Goals as goal
 pub returns-clause-answered : goal.returns-clause-answered
 returns-clause-answered g c =
     whole_turn c.no_spelling_is_empty.ensures c.the_empty_text_is_viable.ensures c.a_command_is_its_words.ensures c.args.limits.now c.are_in_range.ensures
-    c.args.id c.args.store.now c.run_words.new.store c.args.session.now c.run_words.new.session c.args.piece.now c.args.command.words
-    c.args.command.rest.now c.requires.between c.requires.is_open c.requires.named c.requires.begins c.in_ok-run_words.ensures.done
-    c.run_words.ensures.rest
+    c.args.id c.args.store.now c.run_command.new.store c.args.session.now c.run_command.new.session c.args.piece.now c.args.command.name.now
+    c.args.command.arguments c.args.command.rest.now c.requires.between c.requires.is_open c.requires.begins c.in_ok-run_command.ensures.done
+    c.run_command.ensures.rest

@@ -2,18 +2,18 @@ use Rattle.std.proofs.Common.{length, sym, ap, ◌∙◌, arith}
 use Rattle.resp_scan.proofs.Wholes.ManyWords.{first_in, first_read}
 use Rattle.resp_scan.proofs.whole.WordsIterator.next.Goals as goal
 
-pub unreachable-requires : goal.unreachable-requires
-unreachable-requires c =
+pub first_word-found-requires : goal.first_word-found-requires
+first_word-found-requires c =
     let (word, next, first, is, left) = first_in 1_073_741_824 c.self.inside.left c.self.inside.text.now c.if-self-eq0.false c.self.invariant in
-    c.in_default.ensures.none word next first
+    (word, next, first)
 
 pub invariant_of-self : goal.invariant_of-self
-invariant_of-self c = (first_read 1_073_741_824 c.self.inside.left c.self.inside.text.now c.in-Some.found.content.now c.in-Some.found.rest.now
-    c.if-self-eq0.false c.self.invariant c.in-Some.ensures.begins).1
+invariant_of-self c = (first_read 1_073_741_824 c.self.inside.left c.self.inside.text.now c.first_word-found.result.content.now
+    c.first_word-found.result.rest.now c.if-self-eq0.false c.self.invariant c.first_word-found.ensures).1
 
 pub returns-clause-steps : goal.returns-clause-steps
-returns-clause-steps c = sym c.self.view_is ∙ (first_read 1_073_741_824 c.self.inside.left c.self.inside.text.now c.in-Some.found.content.now
-    c.in-Some.found.rest.now c.if-self-eq0.false c.self.invariant c.in-Some.ensures.begins).0
+returns-clause-steps c = sym c.self.view_is ∙ (first_read 1_073_741_824 c.self.inside.left c.self.inside.text.now
+    c.first_word-found.result.content.now c.first_word-found.result.rest.now c.if-self-eq0.false c.self.invariant c.first_word-found.ensures).0
 
 pub returns-clause-goes : goal.returns-clause-goes
 returns-clause-goes c =

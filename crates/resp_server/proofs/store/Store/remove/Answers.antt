@@ -14,8 +14,8 @@ loop-preserved g c =
     let first = ap length c.in-Some.ensures in
     let same = c.loop.invariant in
     record {
-      left = ap (λ store. store_without store left) c.remove_key-removed.ensures.removed ∙ sym (without_first c.loop.self c.bytes.result.now left) ∙
-          ap (λ key. store_without c.loop.self (key ∷ left)) c.bytes.ensures ∙ ap (store_without c.loop.self) (sym c.in-Some.ensures) ∙ same.left;
+      left = ap (λ store. store_without store left) c.remove_key-removed.ensures.removed ∙ sym (without_first c.loop.self c.in-Some.key.now left) ∙
+          ap (store_without c.loop.self) (sym c.in-Some.ensures) ∙ same.left;
       taken = omega (arith, first, same.taken);
       count = omega (arith, same.count, c.remove_key-removed.ensures.count);
       few = omega (arith, same.few, c.remove_key-removed.ensures.at_most_one);
