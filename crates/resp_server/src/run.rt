@@ -23,7 +23,7 @@ use std::hash::BuildHasher;
 
 /// Runs a command in the session of this number, and queues the reply. When out of memory, the
 /// store, the session's version and the waiting bytes are unchanged.
-#[inline(never)]
+#[inline(always)]
 pub(crate) fn run<S: BuildHasher>(
     operation: Operation<'_>,
     store: &mut Store<S>,

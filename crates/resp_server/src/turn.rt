@@ -97,7 +97,9 @@ fn run_whole<S: BuildHasher>(
     Ok(Turn { used, commands: 1 })
 }
 
-/// Reads with the decoder, and responds to the value or the fault.
+/// Reads with the decoder, and responds to the value or the fault. It is not inlined, since most
+/// commands lie completely in a piece.
+#[inline(never)]
 fn read_turn<S: BuildHasher>(
     store: &mut Store<S>,
     session: &mut Session,
