@@ -1,5 +1,5 @@
 -- What the words give an option, from what the matches read of it.
-use Rattle.std.proofs.Common.{subst, ◌≤◌, ◌&&◌, zero, suc, arith, inl, inr, ◌⊎◌, ◌≢◌, ◌∙◌, ◌≡◌, ℕ, ap, Bool, true, false, List, [], ◌∷◌, map, refl, sym, Option, Some, None, Result, Ok, Err, IfOk, IfSome, IfNone, codes}
+use Rattle.std.proofs.Common.{subst, ◌≤◌, ◌&&◌, zero, suc, arith, inl, inr, ◌⊎◌, ◌≢◌, ◌∙◌, ◌≡◌, ℕ, ap, Bool, true, false, List, [], ◌∷◌, map, refl, sym, Option, Some, None, Result, Ok, Err, IfOk, IfErr, IfSome, IfNone, codes}
 use Rattle.std.specs.Str.Parse.{ParsesBool, ParsesUnsigned}
 use Rattle.clap.specs.Words.{App, FailsBy, HasKind, HasMatchesOf, IsAmong, kind_of, ReadsOne, Row, Text, fault_of, is_simple, is_simple_and_free, one_text, rows_of, subcommand_of, subcommand_rows_of}
 use Rattle.clap.specs.declared.error.Error.{Error}
@@ -10,7 +10,8 @@ use Rattle.clap.specs.declared.parser.matches.ArgMatches.{ArgMatches}
 use Rattle.clap.specs.declared.parser.matches.Found.{Found}
 use Rattle.clap.proofs.OnLiterals.{clap_on_literals}
 use Rattle.clap.proofs.WalkLemmas.{one_text-rows}
-use Rattle.resp_args.specs.CommandWords.{AnswersStatus, AreWrong, AskFor, Enters, FindsWords, HasFlag, HasNumber, HasTapping, IsAsked, flag_text, task_word}
+use Rattle.resp_args.specs.CommandWords.{AnswersSort, AnswersStatus, AreWrong, AskFor, Enters, IsOfSort, FindsWords, HasFlag, HasNumber, HasTapping, IsAsked, flag_text, task_word}
+use Rattle.resp_args.specs.Faults.{IsWordStatus}
 use Rattle.std.specs.Str.{bytes_eq}
 use Rattle.std.specs.Prelude.{not, unwrap_or, if◌then◌else◌}
 use Rattle.resp_args.specs.Program.{IsProgram, resp_app}
@@ -186,3 +187,42 @@ refused_by_program Ask program words error status (inr kind) helps refuses = (
   ],
   λ two. inl (kind_of error, kind, (refuses two).1, (refuses two).2),
 )
+
+-- ---- words that ask for something
+
+of_sort : (a b : Asked) → sort_of a ≡ sort_of b → IsOfSort a b
+of_sort (Stream a) (Stream b) same = tt
+of_sort (Play a) (Play b) same = tt
+of_sort (Serve a) (Serve b) same = tt
+of_sort (Tap a) (Tap b) same = tt
+of_sort (Stream a) (Play b) same = absurd (omega (arith, same))
+of_sort (Stream a) (Serve b) same = absurd (omega (arith, same))
+of_sort (Stream a) (Tap b) same = absurd (omega (arith, same))
+of_sort (Play a) (Stream b) same = absurd (omega (arith, same))
+of_sort (Play a) (Serve b) same = absurd (omega (arith, same))
+of_sort (Play a) (Tap b) same = absurd (omega (arith, same))
+of_sort (Serve a) (Stream b) same = absurd (omega (arith, same))
+of_sort (Serve a) (Play b) same = absurd (omega (arith, same))
+of_sort (Serve a) (Tap b) same = absurd (omega (arith, same))
+of_sort (Tap a) (Stream b) same = absurd (omega (arith, same))
+of_sort (Tap a) (Play b) same = absurd (omega (arith, same))
+of_sort (Tap a) (Serve b) same = absurd (omega (arith, same))
+
+by_status : (status : ℕ) → IsWordStatus status → (status ≡ 0 → ⊥) → (status ≡ 2 → ⊥) → status ≡ 3
+by_status status (inl zero') none two = absurd (none zero')
+by_status status (inr range) none two = omega (arith, range.0, range.1, two)
+
+-- they are answered by that sort, or by status 3
+pub answers_sort : (program : App) (words : List Text) (result : Result Asked ℕ) → AnswersStatus AskFor program words result →
+    IfErr result IsWordStatus → (asked : Asked) → AskFor program words asked → AnswersSort asked result
+answers_sort program words (Ok x) answers range asked asks = of_sort asked x (one_sort (subcommand_of program words) asked x asks.1 answers.1)
+answers_sort program words (Err status) answers range asked asks =
+    by_status status range
+    (λ none. elim (answers.0 none) [
+      | inl help ↦ subst (IsAmong DisplayHelp) asks.0 help
+      | inr version ↦ subst (IsAmong DisplayVersion) asks.0 version
+    ])
+    (λ two. elim (answers.1 two) [
+      | inl refused ↦ subst (IsAmong refused.0) asks.0 refused.1
+      | inr other ↦ other.1 asked asks
+    ])

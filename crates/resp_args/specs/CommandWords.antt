@@ -143,6 +143,19 @@ FindsWords program words (Ok found) =
     (fault_of program words ≡ []) × (subcommand_rows_of found ≡ subcommand_of program words)
 FindsWords program words (Err error) = HasKind (fault_of program words) error
 
+-- both are a stream, a script, a server, or a tap
+abbrev pub IsOfSort : Asked → Asked → Type 0
+IsOfSort (Stream a) (Stream b) = Unit {0}
+IsOfSort (Play a) (Play b) = Unit {0}
+IsOfSort (Serve a) (Serve b) = Unit {0}
+IsOfSort (Tap a) (Tap b) = Unit {0}
+IsOfSort a b = ⊥
+
+-- words that ask for this are answered by something of its sort, or by status 3
+abbrev pub AnswersSort : Asked → Result Asked ℕ → Type 0
+AnswersSort asked (Ok x) = IsOfSort asked x
+AnswersSort asked (Err status) = status ≡ 3
+
 -- what the words ask for, or a status: 0 if they ask for help, and 2 if they are wrong
 abbrev pub AnswersStatus : {X : Type 0} → (App → List Text → X → Type 0) → App → List Text → Result X ℕ → Type 0
 AnswersStatus Ask program words (Ok x) = Ask program words x

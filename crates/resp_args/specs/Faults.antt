@@ -1,6 +1,7 @@
 -- The line and the exit status for each error.
 use Rattle.std.specs.Prelude.{◌≡◌, ◌⊎◌, ◌≤◌, ℕ, List, ◌++◌, Option, codes, decimal}
 use Rattle.resp_value.specs.Causes.{name_of}
+use Rattle.resp_value.specs.Devices.{count_after}
 use Rattle.resp_args.specs.Tried.{TriesText, refusal_line}
 use Rattle.resp_args.specs.declared.tool_error.ToolError.{ToolError}
 use Rattle.resp_args.specs.declared.tool_error.ToolError.TheVariants.{Refused, OverLimits, TooManyValues, Read, Write, TooManyTurns, Memory}
@@ -26,10 +27,12 @@ status_of _ = 3
 abbrev pub open_failed_line : List ℕ → List ℕ → List ℕ
 open_failed_line name why = codes "open failed: " ++ (name ++ (codes ": " ++ (why ++ codes "\n")))
 
--- the line of an error with exit status 3 was written, or one write of it failed
-abbrev pub TellsFailure : Option (List ℕ) → Option (List ℕ) → ℕ → ℕ → Type 0
-TellsFailure said said' failures failures' = (error : ToolError) × (status_of error ≡ 3) ×
-    TriesText said said' failures failures' (fault_line error)
+-- Memory was out, or a write of help failed: the line of that error was written, or one write of it failed. The last
+-- numbers are the counts of failed writes of help.
+abbrev pub TellsFailure : Option (List ℕ) → Option (List ℕ) → ℕ → ℕ → ℕ → ℕ → Type 0
+TellsFailure said said' failures failures' writes writes' =
+    (TriesText said said' failures failures' (fault_line Memory) × (writes' ≡ writes)) ⊎
+    (TriesText said said' failures failures' (fault_line Write) × (writes' ≡ count_after 1 writes))
 
 -- the status of words that ask for help, of wrong words, or after a failed device or allocation
 abbrev pub IsWordStatus : ℕ → Type 0

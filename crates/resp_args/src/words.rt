@@ -2,10 +2,10 @@
 
 ghost use Rattle.std.specs.Prelude.{◌≡◌, ◌≢◌, ◌⊎◌, IfErr, IfOk, IsErrOf, OnOk, codes, map};
 ghost use Rattle.clap.specs.Words.{App, kind_of};
-ghost use Rattle.resp_args.specs.CommandWords.{AnswersStatus, AskFor, IsInRange};
+ghost use Rattle.resp_args.specs.CommandWords.{AnswersSort, AnswersStatus, AskFor, IsInRange};
 ghost use Rattle.resp_args.specs.Faults.{IsWordStatus, TellsFailure, fault_line, open_failed_line, status_of};
 ghost use Rattle.resp_args.specs.Program.{IsProgram};
-ghost use Rattle.resp_args.specs.Tried.{TriesText};
+ghost use Rattle.resp_args.specs.Tried.{TriesText, WritesSome};
 ghost use Rattle.resp_print.specs.Written.{WritesText};
 
 use crate::asked::{Asked, OTHER_WORDS, asked_of};
@@ -38,9 +38,12 @@ fn explain<W: Sink, F: Sink>(
         × (kind_of error.now ≢ ErrorKind.DisplayHelp)
         × (kind_of error.now ≢ ErrorKind.DisplayVersion) }
     ensures bad_words_write_nothing { result ≡ 2 → writer.new ≡ writer.old }
+    ensures help_is_written { result ≡ 0 → WritesSome (W.written writer.old)
+        (W.written writer.new) (W.failures writer.old) (W.failures writer.new) }
     ensures nothing_told_at_zero { result ≡ 0 → faults.new ≡ faults.old }
     ensures told_at_three { result ≡ 3 → TellsFailure (F.written faults.old)
-        (F.written faults.new) (F.failures faults.old) (F.failures faults.new) }
+        (F.written faults.new) (F.failures faults.old) (F.failures faults.new)
+        (W.failures writer.old) (W.failures writer.new) }
 {
     let text = match format!(in alloc; "{error}") {
         Ok(text) => text,
@@ -49,16 +52,32 @@ fn explain<W: Sink, F: Sink>(
     match error.kind() {
         ErrorKind::OutOfMemory => stop(&ToolError::Memory, faults),
         ErrorKind::DisplayHelp | ErrorKind::DisplayVersion => {
-            if write_text(writer, text.as_str().as_bytes()).is_err() {
-                stop(&ToolError::Write, faults)
-            } else {
-                0
-            }
+            write_help(text.as_str().as_bytes(), writer, faults)
         }
         _ => {
             let _ = write_text(faults, text.as_str().as_bytes());
             BAD_ARGUMENTS
         }
+    }
+}
+
+/// Writes help to `writer`, and returns the exit status. No help is an empty text: it was not
+/// allocated.
+fn write_help<W: Sink, F: Sink>(text: &[u8], writer: &mut W, faults: &mut F) -> u8
+    ensures status { (result ≡ 0) ⊎ (result ≡ 3) }
+    ensures help_is_written { result ≡ 0 → WritesSome (W.written writer.old)
+        (W.written writer.new) (W.failures writer.old) (W.failures writer.new) }
+    ensures nothing_told_at_zero { result ≡ 0 → faults.new ≡ faults.old }
+    ensures told_at_three { result ≡ 3 → TellsFailure (F.written faults.old)
+        (F.written faults.new) (F.failures faults.old) (F.failures faults.new)
+        (W.failures writer.old) (W.failures writer.new) }
+{
+    if text.is_empty() {
+        return stop(&ToolError::Memory, faults);
+    }
+    match write_text(writer, text) {
+        Ok(()) => 0,
+        Err(_) => stop(&ToolError::Write, faults),
     }
 }
 
@@ -145,14 +164,19 @@ pub fn read_words<'a, S: AsStr, W: Sink, F: Sink>(
     faults: &mut F,
 ) -> Result<Asked<'a>, u8>
     ensures asked { (program : App) × IsProgram program
-        × AnswersStatus AskFor program (map S.text words.entry.now) result }
+        × AnswersStatus AskFor program (map S.text words.entry.now) result
+        × ((asked : Asked) → AskFor program (map S.text words.entry.now) asked →
+        AnswersSort asked result) }
     ensures in_range { IfOk result IsInRange }
     ensures nothing_said { OnOk result ((writer.new ≡ writer.old) × (faults.new ≡ faults.old)) }
     ensures never_one { IfErr result IsWordStatus }
+    ensures help_is_written { IsErrOf result 0 → WritesSome (W.written writer.old)
+        (W.written writer.new) (W.failures writer.old) (W.failures writer.new) }
     ensures nothing_told_at_zero { IsErrOf result 0 → faults.new ≡ faults.old }
     ensures nothing_at_two { IsErrOf result 2 → writer.new ≡ writer.old }
     ensures told_at_three { IsErrOf result 3 → TellsFailure (F.written faults.old)
-        (F.written faults.new) (F.failures faults.old) (F.failures faults.new) }
+        (F.written faults.new) (F.failures faults.old) (F.failures faults.new)
+        (W.failures writer.old) (W.failures writer.new) }
 {
     let matches = match matches_of(alloc, words) {
         Ok(matches) => matches,

@@ -64,6 +64,8 @@ pub struct Gathering<W> {
 
 impl<W> Model for Gathering<W> {
     ghost use Rattle.resp_print.specs.Live.{GatheringState};
+    ghost use Rattle.resp_print.specs.declared.live.TheConstants.{MOST_GATHERED};
+    ghost use Rattle.std.specs.Prelude.{◌≤◌, length};
 
     ghost Value = { GatheringState W };
 
@@ -72,6 +74,8 @@ impl<W> Model for Gathering<W> {
       waits = g.gathered.items;
       calls = g.calls;
     } };
+
+    ghost invariant = { λ g. length g.gathered.items ≤ MOST_GATHERED };
 }
 
 impl<W: Sink + Drop> Gathering<W> {
@@ -105,6 +109,7 @@ fn gather(gathered: &mut BytesMut, text: &[u8]) -> bool
     ensures gathered { result ≡ true → gathered.new.items ≡ gathered.old.items ++ text.now }
     ensures some { result ≡ true → 0 < length text.now }
     ensures same { result ≡ false → gathered.new.items ≡ gathered.old.items }
+    ensures at_most { result ≡ true → length gathered.new.items ≤ MOST_GATHERED }
 {
     let size = gathered.len().saturating_add(text.len());
     !text.is_empty() && size <= MOST_GATHERED && gathered.extend_from_slice(text).is_ok()
@@ -117,6 +122,7 @@ fn send<W: Sink>(inner: &mut W, gathered: &mut BytesMut) -> Result<(), DeviceFau
     ensures appended { OnOk result (Appends (W.written inner.old) (W.written inner.new)
         gathered.old.items) }
     ensures nothing_left { OnOk result (gathered.new.items ≡ []) }
+    ensures no_more { length gathered.new.items ≤ length gathered.old.items }
     ensures failures { W.failures inner.new ≡
         failures_after (flush_fails result) (W.failures inner.old) }
 {
@@ -140,7 +146,15 @@ impl<W: Sink> Sink for Gathering<W> {
     ghost failures = { λ g. W.failures g.inner };
 
     #[inline]
-    fn write(&mut self, from: &[u8]) -> Result<usize, DeviceFault> {
+    fn write(&mut self, from: &[u8]) -> Result<usize, DeviceFault>
+        ensures within { IfOk result (λ n. n ≤ length from.now) }
+        ensures bytes { Writes (joined (W.written self.old.inner) self.old.waits)
+            (joined (W.written self.new.inner) self.new.waits) from.now result }
+        ensures calls { self.new.calls ≡ count_after 1 self.old.calls }
+        ensures failures { W.failures self.new.inner ≡
+            failures_after (write_fails result) (W.failures self.old.inner) }
+        ensures at_most { length self.new.waits ≤ MOST_GATHERED }
+    {
         self.calls = self.calls.saturating_add(1);
         if gather(&mut self.gathered, from) {
             return Ok(from.len());
