@@ -1,11 +1,11 @@
 -- Events played one after another, and their text.
 use Rattle.std.proofs.Common.{◌≡◌, inl, inr, ℕ, List, [], ◌∷◌, ◌++◌, Option, Result, Ok, Err, refl, sym, ap, subst, ◌∙◌, append_assoc}
 use Rattle.resp_value.specs.Bounds.{Bounds}
+use Rattle.resp_value.specs.Devices.{Appends}
 use Rattle.resp_session.specs.Worlds.{World}
 use Rattle.resp_print.specs.Written.{AppendsPart}
 use Rattle.resp_print.proofs.WrittenLemmas.{Appends-append, Appends-none}
 use Rattle.resp_wire.specs.Worlds.{Shows, WorldState}
-use Rattle.resp_print.proofs.Printing.{part_next}
 use Rattle.resp_script.specs.Plays.{ArePlayed, BreaksInCounts, Plays, PlaysAll, PlaysPart, PlaysScript, PlaysTo, text_of_step}
 use Rattle.resp_script.specs.Printed.{PlayedEvent, PlaysText, counts_text}
 use Rattle.resp_script.specs.declared.play.PlayError.{PlayError}
@@ -45,16 +45,25 @@ played_after limits w events more first second = record {
 }
 
 -- all of some events were played, and then a part of more
-part_then : {L : Type 0} (is_honest : L → Type 0) (limits : Bounds) (w : World) (events more : List PlayedEvent) (between : WorldState L)
-    (a b c : Option (List ℕ)) (first : PlaysAll is_honest limits w events between a b) → PlaysPart limits first.played.last more b c →
-    PlaysPart limits w (events ++ more) a c
+part_then : {L : Type 0} (is_honest : L → Type 0) (limits : Bounds) (w : World) (events more : List PlayedEvent) (between after : WorldState L)
+    (a b c : Option (List ℕ)) (first : PlaysAll is_honest limits w events between a b) →
+    PlaysPart is_honest limits first.played.last more after b c → PlaysPart is_honest limits w (events ++ more) after a c
 unfolding played_after
-part_then is_honest limits w events more between a b c first second = record {
+part_then is_honest limits w events more between after a b c first second = record {
   done = events ++ second.done;
+  failing = second.failing;
   later = second.later;
-  whole = ap (λ z. events ++ z) second.whole ∙ sym (append_assoc events second.done second.later);
+  whole = ap (λ z. events ++ z) second.whole ∙ sym (append_assoc events second.done (second.failing ∷ second.later));
   played = played_after limits w events second.done first.played second.played;
-  part = part_next a b c first.played.text second.played.text first.appended second.part;
+  outcome = second.outcome;
+  next = second.next;
+  step = second.step;
+  shows = second.shows;
+  begun = second.begun;
+  unwritten = second.unwritten;
+  parts = second.parts;
+  appended = subst (Appends a c) (sym (append_assoc first.played.text second.played.text second.begun))
+      (Appends-append a b c first.played.text (second.played.text ++ second.begun) first.appended second.appended);
 }
 
 -- all of some events were played, and then more came to something
@@ -77,19 +86,27 @@ all_then is_honest limits w events more between after a b c (Err (Stopped line c
   appended = Appends-append a b c first.played.text second.played.text first.appended second.appended;
 }
 all_then is_honest limits w events more between after a b c (Err Write) first second =
-    part_then is_honest limits w events more between a b c first second
+    part_then is_honest limits w events more between after a b c first second
 all_then is_honest limits w events more between after a b c (Err Memory) first second =
-    part_then is_honest limits w events more between a b c first second
+    part_then is_honest limits w events more between after a b c first second
 
 -- a part of some events is a part of them and more
-part_before : (limits : Bounds) (w : World) (events more : List PlayedEvent) (a b : Option (List ℕ)) → PlaysPart limits w events a b →
-    PlaysPart limits w (events ++ more) a b
-part_before limits w events more a b first = record {
+part_before : {L : Type 0} (is_honest : L → Type 0) (limits : Bounds) (w : World) (events more : List PlayedEvent) (after : WorldState L)
+    (a b : Option (List ℕ)) → PlaysPart is_honest limits w events after a b → PlaysPart is_honest limits w (events ++ more) after a b
+part_before is_honest limits w events more after a b first = record {
   done = first.done;
+  failing = first.failing;
   later = first.later ++ more;
-  whole = ap (λ z. z ++ more) first.whole ∙ append_assoc first.done first.later more;
+  whole = ap (λ z. z ++ more) first.whole ∙ append_assoc first.done (first.failing ∷ first.later) more;
   played = first.played;
-  part = first.part;
+  outcome = first.outcome;
+  next = first.next;
+  step = first.step;
+  shows = first.shows;
+  begun = first.begun;
+  unwritten = first.unwritten;
+  parts = first.parts;
+  appended = first.appended;
 }
 
 -- what stopped some events stops them and more
@@ -105,8 +122,8 @@ stops_before is_honest limits w events more after a b (Stopped line cause) first
   played = first.played;
   appended = first.appended;
 }
-stops_before is_honest limits w events more after a b Write first = part_before limits w events more a b first
-stops_before is_honest limits w events more after a b Memory first = part_before limits w events more a b first
+stops_before is_honest limits w events more after a b Write first = part_before is_honest limits w events more after a b first
+stops_before is_honest limits w events more after a b Memory first = part_before is_honest limits w events more after a b first
 
 -- what stopped the steps of a script stopped the script
 pub stops_script : {L : Type 0} (is_honest : L → Type 0) (limits : Bounds) (w : World) (events : List PlayedEvent) (after : WorldState L)
@@ -119,10 +136,14 @@ stops_script is_honest limits w events after a b Memory stops = inl stops
 -- all of the events were played, and a part of the line of counts was written
 breaks_in_counts : {L : Type 0} (is_honest : L → Type 0) (limits : Bounds) (w : World) (events : List PlayedEvent) (after : WorldState L)
     (a b c : Option (List ℕ)) (all : PlaysAll is_honest limits w events after a b) → AppendsPart b c (counts_text all.played.last) →
-    BreaksInCounts limits w events a c
+    BreaksInCounts is_honest limits w events after a c
 breaks_in_counts is_honest limits w events after a b c all part = record {
   played = all.played;
-  part = part_next a b c all.played.text (counts_text all.played.last) all.appended part;
+  shows = all.shows;
+  begun = part.part;
+  unwritten = part.beyond;
+  parts = part.whole;
+  appended = Appends-append a b c all.played.text part.part all.appended part.appended;
 }
 
 -- all of the events were played, and then what came of the line of counts

@@ -7,7 +7,7 @@ use Rattle.std.proofs.lemmas.List.Sums.{sum_by-append}
 use Rattle.resp_wire.specs.declared.event.Event.{Event}
 use Rattle.resp_script.specs.ScriptSteps.{SaysClients, SaysStep, clients_words, joined_words, step_words}
 use Rattle.resp_script.specs.Reasons.{IsReason, parts_of_line}
-use Rattle.resp_script.specs.Scripts.{AreWithin, IsFirstBad, IsScript, NameNoClients, PassesLimit, SayScript, SaySoFar, SaysNothing, bytes_to_end, is_passed_over, lines_of, step_line}
+use Rattle.resp_script.specs.Scripts.{AreWithin, IsFirstBad, IsScript, IsWithin, NameNoClients, PassesLimit, SayScript, SaySoFar, SaysNothing, bytes_to_end, is_passed_over, lines_of, step_line}
 use Rattle.resp_script.specs.SaidLines.{Says}
 use Rattle.resp_script.specs.declared.script.Script.{Script}
 use Rattle.resp_script.specs.declared.script.reasons.BadLine.{BadLine}
@@ -151,7 +151,8 @@ reads_step text rest beyond line done number (Some clients) step steps read part
 pub is_first_bad : (text rest beyond line : List ℕ) (done : List (List ℕ)) (number : ℕ) (clients : Option ℕ) (steps : List (ℕ × Option Event)) →
     HaveRead text rest done number clients steps → lines_of rest ≡ line ∷ lines_of beyond →
     (reason : BadLine) → (AreWithin text (done ++ line ∷ []) → ⊥) ⊎ SaysNothing clients line →
-    PassesLimit (number + 1) (length line) (bytes_to_end text (done ++ line ∷ [])) reason ⊎ IsReason clients (parts_of_line line) reason →
+    PassesLimit (number + 1) (length line) (bytes_to_end text (done ++ line ∷ [])) reason ⊎
+    IsWithin (number + 1) (length line) (bytes_to_end text (done ++ line ∷ [])) × IsReason clients (parts_of_line line) reason →
     IsFirstBad text (number + 1) reason
 is_first_bad text rest beyond line done number clients steps read parts reason bad why = record {
   before = done;
@@ -172,9 +173,17 @@ not_within : (text line : List ℕ) (done : List (List ℕ)) (reason : BadLine) 
     PassesLimit (length done + 1) (length line) (bytes_to_end text (done ++ line ∷ [])) reason → AreWithin text (done ++ line ∷ []) → ⊥
 not_within text line done reasons.ManyLines passed within = omega (arith, passed, within.few, length_push done line)
 not_within text line done reasons.LongLine passed within =
-    omega (arith, passed, all_at_last (λ line. length line ≤ 4096) done line within.short)
-not_within text line done reasons.LongScript passed within = omega (arith, passed, within.small)
+    omega (arith, passed.1, all_at_last (λ line. length line ≤ 4096) done line within.short)
+not_within text line done reasons.LongScript passed within = omega (arith, passed.2, within.small)
 not_within text line done _ passed within = absurd passed
+
+-- where no limit is passed, the line is within all
+pub is_within : (text rest beyond line : List ℕ) (done : List (List ℕ)) (number : ℕ) (clients : Option ℕ) (steps : List (ℕ × Option Event)) →
+    HaveRead text rest done number clients steps → length beyond ≡ length rest - (length line + 1) →
+    IsWithin (number + 1) (length line) (length text - length beyond) →
+    IsWithin (number + 1) (length line) (bytes_to_end text (done ++ line ∷ []))
+is_within text rest beyond line done number clients steps read left' within =
+    subst (IsWithin (number + 1) (length line)) (sym (bytes_more text rest beyond line done read.left left')) within
 
 -- the line that passes a limit is the first bad one
 pub passes_a_limit : (text rest beyond line : List ℕ) (done : List (List ℕ)) (number : ℕ) (clients : Option ℕ) (steps : List (ℕ × Option Event)) →

@@ -1,15 +1,16 @@
 -- The words of a line of a script.
-use Rattle.std.proofs.Common.{◌≡◌, ℕ, ◌+◌, ◌<◌, ◌≤◌, List, [], ◌∷◌, ◌++◌, length, map, take, get_or, Bor, true, false, eqb, decimal, ◌^◌, refl, sym, ap, subst, ◌∙◌, arith, Option, None, Some}
+use Rattle.std.proofs.Common.{◌≡◌, ℕ, ◌+◌, ◌<◌, ◌≤◌, List, [], ◌∷◌, ◌++◌, length, map, take, drop, append_assoc, get_or, Bor, true, false, eqb, decimal, ◌^◌, refl, sym, ap, subst, ◌∙◌, arith, Option, None, Some}
 use Rattle.std.specs.Prelude.{All}
 use Rattle.std.specs.List.{slice_split}
 use Rattle.std.proofs.lemmas.Bool.{eqb-true}
 use Rattle.std.proofs.lemmas.Fmt.{decimal_nonempty}
-use Rattle.std.proofs.lemmas.List.{get_or-map, length-map, take_more}
+use Rattle.std.proofs.lemmas.List.{get_or-map, length-map, take-append-drop, take_more}
 use Rattle.std.proofs.lemmas.List.Elements.{All-get_or, All-head, All-tail, All-weaker}
 use Rattle.std.proofs.lemmas.List.Splits.{join_with_byte-slice_split, length-slice_split, slice_split_at, slice_split_none}
 use Rattle.resp_script.specs.ScriptSteps.{AreWords, IsSeen, IsWord, IsStepInRange, clients_words, joined_words, step_words}
 use Rattle.resp_wire.specs.declared.event.Event.{Event}
-use Rattle.resp_script.specs.Reasons.{WhereBad}
+use Rattle.resp_script.specs.Reasons.{AreProper, HaveFirstUnfit, IsNoStep, IsReason, IsUnfit, WhereBad, parts_of_line}
+use Rattle.resp_script.specs.declared.script.reasons.BadLine.TheVariants as reasons
 use Rattle.resp_script.specs.Scripts.{SaysSomething}
 use Rattle.resp_script.specs.declared.script.reasons.BadLine.{BadLine}
 use Rattle.resp_script.specs.declared.script.words.LineFault.{LineFault}
@@ -121,3 +122,42 @@ pub where_bad : {P : BadLine → Type 0} (Q : BadLine → Type 0) → ((reason :
     WhereBad Q fault
 where_bad Q next (Bad reason) bad = next reason bad
 where_bad Q next Memory bad = bad
+
+-- ---- reasons
+
+-- the first part that is not a word, after words
+pub first_unfit : (words : List (Bor (List ℕ))) (i : ℕ) (d : Bor (List ℕ)) → i < length words →
+    All IsWord (take i (map (λ (word : Bor (List ℕ)). word.now) words)) →
+    HaveFirstUnfit (map (λ (word : Bor (List ℕ)). word.now) words) (get_or words i d).now
+first_unfit words i d within all =
+    let texts = map (λ (word : Bor (List ℕ)). word.now) words in
+    record {
+      before = take i texts;
+      beyond = drop (i + 1) texts;
+      whole = sym (take-append-drop (i + 1) texts) ∙ ap (λ z. z ++ drop (i + 1) texts) (taken_more words i d within) ∙
+          append_assoc (take i texts) ((get_or words i d).now ∷ []) (drop (i + 1) texts);
+      are_words = all;
+    }
+
+pub nothing : (text : List ℕ) → length text ≡ 0 → text ≡ []
+nothing [] none = refl
+nothing (b ∷ text) none = absurd (omega (arith, none))
+
+pub unfit_reason : (named : Option ℕ) (parts : List (List ℕ)) (reason : BadLine) → length parts ≤ 64 → IsUnfit parts reason → IsReason named parts reason
+unfit_reason named parts reasons.Spaces few unfit = (few, unfit)
+unfit_reason named parts reasons.UnseenByte few unfit = (few, unfit)
+unfit_reason named parts _ few unfit = absurd unfit
+
+-- words are proper parts
+pub proper : (line : List ℕ) (items : List (Bor (List ℕ))) → AreWords line (map (λ (word : Bor (List ℕ)). word.now) items) →
+    map (λ (word : Bor (List ℕ)). word.now) items ≡ parts_of_line line → AreProper (parts_of_line line)
+proper line items are same = subst AreProper same (are.few, are.are_words)
+
+-- words that say no step
+pub step_reason : (clients : ℕ) (parts : List (List ℕ)) (reason : BadLine) → AreProper parts → IsNoStep clients parts reason →
+    IsReason (Some clients) parts reason
+step_reason clients parts reasons.FlushWords proper no_step = (proper, no_step)
+step_reason clients parts reasons.UnknownWord proper no_step = (proper, no_step)
+step_reason clients parts reasons.NoSuchClient proper no_step = (proper, no_step)
+step_reason clients parts (reasons.Arguments named) proper no_step = (proper, no_step)
+step_reason clients parts _ proper no_step = absurd no_step

@@ -23,16 +23,23 @@ one_played limits w next played outcome step = record {
 }
 
 -- a part of its text
-one_part : (limits : Bounds) (w next : World) (played : PlayedEvent) (outcome : Outcome) (a b : Option (List ℕ)) →
-    Step limits w played.event (outcome_of outcome) next → AppendsPart a b (text_of_step w played (outcome_of outcome) next) →
-    PlaysPart limits w (played ∷ []) a b
-unfolding one_played
-one_part limits w next played outcome a b step part = record {
-  done = played ∷ [];
+one_part : {L : Type 0} (is_honest : L → Type 0) (limits : Bounds) (w next : World) (played : PlayedEvent) (outcome : Outcome) (after : WorldState L)
+    (a b : Option (List ℕ)) → Step limits w played.event (outcome_of outcome) next → Shows is_honest after limits next →
+    AppendsPart a b (text_of_step w played (outcome_of outcome) next) → PlaysPart is_honest limits w (played ∷ []) after a b
+one_part is_honest limits w next played outcome after a b step shows part = record {
+  done = [];
+  failing = played;
   later = [];
   whole = refl;
-  played = one_played limits w next played outcome step;
-  part = part;
+  played = record { text = []; last = w; plays = (refl, refl) };
+  outcome = outcome_of outcome;
+  next = next;
+  step = step;
+  shows = shows;
+  begun = part.part;
+  unwritten = part.beyond;
+  parts = part.whole;
+  appended = part.appended;
 }
 
 -- an event that was taken is all that was played
@@ -43,8 +50,10 @@ pub took : {L : Type 0} (is_honest : L → Type 0) (limits : Bounds) (w next : W
 unfolding one_played
 took is_honest limits w next played outcome after a b f g (Ok x) step shows prints =
     record { played = one_played limits w next played outcome step; shows = shows; appended = prints.0 }
-took is_honest limits w next played outcome after a b f g (Err Write) step shows prints = one_part limits w next played outcome a b step prints.0
-took is_honest limits w next played outcome after a b f g (Err Memory) step shows prints = one_part limits w next played outcome a b step prints.0
+took is_honest limits w next played outcome after a b f g (Err Write) step shows prints =
+    one_part is_honest limits w next played outcome after a b step shows prints.0
+took is_honest limits w next played outcome after a b f g (Err Memory) step shows prints =
+    one_part is_honest limits w next played outcome after a b step shows prints.0
 took is_honest limits w next played outcome after a b f g (Err (Stopped line cause)) step shows prints = absurd prints
 
 -- an event that happened was not of nobody

@@ -9,7 +9,6 @@ use Rattle.resp_session.specs.Connections.{Connection, shown_pushes, shown_repli
 use Rattle.resp_session.specs.Runs as runs
 use Rattle.resp_session.specs.Runs.{Step, connection_of}
 use Rattle.resp_session.specs.Worlds.{World, WorldEvent, ToServer, ToClient, client_of}
-use Rattle.resp_print.specs.Written.{AppendsPart}
 use Rattle.resp_wire.specs.Worlds.{Shows, WorldState, event_of}
 use Rattle.resp_wire.specs.declared.event.Event.{Event}
 use Rattle.resp_wire.specs.declared.event.Outcome.{Outcome}
@@ -88,23 +87,34 @@ pub record PlaysUpTo (limits : Bounds) (w : World) (events : List PlayedEvent) (
   pub played : ArePlayed limits w done
   pub appended : Appends held held' played.text
 
--- some first events were played, or all of them, and the first part of their text was appended
-pub record PlaysPart (limits : Bounds) (w : World) (events : List PlayedEvent) (held held' : Option (List ℕ)) : Type 0
-  where
-    pub done : List PlayedEvent
-    pub later : List PlayedEvent
-    pub whole : events ≡ done ++ later
-    pub played : ArePlayed limits w done
-    pub part : AppendsPart held held' played.text
+-- The events up to one were played, and no event after it. The text of the events before it was appended, and the first
+-- part of its own text. The world shows what it leaves.
+pub record PlaysPart {L : Type 0} (is_honest : L → Type 0) (limits : Bounds) (w : World) (events : List PlayedEvent)
+    (after : WorldState L) (held held' : Option (List ℕ)) : Type 0 where
+  pub done : List PlayedEvent
+  pub failing : PlayedEvent
+  pub later : List PlayedEvent
+  pub whole : events ≡ done ++ failing ∷ later
+  pub played : ArePlayed limits w done
+  pub outcome : runs.Outcome
+  pub next : World
+  pub step : Step limits played.last failing.event outcome next
+  pub shows : Shows is_honest after limits next
+  pub begun : List ℕ
+  pub unwritten : List ℕ
+  pub parts : text_of_step played.last failing outcome next ≡ begun ++ unwritten
+  pub appended : Appends held held' (played.text ++ begun)
 
 -- The result of playing events: all of them and their text; or the events before the one at which the world stopped,
--- and their text; or the first part of the text, if a write failed or when out of memory.
+-- and their text; or the events up to the one whose text was not written to its end, if a write failed or when out of
+-- memory.
 abbrev pub PlaysTo : {L : Type 0} → (L → Type 0) → Bounds → World → List PlayedEvent → WorldState L →
     Option (List ℕ) → Option (List ℕ) → Result (Unit {0}) PlayError → Type 0
 PlaysTo {L} is_honest limits w events after held held' (Ok x) = PlaysAll is_honest limits w events after held held'
 PlaysTo {L} is_honest limits w events after held held' (Err (Stopped line cause)) =
     PlaysUpTo limits w events line held held'
-PlaysTo {L} is_honest limits w events after held held' (Err e) = PlaysPart limits w events held held'
+PlaysTo {L} is_honest limits w events after held held' (Err e) =
+    PlaysPart is_honest limits w events after held held'
 
 -- all of the events were played, and their text was appended, and after it the line of counts
 pub record PlaysWhole {L : Type 0} (is_honest : L → Type 0) (limits : Bounds) (w : World) (events : List PlayedEvent)
@@ -113,11 +123,15 @@ pub record PlaysWhole {L : Type 0} (is_honest : L → Type 0) (limits : Bounds) 
   pub shows : Shows is_honest after limits played.last
   pub appended : Appends held held' (played.text ++ counts_text played.last)
 
--- all of the events were played, and the first part of their text and the line of counts was appended
-pub record BreaksInCounts (limits : Bounds) (w : World) (events : List PlayedEvent) (held held' : Option (List ℕ)) :
-    Type 0 where
+-- all of the events were played, and their text and the first part of the line of counts was appended
+pub record BreaksInCounts {L : Type 0} (is_honest : L → Type 0) (limits : Bounds) (w : World)
+    (events : List PlayedEvent) (after : WorldState L) (held held' : Option (List ℕ)) : Type 0 where
   pub played : ArePlayed limits w events
-  pub part : AppendsPart held held' (played.text ++ counts_text played.last)
+  pub shows : Shows is_honest after limits played.last
+  pub begun : List ℕ
+  pub unwritten : List ℕ
+  pub parts : counts_text played.last ≡ begun ++ unwritten
+  pub appended : Appends held held' (played.text ++ begun)
 
 -- The result of playing all events of a script, with the line of counts after their text.
 abbrev pub PlaysScript : {L : Type 0} → (L → Type 0) → Bounds → World → List PlayedEvent → WorldState L →
@@ -127,7 +141,7 @@ PlaysScript {L} is_honest limits w events after held held' (Ok x) =
 PlaysScript {L} is_honest limits w events after held held' (Err (Stopped line cause)) =
     PlaysUpTo limits w events line held held'
 PlaysScript {L} is_honest limits w events after held held' (Err e) =
-    PlaysPart limits w events held held' ⊎ BreaksInCounts limits w events held held'
+    PlaysPart is_honest limits w events after held held' ⊎ BreaksInCounts is_honest limits w events after held held'
 
 -- the world stopped at this line
 abbrev pub IsAtLine : ℕ → PlayError → Type 0

@@ -1,9 +1,10 @@
 -- Why a line of a script is bad: the meaning of each reason, and its sentence.
-use Rattle.std.specs.Prelude.{◌≡◌, ℕ, ◌≤◌, ◌<◌, ◌==◌, List, [], length, get_or, All, Option, None, Some, codes, decimal}
+use Rattle.std.specs.Prelude.{◌≡◌, ℕ, ◌≤◌, ◌<◌, ◌==◌, List, [], ◌∷◌, ◌++◌, drop, length, get_or, All, Option, None, Some, codes, decimal}
 use Rattle.std.specs.List.{slice_split}
 use Rattle.std.specs.Str.{byte}
 use Rattle.resp_value.specs.Bytes.{IsFull}
-use Rattle.resp_script.specs.ScriptSteps.{IsSeen, step_name}
+use Rattle.resp_wire.specs.declared.event.Event.{Event}
+use Rattle.resp_script.specs.ScriptSteps.{HasRange, IsSeen, IsWord, arguments_of, clients_words, step_name, verb_of}
 use Rattle.resp_script.specs.declared.script.reasons.BadLine.{BadLine}
 use Rattle.resp_script.specs.declared.script.reasons.BadLine.TheVariants as reasons
 use Rattle.resp_script.specs.declared.script.steps.Verb.{Verb}
@@ -27,18 +28,51 @@ BeginsNoLine word = ((word ≡ codes "flush") → ⊥) × ((named : Verb) → wo
 abbrev pub HasVerb : List (List ℕ) → Type 0
 HasVerb parts = (named : Verb) × (get_or parts 0 [] ≡ step_name named)
 
--- The meaning of a reason, for a line with these parts. The number of clients is given if an earlier line named it. The
--- reasons that are not listed here concern more than the words of one line.
+-- these words may follow the client's number after this verb
+abbrev pub AreArguments : Verb → List (List ℕ) → Type 0
+AreArguments named words =
+    (event : Event) × (verb_of event ≡ named) × (words ≡ arguments_of event) × HasRange event
+
+-- the line names the number of clients
+abbrev pub NameClients : List (List ℕ) → Type 0
+NameClients parts = (clients : ℕ) × (parts ≡ clients_words clients) × (1 ≤ clients) × (clients ≤ 16)
+
+-- at most 64 words
+abbrev pub AreProper : List (List ℕ) → Type 0
+AreProper parts = (length parts ≤ 64) × All IsWord parts
+
+-- this is the first part that is not a word
+pub record HaveFirstUnfit (parts : List (List ℕ)) (part : List ℕ) : Type 0 where
+  pub before : List (List ℕ)
+  pub beyond : List (List ℕ)
+  pub whole : parts ≡ before ++ part ∷ beyond
+  pub are_words : All IsWord before
+
+-- The meaning of a reason for which the parts are not words: the first one that is not a word is empty, or a byte of it
+-- is not graphic.
+abbrev pub IsUnfit : List (List ℕ) → BadLine → Type 0
+IsUnfit parts reasons.Spaces = HaveFirstUnfit parts []
+IsUnfit parts reasons.UnseenByte =
+    (part : List ℕ) × HaveFirstUnfit parts part × IsFull part × (All IsSeen part → ⊥)
+IsUnfit parts _ = ⊥
+
+-- the meaning of a reason for which words are no step, if this many clients were named
+abbrev pub IsNoStep : ℕ → List (List ℕ) → BadLine → Type 0
+IsNoStep clients parts reasons.FlushWords = (get_or parts 0 [] ≡ codes "flush") × (1 < length parts)
+IsNoStep clients parts reasons.UnknownWord = BeginsNoLine (get_or parts 0 [])
+IsNoStep clients parts reasons.NoSuchClient = HasVerb parts × (NamesClient clients (get_or parts 1 []) → ⊥)
+IsNoStep clients parts (reasons.Arguments named) = (get_or parts 0 [] ≡ step_name named) ×
+    NamesClient clients (get_or parts 1 []) × (AreArguments named (drop 2 parts) → ⊥)
+IsNoStep _ _ _ = ⊥
+
+-- The meaning of a reason, for a line with these parts. The number of clients is given if an earlier line named it. A
+-- line has at most one reason. The reasons that are not listed here concern more than the words of one line.
 abbrev pub IsReason : Option ℕ → List (List ℕ) → BadLine → Type 0
 IsReason _ parts reasons.ManyWords = 64 < length parts
-IsReason _ parts reasons.Spaces = All IsFull parts → ⊥
-IsReason _ parts reasons.UnseenByte = All (All IsSeen) parts → ⊥
-IsReason None parts reasons.NotClients = Unit {0}
-IsReason (Some clients) parts reasons.FlushWords = (get_or parts 0 [] ≡ codes "flush") × (1 < length parts)
-IsReason (Some clients) parts reasons.UnknownWord = BeginsNoLine (get_or parts 0 [])
-IsReason (Some clients) parts reasons.NoSuchClient = HasVerb parts × (NamesClient clients (get_or parts 1 []) → ⊥)
-IsReason (Some clients) parts (reasons.Arguments named) =
-    (get_or parts 0 [] ≡ step_name named) × NamesClient clients (get_or parts 1 [])
+IsReason _ parts reasons.Spaces = (length parts ≤ 64) × IsUnfit parts reasons.Spaces
+IsReason _ parts reasons.UnseenByte = (length parts ≤ 64) × IsUnfit parts reasons.UnseenByte
+IsReason None parts reasons.NotClients = AreProper parts × (NameClients parts → ⊥)
+IsReason (Some clients) parts reason = AreProper parts × IsNoStep clients parts reason
 IsReason _ _ _ = ⊥
 
 -- P holds of the reason why a line is bad

@@ -71,12 +71,17 @@ SaysSomething (Some clients) line = (step : Option Event) × SaysStep clients li
 abbrev pub SaysNothing : Option ℕ → List ℕ → Type 0
 SaysNothing named line = (is_passed_over line ≡ false) × (SaysSomething named line → ⊥)
 
--- The line with this number and length exceeds a limit. The script has this many bytes up to the end of the line.
+-- The line with this number and length exceeds a limit, the first of: lines, the bytes of a line, the bytes of a script.
+-- The script has this many bytes up to the end of the line.
 abbrev pub PassesLimit : ℕ → ℕ → ℕ → BadLine → Type 0
 PassesLimit number bytes read reasons.ManyLines = 10000 < number
-PassesLimit number bytes read reasons.LongLine = 4096 < bytes
-PassesLimit number bytes read reasons.LongScript = 1048576 < read
+PassesLimit number bytes read reasons.LongLine = (number ≤ 10000) × (4096 < bytes)
+PassesLimit number bytes read reasons.LongScript = (number ≤ 10000) × (bytes ≤ 4096) × (1048576 < read)
 PassesLimit number bytes read _ = ⊥
+
+-- the line exceeds no limit
+abbrev pub IsWithin : ℕ → ℕ → ℕ → Type 0
+IsWithin number bytes read = (number ≤ 10000) × (bytes ≤ 4096) × (read ≤ 1048576)
 
 -- the line with this number is bad for this reason, and no line before it is bad
 pub record IsFirstBad (text : List ℕ) (number : ℕ) (reason : BadLine) : Type 0 where
@@ -92,7 +97,7 @@ pub record IsFirstBad (text : List ℕ) (number : ℕ) (reason : BadLine) : Type
   pub is_bad : (AreWithin text (before ++ bad ∷ []) → ⊥) ⊎ SaysNothing named bad
   pub why :
       PassesLimit number (length bad) (bytes_to_end text (before ++ bad ∷ [])) reason ⊎
-      IsReason named (parts_of_line bad) reason
+      IsWithin number (length bad) (bytes_to_end text (before ++ bad ∷ [])) × IsReason named (parts_of_line bad) reason
 
 -- the first word of a line
 abbrev pub first_word : List ℕ → List ℕ

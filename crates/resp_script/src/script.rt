@@ -1,7 +1,7 @@
 //! Reads a script: its lines, each with an event of one client.
 
 ghost use Rattle.std.specs.Prelude.{◌≡◌, ◌+◌, ◌-◌, ◌<◌, ◌≤◌, [], ◌∷◌, length, IfOk, IfErr, IfSome, IfNone, MatchBool};
-ghost use Rattle.resp_script.specs.Scripts.{IsRefusedScript, IsScript, NameNoClients, PassesLimit, lines_of};
+ghost use Rattle.resp_script.specs.Scripts.{IsRefusedScript, IsScript, IsWithin, NameNoClients, PassesLimit, lines_of};
 ghost use Rattle.resp_print.specs.Written.{WritesText};
 
 pub mod reasons;
@@ -151,7 +151,7 @@ pub fn read_script(alloc: Global, bytes: &[u8]) -> Result<Script, ScriptError>
 /// Returns the limit that the line with this number exceeds. The line has `bytes` bytes, and the
 /// script has `read` bytes up to the line's end.
 fn passed_limit(line: u64, bytes: usize, read: usize) -> Option<BadLine>
-    ensures within { IfNone result ((line ≤ 10000) × (bytes ≤ 4096) × (read ≤ 1048576)) }
+    ensures within { IfNone result (IsWithin line bytes read) }
     ensures passed { IfSome result (PassesLimit line bytes read) }
 {
     if line > MOST_LINES {

@@ -15,3 +15,4 @@ pub mod CanonicalFrontLemmas
 pub mod FrontsTaken
 pub mod SameBytes
 pub mod RunWords
+pub mod Failures

@@ -39,10 +39,10 @@ wrong_for_run program words (inl refused) = inl refused
 wrong_for_run program words (inr other) = inr (other.0, λ options asks. other.1 (Stream options) asks.0)
 
 -- what comes of words that ask for nothing to be run
-pub does_nothing : (program : App) (words : List Text) (Stays : Type 0) (Runs : Options → Type 0) (status : ℕ) → Stays →
-    AnswersStatus AskFor program words (Err status) → IsWordStatus status → DoesWords program words Stays Runs status
-does_nothing program words Stays Runs status stays answers (inl none) = inl (stays, none, answers.0 none)
-does_nothing program words Stays Runs status stays answers (inr range) = elim (two_or_three status range.0 range.1) [
+pub does_nothing : (program : App) (words : List Text) (Stays Helps : Type 0) (Runs : Options → Type 0) (status : ℕ) → Stays →
+    (status ≡ 0 → Helps) → AnswersStatus AskFor program words (Err status) → IsWordStatus status → DoesWords program words Stays Helps Runs status
+does_nothing program words Stays Helps Runs status stays helps answers (inl none) = inl (stays, helps none, none, answers.0 none)
+does_nothing program words Stays Helps Runs status stays helps answers (inr range) = elim (two_or_three status range.0 range.1) [
   | inl two ↦ inr (inl (stays, two, wrong_for_run program words (answers.1 two)))
   | inr three ↦ inr (inr (inl (stays, three)))
 ]

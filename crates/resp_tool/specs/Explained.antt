@@ -19,6 +19,10 @@ use Rattle.resp_tool.specs.declared.watched.Watched.{Watched}
 abbrev pub rules_watched : {R : Type 0} → Watched R → Rules
 rules_watched w = rules_of w.starts.scanner
 
+-- the number of bytes that are in memory
+abbrev pub held_bytes : {R : Type 0} → Watched R → ℕ
+held_bytes w = length w.held.items
+
 -- all of these bytes except the last ones were scanned, and the last ones are held
 pub record Watches {R : Type 0} (w : Watched R) (bytes : List ℕ) : Type 0 where
   pub done : List ℕ

@@ -1,5 +1,6 @@
 -- The result of running the program over a stream.
 use Rattle.std.specs.Prelude.{◌≡◌, ◌⊎◌, ℕ, false, codes, List, [], Option, Some, IfSome, Result, Ok, Err}
+use Rattle.resp_value.specs.Devices.{failures_after}
 use Rattle.resp_value.specs.Canonical.{canonical_text, Fits}
 use Rattle.resp_value.specs.Rules.{Rules}
 use Rattle.clap.specs.Words.{App, Text}
@@ -10,7 +11,7 @@ use Rattle.resp_print.specs.Live.{Look}
 use Rattle.resp_tool.specs.Live.{EachRead, IsLive}
 use Rattle.resp_tool.specs.Scans.{IsShownDue, IsShownIn, IsShownOf}
 use Rattle.resp_print.specs.Shown.{shown_text}
-use Rattle.resp_tool.specs.Streams.{AreRead, AtEnd, Renders}
+use Rattle.resp_tool.specs.Streams.{AreRead, AtEnd, Renders, is_of_reader, is_of_writer}
 use Rattle.resp_args.specs.Tried.{TriesText}
 use Rattle.resp_args.specs.declared.asked.Asked.TheVariants.{Stream}
 use Rattle.resp_args.specs.declared.options.Options.{Options}
@@ -55,16 +56,25 @@ pub record HasRun (task : Task) (rules : Rules) (left left' before after said sa
   pub ended : status_of_run result ≡ status
   pub told : TellsOutcome said said' failures failures' result
 
+-- Status 3: the line of an error was written, or one write of it failed. Memory was out, one read or one write failed,
+-- or no read was left. The last numbers are the counts of failed reads and writes.
+pub record FailsAtThree (said said' : Option (List ℕ)) (failures failures' reads reads' writes writes' : ℕ) : Type 0 where
+  pub error : ToolError
+  pub status : status_of error ≡ 3
+  pub told : TriesText said said' failures failures' (fault_line error)
+  pub read : reads' ≡ failures_after (is_of_reader error) reads
+  pub written : writes' ≡ failures_after (is_of_writer error) writes
+
 -- the words ask for a task over standard input, and for nothing else
 abbrev pub AskForRun : App → List Text → Options → Type 0
 AskForRun program words options =
     AskFor program words (Stream options) × (options.file.now ≡ codes "-") × (options.explains ≡ false)
 
 -- The result of a command line: help, a usage error, a failed device or allocation, or a run of the options. The first
--- proposition says that nothing was read, the second one which options were run.
-abbrev pub DoesWords : App → List Text → Type 0 → (Options → Type 0) → ℕ → Type 0
-DoesWords program words Stays Runs status =
-    (Stays × (status ≡ 0) × AskForHelp program words)
+-- proposition says that nothing was read, the second one that help was written, the third one which options were run.
+abbrev pub DoesWords : App → List Text → Type 0 → Type 0 → (Options → Type 0) → ℕ → Type 0
+DoesWords program words Stays Helps Runs status =
+    (Stays × Helps × (status ≡ 0) × AskForHelp program words)
     ⊎ (Stays × (status ≡ 2) × AreWrong AskForRun program words)
     ⊎ (Stays × (status ≡ 3))
     ⊎ ((options : Options) × AskForRun program words options × Runs options)

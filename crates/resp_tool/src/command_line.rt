@@ -2,10 +2,11 @@
 
 ghost use Rattle.std.specs.Prelude.{◌≡◌, ◌≢◌, ◌≤◌, ◌+◌, ℕ, List, [], Some, IfSome, map};
 ghost use Rattle.clap.specs.Words.{App};
-ghost use Rattle.resp_args.specs.Faults.{TellsFailure};
 ghost use Rattle.resp_args.specs.Program.{IsProgram};
-ghost use Rattle.resp_tool.specs.Runs.{DoesWords, HasRun, Lives, TaskWrites};
-ghost use Rattle.resp_tool.specs.Streams.{AreRead, AtEnd};
+ghost use Rattle.resp_tool.specs.Runs.{DoesWords, FailsAtThree, HasRun, Lives, TaskWrites};
+ghost use Rattle.resp_tool.specs.Streams.{AreRead, AtEnd, UsesReader, failed_to_write};
+ghost use Rattle.resp_args.specs.Tried.{WritesSome};
+ghost use Rattle.resp_value.specs.Devices.{failures_after};
 ghost use Rattle.resp_value.specs.Rules.{rules_under};
 
 use crate::canon::canon;
@@ -46,7 +47,10 @@ pub fn perform<R: LiveSource<W>, W: LiveSink>(
     ensures live { Lives options.now.task (rules_under options.now.version options.now.limits)
         (R.remaining reader.old) (W.written writer.old) (R.looks reader.old)
         (R.looks reader.new) }
-    ensures reads_bounded { R.calls reader.new ≤ R.calls reader.old + MOST_READS }
+    ensures reads { UsesReader MOST_READS result (R.calls reader.old) (R.calls reader.new)
+        (R.failures reader.old) (R.failures reader.new) }
+    ensures write_failures { W.failures writer.new ≡
+        failures_after (failed_to_write result) (W.failures writer.old) }
 {
     let version = options.version;
     let limits = options.limits;
@@ -78,8 +82,13 @@ pub fn run_options<R: LiveSource<W>, W: LiveSink, F: Sink>(
         (F.failures faults.old) (F.failures faults.new) result }
     ensures reads_bounded { R.calls reader.new ≤ R.calls reader.old + MOST_READS }
     ensures nothing_told_at_zero { result ≡ 0 → faults.new ≡ faults.old }
-    ensures told_at_three { result ≡ 3 → TellsFailure (F.written faults.old)
-        (F.written faults.new) (F.failures faults.old) (F.failures faults.new) }
+    ensures fails_at_three { result ≡ 3 → FailsAtThree (F.written faults.old)
+        (F.written faults.new) (F.failures faults.old) (F.failures faults.new)
+        (R.failures reader.old) (R.failures reader.new) (W.failures writer.old)
+        (W.failures writer.new) }
+    ensures sound_below_three { (result ≡ 3 → ⊥) →
+        (R.failures reader.new ≡ R.failures reader.old) ×
+        (W.failures writer.new ≡ W.failures writer.old) }
 {
     match perform(alloc, options, reader, writer) {
         Ok(()) => 0,
@@ -107,15 +116,21 @@ pub fn command<S: AsStr, R: LiveSource<W>, W: LiveSink, F: Sink>(
 ) -> u8
     ensures at_most_three { result ≤ 3 }
     ensures does { (program : App) × IsProgram program × DoesWords program
-        (map S.text words.now) (reader.new ≡ reader.old) (λ options. HasRun options.task
+        (map S.text words.now) (reader.new ≡ reader.old) (WritesSome (W.written writer.old)
+        (W.written writer.new) (W.failures writer.old) (W.failures writer.new)) (λ options. HasRun options.task
         (rules_under options.version options.limits) (R.remaining reader.old)
         (R.remaining reader.new) (W.written writer.old) (W.written writer.new)
         (F.written faults.old) (F.written faults.new) (R.looks reader.old) (R.looks reader.new)
         (F.failures faults.old) (F.failures faults.new) result) result }
     ensures reads_bounded { R.calls reader.new ≤ R.calls reader.old + MOST_READS }
     ensures nothing_told_at_zero { result ≡ 0 → faults.new ≡ faults.old }
-    ensures told_at_three { result ≡ 3 → TellsFailure (F.written faults.old)
-        (F.written faults.new) (F.failures faults.old) (F.failures faults.new) }
+    ensures fails_at_three { result ≡ 3 → FailsAtThree (F.written faults.old)
+        (F.written faults.new) (F.failures faults.old) (F.failures faults.new)
+        (R.failures reader.old) (R.failures reader.new) (W.failures writer.old)
+        (W.failures writer.new) }
+    ensures sound_below_three { (result ≡ 3 → ⊥) →
+        (R.failures reader.new ≡ R.failures reader.old) ×
+        (W.failures writer.new ≡ W.failures writer.old) }
     ensures nothing_at_two { result ≡ 2 →
         (reader.new ≡ reader.old) × (writer.new ≡ writer.old) }
 {

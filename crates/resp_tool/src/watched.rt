@@ -1,8 +1,8 @@
 //! A source that keeps the last bytes of its stream and the place at which its last value begins.
 
-ghost use Rattle.std.specs.Prelude.{◌≡◌, ◌≤◌, ◌-◌, ◌++◌, ℕ, List, [], length, drop, take, IfOk, IfSome, IsErr, false};
+ghost use Rattle.std.specs.Prelude.{◌≡◌, ◌≤◌, ◌+◌, ◌-◌, ◌++◌, ℕ, List, [], length, drop, take, IfOk, IfSome, IsErr, false};
 ghost use Rattle.resp_tool.specs.Begun.{HavePassed};
-ghost use Rattle.resp_tool.specs.Explained.{HasWatched, IsPlace, rules_watched};
+ghost use Rattle.resp_tool.specs.Explained.{HasWatched, IsPlace, held_bytes, rules_watched};
 ghost use Rattle.resp_print.specs.Live.{Records};
 ghost use Rattle.resp_value.specs.Devices.{Reads, count_after, failures_after, read_fails};
 ghost use Rattle.resp_value.specs.Rules.{rules_under};
@@ -38,6 +38,7 @@ impl<R: Source + Drop> Watched<R> {
         ensures rules { rules_watched result ≡ rules_under version limits.now }
         ensures same_source { result.inner ≡ inner }
         ensures sound { result.is_lost ≡ false }
+        ensures nothing_held { held_bytes result ≡ 0 }
     {
         Watched {
             inner,
@@ -58,6 +59,7 @@ impl<R> Watched<R> {
             self.new.is_lost ≡ false → HavePassed self.new.starts bytes }
         ensures same_rules { rules_watched self.new ≡ rules_watched self.old }
         ensures same_source { self.new.inner ≡ self.old.inner }
+        ensures same_size { held_bytes self.new ≡ held_bytes self.old }
     {
         let fresh = last(self.held.as_slice(), self.fresh);
         if !self.starts.pass(fresh, u64::MAX) {
@@ -72,6 +74,7 @@ impl<R> Watched<R> {
             HasWatched self.new (before ++ bytes.now) }
         ensures same_rules { rules_watched self.new ≡ rules_watched self.old }
         ensures same_source { self.new.inner ≡ self.old.inner }
+        ensures at_most { held_bytes self.new ≤ SHOWN + length bytes.now }
     {
         self.settle();
         let beyond = self.held.len().saturating_sub(SHOWN);
@@ -136,7 +139,16 @@ impl<R: Source> Source for Watched<R> {
 
     ghost failures = { λ w. R.failures w.inner };
 
-    fn read(&mut self, into: &mut [u8]) -> Result<usize, DeviceFault> {
+    fn read(&mut self, into: &mut [u8]) -> Result<usize, DeviceFault>
+        ensures within { IfOk result (λ n. n ≤ length into.old) }
+        ensures bytes { Reads (R.remaining self.old.inner) (R.remaining self.new.inner) into.new
+            result }
+        ensures calls { R.calls self.new.inner ≡ count_after 1 (R.calls self.old.inner) }
+        ensures failures { R.failures self.new.inner ≡
+            failures_after (read_fails result) (R.failures self.old.inner) }
+        ensures at_most { IfOk result (λ n. held_bytes self.new ≤ SHOWN + n) }
+        ensures no_more { IsErr result → held_bytes self.new ≡ held_bytes self.old }
+    {
         match self.inner.read(into) {
             Ok(count) => {
                 self.keep(&into[..count]);
@@ -165,6 +177,8 @@ impl<R: LiveSource<W>, W: LiveSink> LiveSource<W> for Watched<R> {
             IfOk result (λ n. HasWatched self.new (before ++ take n into.new)) }
         ensures failed { IsErr result → (before : List ℕ) → HasWatched self.old before →
             HasWatched self.new before }
+        ensures at_most { IfOk result (λ n. held_bytes self.new ≤ SHOWN + n) }
+        ensures no_more { IsErr result → held_bytes self.new ≡ held_bytes self.old }
         ensures same_rules { rules_watched self.new ≡ rules_watched self.old }
     {
         match self.inner.read_beside(into, writer) {

@@ -2,7 +2,7 @@
 
 ghost use Rattle.std.specs.Prelude.{◌≡◌, ℕ, ◌≤◌, ◌<◌, List, [], ◌∷◌, length, map, Option, Some, IfErr, IfOk, IfSome, IfNone, decimal};
 ghost use Rattle.resp_value.specs.Words.{texts_of};
-ghost use Rattle.resp_script.specs.Reasons.{IsReason, WhereBad, parts_of_line};
+ghost use Rattle.resp_script.specs.Reasons.{IsNoStep, IsReason, WhereBad, parts_of_line};
 ghost use Rattle.resp_script.specs.ScriptSteps.{arguments_of, asked_words, step_client, clients_words, item_word, step_name, step_words, verb_of, HasRange, IsStepInRange, IsMoved};
 ghost use Rattle.resp_script.specs.Scripts.{is_passed_over, SaysNothing};
 ghost use Rattle.resp_script.specs.SaidLines.{Says};
@@ -116,7 +116,7 @@ fn step_of(alloc: Global, clients: usize, words: &[&[u8]]) -> Result<Option<Even
     ensures bad { IfErr result (WhereBad (λ reason. (step : Option Event) →
         map (λ word. word.now) words.now ≡ step_words step → IsStepInRange clients step → ⊥)) }
     ensures reason { IfErr result (WhereBad
-        (IsReason (Some clients) (map (λ word. word.now) words.now))) }
+        (IsNoStep clients (map (λ word. word.now) words.now))) }
 {
     let Some((name, beyond)) = words.split_first() else {
         return Err(LineFault::Bad(BadLine::UnknownWord));

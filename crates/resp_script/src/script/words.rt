@@ -1,7 +1,7 @@
 //! The words of a line of a script, and numbers.
 
 ghost use Rattle.std.specs.Prelude.{◌≡◌, ℕ, ◌≤◌, List, All, Option, map, decimal, IfOk, IfErr, IfSome, IfNone, MatchBool};
-ghost use Rattle.resp_script.specs.Reasons.{IsReason, WhereBad, parts_of_line};
+ghost use Rattle.resp_script.specs.Reasons.{IsReason, IsUnfit, WhereBad, parts_of_line};
 ghost use Rattle.resp_script.specs.ScriptSteps.{AreWords, IsSeen, IsWord};
 ghost use Rattle.resp_script.specs.Scripts.{first_word};
 
@@ -74,8 +74,7 @@ fn first_fault(words: &[&[u8]]) -> Option<BadLine>
     ensures words { IfNone result (All IsWord (map (λ word. word.now) words.now)) }
     ensures no_words { IfSome result (λ reason.
         All IsWord (map (λ word. word.now) words.now) → ⊥) }
-    ensures reason { (named : Option ℕ) → IfSome result (λ reason.
-        IsReason named (map (λ word. word.now) words.now) reason) }
+    ensures reason { IfSome result (IsUnfit (map (λ word. word.now) words.now)) }
 {
     for word in words {
         if word.is_empty() {

@@ -1,7 +1,7 @@
 use Rattle.std.proofs.Common.{◌≡◌, ◌+◌, [], ◌∷◌, ◌++◌, None, cond, refl, sym, ap, subst, ◌∙◌, inl, inr}
 use Rattle.resp_script.specs.SaidLines.{Says}
 use Rattle.resp_script.specs.Scripts.{IsFirstBad}
-use Rattle.resp_script.proofs.ScriptReading.{HaveRead, is_first_bad, passes_a_limit, read_nothing, reads_clients, reads_no_clients, reads_nothing, reads_step}
+use Rattle.resp_script.proofs.ScriptReading.{HaveRead, is_first_bad, is_within, passes_a_limit, read_nothing, reads_clients, reads_no_clients, reads_nothing, reads_step}
 use Rattle.resp_script.proofs.script.read_script.Goals as goal
 
 pub loop-content-init : goal.loop-content-init
@@ -26,7 +26,11 @@ returns-in-Err-Bad-clause-refused c =
       subst (IsFirstBad c.args.bytes.now (c.loop-content.line + 1)) (sym c.in-Err-Bad.reason-is)
           (is_first_bad c.args.bytes.now c.loop-content.rest.now c.in-Some.beyond.now c.in-Some.content.now done c.loop-content.line
           c.loop-content.clients c.loop-content.steps.items read c.in-Some.ensures.line c.in-Err-Bad.reason
-          (inr (rw c.in-Err-Bad.field-0-is at c.in-Err-Bad.ensures.bad)) (inr (rw c.in-Err-Bad.field-0-is at c.in-Err-Bad.ensures.reason))),
+          (inr (rw c.in-Err-Bad.field-0-is at c.in-Err-Bad.ensures.bad)) (inr (
+            is_within c.args.bytes.now c.loop-content.rest.now c.in-Some.beyond.now c.in-Some.content.now done c.loop-content.line
+                c.loop-content.clients c.loop-content.steps.items read c.in-Some.ensures.left c.in_default-passed_limit.ensures.within,
+            rw c.in-Err-Bad.field-0-is at c.in-Err-Bad.ensures.reason,
+          ))),
     )
 
 pub loop-content-preserved-in-Ok-Nothing : goal.loop-content-preserved-in-Ok-Nothing

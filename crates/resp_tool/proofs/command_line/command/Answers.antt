@@ -1,12 +1,21 @@
-use Rattle.std.proofs.Common.{◌∙◌, arith, inl, inr, map, refl, sym}
+use Rattle.std.proofs.Common.{ap, ◌∙◌, arith, inl, inr, map, refl, sym}
+use Rattle.resp_tool.proofs.Failures.{fails_by_words, status_is}
 use Rattle.resp_tool.proofs.RunWords.{does_nothing, runs_no_explanation, runs_no_file, runs_no_stream}
 use Rattle.resp_tool.proofs.SameBytes.{same_bytes}
 use Rattle.resp_tool.proofs.command_line.command.Goals as goal
 
 pub returns-in-Err-clause-does : goal.returns-in-Err-clause-does
 returns-in-Err-clause-does g c =
-    let asked = c.in-Err.ensures.asked in
-    (asked.0, asked.1, does_nothing asked.0 (map g.S.AsStr.text c.args.words.now) _ _ c.in-Err.status refl asked.2 c.in-Err.ensures.never_one)
+    let asked = c.in-Err.ensures.asked in (
+      asked.0,
+      asked.1,
+      does_nothing asked.0 (map g.S.AsStr.text c.args.words.now) _ _ _ c.in-Err.status refl
+          (λ none. c.in-Err.ensures.help_is_written (status_is c.in-Err.status 0 none)) asked.2
+          c.in-Err.ensures.never_one,
+    )
+
+pub returns-in-Err-clause-fails_at_three : goal.returns-in-Err-clause-fails_at_three
+returns-in-Err-clause-fails_at_three g c = λ three. fails_by_words _ _ _ _ _ _ _ (c.in-Err.ensures.told_at_three (status_is c.in-Err.status 3 three))
 
 pub returns-in_default : goal.returns-in_default
 returns-in_default g c =
@@ -21,7 +30,8 @@ returns-in_default g c =
       );
       reads_bounded = omega arith;
       nothing_told_at_zero = λ none. absurd (omega arith);
-      told_at_three = λ three. absurd (omega arith);
+      fails_at_three = λ three. absurd (omega arith);
+      sound_below_three = λ below. (refl, ap g.W.Sink.failures said.0);
       nothing_at_two = λ two. (refl, said.0);
     }
 

@@ -1,9 +1,9 @@
 use Rattle.std.proofs.Common.{List, ℕ, map, length, Bor, sym, ap, subst, ◌∙◌, arith}
 use Rattle.std.specs.Prelude.{All}
 use Rattle.std.proofs.lemmas.List.{length-map}
-use Rattle.resp_script.specs.Reasons.{IsReason}
+use Rattle.resp_script.specs.Reasons.{IsUnfit, parts_of_line}
 use Rattle.resp_script.specs.ScriptSteps.{IsWord}
-use Rattle.resp_script.proofs.ScriptWords.{are_parts, parts_of}
+use Rattle.resp_script.proofs.ScriptWords.{are_parts, parts_of, unfit_reason}
 use Rattle.resp_script.proofs.script.words.words_of.Goals as goal
 
 pub returns-then-len-gt-MOST_WORDS-clause-bad : goal.returns-then-len-gt-MOST_WORDS-clause-bad
@@ -42,5 +42,12 @@ returns-clause-bad c = λ words are.
 
 pub returns-clause-reason : goal.returns-clause-reason
 returns-clause-reason c = λ named.
-    subst (λ z. IsReason named z c.in-Some.reason)
-    (ap (map (λ (word : Bor (List ℕ)). word.now)) c.as_slice.ensures.value ∙ c.in-Ok.ensures) (c.in-Some.ensures.reason named)
+    let same = ap (map (λ (word : Bor (List ℕ)). word.now)) c.as_slice.ensures.value ∙ c.in-Ok.ensures in
+    unfit_reason named (parts_of_line c.args.line.now) c.in-Some.reason
+    (omega (
+      arith,
+      ap length c.in-Ok.ensures,
+      length-map c.in-Ok.words.items (λ (word : Bor (List ℕ)). word.now),
+      c.len.ensures,
+      c.if-len-gt-MOST_WORDS.false,
+    )) (subst (λ z. IsUnfit z c.in-Some.reason) same c.in-Some.ensures.reason)

@@ -1,0 +1,30 @@
+-- Which device failed when the status is 3.
+use Rattle.std.proofs.Common.{◌≡◌, ℕ, Bool, false, List, Option, Result, Ok, Err, IsErrOf, inl, inr, refl, ap}
+use Rattle.resp_args.specs.Faults.{TellsFailure, fault_line, status_of}
+use Rattle.resp_args.specs.Tried.{TriesText}
+use Rattle.resp_args.specs.declared.tool_error.ToolError.{ToolError}
+use Rattle.resp_args.specs.declared.tool_error.ToolError.TheVariants.{Refused, OverLimits, TooManyValues, Read, Write, TooManyTurns, Memory}
+use Rattle.resp_tool.specs.Runs.{FailsAtThree}
+use Rattle.resp_tool.specs.Streams.{is_of_reader, is_of_writer}
+
+-- a status that was returned
+pub status_is : {X : Type 0} (status n : ℕ) → status ≡ n → IsErrOf {T = X} (Err status) n
+status_is {X} status n is = ap (λ s. let r : Result X ℕ = Err s in r) is
+
+-- with another status no device failed
+pub sound_of : (error : ToolError) → (status_of error ≡ 3 → ⊥) → (is_of_reader error ≡ false) × (is_of_writer error ≡ false)
+sound_of (Refused value cause at) below = (refl, refl)
+sound_of (OverLimits value) below = (refl, refl)
+sound_of TooManyValues below = (refl, refl)
+sound_of Read below = absurd (below refl)
+sound_of Write below = absurd (below refl)
+sound_of TooManyTurns below = absurd (below refl)
+sound_of Memory below = absurd (below refl)
+
+-- help was not written
+pub fails_by_words : (said said' : Option (List ℕ)) (failures failures' reads writes writes' : ℕ) → TellsFailure said said' failures failures' writes writes' →
+    FailsAtThree said said' failures failures' reads reads writes writes'
+fails_by_words said said' failures failures' reads writes writes' (inl (told, same)) =
+    record { error = Memory; status = refl; told = told; read = refl; written = same }
+fails_by_words said said' failures failures' reads writes writes' (inr (told, risen)) =
+    record { error = Write; status = refl; told = told; read = refl; written = risen }
