@@ -3,4 +3,5 @@ pub mod HeadNumbers
 pub mod WordFronts
 pub mod ManyWords
 pub mod FirstWords
+pub mod FewWords
 pub mod Commands

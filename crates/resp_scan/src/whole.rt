@@ -1,7 +1,7 @@
 //! Recognises what lies completely at the beginning of some bytes: heads, bulk strings and
 //! commands. Nothing is copied, and nothing is allocated.
 
-ghost use Rattle.std.specs.Prelude.{◌≡◌, ◌≤◌, ◌<◌, ◌^◌, ◌∷◌, List, ℕ, length, IfNone, IfSome};
+ghost use Rattle.std.specs.Prelude.{◌≡◌, ◌≤◌, ◌<◌, ◌^◌, ◌∷◌, List, ℕ, length, map, take, IfNone, IfSome};
 ghost use Rattle.std.specs.Iterator.{at_most};
 ghost use Rattle.std.specs.Map.Iter.{TakesFirst, deref};
 ghost use Rattle.std.specs.Str.{byte};
@@ -149,23 +149,65 @@ fn first_word(text: &[u8]) -> Text<'_>
     }
 }
 
+/// The number of words after the name that are kept when they are recognised, so that they are not
+/// read again.
+const FEW: u64 = 3;
+
+/// Up to three words, and the bytes after them.
+#[derive(Clone, Copy)]
+struct FewWords<'a> {
+    words: [&'a [u8]; 3],
+    rest: &'a [u8],
+}
+
+/// Returns this many bulk strings at the beginning of some bytes, at most three, each of at most
+/// `most` bytes.
+#[inline(always)]
+fn few_words(text: &[u8], count: u64, most: u64) -> Option<FewWords<'_>>
+    requires few { count ≤ 3 }
+    requires small { most < 2 ^ 60 }
+    ensures begins { IfSome result (λ found. BeginsWithWords most text.now
+        (map deref (take count found.words)) found.rest.now) }
+    ensures size { IfSome result (λ found. length found.words ≡ 3) }
+    ensures none { IfNone result ((words : List (List ℕ)) (rest : List ℕ) →
+        length words ≡ count → BeginsWithWords most text.now words rest → ⊥) }
+{
+    let mut words = [text; 3];
+    let mut rest = text;
+    for index in 0..count as usize {
+        let found = word(rest, most)?;
+        words[index] = found.content;
+        rest = found.rest;
+    }
+    Some(FewWords { words, rest })
+}
+
 /// The words of a command after its name, in order. They are borrowed, and taking them does not
 /// allocate.
 #[derive(Debug, Drop)]
 pub struct Words<'a> {
+    /// The words from the index `from` to the index `to` come first.
+    few: [&'a [u8]; 3],
+    from: usize,
+    to: usize,
+    /// Then come the first `left` words of this text.
     text: &'a [u8],
     left: u64,
 }
 
 impl<'a> Model for Words<'a> {
-    ghost use Rattle.std.specs.Prelude.{ℕ, List};
+    ghost use Rattle.std.specs.Prelude.{◌≡◌, ◌≤◌, ◌++◌, ℕ, List, length, map, take, drop};
+    ghost use Rattle.std.specs.Map.Iter.{deref};
     ghost use Rattle.resp_scan.specs.Whole.{HasWords, words_in};
 
     ghost Value = { List (List ℕ) };
 
-    ghost view = { λ words. words_in words.left words.text.now };
+    ghost view = { λ words. map deref (drop words.from (take words.to words.few)) ++
+        words_in words.left words.text.now };
 
-    ghost invariant = { λ words. HasWords 1_073_741_824 words.left words.text.now };
+    ghost invariant = { λ words. (length words.few ≡ 3) × (words.from ≤ words.to) ×
+        (words.to ≤ 3) × (words.left ≤ 1_099_511_627_776) ×
+        HasWords 1_073_741_824 words.left words.text.now };
 }
 
 impl<'a> Words<'a> {
@@ -174,7 +216,7 @@ impl<'a> Words<'a> {
     pub fn len(&self) -> u64
         ensures { result ≡ length self.now }
     {
-        self.left
+        (self.to - self.from) as u64 + self.left
     }
 }
 
@@ -187,6 +229,11 @@ impl<'a> Iterator for Words<'a> {
 
     #[inline(always)]
     fn next(&mut self) -> Option<&'a [u8]> {
+        if self.from < self.to {
+            let word = self.few[self.from];
+            self.from += 1;
+            return Some(word);
+        }
         if self.left == 0 {
             return None;
         }
@@ -195,6 +242,40 @@ impl<'a> Iterator for Words<'a> {
         self.left -= 1;
         Some(found.content)
     }
+}
+
+/// Returns this many bulk strings at the beginning of some bytes, each of at most `most` bytes, and
+/// the bytes after them.
+#[inline(always)]
+fn words_of(text: &[u8], count: u64, most: u64) -> Option<(Words<'_>, &[u8])>
+    requires many { count ≤ 1_099_511_627_776 }
+    requires small { most ≤ 1_073_741_824 }
+    ensures begins { IfSome result (λ found.
+        BeginsWithWords most text.now found.0 found.1.now) }
+    ensures as_many { IfSome result (λ found. length found.0 ≡ count) }
+    ensures none { IfNone result ((words : List (List ℕ)) (rest : List ℕ) →
+        length words ≡ count → BeginsWithWords most text.now words rest → ⊥) }
+{
+    if count <= FEW {
+        let found = few_words(text, count, most)?;
+        let words = Words {
+            few: found.words,
+            from: 0,
+            to: count as usize,
+            text,
+            left: 0,
+        };
+        return Some((words, found.rest));
+    }
+    let rest = after_words(text, count, most)?;
+    let words = Words {
+        few: [text; 3],
+        from: 0,
+        to: 0,
+        text,
+        left: count,
+    };
+    Some((words, rest))
 }
 
 /// A command, and the bytes after it.
@@ -236,16 +317,11 @@ pub fn command<'a>(text: &'a [u8], limits: &Limits) -> Option<WholeCommand<'a>>
         return None;
     }
     let most = limits.length();
-    let count = head.number - 1;
     let name = word(head.rest, most)?;
-    let rest = after_words(name.rest, count, most)?;
+    let (arguments, rest) = words_of(name.rest, head.number - 1, most)?;
     if (text.len() - rest.len()) as u64 > limits.total() {
         return None;
     }
-    let arguments = Words {
-        text: name.rest,
-        left: count,
-    };
     Some(WholeCommand {
         name: name.content,
         arguments,
