@@ -1,10 +1,10 @@
 //! A codec for a server: it reads commands and writes replies.
 
-ghost use Rattle.std.specs.Prelude.{◌≡◌, [], IfOk, IfNone};
+ghost use Rattle.std.specs.Prelude.{◌≡◌, [], IfOk, IfNone, OnErr};
 ghost use Rattle.resp_value.specs.Rules.{rules_under};
 ghost use Rattle.resp_value.specs.declared.version.Version.TheVariants.{Two};
 ghost use Rattle.resp_decode.specs.Decoding as decoding;
-ghost use Rattle.tokio_util.specs.Codec.Next.{Decodes};
+ghost use Rattle.tokio_util.specs.Codec.Next.{Decodes, DecodesAtEnd};
 ghost use Rattle.resp_codec.specs.Commands.{HasTaken, ReadsLike, reads_by, writes_by, gives_commands, reading_commands, encodes_replies, refuses_replies};
 ghost use Rattle.resp_codec.specs.NextLaws as laws;
 
@@ -97,6 +97,7 @@ impl codec::Decoder for CommandCodec {
     fn decode(&mut self, src: &mut BytesMut) -> Result<Option<Asked>, CodecError>
         ensures next { Decodes gives_commands self.old src.old.items result self.new src.new.items }
         ensures all_taken { IfOk result (λ next. IfNone next (src.new.items ≡ [])) }
+        ensures cleared { OnErr result (src.new.items ≡ []) }
     {
         match next_value(&mut self.decoder, src)? {
             Some(value) => Ok(Some(asked_by(value))),
@@ -105,7 +106,11 @@ impl codec::Decoder for CommandCodec {
     }
 
     /// As `decode`, and fails with `Truncated` if the input ends inside a value.
-    fn decode_eof(&mut self, src: &mut BytesMut) -> Result<Option<Asked>, CodecError> {
+    fn decode_eof(&mut self, src: &mut BytesMut) -> Result<Option<Asked>, CodecError>
+        ensures next { DecodesAtEnd gives_commands self.old src.old.items result self.new
+            src.new.items }
+        ensures cleared { OnErr result (src.new.items ≡ []) }
+    {
         match self.decode(src)? {
             Some(asked) => Ok(Some(asked)),
             None => {

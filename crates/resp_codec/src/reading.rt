@@ -1,6 +1,6 @@
 //! Reading values from a buffer.
 
-ghost use Rattle.std.specs.Prelude.{◌≡◌, IfOk, IfErr, IfSome, IfNone};
+ghost use Rattle.std.specs.Prelude.{◌≡◌, [], IfOk, IfErr, IfSome, IfNone, OnErr};
 ghost use Rattle.resp_value.specs.Values.{datum_of};
 ghost use Rattle.resp_decode.specs.Decoding.{rules_of};
 ghost use Rattle.resp_codec.specs.Frames.{ValueEnds, TakesPart, RefusesBuffer};
@@ -19,6 +19,7 @@ pub(crate) fn next_value(decoder: &mut Decoder, src: &mut BytesMut) -> Result<Op
         (TakesPart decoder.old src.old.items decoder.new src.new.items)) }
     ensures refused { IfErr result (λ fault.
         RefusesBuffer decoder.old src.old.items fault decoder.new src.new.items) }
+    ensures cleared { OnErr result (src.new.items ≡ []) }
     ensures same_rules { rules_of decoder.new ≡ rules_of decoder.old }
 {
     let fed = match decoder.feed(src.as_slice()) {

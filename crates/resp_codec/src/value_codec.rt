@@ -79,7 +79,7 @@ impl RespCodec {
 }
 
 impl codec::Decoder for RespCodec {
-    ghost use Rattle.tokio_util.specs.Codec.Next.{Decodes};
+    ghost use Rattle.tokio_util.specs.Codec.Next.{Decodes, DecodesAtEnd};
     ghost use Rattle.resp_codec.specs.Values.{gives_values, reading_values};
     ghost use Rattle.resp_codec.specs.NextLaws as laws;
 
@@ -105,13 +105,18 @@ impl codec::Decoder for RespCodec {
     fn decode(&mut self, src: &mut BytesMut) -> Result<Option<Value>, CodecError>
         ensures next { Decodes gives_values self.old src.old.items result self.new src.new.items }
         ensures all_taken { IfOk result (λ next. IfNone next (src.new.items ≡ [])) }
+        ensures cleared { OnErr result (src.new.items ≡ []) }
     {
         let value = next_value(&mut self.decoder, src)?;
         Ok(value)
     }
 
     /// As `decode`, and fails with `Truncated` if the input ends inside a value.
-    fn decode_eof(&mut self, src: &mut BytesMut) -> Result<Option<Value>, CodecError> {
+    fn decode_eof(&mut self, src: &mut BytesMut) -> Result<Option<Value>, CodecError>
+        ensures next { DecodesAtEnd gives_values self.old src.old.items result self.new
+            src.new.items }
+        ensures cleared { OnErr result (src.new.items ≡ []) }
+    {
         match self.decode(src)? {
             Some(value) => Ok(Some(value)),
             None => {

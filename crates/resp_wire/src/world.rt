@@ -153,8 +153,8 @@ impl<L: Link, S: BuildHasher + Drop> World<L, S> {
     ///
     /// A [`Stop`] with index 0 if an allocation or a link fails. If no link changes bytes, there is
     /// no other cause. An event that is refused or concerns no client does not allocate, and
-    /// neither does a drop. After a stop each step returns the same cause, and what the world shows
-    /// is unspecified.
+    /// neither does a drop. After a stop each step returns the same cause and changes nothing, and
+    /// what the world shows is unspecified.
     pub fn step(&mut self, event: &Event) -> Result<Outcome, Stop>
         ensures happens { IfOk result (Happens L.is_honest self.old self.new (event_of event.now)) }
         ensures going { OnOk result (self.new.stopped ≡ None) }
@@ -166,6 +166,7 @@ impl<L: Link, S: BuildHasher + Drop> World<L, S> {
         ensures remembered { IfErr result (λ stop. self.new.stopped ≡ Some stop.cause) }
         ensures stopped_before { IfSome self.old.stopped (λ cause.
             result ≡ Err (record { event = 0; cause = cause })) }
+        ensures nothing_more { IfSome self.old.stopped (λ cause. self.new ≡ self.old) }
         ensures index { IfErr result (λ stop. stop.event ≡ 0) }
         ensures none_failed { OnOk result
             (KeepFailures L.failures self.old.links self.new.links) }

@@ -3,16 +3,16 @@ use Rattle.resp_codec.specs.Values.{reading_values}
 use Rattle.resp_codec.proofs.Ending.{is_between, is_inside}
 use Rattle.resp_codec.proofs.value_codec.RespCodecDecoder.decode_eof.Goals as goal
 
-pub returns-in_err-finish-in-None : goal.returns-in_err-finish-in-None
-returns-in_err-finish-in-None c =
+pub returns-in_err-finish-in-None-clause-next : goal.returns-in_err-finish-in-None-clause-next
+returns-in_err-finish-in-None-clause-next c =
     ends_inside reading_values c.args.self.now c.args.src.now.items c.decode.new.self c.decode.new.src.items c.in_err-finish-in-None.field-0.0
     c.from_residual-in_err-finish-in-None.result (rw c.in-None.is at c.in_ok-value.ensures.next) (rw c.in-None.is at c.in_ok-value.ensures.all_taken)
     c.from_residual-in_err-finish-in-None.ensures.1
     (is_inside c.decode.new.self.decoder c.finish.result c.in_err-finish-in-None.field-0.0 c.in_err-finish-in-None.was
     c.finish.ensures.only_between_values c.finish.ensures.truncated_inside_a_value)
 
-pub returns-in_ok-finish-in-None : goal.returns-in_ok-finish-in-None
-returns-in_ok-finish-in-None c =
+pub returns-in_ok-finish-in-None-clause-next : goal.returns-in_ok-finish-in-None-clause-next
+returns-in_ok-finish-in-None-clause-next c =
     ends_between reading_values c.args.self.now c.args.src.now.items c.decode.new.self c.decode.new.src.items
     (rw c.in-None.is at c.in_ok-value.ensures.next) (rw c.in-None.is at c.in_ok-value.ensures.all_taken)
     (is_between c.decode.new.self.decoder c.finish.result c.in_ok-finish-in-None.was c.finish.ensures.only_between_values)
