@@ -1,13 +1,15 @@
 //! The loop over the listener and the connections that are ready.
 
-ghost use Rattle.std.specs.Prelude.{◌≡◌, ◌≤◌, length};
+ghost use Rattle.std.specs.Prelude.{◌≡◌, ◌<◌, ◌≤◌, [], None, Some, IfOk, OnOk, length, slice_get, vec_len};
+ghost use Rattle.resp_serve.specs.Placing.{ArePlaced, KeepsOthers, NoneAppears};
+ghost use Rattle.resp_serve.specs.Waits.{IsNoWait};
 
 use crate::connection::refuse;
 use crate::service::{Next, Service, Tokens};
 use mio::net::{TcpListener, TcpStream};
 use mio::{Events, Interest, Poll, Token};
 use resp_schedule::{Backlog, OpenError, Schedule, State, Wait};
-use std::alloc::Global;
+use std::alloc::{AllocError, Global};
 use std::io;
 use std::io::ErrorKind;
 use std::net::{Net, SocketAddr};
@@ -31,8 +33,8 @@ const TOO_MANY: &[u8] = b"-ERR max number of clients reached\r\n";
 
 /// A listener and its connections, of which each has a place of the schedule.
 ///
-/// A place is opened before its connection is made, and closed when the connection is dropped, so
-/// that no two connections have the same place.
+/// A place is opened before its connection is made, and closed when the connection is dropped. So
+/// each connection is in an open place of its own.
 #[derive(Drop)]
 pub(crate) struct Loop<C> {
     alloc: Global,
@@ -41,6 +43,7 @@ pub(crate) struct Loop<C> {
     schedule: Schedule,
     /// The connection in each place.
     connections: Vec<Option<C>>,
+    ghost placed: { ArePlaced schedule connections.items },
 }
 
 impl<C: Drop> Loop<C> {
@@ -133,7 +136,10 @@ impl<C: Drop> Loop<C> {
     }
 
     /// Returns the longest time of the next wait.
-    fn timeout<T: Service<C>>(&self, service: &T) -> Option<Duration> {
+    fn timeout<T: Service<C>>(&self, service: &T) -> Option<Duration>
+        ensures queued { 0 < length self.now.schedule.queue → IsNoWait result }
+        ensures waiting { self.now.schedule.backlog ≡ Backlog.Waiting → IsNoWait result }
+    {
         match (self.schedule.wait(), service.patience()) {
             (Wait::No, _) => Some(Duration::from_millis(0)),
             (Wait::Short, None) => Some(Duration::from_millis(PAUSE)),
@@ -150,7 +156,10 @@ impl<C: Drop> Loop<C> {
     }
 
     /// Visits each connection that was queued before this round.
-    fn visit_due<T: Service<C>>(&mut self, service: &mut T) {
+    fn visit_due<T: Service<C>>(&mut self, service: &mut T)
+        ensures over { self.new.schedule.gone ≡ [] }
+        ensures all_are_next { due_of self.new.schedule ≡ self.new.schedule.queue }
+    {
         while let Some(place) = self.schedule.next_due() {
             // The event that reports the end of the input may already have passed.
             self.visit(service, place, true);
@@ -160,11 +169,9 @@ impl<C: Drop> Loop<C> {
     /// Visits the connection in a place.
     fn visit<T: Service<C>>(&mut self, service: &mut T, place: usize, is_at_end: bool)
         ensures due { length (due_of self.new.schedule) ≤ length (due_of self.old.schedule) }
+        ensures others { KeepsOthers self.old.connections.items self.new.connections.items place }
     {
-        let Some(Some(connection)) = self.connections.get_mut(place) else {
-            return;
-        };
-        match service.visit(connection, is_at_end) {
+        match visit_one(&mut self.connections, service, place, is_at_end) {
             Next::Wait => {}
             Next::Again => self.schedule.enqueue(place),
             Next::Close => self.close(service, place),
@@ -175,6 +182,7 @@ impl<C: Drop> Loop<C> {
     fn close<T: Service<C>>(&mut self, service: &mut T, place: usize)
         ensures due { due_of self.new.schedule ≡ without place (due_of self.old.schedule) }
         ensures closed { state_of self.new.schedule place ≡ State.Closed }
+        ensures others { KeepsOthers self.old.connections.items self.new.connections.items place }
     {
         self.schedule.close(place);
         if let Some(slot) = self.connections.get_mut(place) {
@@ -211,29 +219,65 @@ impl<C: Drop> Loop<C> {
     }
 
     /// Opens a place, with room for its connection.
-    fn open(&mut self) -> Result<usize, OpenError> {
+    fn open(&mut self) -> Result<usize, OpenError>
+        ensures idle { IfOk result (λ place. state_of self.new.schedule place ≡ State.Idle) }
+        ensures vacant { IfOk result (λ place.
+            slice_get self.new.connections.items place ≡ Some None) }
+    {
         let place = self.schedule.open()?;
-        for _ in self.connections.len()..=place {
-            if self.connections.push(None).is_err() {
-                self.schedule.close(place);
-                return Err(OpenError::OutOfMemory);
-            }
+        if make_room(&mut self.connections, place).is_err() {
+            self.schedule.close(place);
+            return Err(OpenError::OutOfMemory);
         }
         Ok(place)
     }
 
     /// Puts the connection of an accepted client into an open place. Without memory, or if a socket
     /// fails, the client and the place are closed.
-    fn fill<T: Service<C>>(&mut self, service: &mut T, client: TcpStream, place: usize) {
+    fn fill<T: Service<C>>(&mut self, service: &mut T, client: TcpStream, place: usize)
+        requires idle { state_of self.old.schedule place ≡ State.Idle }
+        requires vacant { slice_get self.old.connections.items place ≡ Some None }
+        ensures others { KeepsOthers self.old.connections.items self.new.connections.items place }
+    {
         let first = place.saturating_mul(2);
         let tokens = Tokens {
             client: Token(first.saturating_add(1)),
             server: Token(first.saturating_add(2)),
         };
-        let admitted = service.admit(client, self.poll.registry(), tokens);
-        match (admitted, self.connections.get_mut(place)) {
-            (Ok(connection), Some(slot)) => *slot = Some(connection),
-            _ => self.schedule.close(place),
+        match service.admit(client, self.poll.registry(), tokens) {
+            Ok(connection) => self.connections[place] = Some(connection),
+            Err(_) => self.schedule.close(place),
         }
     }
+}
+
+/// Visits the connection in a place, if there is one.
+fn visit_one<C: Drop, T: Service<C>>(
+    connections: &mut Vec<Option<C>>,
+    service: &mut T,
+    place: usize,
+    is_at_end: bool,
+) -> Next
+    ensures same { NoneAppears connections.old.items connections.new.items }
+    ensures others { KeepsOthers connections.old.items connections.new.items place }
+{
+    match connections.get_mut(place) {
+        Some(Some(connection)) => service.visit(connection, is_at_end),
+        _ => Next::Wait,
+    }
+}
+
+/// Makes room for the connection in a place.
+///
+/// # Errors
+///
+/// `AllocError` if an allocation fails.
+fn make_room<C: Drop>(connections: &mut Vec<Option<C>>, place: usize) -> Result<(), AllocError>
+    ensures room { OnOk result (place < vec_len connections.new) }
+    ensures same { NoneAppears connections.old.items connections.new.items }
+{
+    while connections.len() <= place {
+        connections.push(None)?;
+    }
+    Ok(())
 }
