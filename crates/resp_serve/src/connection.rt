@@ -56,8 +56,8 @@ impl Connection {
 }
 
 /// Answers the commands that a client has sent, until a read or write would block, or 16 of them
-/// were made. The session `id` reads them into `buffer`. `is_at_end` says whether the input may have
-/// ended: only then is it read again after a read that did not fill the buffer.
+/// were made. The commands of the session `id` are read into `buffer`. `is_at_end` says whether the
+/// input may have ended: only then is it read again after a read that did not fill the buffer.
 ///
 /// The replies to what was read are written before more is read. If they cannot be written yet,
 /// they wait in the hub.
