@@ -6,7 +6,7 @@ use Rattle.std.proofs.lemmas.Bool.{false≢true}
 use Rattle.resp_value.specs.Bounds.{Bounds}
 use Rattle.resp_value.specs.Rules.{WithinTotal}
 use Rattle.resp_value.specs.Spellings.{IsViable}
-use Rattle.resp_session.specs.Answers.{server_rules}
+use Rattle.resp_session.specs.Answers.{BeginsNoValue, server_rules}
 use Rattle.resp_session.specs.Fitting.{FitsStore}
 use Rattle.resp_session.specs.Stores.{Store}
 use Rattle.resp_server.specs.Answering.{IsAnswered, IsCutShort, state_with}
@@ -15,7 +15,7 @@ use Rattle.resp_server.specs.Hubs.{HubState, Seat, AreSound, HubIsSound, seat_of
 use Rattle.resp_server.specs.Reading.{HasReadFront, ReadsBy}
 use Rattle.resp_server.specs.declared.session.Session.{Session}
 use Rattle.resp_server.proofs.Seats.{is_id, state_of, seats-lookup, seats-set, sound_set, with_same}
-use Rattle.resp_server.proofs.Turns.{none_taken, waits_on}
+use Rattle.resp_server.proofs.Turns.{waits_on}
 
 -- what holds of the session that was found, and of the hub as its fields are
 at_found : (limits : Bounds) (es : List (ℕ × Session)) (store : Store) (last : ℕ) (hub : HubState) → state_of limits es store last ≡ hub → (id : ℕ)
@@ -109,9 +109,9 @@ if_none o P none = subst (λ x. IfSome x P) (sym none) tt
 
 -- a session whose front is waited on has answered it
 waits_in : (limits : Bounds) (es : List (ℕ × Session)) (store : Store) (last : ℕ) (id : ℕ) (old : Session) → Some old ≡ lookup (is_id id) es →
-    (front : List ℕ) → HasReadFront old.decoder front → old.closing ≡ false → IsViable (server_rules limits) WithinTotal front →
+    (front : List ℕ) → HasReadFront old.decoder front → old.closing ≡ false → BeginsNoValue (server_rules limits) front → IsViable (server_rules limits) WithinTotal front →
     HasAnswered (state_of limits es store last) (state_of limits es store last) id (seat_of old) front 0
-waits_in limits es store last id old found front taken is_open viable =
+waits_in limits es store last id old found front taken is_open none viable =
     let there : lookup (λ other. id == other) (seats_of es) ≡ Some (seat_of old) = sym (seats-lookup es id) ∙ ap (option_map seat_of) (sym found) in
     let seat : seat_of old ≡ record { version = old.version; out = old.out.items ++ []; closing = false; decoder = old.decoder } =
     ap (λ items. record { version = old.version; out = items; closing = old.closing; decoder = old.decoder }) (sym (append-nil old.out.items)) ∙
@@ -123,7 +123,7 @@ waits_in limits es store last id old found front taken is_open viable =
       closing = false;
       decoder = old.decoder;
       rest = front;
-      answers = waits_on limits id (state_with store old.version [] false 0) (state_with store old.version [] false 0) front refl refl (none_taken old.decoder front taken) viable;
+      answers = waits_on limits id (state_with store old.version [] false 0) (state_with store old.version [] false 0) front refl refl none viable;
       state = ap (λ seats. record { limits = limits; sessions = seats; store = store; last = last })
           (sym (with_same (seats_of es) id (seat_of old) there) ∙ ap (with_seat (seats_of es) id) seat);
       taking = λ open_now. taken;
@@ -131,12 +131,13 @@ waits_in limits es store last id old found front taken is_open viable =
 
 pub hub_waits : (limits : Bounds) (es : List (ℕ × Session)) (store : Store) (last : ℕ) (hub : HubState) → state_of limits es store last ≡ hub → (id : ℕ)
     (old : Session) → Some old ≡ lookup (is_id id) es →
+    ((front : List ℕ) → HasReadFront old.decoder front → BeginsNoValue (server_rules limits) front) →
     ((front : List ℕ) → HasReadFront old.decoder front → IsViable (server_rules limits) WithinTotal front) →
     WhereOpen hub id (λ s front. HasAnswered hub hub id s front 0)
-hub_waits limits es store last hub view id old found viable =
+hub_waits limits es store last hub view id old found none viable =
     at_found limits es store last hub view id old found (λ h s. s.closing ≡ false → (front : List ℕ) → HasReadFront s.decoder front →
     HasAnswered h h id s front 0) (λ is_open front taken. waits_in limits es store last id old found front taken is_open
-    (viable front taken))
+    (none front taken) (viable front taken))
 
 -- what holds of the session that was found holds of its seat
 pub found_seat : (limits : Bounds) (es : List (ℕ × Session)) (store : Store) (last : ℕ) (hub : HubState) → state_of limits es store last ≡ hub → (id : ℕ)

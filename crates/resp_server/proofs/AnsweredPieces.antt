@@ -5,27 +5,28 @@ use Rattle.std.proofs.lemmas.List.{take-append-drop, take_rest}
 use Rattle.resp_value.specs.Bounds.{Bounds}
 use Rattle.resp_value.specs.Rules.{WithinTotal}
 use Rattle.resp_value.specs.Spellings.{IsViable}
-use Rattle.resp_session.specs.Answers.{Answers, server_rules}
+use Rattle.resp_session.specs.Answers.{Answers, BeginsNoValue, server_rules}
 use Rattle.resp_session.specs.AnswerLaws.{AnswersGoOn, AnswersEnd}
 use Rattle.resp_session.specs.Stores.{Store}
 use Rattle.resp_server.specs.Answering.{AnswersBytes, IsAnswered, IsCutShort, state_with}
 use Rattle.resp_server.specs.Running.{IsAsBefore}
 use Rattle.resp_server.specs.Reading.{HasReadFront}
 use Rattle.resp_server.specs.declared.session.Session.{Session}
-use Rattle.resp_server.proofs.Turns.{none_taken, waits_on}
+use Rattle.resp_server.proofs.Turns.{waits_on}
 
 -- before a piece nothing is answered
 pub none_answered : (limits : Bounds) (id : ℕ) (store : Store) (session : Session) (front : List ℕ) →
-    HasReadFront session.decoder front → IsViable (server_rules limits) WithinTotal front → session.closing ≡ false →
+    HasReadFront session.decoder front → BeginsNoValue (server_rules limits) front → IsViable (server_rules limits) WithinTotal front →
+    session.closing ≡ false →
     IsAnswered limits id store store session session (front ++ []) 0
-none_answered limits id store session front taken viable is_open = record {
+none_answered limits id store session front taken none viable is_open = record {
   reply = [];
   rest = front;
   replied = sym (append-nil session.out.items);
   answers = subst (λ t. Answers limits id (state_with store session.version [] false 0) t (state_with store session.version [] session.closing 0) front)
       (sym (append-nil front))
       (waits_on limits id (state_with store session.version [] false 0) (state_with store session.version [] session.closing 0) front refl
-      (ap (λ b. state_with store session.version [] b 0) is_open) (none_taken session.decoder front taken) viable);
+      (ap (λ b. state_with store session.version [] b 0) is_open) none viable);
   taking = λ open_now. taken;
 }
 

@@ -17,7 +17,6 @@ use Rattle.resp_value.specs.declared.cause.Cause.TheVariants.{OutOfMemory}
 use Rattle.resp_scan.specs.Reading.{HasNoValue, HasNoSpelling}
 use Rattle.resp_scan.specs.declared.event.Fault.{Fault}
 use Rattle.resp_decode.specs.Decoding.{RefusesByte}
-use Rattle.resp_decode.proofs.Feeding.{no_value_at_start}
 use Rattle.resp_session.proofs.AddedAnswers.{no_value_answered}
 use Rattle.resp_session.specs.Answers.{SessionState, Answers, BeginsNoValue, Ends, server_rules, after_value, after_error}
 use Rattle.resp_session.specs.Replies.{error}
@@ -44,10 +43,10 @@ nothing_begins full r x [] beyond s e = full r x s
 nothing_begins full r x (b ∷ bs) beyond s e = absurd (cc)
 
 -- what is waited on
-pub waits_on : (limits : Bounds) (id : ℕ) (s t : SessionState) (text : List ℕ) → s.closing ≡ false → t ≡ s → HasNoValue text →
+pub waits_on : (limits : Bounds) (id : ℕ) (s t : SessionState) (text : List ℕ) → s.closing ≡ false → t ≡ s → BeginsNoValue (server_rules limits) text →
     IsViable (server_rules limits) WithinTotal text → Answers limits id s text t text
 waits_on limits id s t text is_open same none viable = no_value_answered limits id s t text
-    (inl (record { is_open = is_open; no_more = no_value_begins (server_rules limits) text none; viable = viable; same = same }))
+    (inl (record { is_open = is_open; no_more = none; viable = viable; same = same }))
 
 ends_of : NoSpellingIsEmpty → TheEmptyTextIsViable → (limits : Bounds) → AreBounds limits → (s t : SessionState) (closing : Bool) → s ≡ t →
     t.closing ≡ closing → Ends (server_rules limits) [] s t
@@ -138,16 +137,14 @@ refused_by limits front piece fault (inl refused) other = refused
 refused_by limits front piece fault (inr lacks) other = absurd (other lacks)
 
 -- no value has ended in what was taken
-pub none_taken : (reading : Reading) (front : List ℕ) → HasReadFront reading front → HasNoValue front
-none_taken None front taken = subst HasNoValue (sym taken) no_value_at_start
-none_taken (Some decoder) front taken = taken.no_value
+pub none_taken : NoSpellingIsEmpty → (r : Rules) (reading : Reading) (front : List ℕ) → HasReadFront reading front → BeginsNoValue r front
+none_taken full r None front taken = subst (BeginsNoValue r) (sym taken) (nothing_begins full r)
+none_taken full r (Some decoder) front taken = no_value_begins r front taken.no_value
 
 -- no value ends before a byte more has come
-pub some_used : (front piece : List ℕ) (r : Rules) (x : Datum) (used : ℕ) → HasNoValue front →
+pub some_used : (front piece : List ℕ) (r : Rules) (x : Datum) (used : ℕ) → BeginsNoValue r front →
     IsSpelling r x (front ++ take used piece) → 0 < used
-some_used front piece r x zero none s =
-    let whole : take (length front) front ≡ front ++ [] = take_all (length front) front (omega arith) ∙ sym (append-nil front) in
-    absurd (none (length front) s.tree (subst (λ t. Spells s.tree t) (sym whole) s.spells))
+some_used front piece r x zero none s = absurd (none x (front ++ []) [] s (sym (append-nil (front ++ []) ∙ append-nil front)))
 some_used front piece r x (suc n) none s = omega arith
 
 -- a state after which nothing was run
@@ -196,8 +193,8 @@ waiting_turn limits id store before after front piece used taken version is_open
           (waits_on limits id (state_with store before.version text false count) (state_with store after.version (text ++ []) after.closing (count + 0))
           (front ++ piece) refl
           (sym (ap (λ t. state_with store before.version t false count) (sym (append-nil text)) ∙
-          state_same store before.version after.version (text ++ []) false after.closing count version is_open)) taken.no_value
-          taken.viable);
+          state_same store before.version after.version (text ++ []) false after.closing count version is_open))
+          (no_value_begins (server_rules limits) (front ++ piece) taken.no_value) taken.viable);
       taking = λ open_now. taken.takes;
       within = omega (arith, is);
       onward = λ open_now full. omega (arith, is, full);
@@ -205,7 +202,7 @@ waiting_turn limits id store before after front piece used taken version is_open
 
 -- the turn of a value that is spelled by what was taken and the bytes used
 pub spelled_turn : NoSpellingIsEmpty → TheEmptyTextIsViable → (limits : Bounds) → AreBounds limits → (id : ℕ) (store store' : Store)
-    (before after : Session) (front piece : List ℕ) (x : Datum) (used commands : ℕ) → HasNoValue front →
+    (before after : Session) (front piece : List ℕ) (x : Datum) (used commands : ℕ) → BeginsNoValue (server_rules limits) front →
     IsSpelling (server_rules limits) x (front ++ take used piece) → used ≤ length piece → HasReadFront after.decoder [] →
     IsAnswerTo id x store store' before after commands → AnswersBytes limits id store store' before after front piece used commands
 spelled_turn full empty limits bounds id store store' before after front piece x used commands none spelled within takes answered = record {
@@ -223,7 +220,7 @@ spelled_turn full empty limits bounds id store store' before after front piece x
 -- the turn of a value that was read
 pub value_turn : NoSpellingIsEmpty → TheEmptyTextIsViable → (limits : Bounds) → AreBounds limits → (id : ℕ) (store store' : Store)
     (before after : Session) (front piece : List ℕ) (reading : Reading) (value : Value) (used commands : ℕ) →
-    HasNoValue front → ReadsValue (server_rules limits) reading (front ++ take used piece) value → used ≤ length piece → after.decoder ≡ reading →
+    BeginsNoValue (server_rules limits) front → ReadsValue (server_rules limits) reading (front ++ take used piece) value → used ≤ length piece → after.decoder ≡ reading →
     IsAnswerTo id (datum_of value) store store' before after commands → AnswersBytes limits id store store' before after front piece used commands
 value_turn full empty limits bounds id store store' before after front piece reading value used commands none given within kept answered =
     spelled_turn full empty limits bounds id store store' before after front piece (datum_of value) used commands none given.spelling within

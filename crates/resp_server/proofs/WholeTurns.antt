@@ -35,7 +35,7 @@ whole_turn full empty words_law limits bounds id store store' before after piece
     let x = command_of (name ∷ arguments) in
     let (bytes, within) = used_is piece begins.written rest begins.whole in
     spelled_turn full empty limits bounds id store store' before after [] piece x (length piece - length rest) 1
-    (none_taken before.decoder [] between)
+    (none_taken full (server_rules limits) before.decoder [] between)
     (subst (IsSpelling (server_rules limits) x) (sym bytes) begins.spelled) within
     (subst (λ d. HasReadFront d []) (sym same.same_decoder) between)
     (command_answer id x name arguments store store' before after (sym ((words_law x name arguments).1 refl)) is_open effect same)

@@ -5,7 +5,7 @@ ghost use Rattle.std.specs.Option.{option_map};
 ghost use Rattle.resp_decode.specs.Decoding.{IfNoValue, IfValue};
 ghost use Rattle.resp_value.specs.Rules.{Rules, WithinTotal};
 ghost use Rattle.resp_value.specs.Spellings.{IsViable};
-ghost use Rattle.resp_session.specs.Answers.{server_rules};
+ghost use Rattle.resp_session.specs.Answers.{BeginsNoValue, server_rules};
 ghost use Rattle.resp_server.specs.Reading.{HasReadFront, ReadsBy, ReadsOn, ReadsValue, RefusesReading, WhereFrontRead};
 
 use resp_decode::{Decoder, Fed};
@@ -99,8 +99,10 @@ impl Reader {
     pub(crate) fn taken(&self, limits: &Limits) -> u64
         requires reading { ReadsBy (server_rules limits.now) self.now }
         ensures length_of_front { WhereFrontRead self.now (λ front. result ≡ length front) }
+        ensures no_value { WhereFrontRead self.now (BeginsNoValue (server_rules limits.now)) }
         ensures viable { WhereFrontRead self.now (IsViable (server_rules limits.now) WithinTotal) }
     {
+        grammar::no_spelling_is_empty();
         grammar::the_empty_text_is_viable();
         limits.are_in_range();
         match &self.decoder {

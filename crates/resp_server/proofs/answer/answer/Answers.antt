@@ -7,7 +7,7 @@ use Rattle.resp_server.proofs.answer.answer.Goals as goal
 pub loop-used-init : goal.loop-used-init
 loop-used-init g c = record {
   answered = λ front taken. none_answered c.args.limits.now c.args.id c.args.store.now c.args.session.now front taken
-      (c.taken-taken.ensures.viable front taken) c.requires.is_open;
+      (c.taken-taken.ensures.no_value front taken) (c.taken-taken.ensures.viable front taken) c.requires.is_open;
   is_open = c.requires.is_open;
   stored = c.requires.stored;
   reading = c.requires.reading;

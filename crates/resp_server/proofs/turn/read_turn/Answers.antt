@@ -44,7 +44,8 @@ returns-clause-answered g c front taken =
     c.in_ok-commands.commands) c.in-Some.value-is c.in_ok-commands.ensures.answered in
     value_turn c.no_spelling_is_empty.ensures c.the_empty_text_is_viable.ensures c.args.limits.now c.are_in_range.ensures c.args.id c.args.store.now
     c.answer_value.new.store before c.answer_value.new.session front c.args.piece.now
-    c.feed.new.self c.in-Some.value c.in-Ok.fed.used c.in_ok-commands.commands (none_taken c.args.session.now.decoder front taken) given c.in-Ok.ensures.within_piece
+    c.feed.new.self c.in-Some.value c.in-Ok.fed.used c.in_ok-commands.commands (none_taken c.no_spelling_is_empty.ensures
+    (server_rules c.args.limits.now) c.args.session.now.decoder front taken) given c.in-Ok.ensures.within_piece
     c.answer_value.ensures.same_decoder
     (same_answer c.args.id (datum_of c.in-Some.value) c.args.store.now c.answer_value.new.store before middle c.answer_value.new.session
     c.in_ok-commands.commands refl refl answered)

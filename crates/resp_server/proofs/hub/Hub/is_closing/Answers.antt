@@ -40,7 +40,7 @@ returns-clause-waiting g c =
     let i = c.self.inside in
     let session = c.in-Some.session.now in
     hub_waits i.limits i.sessions.entries i.store i.last c.args.self.now c.self.view_is c.args.id session c.in-Some.ensures.value
-    c.taken-taken.ensures.viable
+    c.taken-taken.ensures.no_value c.taken-taken.ensures.viable
 
 pub taken-taken-requires : goal.taken-taken-requires
 taken-taken-requires g c =
