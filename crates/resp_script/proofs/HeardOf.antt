@@ -1,5 +1,5 @@
 -- What a client has heard, by what its world shows.
-use Rattle.std.proofs.Common.{◌≡◌, ℕ, zero, suc, true, false, List, [], ◌∷◌, Option, None, Some, length, drop, refl, sym, ap, subst, ◌∙◌, arith}
+use Rattle.std.proofs.Common.{◌≡◌, inr, ◌≤◌, ℕ, zero, suc, true, false, List, [], ◌∷◌, Option, None, Some, length, drop, refl, sym, ap, subst, ◌∙◌, arith}
 use Rattle.std.specs.List.{drop-map}
 use Rattle.std.specs.Option.{IfSome}
 use Rattle.resp_session.specs.Connections.{Connection, shown_pushes, shown_replies}
@@ -12,7 +12,9 @@ use Rattle.resp_value.specs.declared.value.Value.TheVariants as value
 use Rattle.resp_wire.specs.Worlds.{pushes_with, values_in}
 use Rattle.resp_wire.specs.declared.event.Outcome.{Outcome}
 use Rattle.resp_wire.specs.declared.event.Outcome.TheVariants.{Done, Refused, Gone}
+use Rattle.resp_value.specs.Data.{Datum}
 use Rattle.resp_script.specs.Plays.{AreThere}
+use Rattle.resp_script.specs.Printed.{HaveTooDeep}
 
 -- there is no client 0
 pub none_at_zero : (cs : List Connection) → connection_at cs 0 ≡ None
@@ -53,3 +55,16 @@ pub pushes_beyond : (pushes : List Members) (count : ℕ) (o : Option Connection
 pushes_beyond pushes count o c is shown =
     let all : pushes_with pushes ≡ shown_pushes c = subst (λ o. IfSome o (λ c. pushes_with pushes ≡ shown_pushes c)) is shown in
     sym (drop-map (λ (items : Members). datum_of (value.Push items)) count pushes) ∙ ap (drop count) all
+
+-- a client among all of them has a connection
+pub there_is : (cs : List Connection) (i : ℕ) → 1 ≤ i → i ≤ length cs → (c : Connection) × (connection_at cs i ≡ Some c)
+there_is [] i some few = absurd (omega (arith, some, few))
+there_is (c ∷ cs) zero some few = absurd (omega (arith, some))
+there_is (c ∷ cs) (suc zero) some few = (c, refl)
+there_is (c ∷ cs) (suc (suc i)) some few = there_is cs (suc i) (omega arith) (omega (arith, few))
+
+-- a value beyond some that is nested too deeply is among all of them
+pub deep_beyond : (count : ℕ) (xs : List Datum) → HaveTooDeep (drop count xs) → HaveTooDeep xs
+deep_beyond zero xs deep = deep
+deep_beyond (suc count) [] deep = deep
+deep_beyond (suc count) (x ∷ xs) deep = inr (deep_beyond count xs deep)

@@ -1,8 +1,7 @@
 -- Text that is printed part after part.
-use Rattle.std.proofs.Common.{◌≡◌, ℕ, List, [], ◌++◌, Option, Result, Ok, Err, refl, sym, ap, subst, ◌∙◌, append_assoc, append-nil}
-use Rattle.std.specs.Result.{IsErr}
+use Rattle.std.proofs.Common.{◌≡◌, ℕ, List, [], ◌++◌, Option, Result, Ok, Err, refl, sym, subst, ◌∙◌}
 use Rattle.resp_value.specs.Devices.{Appends, count_after}
-use Rattle.resp_print.specs.Written.{AppendsPart, WritesText}
+use Rattle.resp_print.specs.Written.{AppendsPart}
 use Rattle.resp_print.proofs.WrittenLemmas.{Appends-append, Appends-none}
 use Rattle.resp_print.proofs.Printing.{HasPrintedUpTo, part_next, part_of_more}
 use Rattle.resp_script.specs.Plays.{EndsPrint}

@@ -8,12 +8,12 @@ use Rattle.resp_value.specs.declared.cause.Cause.{Cause}
 use Rattle.resp_session.specs.Connections.{Connection, shown_pushes, shown_replies}
 use Rattle.resp_session.specs.Runs as runs
 use Rattle.resp_session.specs.Runs.{Step, connection_of}
-use Rattle.resp_session.specs.Worlds.{World, WorldEvent, ToServer, ToClient, client_of}
+use Rattle.resp_session.specs.Worlds.{World, WorldEvent, ToServer, ToClient, client_of, connection_at}
 use Rattle.resp_wire.specs.Worlds.{Shows, WorldState, event_of}
 use Rattle.resp_wire.specs.declared.event.Event.{Event}
 use Rattle.resp_wire.specs.declared.event.Outcome.{Outcome}
 use Rattle.resp_wire.specs.declared.event.Outcome.TheVariants.{Done}
-use Rattle.resp_script.specs.Printed.{PlayedEvent, counts_text, outcome_text}
+use Rattle.resp_script.specs.Printed.{HaveTooDeep, PlayedEvent, counts_text, outcome_text}
 use Rattle.resp_script.specs.declared.play.PlayError.{PlayError}
 use Rattle.resp_script.specs.declared.play.PlayError.TheVariants.{Stopped, Write, Memory}
 
@@ -142,6 +142,15 @@ PlaysScript {L} is_honest limits w events after held held' (Err (Stopped line ca
     PlaysUpTo limits w events line held held'
 PlaysScript {L} is_honest limits w events after held held' (Err e) =
     PlaysPart is_honest limits w events after held held' ⊎ BreaksInCounts is_honest limits w events after held held'
+
+-- the world shows a reply or a push that is nested too deeply to be printed
+pub record ShowsTooDeep {L : Type 0} (is_honest : L → Type 0) (limits : Bounds) (after : WorldState L) : Type 0 where
+  pub next : World
+  pub shows : Shows is_honest after limits next
+  pub client : ℕ
+  pub connection : Connection
+  pub there : connection_at next.connections client ≡ Some connection
+  pub deep : HaveTooDeep (shown_replies connection) ⊎ HaveTooDeep (shown_pushes connection)
 
 -- the world stopped at this line
 abbrev pub IsAtLine : ℕ → PlayError → Type 0

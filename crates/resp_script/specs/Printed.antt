@@ -1,7 +1,7 @@
 -- The printed text of the results of events.
-use Rattle.std.specs.Prelude.{◌≡◌, ℕ, ◌+◌, Bool, true, false, List, [], ◌∷◌, ◌++◌, length, drop, min, Option, Some, Result, Ok, Err, codes, decimal}
+use Rattle.std.specs.Prelude.{◌≡◌, ◌⊎◌, ℕ, ◌+◌, ◌≤◌, ◌^◌, Bool, true, false, List, [], ◌∷◌, ◌++◌, length, drop, min, Option, Some, Result, Ok, Err, codes, decimal}
 use Rattle.resp_value.specs.Causes.{name_of}
-use Rattle.resp_value.specs.Data.{Datum}
+use Rattle.resp_value.specs.Data.{Datum, depth}
 use Rattle.resp_value.specs.Devices.{Appends, count_after, last_count}
 use Rattle.resp_value.specs.declared.cause.Cause.{Cause}
 use Rattle.resp_session.specs.Connections.{Connection, shown_pushes, shown_replies}
@@ -65,6 +65,11 @@ key_count w = min (length w.store) last_count
 abbrev pub counts_text : World → List ℕ
 counts_text w =
     (codes "commands " ++ decimal (length w.order) ++ codes " keys ") ++ (decimal (key_count w) ++ codes "\n")
+
+-- one of these values has 2^64 levels or more, so that it is not printed on the level of a reply
+abbrev pub HaveTooDeep : List Datum → Type 0
+HaveTooDeep [] = ⊥
+HaveTooDeep (x ∷ xs) = (2 ^ 64 ≤ 1 + depth x) ⊎ HaveTooDeep xs
 
 -- The text was appended; or, if a write failed or when out of memory, the first part of it.
 abbrev pub PlaysText : {X : Type 0} → Option (List ℕ) → Option (List ℕ) → ℕ → ℕ → Result X PlayError → List ℕ → Type 0

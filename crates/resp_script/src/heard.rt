@@ -1,11 +1,12 @@
 //! The replies and pushes that a client received, as lines of text.
 
-ghost use Rattle.std.specs.Prelude.{◌≡◌, ◌+◌, ◌<◌, ◌^◌, ◌++◌, ℕ, List, Option, codes, decimal, length};
+ghost use Rattle.std.specs.Prelude.{◌≡◌, ◌+◌, ◌<◌, ◌≤◌, ◌^◌, ◌++◌, ℕ, List, Option, codes, decimal, length, IsErrOf};
 ghost use Rattle.resp_print.specs.Headings.{push_heading, reply_heading};
 ghost use Rattle.resp_print.specs.Printed.{Prints};
 ghost use Rattle.resp_print.specs.Shown.{lines_on};
 ghost use Rattle.resp_print.specs.Written.{WritesText};
-ghost use Rattle.resp_script.specs.Printed.{PlaysText, push_texts, reply_texts};
+ghost use Rattle.resp_script.specs.Printed.{HaveTooDeep, PlaysText, push_texts, reply_texts};
+ghost use Rattle.resp_value.specs.Data.{depth};
 ghost use Rattle.resp_value.specs.Values.{datum_of};
 ghost use Rattle.resp_wire.specs.Worlds.{pushes_with, values_in};
 
@@ -25,8 +26,9 @@ pub(crate) fn write_replies<W: Sink>(
     writer: &mut W,
 ) -> Result<(), PlayError>
     requires { count + length replies.now < 2 ^ 64 }
-    ensures { PlaysText (W.written writer.old) (W.written writer.new) (W.failures writer.old)
+    ensures prints { PlaysText (W.written writer.old) (W.written writer.new) (W.failures writer.old)
         (W.failures writer.new) result (reply_texts client count (values_in replies.now)) }
+    ensures memory { IsErrOf result PlayError.Memory → HaveTooDeep (values_in replies.now) }
 {
     let mut number = count;
     let mut rest = replies;
@@ -46,8 +48,9 @@ pub(crate) fn write_pushes<W: Sink>(
     pushes: &[Members],
     writer: &mut W,
 ) -> Result<(), PlayError>
-    ensures { PlaysText (W.written writer.old) (W.written writer.new) (W.failures writer.old)
+    ensures prints { PlaysText (W.written writer.old) (W.written writer.new) (W.failures writer.old)
         (W.failures writer.new) result (push_texts client (pushes_with pushes.now)) }
+    ensures memory { IsErrOf result PlayError.Memory → HaveTooDeep (pushes_with pushes.now) }
 {
     let mut rest = pushes;
     while let Some((push, beyond)) = rest.split_first() {
@@ -71,9 +74,10 @@ fn write_reply<W: Sink>(
     reply: &Value,
     writer: &mut W,
 ) -> Result<(), PlayError>
-    ensures { PlaysText (W.written writer.old) (W.written writer.new) (W.failures writer.old)
+    ensures prints { PlaysText (W.written writer.old) (W.written writer.new) (W.failures writer.old)
         (W.failures writer.new) result
         (reply_heading client number ++ lines_on 1 (datum_of reply.now)) }
+    ensures memory { IsErrOf result PlayError.Memory → 2 ^ 64 ≤ 1 + depth (datum_of reply.now) }
 {
     match write_reply_heading(client, number, writer) {
         Ok(()) => played(write_value(reply, 1, writer)),
@@ -87,9 +91,11 @@ fn write_reply<W: Sink>(
 ///
 /// The errors of [`write_reply`].
 fn write_push<W: Sink>(client: u64, push: &Members, writer: &mut W) -> Result<(), PlayError>
-    ensures { PlaysText (W.written writer.old) (W.written writer.new) (W.failures writer.old)
+    ensures prints { PlaysText (W.written writer.old) (W.written writer.new) (W.failures writer.old)
         (W.failures writer.new) result
         (push_heading client ++ lines_on 1 (datum_of (Value.Push push.now))) }
+    ensures memory { IsErrOf result PlayError.Memory →
+        2 ^ 64 ≤ 1 + depth (datum_of (Value.Push push.now)) }
 {
     match write_number(writer, b"client ", client, b" push\n") {
         Ok(()) => played(write_push_value(push, 1, writer)),
@@ -99,9 +105,12 @@ fn write_push<W: Sink>(client: u64, push: &Members, writer: &mut W) -> Result<()
 
 /// Returns the result of printing as the result of playing.
 fn played(printed: Result<(), PrintError>) -> Result<(), PlayError>
-    ensures { (before after : Option (List ℕ)) (failures failures' : ℕ) (text : List ℕ)
+    ensures prints { (before after : Option (List ℕ)) (failures failures' : ℕ) (text : List ℕ)
         (levels : ℕ) → Prints before after failures failures' printed text levels →
         PlaysText before after failures failures' result text }
+    ensures memory { (before after : Option (List ℕ)) (failures failures' : ℕ) (text : List ℕ)
+        (levels : ℕ) → Prints before after failures failures' printed text levels →
+        IsErrOf result PlayError.Memory → 2 ^ 64 ≤ levels }
 {
     match printed {
         Ok(()) => Ok(()),

@@ -1,7 +1,7 @@
 //! Plays the events of a script, and prints the result of each.
 
-ghost use Rattle.std.specs.Prelude.{◌≡◌, true, ◌+◌, ◌<◌, ◌^◌, ◌++◌, ◌∷◌, [], codes, decimal, drop, length, None, Option, Some, IfErr, OnOk};
-ghost use Rattle.resp_script.specs.Plays.{AreThere, EndsPrint, FailsToWrite, AreShownOn, IsAtLine, IsAtStep, KeepsCause, PlaysScript, PlaysTo, flush_events, no_connection_line, played, step_events, steps_events};
+ghost use Rattle.std.specs.Prelude.{◌≡◌, true, ◌+◌, ◌<◌, ◌^◌, ◌++◌, ◌∷◌, [], codes, decimal, drop, length, None, Option, Some, IfErr, IsErrOf, OnOk};
+ghost use Rattle.resp_script.specs.Plays.{AreThere, EndsPrint, FailsToWrite, AreShownOn, IsAtLine, IsAtStep, KeepsCause, PlaysScript, PlaysTo, ShowsTooDeep, flush_events, no_connection_line, played, step_events, steps_events};
 ghost use Rattle.resp_script.specs.Printed.{PlaysText, counts_text, key_count, gone_text, heard_text, outcome_text, refused_text};
 ghost use Rattle.resp_session.specs.Connections.{Connection};
 ghost use Rattle.resp_session.specs.Worlds as session;
@@ -32,7 +32,7 @@ pub enum PlayError {
     /// A write failed, or wrote no byte.
     #[error("write failed")]
     Write,
-    /// An allocation failed.
+    /// A reply or a push has 2^64 levels, more than memory holds.
     #[error("out of memory")]
     Memory,
 }
@@ -102,8 +102,9 @@ pub fn write_no_connection<W: Sink>(
 ///
 /// - [`PlayError::Stopped`] with the line of the event if the world stops. The text of all events
 ///   before it was written.
-/// - [`PlayError::Write`] if a write fails, and [`PlayError::Memory`] if an allocation fails. The
-///   first part of the text was written.
+/// - [`PlayError::Write`] if a write fails, and [`PlayError::Memory`] if a reply or a push has 2^64
+///   levels. The text of the events before this one was written, and the first part of its own
+///   text. No event after it happened.
 pub fn play<L: Link, S: BuildHasher + Drop, W: Sink>(
     alloc: Global,
     script: &Script,
@@ -118,6 +119,8 @@ pub fn play<L: Link, S: BuildHasher + Drop, W: Sink>(
     ensures cause { IfErr result (KeepsCause world.new.stopped) }
     ensures going { OnOk result (world.old.stopped ≡ None → world.new.stopped ≡ None) }
     ensures failed { FailsToWrite (W.failures writer.old) (W.failures writer.new) result }
+    ensures memory { IsErrOf result PlayError.Memory → (limits : Bounds) → (w : session.World) →
+        Shows L.is_honest world.old limits w → ShowsTooDeep L.is_honest limits world.new }
 {
     for (line, step) in &script.steps {
         if let Err(error) = play_step(alloc, *line, step, script.clients, world, writer) {
@@ -136,6 +139,7 @@ fn write_counts<L: Link, S: BuildHasher + Drop, W: Sink>(
         PlaysText (W.written writer.old) (W.written writer.new) (W.failures writer.old)
         (W.failures writer.new) result (counts_text w) }
     ensures ends { EndsPrint (W.failures writer.old) (W.failures writer.new) result }
+    ensures no_memory { IsErrOf result PlayError.Memory → ⊥ }
 {
     match write_totals(world.order().len() as u64, count_keys(world), writer) {
         Ok(()) => Ok(()),
@@ -180,6 +184,8 @@ fn play_step<L: Link, S: BuildHasher + Drop, W: Sink>(
     ensures cause { IfErr result (KeepsCause world.new.stopped) }
     ensures going { OnOk result (world.old.stopped ≡ None → world.new.stopped ≡ None) }
     ensures failed { FailsToWrite (W.failures writer.old) (W.failures writer.new) result }
+    ensures memory { IsErrOf result PlayError.Memory → (limits : Bounds) → (w : session.World) →
+        Shows L.is_honest world.old limits w → ShowsTooDeep L.is_honest limits world.new }
 {
     match step {
         Some(event) => take(alloc, line, event, false, world, writer),
@@ -203,6 +209,8 @@ fn flush<L: Link, S: BuildHasher + Drop, W: Sink>(
     ensures cause { IfErr result (KeepsCause world.new.stopped) }
     ensures going { OnOk result (world.old.stopped ≡ None → world.new.stopped ≡ None) }
     ensures failed { FailsToWrite (W.failures writer.old) (W.failures writer.new) result }
+    ensures memory { IsErrOf result PlayError.Memory → (limits : Bounds) → (w : session.World) →
+        Shows L.is_honest world.old limits w → ShowsTooDeep L.is_honest limits world.new }
 {
     for index in 0..clients {
         let to_server = Event::ToServer(index + 1, ALL);
@@ -233,6 +241,8 @@ fn take<L: Link, S: BuildHasher + Drop, W: Sink>(
     ensures cause { IfErr result (KeepsCause world.new.stopped) }
     ensures going { OnOk result (world.old.stopped ≡ None → world.new.stopped ≡ None) }
     ensures failed { FailsToWrite (W.failures writer.old) (W.failures writer.new) result }
+    ensures memory { IsErrOf result PlayError.Memory → (limits : Bounds) → (w : session.World) →
+        Shows L.is_honest world.old limits w → ShowsTooDeep L.is_honest limits world.new }
 {
     let before = Before::new(event.client(), world);
     let outcome = match world.step(event) {
@@ -295,6 +305,9 @@ impl Before {
             (W.failures writer.new) result (outcome_text self.now.client is_flush
             (outcome_of outcome) c (connection_at next.connections self.now.client)) }
         ensures ends { EndsPrint (W.failures writer.old) (W.failures writer.new) result }
+        ensures memory { IsErrOf result PlayError.Memory → (limits : Bounds) →
+            (next : session.World) → Shows L.is_honest world.now limits next →
+            ShowsTooDeep L.is_honest limits world.now }
     {
         match outcome {
             Outcome::Done => self.write_heard(alloc, world, writer),
@@ -317,6 +330,9 @@ impl Before {
             (W.failures writer.new) result
             (heard_text self.now.client self.now.replies self.now.pushes c) }
         ensures ends { EndsPrint (W.failures writer.old) (W.failures writer.new) result }
+        ensures memory { IsErrOf result PlayError.Memory → (limits : Bounds) →
+            (next : session.World) → Shows L.is_honest world.now limits next →
+            ShowsTooDeep L.is_honest limits world.now }
     {
         if self.client == 0 || self.client > world.clients() {
             return Ok(());
@@ -345,8 +361,9 @@ fn beyond<T>(items: &[T], count: usize) -> &[T]
 
 /// Writes that an event of a client was rejected.
 fn write_refused<W: Sink>(client: u64, cause: Cause, writer: &mut W) -> Result<(), PlayError>
-    ensures { PlaysText (W.written writer.old) (W.written writer.new) (W.failures writer.old)
-        (W.failures writer.new) result (refused_text client cause) }
+    ensures prints { PlaysText (W.written writer.old) (W.written writer.new)
+        (W.failures writer.old) (W.failures writer.new) result (refused_text client cause) }
+    ensures no_memory { IsErrOf result PlayError.Memory → ⊥ }
 {
     match write_refusal(client, cause.name().as_bytes(), writer) {
         Ok(()) => Ok(()),
@@ -367,8 +384,9 @@ fn write_refusal<W: Sink>(client: u64, name: &[u8], writer: &mut W) -> Result<()
 
 /// Writes that a client is gone, except in a `flush`.
 fn write_gone<W: Sink>(client: u64, is_flush: bool, writer: &mut W) -> Result<(), PlayError>
-    ensures { PlaysText (W.written writer.old) (W.written writer.new) (W.failures writer.old)
-        (W.failures writer.new) result (gone_text client is_flush) }
+    ensures prints { PlaysText (W.written writer.old) (W.written writer.new)
+        (W.failures writer.old) (W.failures writer.new) result (gone_text client is_flush) }
+    ensures no_memory { IsErrOf result PlayError.Memory → ⊥ }
 {
     if is_flush {
         return Ok(());

@@ -1,26 +1,33 @@
-use Rattle.std.proofs.Common.{◌++◌, ap}
+use Rattle.std.proofs.Common.{◌++◌, inl, inr, ap, subst, sym}
 use Rattle.resp_print.specs.Shown.{lines_on}
 use Rattle.resp_value.specs.Values.{datum_of}
 use Rattle.resp_value.specs.declared.value.Value.TheVariants as value
 use Rattle.resp_wire.specs.Worlds.{pushes_with}
 use Rattle.resp_print.specs.Headings.{push_heading}
-use Rattle.resp_script.specs.Printed.{push_texts}
+use Rattle.resp_script.specs.Printed.{HaveTooDeep, push_texts}
 use Rattle.resp_print.proofs.Printing.{printed_as, printed_more}
 use Rattle.resp_script.proofs.Printing.{prints_on}
 use Rattle.resp_script.proofs.heard.write_pushes.Goals as goal
 
-pub returns-in-Err : goal.returns-in-Err
-returns-in-Err g c =
+pub returns-in-Err-clause-prints : goal.returns-in-Err-clause-prints
+returns-in-Err-clause-prints g c =
     let client = c.args.client in
     prints_on c.in-Err.error (push_texts client (pushes_with c.args.pushes.now))
     (push_heading client ++ lines_on 1 (datum_of (value.Push c.in-Some.push.now))) (push_texts client (pushes_with c.in-Some.beyond.now)) _ _ _ _ _ _
     (printed_as (push_texts client (pushes_with c.args.pushes.now)) _ _ _ _ _ _ (ap (λ ps. push_texts client (pushes_with ps)) c.in-Some.ensures.cases.0)
-    c.loop-push.invariant) c.in-Err.ensures
+    c.loop-push.invariant.printed) c.in-Err.ensures.prints
 
 pub loop-push-preserved : goal.loop-push-preserved
 loop-push-preserved g c =
     let client = c.args.client in
-    printed_more (push_texts client (pushes_with c.args.pushes.now))
-    (push_heading client ++ lines_on 1 (datum_of (value.Push c.in-Some.push.now))) (push_texts client (pushes_with c.in-Some.beyond.now)) _ _ _ _ _ _
-    (printed_as (push_texts client (pushes_with c.args.pushes.now)) _ _ _ _ _ _ (ap (λ ps. push_texts client (pushes_with ps)) c.in-Some.ensures.cases.0)
-    c.loop-push.invariant) c.in_default-write_push.ensures
+    record {
+      printed = printed_more (push_texts client (pushes_with c.args.pushes.now))
+          (push_heading client ++ lines_on 1 (datum_of (value.Push c.in-Some.push.now))) (push_texts client (pushes_with c.in-Some.beyond.now)) _ _ _ _ _ _
+          (printed_as (push_texts client (pushes_with c.args.pushes.now)) _ _ _ _ _ _ (ap (λ ps. push_texts client (pushes_with ps)) c.in-Some.ensures.cases.0)
+          c.loop-push.invariant.printed) c.in_default-write_push.ensures.prints;
+      deep = λ deep. c.loop-push.invariant.deep (subst (λ ps. HaveTooDeep (pushes_with ps)) (sym c.in-Some.ensures.cases.0) (inr deep));
+    }
+
+pub returns-in-Err-clause-memory : goal.returns-in-Err-clause-memory
+returns-in-Err-clause-memory g c = λ memory.
+    c.loop-push.invariant.deep (subst (λ ps. HaveTooDeep (pushes_with ps)) (sym c.in-Some.ensures.cases.0) (inl (c.in-Err.ensures.memory memory)))

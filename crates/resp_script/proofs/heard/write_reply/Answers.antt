@@ -4,11 +4,11 @@ use Rattle.resp_print.specs.Headings.{reply_heading}
 use Rattle.resp_script.proofs.Printing.{prints_next, failed_part}
 use Rattle.resp_script.proofs.heard.write_reply.Goals as goal
 
-pub returns-in-Ok : goal.returns-in-Ok
-returns-in-Ok g c =
+pub returns-in-Ok-clause-prints : goal.returns-in-Ok-clause-prints
+returns-in-Ok-clause-prints g c =
     prints_next c.played.result _ _ _ _ _ _ (reply_heading c.args.client c.args.number) (lines_on 1 (datum_of c.args.reply.now)) c.in-Ok.ensures
-    (c.played.ensures _ _ _ _ _ _ c.write_value.ensures)
+    (c.played.ensures.prints _ _ _ _ _ _ c.write_value.ensures)
 
-pub returns-in-Err : goal.returns-in-Err
-returns-in-Err g c =
+pub returns-in-Err-clause-prints : goal.returns-in-Err-clause-prints
+returns-in-Err-clause-prints g c =
     failed_part _ _ _ _ (reply_heading c.args.client c.args.number) (lines_on 1 (datum_of c.args.reply.now)) c.in-Err.ensures

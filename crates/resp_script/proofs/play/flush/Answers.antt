@@ -60,3 +60,14 @@ returns-clause-plays g c = λ limits w shows.
     let all : c.loop-index.index ≡ c.args.clients = omega (arith, c.loop-index-test.false, c.loop-index.auto.index-end) in
     subst (λ n. PlaysAll g.L.Link.is_honest limits w (flush_events c.args.line n) c.loop-index.world (g.W.Sink.written c.args.writer.now)
     (g.W.Sink.written c.loop-index.writer)) all (c.loop-index.invariant.plays limits w shows)
+
+pub returns-in-Err-clause-memory : goal.returns-in-Err-clause-memory
+returns-in-Err-clause-memory g c = λ memory limits w shows.
+    let so_far = c.loop-index.invariant.plays limits w shows in
+    c.in-Err.ensures.memory memory limits so_far.played.last so_far.shows
+
+pub returns-in-Err-take-clause-memory : goal.returns-in-Err-take-clause-memory
+returns-in-Err-take-clause-memory g c = λ memory limits w shows.
+    let so_far = c.loop-index.invariant.plays limits w shows in
+    let half = c.in_default.ensures.plays limits so_far.played.last so_far.shows in
+    c.in-Err-take.ensures.memory memory limits half.played.last half.shows

@@ -67,3 +67,8 @@ returns-clause-cause g c = no_stop_kept c.loop-line.world.stopped _ _ c.write_co
 
 pub returns-clause-failed : goal.returns-clause-failed
 returns-clause-failed g c = fails_to_write _ _ _ c.write_counts.result c.loop-line.invariant.none_failed c.write_counts.ensures.ends
+
+pub returns-in-Err-clause-memory : goal.returns-in-Err-clause-memory
+returns-in-Err-clause-memory g c = λ memory limits w shows.
+    let so_far = c.loop-line.invariant.plays limits w shows in
+    c.in-Err.ensures.memory memory limits so_far.played.last so_far.shows

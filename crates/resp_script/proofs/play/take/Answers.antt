@@ -37,3 +37,8 @@ returns-clause-plays g c = λ limits w shows.
     took g.L.Link.is_honest limits w next (played c.args.line c.args.is_flush event) outcome c.step.new.self _ _ _ _ c.write_outcome.result step shows'
     (subst (λ n. PlaysText (g.W.Sink.written c.args.writer.now) after (g.W.Sink.failures c.args.writer.now) (g.W.Sink.failures c.write_outcome.new.writer)
     c.write_outcome.result (outcome_text n c.args.is_flush (outcome_of outcome) before (connection_at next.connections n))) is prints)
+
+pub returns-clause-memory : goal.returns-clause-memory
+returns-clause-memory g c = λ memory limits w shows.
+    let (next, step, shows') = c.in-Ok.ensures.happens limits w shows in
+    c.write_outcome.ensures.memory memory limits next shows'

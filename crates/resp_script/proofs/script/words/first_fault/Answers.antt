@@ -3,9 +3,8 @@ use Rattle.std.specs.Prelude.{All}
 use Rattle.std.proofs.lemmas.Bool.{eqb-false, eqb-true}
 use Rattle.std.proofs.lemmas.List.{length-map, take_all}
 use Rattle.std.proofs.lemmas.List.Elements.{All-push}
-use Rattle.resp_value.specs.Bytes.{IsFull}
 use Rattle.resp_script.specs.Reasons.{HaveFirstUnfit}
-use Rattle.resp_script.specs.ScriptSteps.{IsSeen, IsWord}
+use Rattle.resp_script.specs.ScriptSteps.{IsWord}
 use Rattle.resp_script.proofs.ScriptWords.{each_word, first_unfit, nothing, taken_more}
 use Rattle.resp_script.proofs.script.words.first_fault.Goals as goal
 
