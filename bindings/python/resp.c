@@ -487,21 +487,41 @@ static bool append_bulk(struct bytes *bytes, const uint8_t *start, size_t length
     return true;
 }
 
-/* Appends a word of a command: bytes as they are, and other objects as their text in UTF-8. */
-static bool append_word(struct bytes *bytes, PyObject *word) {
-    PyObject *made = NULL;
-    if (PyBytes_Check(word)) {
-        made = word;
-        Py_INCREF(made);
+/* Returns the bytes of a word that is no bytes: those of a text in UTF-8, or the text of a number. */
+static PyObject *word_of(PyObject *word) {
+    if (PyUnicode_Check(word))
+        return PyUnicode_AsUTF8String(word);
+    PyObject *text = NULL;
+    if (PyLong_Check(word) && !PyBool_Check(word)) {
+        text = PyNumber_ToBase(word, 10);
+    } else if (PyFloat_Check(word)) {
+        PyObject *number = PyFloat_FromDouble(PyFloat_AsDouble(word));
+        text = number ? PyObject_Str(number) : NULL;
+        Py_XDECREF(number);
     } else {
-        PyObject *text = PyObject_Str(word);
-        made = text ? PyUnicode_AsUTF8String(text) : NULL;
-        Py_XDECREF(text);
+        PyErr_Format(PyExc_TypeError, "a word of a command is bytes, a buffer, str, int or float, not %S", Py_TYPE(word));
     }
-    char *start;
-    Py_ssize_t length;
-    bool is_added = made && !PyBytes_AsStringAndSize(made, &start, &length) &&
-                    append_bulk(bytes, (const uint8_t *)start, (size_t)length);
+    PyObject *made = text ? PyUnicode_AsUTF8String(text) : NULL;
+    Py_XDECREF(text);
+    return made;
+}
+
+/* Appends the bytes of an object with a buffer. */
+static bool append_buffer(struct bytes *bytes, PyObject *word) {
+    Py_buffer buffer;
+    if (PyObject_GetBuffer(word, &buffer, PyBUF_SIMPLE))
+        return false;
+    bool is_added = append_bulk(bytes, buffer.len ? buffer.buf : (const uint8_t *)"", (size_t)buffer.len);
+    PyBuffer_Release(&buffer);
+    return is_added;
+}
+
+/* Appends a word of a command. */
+static bool append_word(struct bytes *bytes, PyObject *word) {
+    if (PyObject_CheckBuffer(word))
+        return append_buffer(bytes, word);
+    PyObject *made = word_of(word);
+    bool is_added = made && append_buffer(bytes, made);
     Py_XDECREF(made);
     return is_added;
 }
@@ -585,7 +605,8 @@ static PyType_Slot PAIRING_SLOTS[] = {
 static PyType_Spec PAIRING = {"resp.Pairing", sizeof(struct reader), 0, Py_TPFLAGS_DEFAULT | Py_TPFLAGS_HAVE_GC, PAIRING_SLOTS};
 
 static PyMethodDef METHODS[] = {
-    {"pack", pack, METH_VARARGS, "pack(*words)\n--\n\nReturns the bytes of a command. Words are bytes, or are converted to text."},
+    {"pack", pack, METH_VARARGS, "pack(*words)\n--\n\nReturns the bytes of a command. A word is bytes or another buffer, a str, which is encoded in\n"
+                                "UTF-8, or an int or float, which is converted to text. Any other type raises TypeError."},
     {NULL, NULL, 0, NULL},
 };
 
@@ -611,8 +632,9 @@ PyMODINIT_FUNC PyInit_resp(void) {
     PyObject *error = PyErr_NewException("resp.RespError", NULL, NULL);
     ProtocolError = PyErr_NewException("resp.ProtocolError", error, NULL);
     ReplyError = PyErr_NewException("resp.ReplyError", error, NULL);
-    Push = PyObject_CallFunction((PyObject *)&PyType_Type, "s(O){ss}", "Push", (PyObject *)&PyList_Type, "__doc__",
-                                 "The members of a push.");
+    /* (with the name of the module a push can be pickled) */
+    Push = PyObject_CallFunction((PyObject *)&PyType_Type, "s(O){ssss}", "Push", (PyObject *)&PyList_Type, "__doc__",
+                                 "The members of a push.", "__module__", "resp");
     if (make_usual() && add_name(module, "RespError", error) && add_name(module, "ProtocolError", ProtocolError) &&
         add_name(module, "ReplyError", ReplyError) && add_name(module, "Push", Push) &&
         add_name(module, "Reader", PyType_FromSpec(&READER)) &&

@@ -1,7 +1,10 @@
 """Tests of the module resp in rows: texts and their replies, at every cut; and of its other calls."""
+import array
 import contextlib
+import enum
 import gc
 import math
+import pickle
 import random
 import sys
 import tracemalloc
@@ -15,6 +18,10 @@ try:
 except ImportError:
     _testcapi = None
 
+
+
+class Number(enum.IntEnum):
+    SEVEN = 7
 
 
 def nested(value, depth):
@@ -476,8 +483,27 @@ class Rows(unittest.TestCase):
         self.assertEqual(resp.pack("SET", b"\xff", 1, 1.5, "\xe4"),
                          b"*5\r\n$3\r\nSET\r\n$1\r\n\xff\r\n$1\r\n1\r\n$3\r\n1.5\r\n$2\r\n\xc3\xa4\r\n")
         self.assertEqual(resp.pack("SET", b"", b"x" * 1000), b"*3\r\n$3\r\nSET\r\n$0\r\n\r\n$1000\r\n" + b"x" * 1000 + b"\r\n")
+        self.assertEqual(resp.pack(bytearray(b"xy"), memoryview(b"azzb")[1:3], memoryview(b""), array.array("B", [1])),
+                         b"*4\r\n$2\r\nxy\r\n$2\r\nzz\r\n$0\r\n\r\n$1\r\n\x01\r\n")
+        self.assertEqual(resp.pack(-5, 10 ** 30, 1e300, float("-inf"), Number.SEVEN),
+                         b"*5\r\n$2\r\n-5\r\n$31\r\n1" + b"0" * 30 + b"\r\n$6\r\n1e+300\r\n$4\r\n-inf\r\n$1\r\n7\r\n")
+        for word in (True, None, [], {}, object(), 1j):
+            with self.assertRaisesRegex(TypeError, "a word of a command is"):
+                resp.pack("SET", word)
+        with self.assertRaises(BufferError):
+            resp.pack(memoryview(b"abcd")[::2])
+        with self.assertRaises(UnicodeEncodeError):
+            resp.pack("\ud800")
         with self.assertRaises(ValueError):
             resp.pack()
+
+    def test_push_is_pickled(self):
+        read = resp.Reader(protocol=3)
+        read.feed(b">2\r\n+m\r\n:1\r\n")
+        push = read.gets()
+        again = pickle.loads(pickle.dumps(push))
+        self.assertIsInstance(again, resp.Push)
+        self.assertEqual(again, [b"m", 1])
 
 
 if __name__ == "__main__":
