@@ -1,5 +1,7 @@
 //! Standard output, which is written only as far as a write does not block.
 
+ghost use Rattle.std.specs.Prelude.{◌≤◌, length, IfOk};
+
 use mio::unix::SourceFd;
 use mio::{Events, Interest, Poll, Token};
 use resp_print::live::LiveSink;
@@ -66,7 +68,9 @@ impl Terminal {
     /// # Errors
     ///
     /// An error of kind `WriteZero` if a write fails.
-    pub(crate) fn print<W: LiveSink>(&mut self, text: &[u8], out: &mut W) -> io::Result<usize> {
+    pub(crate) fn print<W: LiveSink>(&mut self, text: &[u8], out: &mut W) -> io::Result<usize>
+        ensures within { IfOk result (λ count. count ≤ length text.now) }
+    {
         if let Some(file) = &mut self.opened {
             match file.write(text) {
                 Ok(count) => return Ok(count.min(text.len())),
