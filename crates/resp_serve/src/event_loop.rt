@@ -166,12 +166,25 @@ impl<C: Drop> Loop<C> {
         }
     }
 
-    /// Visits the connection in a place.
+    /// Visits the connection in a place, and queues or closes it if the service says so.
     fn visit<T: Service<C>>(&mut self, service: &mut T, place: usize, is_at_end: bool)
         ensures due { length (due_of self.new.schedule) ≤ length (due_of self.old.schedule) }
         ensures others { KeepsOthers self.old.connections.items self.new.connections.items place }
     {
-        match visit_one(&mut self.connections, service, place, is_at_end) {
+        let next = visit_one(&mut self.connections, service, place, is_at_end);
+        self.settle(service, place, next);
+    }
+
+    /// Queues or closes a connection after its visit.
+    fn settle<T: Service<C>>(&mut self, service: &mut T, place: usize, next: Next)
+        ensures waits { next ≡ Next.Wait → self.new.schedule ≡ self.old.schedule }
+        ensures again { next ≡ Next.Again → state_of self.old.schedule place ≡ State.Idle →
+            state_of self.new.schedule place ≡ State.Queued }
+        ensures closes { next ≡ Next.Close → state_of self.new.schedule place ≡ State.Closed }
+        ensures due { length (due_of self.new.schedule) ≤ length (due_of self.old.schedule) }
+        ensures others { KeepsOthers self.old.connections.items self.new.connections.items place }
+    {
+        match next {
             Next::Wait => {}
             Next::Again => self.schedule.enqueue(place),
             Next::Close => self.close(service, place),
