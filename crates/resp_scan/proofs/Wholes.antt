@@ -3,5 +3,4 @@ pub mod HeadNumbers
 pub mod WordFronts
 pub mod ManyWords
 pub mod FirstWords
-pub mod FewWords
 pub mod Commands

@@ -1,7 +1,8 @@
 //! Recognises what lies completely at the beginning of some bytes: heads, bulk strings and
 //! commands. Nothing is copied, and nothing is allocated.
 
-ghost use Rattle.std.specs.Prelude.{◌≡◌, ◌≤◌, ◌<◌, ◌^◌, ◌∷◌, List, ℕ, length, map, take, IfNone, IfSome};
+ghost use Rattle.std.specs.Prelude.{◌≡◌, ◌+◌, ◌≤◌, ◌<◌, ◌^◌, ◌∷◌, List, ℕ, drop, length, IfNone, IfSome};
+ghost use Rattle.std.specs.Bool.{MatchBool};
 ghost use Rattle.std.specs.Iterator.{at_most};
 ghost use Rattle.std.specs.Map.Iter.{TakesFirst, deref};
 ghost use Rattle.std.specs.Str.{byte};
@@ -22,47 +23,87 @@ pub struct Head<'a> {
     pub rest: &'a [u8],
 }
 
-/// Returns the number of the digits at the beginning of some bytes, if it is at most this one, and
-/// the bytes from the first that is not a digit.
+/// A number of digits, and the index after it.
+#[derive(Clone, Copy)]
+struct Number {
+    number: u64,
+    end: usize,
+}
+
+/// Returns the number of the digits after the first byte of a text, if it is at most this one. The
+/// index is that of the first byte that is not a digit.
 #[inline(always)]
-fn digits(text: &[u8], most: u64) -> Option<Head<'_>>
-    requires { most < 2 ^ 60 }
-    ensures begins { IfSome result (λ head. BeginsWithDigits text.now head.number head.rest.now) }
-    ensures ends { IfSome result (λ head. HasNoDigit head.rest.now) }
-    ensures within { IfSome result (λ head. head.number ≤ most) }
-    ensures none { IfNone result (HasTooMany text.now most) }
+fn digits(text: &[u8], most: u64) -> Option<Number>
+    requires some { 0 < length text.now }
+    requires small { most < 2 ^ 60 }
+    ensures begins { IfSome result (λ found.
+        BeginsWithDigits (drop 1 text.now) found.number (drop found.end text.now)) }
+    ensures ends { IfSome result (λ found. HasNoDigit (drop found.end text.now)) }
+    ensures within { IfSome result (λ found. (found.number ≤ most) × (0 < found.end) ×
+        (found.end ≤ length text.now)) }
+    ensures none { IfNone result (HasTooMany (drop 1 text.now) most) }
 {
     let mut number = 0;
-    let mut rest = text;
-    while let Some((digit, after)) = rest.split_first() {
-        if *digit < b'0' || b'9' < *digit {
-            break;
+    for end in 1..text.len() {
+        let digit = text[end];
+        if digit < b'0' || b'9' < digit {
+            return Some(Number { number, end });
         }
-        number = number * 10 + u64::from(*digit - b'0');
+        number = number * 10 + u64::from(digit - b'0');
         if number > most {
             return None;
         }
-        rest = after;
     }
-    Some(Head { number, rest })
+    Some(Number {
+        number,
+        end: text.len(),
+    })
 }
 
-/// Returns the bytes after the CR LF at the beginning of some bytes.
+/// Returns whether CR LF is at this index.
 #[inline(always)]
-fn after_line_end(text: &[u8]) -> Option<&[u8]>
-    ensures begins { IfSome result (λ rest. text.now ≡ crlf rest.now) }
-    ensures none { IfNone result ((rest : List ℕ) → text.now ≡ crlf rest → ⊥) }
+fn is_line_end(text: &[u8], index: usize) -> bool
+    requires { index ≤ length text.now }
+    ensures { MatchBool result (drop index text.now ≡ crlf (drop (index + 2) text.now))
+        ((rest : List ℕ) → drop index text.now ≡ crlf rest → ⊥) }
 {
-    if text.len() < 2 || text[0] != b'\r' || text[1] != b'\n' {
+    if text.len() - index < 2 {
+        return false;
+    }
+    text[index] == b'\r' && text[index + 1] == b'\n'
+}
+
+/// Returns the number in the head of this type byte at the beginning of some bytes, if it is at
+/// most this one, and the index after the head.
+#[inline(always)]
+fn head_of(text: &[u8], kind: u8, most: u64) -> Option<Number>
+    requires { most < 2 ^ 60 }
+    ensures begins { IfSome result (λ head.
+        BeginsWithHead text.now kind head.number (drop head.end text.now)) }
+    ensures within { IfSome result (λ head.
+        (head.number ≤ most) × (head.end ≤ length text.now)) }
+    ensures none { IfNone result ((n : ℕ) (rest : List ℕ) → n ≤ most →
+        BeginsWithHead text.now kind n rest → ⊥) }
+{
+    if text.is_empty() || text[0] != kind {
         return None;
     }
-    Some(&text[2..])
+    let found = digits(text, most)?;
+    if found.end == 1 {
+        return None;
+    }
+    if !is_line_end(text, found.end) {
+        return None;
+    }
+    Some(Number {
+        number: found.number,
+        end: found.end + 2,
+    })
 }
 
-/// Returns the head of this type byte at the beginning of some bytes, if its number is at most this
-/// one.
+/// As `head_of`, with the bytes after the head.
 #[inline(always)]
-fn head_of(text: &[u8], kind: u8, most: u64) -> Option<Head<'_>>
+fn head_with_rest(text: &[u8], kind: u8, most: u64) -> Option<Head<'_>>
     requires { most < 2 ^ 60 }
     ensures begins { IfSome result (λ head.
         BeginsWithHead text.now kind head.number head.rest.now) }
@@ -70,18 +111,10 @@ fn head_of(text: &[u8], kind: u8, most: u64) -> Option<Head<'_>>
     ensures none { IfNone result ((n : ℕ) (rest : List ℕ) → n ≤ most →
         BeginsWithHead text.now kind n rest → ⊥) }
 {
-    let (first, line) = text.split_first()?;
-    if *first != kind {
-        return None;
-    }
-    let found = digits(line, most)?;
-    if found.rest.len() == line.len() {
-        return None;
-    }
-    let rest = after_line_end(found.rest)?;
+    let head = head_of(text, kind, most)?;
     Some(Head {
-        number: found.number,
-        rest,
+        number: head.number,
+        rest: &text[head.end..],
     })
 }
 
@@ -106,12 +139,18 @@ fn word(text: &[u8], most: u64) -> Option<Text<'_>>
 {
     let head = head_of(text, b'$', most)?;
     let length = head.number as usize;
-    if head.rest.len() < length {
+    if text.len() - head.end < length {
         return None;
     }
-    let (content, after) = head.rest.split_at(length);
-    let rest = after_line_end(after)?;
-    Some(Text { content, rest })
+    let end = head.end + length;
+    if !is_line_end(text, end) {
+        return None;
+    }
+    let (content, after) = text[head.end..].split_at(length);
+    Some(Text {
+        content,
+        rest: &after[2..],
+    })
 }
 
 /// Returns the bytes after this many bulk strings, each of at most `most` bytes.
@@ -149,65 +188,23 @@ fn first_word(text: &[u8]) -> Text<'_>
     }
 }
 
-/// The number of words after the name that are kept when they are recognised, so that they are not
-/// read again.
-const FEW: u64 = 3;
-
-/// Up to three words, and the bytes after them.
-#[derive(Clone, Copy)]
-struct FewWords<'a> {
-    words: [&'a [u8]; 3],
-    rest: &'a [u8],
-}
-
-/// Returns this many bulk strings at the beginning of some bytes, at most three, each of at most
-/// `most` bytes.
-#[inline(always)]
-fn few_words(text: &[u8], count: u64, most: u64) -> Option<FewWords<'_>>
-    requires few { count ≤ 3 }
-    requires small { most < 2 ^ 60 }
-    ensures begins { IfSome result (λ found. BeginsWithWords most text.now
-        (map deref (take count found.words)) found.rest.now) }
-    ensures size { IfSome result (λ found. length found.words ≡ 3) }
-    ensures none { IfNone result ((words : List (List ℕ)) (rest : List ℕ) →
-        length words ≡ count → BeginsWithWords most text.now words rest → ⊥) }
-{
-    let mut words = [text; 3];
-    let mut rest = text;
-    for index in 0..count as usize {
-        let found = word(rest, most)?;
-        words[index] = found.content;
-        rest = found.rest;
-    }
-    Some(FewWords { words, rest })
-}
-
 /// The words of a command after its name, in order. They are borrowed, and taking them does not
 /// allocate.
 #[derive(Debug, Drop)]
 pub struct Words<'a> {
-    /// The words from the index `from` to the index `to` come first.
-    few: [&'a [u8]; 3],
-    from: usize,
-    to: usize,
-    /// Then come the first `left` words of this text.
     text: &'a [u8],
     left: u64,
 }
 
 impl<'a> Model for Words<'a> {
-    ghost use Rattle.std.specs.Prelude.{◌≡◌, ◌≤◌, ◌++◌, ℕ, List, length, map, take, drop};
-    ghost use Rattle.std.specs.Map.Iter.{deref};
+    ghost use Rattle.std.specs.Prelude.{ℕ, List};
     ghost use Rattle.resp_scan.specs.Whole.{HasWords, words_in};
 
     ghost Value = { List (List ℕ) };
 
-    ghost view = { λ words. map deref (drop words.from (take words.to words.few)) ++
-        words_in words.left words.text.now };
+    ghost view = { λ words. words_in words.left words.text.now };
 
-    ghost invariant = { λ words. (length words.few ≡ 3) × (words.from ≤ words.to) ×
-        (words.to ≤ 3) × (words.left ≤ 1_099_511_627_776) ×
-        HasWords 1_073_741_824 words.left words.text.now };
+    ghost invariant = { λ words. HasWords 1_073_741_824 words.left words.text.now };
 }
 
 impl<'a> Words<'a> {
@@ -216,7 +213,7 @@ impl<'a> Words<'a> {
     pub fn len(&self) -> u64
         ensures { result ≡ length self.now }
     {
-        (self.to - self.from) as u64 + self.left
+        self.left
     }
 }
 
@@ -229,11 +226,6 @@ impl<'a> Iterator for Words<'a> {
 
     #[inline(always)]
     fn next(&mut self) -> Option<&'a [u8]> {
-        if self.from < self.to {
-            let word = self.few[self.from];
-            self.from += 1;
-            return Some(word);
-        }
         if self.left == 0 {
             return None;
         }
@@ -242,40 +234,6 @@ impl<'a> Iterator for Words<'a> {
         self.left -= 1;
         Some(found.content)
     }
-}
-
-/// Returns this many bulk strings at the beginning of some bytes, each of at most `most` bytes, and
-/// the bytes after them.
-#[inline(always)]
-fn words_of(text: &[u8], count: u64, most: u64) -> Option<(Words<'_>, &[u8])>
-    requires many { count ≤ 1_099_511_627_776 }
-    requires small { most ≤ 1_073_741_824 }
-    ensures begins { IfSome result (λ found.
-        BeginsWithWords most text.now found.0 found.1.now) }
-    ensures as_many { IfSome result (λ found. length found.0 ≡ count) }
-    ensures none { IfNone result ((words : List (List ℕ)) (rest : List ℕ) →
-        length words ≡ count → BeginsWithWords most text.now words rest → ⊥) }
-{
-    if count <= FEW {
-        let found = few_words(text, count, most)?;
-        let words = Words {
-            few: found.words,
-            from: 0,
-            to: count as usize,
-            text,
-            left: 0,
-        };
-        return Some((words, found.rest));
-    }
-    let rest = after_words(text, count, most)?;
-    let words = Words {
-        few: [text; 3],
-        from: 0,
-        to: 0,
-        text,
-        left: count,
-    };
-    Some((words, rest))
 }
 
 /// A command, and the bytes after it.
@@ -299,7 +257,35 @@ pub fn array_head<'a>(text: &'a [u8], limits: &Limits) -> Option<Head<'a>>
     ensures none { IfNone result ((n : ℕ) (rest : List ℕ) → n ≤ limits.now.items →
         BeginsWithHead text.now (byte "*") n rest → ⊥) }
 {
-    head_of(text, b'*', limits.items())
+    head_with_rest(text, b'*', limits.items())
+}
+
+/// Returns the head of a bulk string at the beginning of some bytes, if its number is within the
+/// limit of length.
+#[inline(always)]
+pub fn bulk_head<'a>(text: &'a [u8], limits: &Limits) -> Option<Head<'a>>
+    ensures begins { IfSome result (λ head.
+        BeginsWithHead text.now (byte "$") head.number head.rest.now) }
+    ensures within { IfSome result (λ head. head.number ≤ limits.now.length) }
+    ensures none { IfNone result ((n : ℕ) (rest : List ℕ) → n ≤ limits.now.length →
+        BeginsWithHead text.now (byte "$") n rest → ⊥) }
+{
+    head_with_rest(text, b'$', limits.length())
+}
+
+/// Returns the bulk string at the beginning of some bytes, if it is within the limits.
+#[inline]
+pub fn bulk_string<'a>(text: &'a [u8], limits: &Limits) -> Option<Text<'a>>
+    ensures begins { IfSome result (λ found. BeginsWith limits.now text.now
+        (word_datum found.content.now) found.rest.now) }
+    ensures none { IfNone result ((content rest : List ℕ) →
+        BeginsWith limits.now text.now (word_datum content) rest → ⊥) }
+{
+    let found = word(text, limits.length())?;
+    if (text.len() - found.rest.len()) as u64 > limits.total() {
+        return None;
+    }
+    Some(found)
 }
 
 /// Returns the command at the beginning of some bytes: an array of at least one bulk string and of
@@ -317,11 +303,16 @@ pub fn command<'a>(text: &'a [u8], limits: &Limits) -> Option<WholeCommand<'a>>
         return None;
     }
     let most = limits.length();
+    let count = head.number - 1;
     let name = word(head.rest, most)?;
-    let (arguments, rest) = words_of(name.rest, head.number - 1, most)?;
+    let rest = after_words(name.rest, count, most)?;
     if (text.len() - rest.len()) as u64 > limits.total() {
         return None;
     }
+    let arguments = Words {
+        text: name.rest,
+        left: count,
+    };
     Some(WholeCommand {
         name: name.content,
         arguments,

@@ -209,3 +209,52 @@ pub body_is_shorter : (written : List ℕ) (kind n : ℕ) (body : List ℕ) → 
 body_is_shorter written kind n body b =
     let size = ap length b.whole ∙ length-append (kind ∷ b.digits) (crlf body) in
     omega (arith, size)
+
+-- a bulk string within the limits is spelled
+pub word_spelled : (limits : Bounds) (written word rest : List ℕ) → IsText written → BeginsWithWord limits.length written word rest →
+    length written ≤ length rest + limits.total → BeginsWith limits written (word_datum word) rest
+word_spelled limits written word rest are b small =
+    let tree = leaf (string Bulk b.digits word) in
+    let whole : written ≡ text tree ++ rest =
+    words_text limits.length written (word ∷ []) rest (rest, b, refl) ∙ ap (λ l. l ++ rest) (append-nil (text tree)) in
+    let trees = words_are_trees limits.length written (word ∷ []) rest (rest, b, refl) are in
+    let size : length written ≡ length (text tree) + length rest = ap length whole ∙ length-append (text tree) rest in
+    record {
+      written = text tree;
+      whole = whole;
+      spelled = record {
+        tree = tree;
+        spells = record { is_tree = trees.0; spelled = refl };
+        keeps = keeps (omega (arith, small, size));
+        valued = refl;
+      };
+    }
+  where
+    keeps : length (text (leaf (string Bulk b.digits word))) ≤ limits.total → (earlier : Rule) → rank earlier ≤ 9 →
+        Meets (rules_under Two limits) earlier (leaf (string Bulk b.digits word))
+    keeps total Grammar h = tt
+    keeps total NoDouble h = λ off. tt
+    keeps total InVersion h = tt
+    keeps total PushAtTop h = tt
+    keeps total InRange h = tt
+    keeps total NotStreamed h = λ off. tt
+    keeps total WithinDepth h = omega arith
+    keeps total WithinLength h = b.short
+    keeps total WithinItems h = omega arith
+    keeps total WithinTotal h = total
+
+-- a bulk string that a text begins with is within the limits
+pub word_parts_of : (limits : Bounds) (written word rest : List ℕ) → BeginsWith limits written (word_datum word) rest →
+    BeginsWithWord limits.length written word rest × (length written ≤ length rest + limits.total)
+word_parts_of limits written word rest b =
+    let tree = b.spelled.tree in
+    let whole : text tree ++ rest ≡ written = ap (λ l. l ++ rest) b.spelled.spells.spelled ∙ sym b.whole in
+    let long : longest (value tree) ≤ limits.length = b.spelled.keeps WithinLength (omega arith) in
+    let (next, first, last) = trees_are_words limits.length (more tree none) (word ∷ []) rest (b.spelled.spells.is_tree, tt)
+    (b.spelled.keeps InVersion (omega arith), tt) (ap (λ x. d.more x d.none) b.spelled.valued) (omega (arith, long)) in
+    let total : length (text tree) ≤ limits.total = b.spelled.keeps WithinTotal (omega arith) in
+    let size = ap length (sym whole) ∙ length-append (text tree) rest in (
+      subst (λ l. BeginsWithWord limits.length l word rest) (ap (λ l. l ++ rest) (append-nil (text tree)) ∙ whole)
+          (subst (λ l. BeginsWithWord limits.length (texts (more tree none) ++ rest) word l) last first),
+      omega (arith, total, size),
+    )

@@ -1,6 +1,8 @@
 -- The digits at the beginning of a text, and the heads that begin with them.
-use Rattle.std.proofs.Common.{◌≡◌, ℕ, ◌+◌, ◌-◌, ◌*◌, ◌≤◌, List, [], ◌∷◌, ◌++◌, length, refl, sym, ap, ◌∙◌, arith, append_assoc, append-nil, length-append, Option, None, Some, IfNone}
+use Rattle.std.proofs.Common.{◌≡◌, ℕ, suc, drop, get_or, length-drop, ◌+◌, ◌-◌, ◌*◌, ◌<◌, ◌≤◌, List, [], ◌∷◌, ◌++◌, length, refl, sym, ap, ◌∙◌, arith, append_assoc, append-nil, length-append, Option, None, Some, IfNone}
 use Rattle.std.specs.List.{AllByRecursion}
+use Rattle.std.proofs.Math.Seq.{drop-cons}
+use Rattle.std.proofs.lemmas.List.{get_or-drop}
 use Rattle.resp_value.specs.Bytes.{crlf}
 use Rattle.resp_value.specs.Numbers.{IsDigit, number}
 use Rattle.resp_value.proofs.DigitLemmas.{number-digit, number-more}
@@ -85,3 +87,31 @@ head_found text kind m first line after rest found is same some ends =
 pub holds_at_none : {T P : Type 0} (result : Option T) → P → IfNone result P
 holds_at_none None p = p
 holds_at_none (Some found) p = tt
+
+-- the bytes from a place on, by the first
+pub byte_first : (text : List ℕ) (n : ℕ) → n < length text → drop n text ≡ get_or text n 0 ∷ drop (n + 1) text
+byte_first text n within = drop-cons text n 0 within ∙ (let e : suc n ≡ n + 1 = omega arith in ap (λ k. get_or text n 0 ∷ drop k text) e)
+
+-- CR LF at a place
+pub line_end_there : (text : List ℕ) (n : ℕ) → n + 2 ≤ length text → get_or text n 0 ≡ 13 → get_or text (n + 1) 0 ≡ 10 →
+    drop n text ≡ crlf (drop (n + 2) text)
+line_end_there text n within cr lf =
+    byte_first text n (omega (arith, within)) ∙ ap (λ b. b ∷ drop (n + 1) text) cr ∙
+    ap (λ l. 13 ∷ l) (byte_first text (n + 1) (omega (arith, within)) ∙ ap (λ b. b ∷ drop (n + 1 + 1) text) lf ∙
+    (let e : n + 1 + 1 ≡ n + 2 = omega arith in ap (λ k. 10 ∷ drop k text) e))
+
+-- no CR LF at a place
+pub no_line_end : (text : List ℕ) (n : ℕ) (rest : List ℕ) → drop n text ≡ crlf rest →
+    (n + 2 ≤ length text) × (get_or text n 0 ≡ 13) × (get_or text (n + 1) 0 ≡ 10)
+no_line_end text n rest e =
+    let size = ap length e in
+    let whole = length-drop n text in
+    let zero_more : n + 0 ≡ n = omega arith in (
+      omega (arith, size, whole),
+      ap (λ k. get_or text k 0) (sym zero_more) ∙ sym (get_or-drop n text 0 0) ∙ ap (λ l. get_or l 0 0) e,
+      sym (get_or-drop n text 1 0) ∙ ap (λ l. get_or l 1 0) e,
+    )
+
+-- a head is not empty
+pub head_first : (text : List ℕ) (kind n : ℕ) (rest : List ℕ) → BeginsWithHead text kind n rest → text ≡ get_or text 0 0 ∷ drop 1 text
+head_first text kind n rest b = b.whole ∙ sym (ap (λ t. get_or t 0 0 ∷ drop 1 t) b.whole)

@@ -15,7 +15,7 @@ pub record HasReadWords (most : ℕ) (text : List ℕ) (n : ℕ) (rest : List �
   pub begins : BeginsWithWords most text words rest
 
 -- a word more
-pub words_and_word : (most : ℕ) (text : List ℕ) (words : List (List ℕ)) (middle word rest : List ℕ) → BeginsWithWords most text words middle →
+words_and_word : (most : ℕ) (text : List ℕ) (words : List (List ℕ)) (middle word rest : List ℕ) → BeginsWithWords most text words middle →
     BeginsWithWord most middle word rest → BeginsWithWords most text (words ++ word ∷ []) rest
 words_and_word most text [] middle word rest a b = (rest, subst (λ t. BeginsWithWord most t word rest) (sym a) b, refl)
 words_and_word most text (w ∷ words) middle word rest (next, first, more) b = (next, first, words_and_word most next words middle word rest more b)

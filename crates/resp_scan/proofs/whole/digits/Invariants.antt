@@ -1,12 +1,9 @@
-use Rattle.std.proofs.Common.{◌≤◌, length}
+use Rattle.std.proofs.Common.{◌≤◌, drop}
 use Rattle.resp_scan.specs.Machine.Wholes.{BeginsWithDigits}
 use Rattle.resp_scan.proofs.whole.digits.Given as goal
 
-abbrev pub invariant-loop-digit : goal.invariant-loop-digit
-invariant-loop-digit l = record {
-  begins : BeginsWithDigits l.text l.number l.rest;
+abbrev pub invariant-loop-end : goal.invariant-loop-end
+invariant-loop-end l = record {
+  begins : BeginsWithDigits (drop 1 l.text) l.number (drop l.end l.text);
   within : l.number ≤ l.most;
 }
-
-abbrev pub decreases-loop-digit : goal.decreases-loop-digit
-decreases-loop-digit l = length l.rest
