@@ -11,6 +11,7 @@ ghost use Rattle.resp_value.specs.Words.{word_datum, command_of};
 ghost use Rattle.resp_scan.specs.Whole.{BeginsWith, BeginsWithHead, BeginsWithWord, BeginsWithWords};
 ghost use Rattle.resp_scan.specs.Machine.Wholes.{BeginsWithDigits, HasNoDigit, HasTooMany};
 
+use crate::short::short_number;
 use resp_value::limits::Limits;
 use std::marker::Model;
 
@@ -74,9 +75,33 @@ fn is_line_end(text: &[u8], index: usize) -> bool
 }
 
 /// Returns the number in the head of this type byte at the beginning of some bytes, if it is at
-/// most this one, and the index after the head.
+/// most this one, and the index after the head. Most heads have one digit or two.
 #[inline(always)]
 fn head_of(text: &[u8], kind: u8, most: u64) -> Option<Number>
+    requires { most < 2 ^ 60 }
+    ensures begins { IfSome result (λ head.
+        BeginsWithHead text.now kind head.number (drop head.end text.now)) }
+    ensures within { IfSome result (λ head.
+        (head.number ≤ most) × (head.end ≤ length text.now)) }
+    ensures none { IfNone result ((n : ℕ) (rest : List ℕ) → n ≤ most →
+        BeginsWithHead text.now kind n rest → ⊥) }
+{
+    if text.len() >= 5 && text[0] == kind {
+        if let Some(short) = short_number(text) {
+            if short.count <= most {
+                return Some(Number {
+                    number: short.count,
+                    end: short.head,
+                });
+            }
+        }
+    }
+    head_by_digits(text, kind, most)
+}
+
+/// As `head_of`, for any number of digits.
+#[inline(never)]
+fn head_by_digits(text: &[u8], kind: u8, most: u64) -> Option<Number>
     requires { most < 2 ^ 60 }
     ensures begins { IfSome result (λ head.
         BeginsWithHead text.now kind head.number (drop head.end text.now)) }
