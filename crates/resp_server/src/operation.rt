@@ -1,7 +1,6 @@
 //! The request of a command, found from its words.
 
 ghost use Rattle.std.specs.Prelude.{◌≡◌, ◌≤◌, ◌∷◌, List, ℕ, length, []};
-ghost use Rattle.std.specs.Str.{str_to_ascii_lowercase};
 ghost use Rattle.resp_session.specs.Operations as spec;
 ghost use Rattle.resp_server.specs.Operations.{conditional_by, operation_in, operation_by};
 ghost use Rattle.resp_server.specs.Words.{words_left};
@@ -41,12 +40,20 @@ pub(crate) enum Operation<'a> {
 }
 
 /// Returns whether a word is this name in upper, lower or mixed case. The name is given in lower
-/// case.
+/// case, so only the word is changed to lower case.
+#[inline(always)]
 fn is_name(word: &[u8], name: &[u8]) -> bool
-    requires { str_to_ascii_lowercase name.now ≡ name.now }
     ensures { result ≡ spec.is_name name.now word.now }
 {
-    word.eq_ignore_ascii_case(name)
+    if word.len() != name.len() {
+        return false;
+    }
+    for index in 0..name.len() {
+        if word[index].to_ascii_lowercase() != name[index] {
+            return false;
+        }
+    }
+    true
 }
 
 /// Returns the command of this name, or `None` if the name is unknown.
