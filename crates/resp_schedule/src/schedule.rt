@@ -217,10 +217,10 @@ impl Schedule {
     {
         let place = self.states.len();
         self.states.reserve(1)?;
-        self.queue
-            .reserve((place + 1).saturating_sub(self.queue.len()))?;
-        self.free
-            .reserve((place + 1).saturating_sub(self.free.len()))?;
+        // With room for as many places as the states have, the lists grow as seldom as these.
+        let room = self.states.capacity();
+        self.queue.reserve(room.saturating_sub(self.queue.len()))?;
+        self.free.reserve(room.saturating_sub(self.free.len()))?;
         self.states.push_reserved(State::Idle);
         self.count += 1;
         Ok(place)
