@@ -61,8 +61,8 @@ fn explain<W: Sink, F: Sink>(
     }
 }
 
-/// Writes help to `writer`, and returns the exit status. No help is an empty text: it was not
-/// allocated.
+/// Writes help to `writer`, and returns the exit status. Help is never an empty text: an empty one
+/// counts as a failed allocation.
 fn write_help<W: Sink, F: Sink>(text: &[u8], writer: &mut W, faults: &mut F) -> u8
     ensures status { (result ≡ 0) ⊎ (result ≡ 3) }
     ensures help_is_written { result ≡ 0 → WritesSome (W.written writer.old)
