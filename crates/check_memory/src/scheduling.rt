@@ -21,7 +21,8 @@ fn visits_each(schedule: &mut Schedule, count: usize) -> bool {
     holds && schedule.next_due().is_none() && schedule.wait() == Wait::Long
 }
 
-/// Opens places one after another. What was opened before is queued and closed without memory.
+/// Opens places one after another. If an allocation fails, the places opened before can still be
+/// queued and closed.
 pub(crate) fn of_open(alloc: Global) -> Outcome {
     let mut schedule = Schedule::new(alloc, PLACES);
     for place in 0..PLACES {

@@ -14,7 +14,7 @@ type TestHub = Hub<BuildHasherDefault<FoldHasher>>;
 
 const PING: &[u8] = b"*1\r\n$4\r\nPING\r\n";
 
-/// What a reader does after the bytes that it has.
+/// The result of a read after all bytes were read.
 #[derive(Clone, Copy)]
 enum Then {
     Ends,
@@ -80,7 +80,7 @@ impl Write for Replies<'_> {
     }
 }
 
-/// What a visit did.
+/// The result of a visit.
 #[derive(Clone, Copy, Debug, PartialEq, Eq)]
 struct Seen {
     next: Next,
