@@ -6,7 +6,7 @@ use Rattle.std.proofs.lemmas.Bool.{false≢true}
 use Rattle.resp_value.specs.Bounds.{Bounds}
 use Rattle.resp_value.specs.Rules.{WithinTotal}
 use Rattle.resp_value.specs.Spellings.{IsViable}
-use Rattle.resp_session.specs.Answers.{BeginsNoValue, server_rules}
+use Rattle.resp_session.specs.Answers.{Answers, BeginsNoValue, server_rules}
 use Rattle.resp_session.specs.Fitting.{FitsStore}
 use Rattle.resp_session.specs.Stores.{Store}
 use Rattle.resp_server.specs.Answering.{IsAnswered, IsCutShort, state_with}
@@ -26,13 +26,13 @@ at_found limits es store last hub view id old found P p =
     subst (λ h. IfSome (seat_at h id) (P h)) view (subst (λ o. IfSome o (P (state_of limits es store last))) (sym there) p)
 
 pub hub_answered : (limits : Bounds) (es : List (ℕ × Session)) (store : Store) (last : ℕ) (hub : HubState) → state_of limits es store last ≡ hub →
-    (ns : List (ℕ × Session)) (store' : Store) (id : ℕ) (old new : Session) → ns ≡ set_value (is_id id) es new →
+    (limits' : Bounds) → limits' ≡ limits → (ns : List (ℕ × Session)) (store' : Store) (id : ℕ) (old new : Session) → ns ≡ set_value (is_id id) es new →
     Some old ≡ lookup (is_id id) es → (piece : List ℕ) (k : ℕ) →
-    ((front : List ℕ) → HasReadFront old.decoder front → IsAnswered limits id store store' old new (front ++ piece) k) →
-    WhereOpen hub id (λ s front. HasAnswered hub (state_of limits ns store' last) id s (front ++ piece) k)
-hub_answered limits es store last hub view ns store' id old new written found piece k answered =
+    old.id ≡ id → ((front : List ℕ) → HasReadFront old.decoder front → IsAnswered limits store store' old new (front ++ piece) k) →
+    WhereOpen hub id (λ s front. HasAnswered hub (state_of limits' ns store' last) id s (front ++ piece) k)
+hub_answered limits es store last hub view limits' same_limits ns store' id old new written found piece k same answered =
     at_found limits es store last hub view id old found (λ h s. s.closing ≡ false → (front : List ℕ) → HasReadFront s.decoder front →
-    HasAnswered h (state_of limits ns store' last) id s (front ++ piece) k) (λ is_open front taken.
+    HasAnswered h (state_of limits' ns store' last) id s (front ++ piece) k) (λ is_open front taken.
     let a = answered front taken in
     let seat : seat_of new ≡ record { version = new.version; out = old.out.items ++ a.reply; closing = new.closing; decoder = new.decoder } =
     ap (λ items. record { version = new.version; out = items; closing = new.closing; decoder = new.decoder }) a.replied in
@@ -43,20 +43,22 @@ hub_answered limits es store last hub view ns store' id old new written found pi
       closing = new.closing;
       decoder = new.decoder;
       rest = a.rest;
-      answers = a.answers;
-      state = ap (λ seats. record { limits = limits; sessions = seats; store = store'; last = last })
+      answers = subst (λ n. Answers limits n (state_with store old.version [] false 0) (front ++ piece)
+          (state_with store' new.version a.reply new.closing k) a.rest) same a.answers;
+      state = ap (λ l. record { limits = l; sessions = seats_of ns; store = store'; last = last }) same_limits ∙
+          ap (λ seats. record { limits = limits; sessions = seats; store = store'; last = last })
           (ap seats_of written ∙ seats-set es id new ∙ ap (with_seat (seats_of es) id) seat);
       taking = a.taking;
     })
 
 pub hub_cut_short : (limits : Bounds) (es : List (ℕ × Session)) (store : Store) (last : ℕ) (hub : HubState) → state_of limits es store last ≡ hub →
-    (ns : List (ℕ × Session)) (store' : Store) (id : ℕ) (old new : Session) → ns ≡ set_value (is_id id) es new →
+    (limits' : Bounds) → limits' ≡ limits → (ns : List (ℕ × Session)) (store' : Store) (id : ℕ) (old new : Session) → ns ≡ set_value (is_id id) es new →
     Some old ≡ lookup (is_id id) es → (piece : List ℕ) (k : ℕ) →
-    ((front : List ℕ) → HasReadFront old.decoder front → IsCutShort limits id store store' old new front piece k) →
-    WhereOpen hub id (λ s front. HasCutShort hub (state_of limits ns store' last) id s front piece k)
-hub_cut_short limits es store last hub view ns store' id old new written found piece k cut =
+    old.id ≡ id → ((front : List ℕ) → HasReadFront old.decoder front → IsCutShort limits store store' old new front piece k) →
+    WhereOpen hub id (λ s front. HasCutShort hub (state_of limits' ns store' last) id s front piece k)
+hub_cut_short limits es store last hub view limits' same_limits ns store' id old new written found piece k same cut =
     at_found limits es store last hub view id old found (λ h s. s.closing ≡ false → (front : List ℕ) → HasReadFront s.decoder front →
-    HasCutShort h (state_of limits ns store' last) id s front piece k) (λ is_open front taken.
+    HasCutShort h (state_of limits' ns store' last) id s front piece k) (λ is_open front taken.
     let a = cut front taken in
     let seat : seat_of new ≡ record { version = new.version; out = old.out.items ++ a.reply; closing = true; decoder = new.decoder } =
     ap (λ items. record { version = new.version; out = items; closing = new.closing; decoder = new.decoder }) a.replied ∙
@@ -68,22 +70,25 @@ hub_cut_short limits es store last hub view ns store' id old new written found p
       version = new.version;
       decoder = new.decoder;
       rest = a.rest;
-      answers = a.answers;
-      state = ap (λ seats. record { limits = limits; sessions = seats; store = store'; last = last })
+      answers = subst (λ n. Answers limits n (state_with store old.version [] false 0) (front ++ a.first.bytes)
+          (state_with store' new.version a.reply false k) a.rest) same a.answers;
+      state = ap (λ l. record { limits = l; sessions = seats_of ns; store = store'; last = last }) same_limits ∙
+          ap (λ seats. record { limits = limits; sessions = seats; store = store'; last = last })
           (ap seats_of written ∙ seats-set es id new ∙ ap (with_seat (seats_of es) id) seat);
     })
 
 -- the hub stays sound after what was answered
 pub answered_sound : (limits : Bounds) (es : List (ℕ × Session)) (store : Store) (last : ℕ) → HubIsSound limits es store last →
-    (ns : List (ℕ × Session)) (store' : Store) (id : ℕ) (old new : Session) → ns ≡ set_value (is_id id) es new →
-    Some old ≡ lookup (is_id id) es → FitsStore limits store' → ReadsBy (server_rules limits) new.decoder →
-    (new.closing ≡ false → (front : List ℕ) × HasReadFront new.decoder front) → HubIsSound limits ns store' last
-answered_sound limits es store last h ns store' id old new written found stored reading taking = record {
-  stored = stored;
-  few = h.few;
-  sound = subst (AreSound limits last) (sym written) (sound_set limits last es id old new found
-      (λ other s. record { numbered = s.numbered; reading = reading; taking = taking }) h.sound);
-}
+    (limits' : Bounds) → limits' ≡ limits → (ns : List (ℕ × Session)) (store' : Store) (id : ℕ) (old new : Session) → ns ≡ set_value (is_id id) es new →
+    Some old ≡ lookup (is_id id) es → FitsStore limits store' → new.id ≡ old.id → ReadsBy (server_rules limits) new.decoder →
+    (new.closing ≡ false → (front : List ℕ) × HasReadFront new.decoder front) → HubIsSound limits' ns store' last
+answered_sound limits es store last h limits' same_limits ns store' id old new written found stored same reading taking =
+    subst (λ l. HubIsSound l ns store' last) (sym same_limits) (record {
+      stored = stored;
+      few = h.few;
+      sound = subst (AreSound limits last) (sym written) (sound_set limits last es id old new found
+          (λ other s. record { same_id = same ∙ s.same_id; given = s.given; reading = reading; taking = taking }) h.sound);
+    })
 
 -- a session that was found is closing, or isn't, as its seat is
 pub not_closing : (limits : Bounds) (es : List (ℕ × Session)) (store : Store) (last : ℕ) (hub : HubState) → state_of limits es store last ≡ hub → (id : ℕ)

@@ -8,9 +8,12 @@ use Rattle.std.specs.BTreeMap.{insert_entry}
 use Rattle.std.specs.Cmp.{nat_cmp_is, unsigned_tied}
 use Rattle.std.specs.Ordering.{match_ordering}
 use Rattle.resp_value.specs.Bounds.{Bounds}
+use Rattle.resp_value.specs.Rules.{rules_under}
 use Rattle.resp_value.specs.declared.version.Version.TheVariants.{Two}
 use Rattle.resp_session.specs.Stores.{Store}
 use Rattle.resp_server.specs.declared.session.Session.{Session}
+use Rattle.resp_server.specs.Reading.{HasReadFront, ReadsBy}
+use Rattle.resp_server.specs.Running.{HasSameRest}
 use Rattle.resp_server.specs.Hubs.{HubState, Seat, SessionIsSound, AreSound, HubIsSound, seat_of, seats_of, seat_at, with_seat, without_seat, seated}
 
 -- whether a session's id is this one, as the map compares them
@@ -70,16 +73,16 @@ if_seated limits es store last hub view id old found P p = subst (λ o. IfSome o
 -- what stands of the session that was found
 sound_here : (limits : Bounds) (last : ℕ) (e : ℕ × Session) (es : List (ℕ × Session)) (id : ℕ) (old : Session) (here : Bool) → (id == e.0) ≡ here →
     Some old ≡ cond here (Some e.1) (lookup (is_id id) es) → AreSound limits last (e ∷ es) →
-    (Some old ≡ lookup (is_id id) es → SessionIsSound limits last id old.decoder old.closing) →
-    SessionIsSound limits last id old.decoder old.closing
+    (Some old ≡ lookup (is_id id) es → SessionIsSound limits last id old) →
+    SessionIsSound limits last id old
 sound_here limits last e es id old true is found all later =
     let same : old ≡ e.1 = cc in
-    subst (λ (s : Session). SessionIsSound limits last id s.decoder s.closing) (sym same)
-    (subst (λ n. SessionIsSound limits last n e.1.decoder e.1.closing) (sym (eqb-true id e.0 is)) all.0)
+    subst (λ (s : Session). SessionIsSound limits last id s) (sym same)
+    (subst (λ n. SessionIsSound limits last n e.1) (sym (eqb-true id e.0 is)) all.0)
 sound_here limits last e es id old false is found all later = later found
 
 pub sound_at : (limits : Bounds) (last : ℕ) (es : List (ℕ × Session)) (id : ℕ) (old : Session) → Some old ≡ lookup (is_id id) es →
-    AreSound limits last es → SessionIsSound limits last id old.decoder old.closing
+    AreSound limits last es → SessionIsSound limits last id old
 sound_at limits last [] id old found all = absurd (cc)
 sound_at limits last (e ∷ es) id old found all =
     sound_here limits last e es id old (is_id id e.0) (sym (unsigned_tied id e.0)) found all (λ f. sound_at limits last es id old f all.1)
@@ -87,17 +90,17 @@ sound_at limits last (e ∷ es) id old found all =
 -- sessions stay sound where the one that was found is changed into one that is
 sound_by : (limits : Bounds) (last : ℕ) (e : ℕ × Session) (es : List (ℕ × Session)) (id : ℕ) (old new : Session) (here : Bool) →
     Some old ≡ cond here (Some e.1) (lookup (is_id id) es) →
-    ((other : ℕ) → SessionIsSound limits last other old.decoder old.closing → SessionIsSound limits last other new.decoder new.closing) →
+    ((other : ℕ) → SessionIsSound limits last other old → SessionIsSound limits last other new) →
     AreSound limits last (e ∷ es) →
     (Some old ≡ lookup (is_id id) es → AreSound limits last (set_value (is_id id) es new)) →
     AreSound limits last (cond here ((e.0, new) ∷ es) (e ∷ set_value (is_id id) es new))
 sound_by limits last e es id old new true found h all later =
     let same : old ≡ e.1 = cc in
-    (h e.0 (subst (λ (s : Session). SessionIsSound limits last e.0 s.decoder s.closing) (sym same) all.0), all.1)
+    (h e.0 (subst (λ (s : Session). SessionIsSound limits last e.0 s) (sym same) all.0), all.1)
 sound_by limits last e es id old new false found h all later = (all.0, later found)
 
 pub sound_set : (limits : Bounds) (last : ℕ) (es : List (ℕ × Session)) (id : ℕ) (old new : Session) → Some old ≡ lookup (is_id id) es →
-    ((other : ℕ) → SessionIsSound limits last other old.decoder old.closing → SessionIsSound limits last other new.decoder new.closing) →
+    ((other : ℕ) → SessionIsSound limits last other old → SessionIsSound limits last other new) →
     AreSound limits last es → AreSound limits last (set_value (is_id id) es new)
 sound_set limits last [] id old new found h all = tt
 sound_set limits last (e ∷ es) id old new found h all =
@@ -105,14 +108,16 @@ sound_set limits last (e ∷ es) id old new found h all =
 
 -- where nothing of a session but what waits is changed, the hub stays sound
 pub sound_with : (limits : Bounds) (es : List (ℕ × Session)) (store : Store) (last : ℕ) → HubIsSound limits es store last → (ns : List (ℕ × Session)) (id : ℕ)
-    (old new : Session) → ns ≡ set_value (is_id id) es new → Some old ≡ lookup (is_id id) es → new.decoder ≡ old.decoder →
-    new.closing ≡ old.closing → HubIsSound limits ns store last
-sound_with limits es store last h ns id old new written found decoder closing = record {
+    (old new : Session) → ns ≡ set_value (is_id id) es new → Some old ≡ lookup (is_id id) es → HasSameRest old new → HubIsSound limits ns store last
+sound_with limits es store last h ns id old new written found rest = record {
   stored = h.stored;
   few = h.few;
-  sound = subst (AreSound limits last) (sym written) (sound_set limits last es id old new found
-      (λ other s. subst (λ d. SessionIsSound limits last other d new.closing) (sym decoder)
-      (subst (λ b. SessionIsSound limits last other old.decoder b) (sym closing) s)) h.sound);
+  sound = subst (AreSound limits last) (sym written) (sound_set limits last es id old new found (λ other s. record {
+    same_id = rest.same_id ∙ s.same_id;
+    given = s.given;
+    reading = subst (ReadsBy (rules_under Two limits)) (sym rest.same_decoder) s.reading;
+    taking = λ is_open. subst (λ d. (front : List ℕ) × HasReadFront d front) (sym rest.same_decoder) (s.taking (sym rest.same_closing ∙ is_open));
+  }) h.sound);
 }
 
 -- a session is there where it was found
@@ -167,7 +172,7 @@ pub insert_last : (limits : Bounds) (last : ℕ) (es : List (ℕ × Session)) (n
     insert_entry nat_cmp es (last + 1) new ≡ es ++ (last + 1, new) ∷ []
 insert_last limits last [] new h = refl
 insert_last limits last (e ∷ es) new h =
-    let earlier = h.0.numbered in
+    let earlier = h.0.given in
     let after : e.0 < last + 1 = omega (arith, earlier) in
     ap (λ o. match_ordering o ((last + 1, new) ∷ e ∷ es) ((e.0, new) ∷ es) (e ∷ insert_entry nat_cmp es (last + 1) new))
     (sym (nat_cmp_is (last + 1) e.0 Greater after)) ∙ ap (λ l. e ∷ l) (insert_last limits last es new h.1)
@@ -177,7 +182,7 @@ pub none_next : (limits : Bounds) (last : ℕ) (es : List (ℕ × Session)) → 
     lookup (λ other. last + 1 == other) (seats_of es) ≡ None
 none_next limits last [] h = refl
 none_next limits last (e ∷ es) h =
-    let earlier = h.0.numbered in
+    let earlier = h.0.given in
     let other : (last + 1 == e.0) ≡ false = ne_eqb (last + 1) e.0 (λ same. omega (arith, same, earlier)) in
     ap (λ b. cond b (Some (seat_of e.1)) (lookup (λ x. last + 1 == x) (seats_of es))) other ∙ none_next limits last es h.1
 
@@ -199,11 +204,11 @@ seats-append es more = map-append (λ (e : ℕ × Session). (e.0, seat_of e.1)) 
 
 -- sessions stay sound after a new one
 pub sound_append : (limits : Bounds) (last : ℕ) (es : List (ℕ × Session)) (new : Session) → AreSound limits last es →
-    SessionIsSound limits (last + 1) (last + 1) new.decoder new.closing → AreSound limits (last + 1) (es ++ (last + 1, new) ∷ [])
+    SessionIsSound limits (last + 1) (last + 1) new → AreSound limits (last + 1) (es ++ (last + 1, new) ∷ [])
 sound_append limits last [] new h s = (s, tt)
 sound_append limits last (e ∷ es) new h s =
-    let earlier = h.0.numbered in (
-      record { numbered = omega (arith, earlier); reading = h.0.reading; taking = h.0.taking },
+    let earlier = h.0.given in (
+      record { same_id = h.0.same_id; given = omega (arith, earlier); reading = h.0.reading; taking = h.0.taking },
       sound_append limits last es new h.1 s,
     )
 

@@ -155,42 +155,42 @@ state_same store version version' text closing closing' count v b =
     (let e : count ≡ count + 0 = omega arith in ap (λ n. state_with store version' text closing' n) e)
 
 -- the turn of a byte that was refused
-pub refused_turn : (limits : Bounds) (id : ℕ) (store : Store) (before after : Session) (front piece : List ℕ) (fault : Fault) →
+pub refused_turn : (limits : Bounds) (store : Store) (before after : Session) (front piece : List ℕ) (fault : Fault) →
     RefusesByte (server_rules limits) front piece fault → after.version ≡ before.version → after.closing ≡ true →
     after.out.items ≡ before.out.items ++ canonical_text before.version
     (error (codes "ERR Protocol error: " ++ name_of fault.cause ++ codes " at byte " ++ decimal fault.at)) →
-    AnswersBytes limits id store store before after front piece (length piece) 0
-refused_turn limits id store before after front piece fault refused version closes line =
+    AnswersBytes limits store store before after front piece (length piece) 0
+refused_turn limits store before after front piece fault refused version closes line =
     let reply = canonical_text before.version (error (codes "ERR Protocol error: " ++ name_of fault.cause ++ codes " at byte " ++ decimal fault.at)) in
     let whole : front ++ take (length piece) piece ≡ front ++ piece = ap (λ p. front ++ p) (take_all (length piece) piece (omega arith)) in
     record {
       reply = reply;
       rest = front ++ piece;
       replied = line;
-      answers = λ text count. subst (λ t. Answers limits id (state_with store before.version text false count) t
+      answers = λ text count. subst (λ t. Answers limits before.id (state_with store before.version text false count) t
           (state_with store after.version (text ++ reply) after.closing (count + 0)) (front ++ piece)) (sym whole)
-          (subst (λ s. Answers limits id (state_with store before.version text false count) (front ++ piece) s (front ++ piece))
+          (subst (λ s. Answers limits before.id (state_with store before.version text false count) (front ++ piece) s (front ++ piece))
           (state_same store before.version after.version (text ++ reply) true after.closing count version closes)
-          (fault_answers limits id (state_with store before.version text false count) front piece fault refl refused));
+          (fault_answers limits before.id (state_with store before.version text false count) front piece fault refl refused));
       taking = λ is_open. absurd (false≢true (sym is_open ∙ closes));
       within = omega arith;
       onward = λ is_open full. absurd (false≢true (sym is_open ∙ closes));
     }
 
 -- the turn of a piece in which no value ended
-pub waiting_turn : (limits : Bounds) (id : ℕ) (store : Store) (before after : Session) (front piece : List ℕ) (used : ℕ) →
+pub waiting_turn : (limits : Bounds) (store : Store) (before after : Session) (front piece : List ℕ) (used : ℕ) →
     ReadsOn (server_rules limits) after.decoder (front ++ piece) piece used → after.version ≡ before.version → after.closing ≡ false →
-    after.out.items ≡ before.out.items → AnswersBytes limits id store store before after front piece used 0
-waiting_turn limits id store before after front piece used taken version is_open out =
+    after.out.items ≡ before.out.items → AnswersBytes limits store store before after front piece used 0
+waiting_turn limits store before after front piece used taken version is_open out =
     let is = taken.whole_piece in
     let whole : front ++ take used piece ≡ front ++ piece = ap (λ p. front ++ p) (take_all used piece (omega (arith, is))) in
     record {
       reply = [];
       rest = front ++ piece;
       replied = out ∙ sym (append-nil before.out.items);
-      answers = λ text count. subst (λ t. Answers limits id (state_with store before.version text false count) t
+      answers = λ text count. subst (λ t. Answers limits before.id (state_with store before.version text false count) t
           (state_with store after.version (text ++ []) after.closing (count + 0)) (front ++ piece)) (sym whole)
-          (waits_on limits id (state_with store before.version text false count) (state_with store after.version (text ++ []) after.closing (count + 0))
+          (waits_on limits before.id (state_with store before.version text false count) (state_with store after.version (text ++ []) after.closing (count + 0))
           (front ++ piece) refl
           (sym (ap (λ t. state_with store before.version t false count) (sym (append-nil text)) ∙
           state_same store before.version after.version (text ++ []) false after.closing count version is_open))
@@ -201,15 +201,15 @@ waiting_turn limits id store before after front piece used taken version is_open
     }
 
 -- the turn of a value that is spelled by what was taken and the bytes used
-pub spelled_turn : NoSpellingIsEmpty → TheEmptyTextIsViable → (limits : Bounds) → AreBounds limits → (id : ℕ) (store store' : Store)
+pub spelled_turn : NoSpellingIsEmpty → TheEmptyTextIsViable → (limits : Bounds) → AreBounds limits → (store store' : Store)
     (before after : Session) (front piece : List ℕ) (x : Datum) (used commands : ℕ) → BeginsNoValue (server_rules limits) front →
     IsSpelling (server_rules limits) x (front ++ take used piece) → used ≤ length piece → HasReadFront after.decoder [] →
-    IsAnswerTo id x store store' before after commands → AnswersBytes limits id store store' before after front piece used commands
-spelled_turn full empty limits bounds id store store' before after front piece x used commands none spelled within takes answered = record {
+    IsAnswerTo x store store' before after commands → AnswersBytes limits store store' before after front piece used commands
+spelled_turn full empty limits bounds store store' before after front piece x used commands none spelled within takes answered = record {
   reply = answered.reply;
   rest = [];
   replied = answered.replied;
-  answers = λ text count. value_answers full empty limits bounds id (state_with store before.version text false count)
+  answers = λ text count. value_answers full empty limits bounds before.id (state_with store before.version text false count)
       (state_with store' after.version (text ++ answered.reply) after.closing (count + commands)) x (front ++ take used piece) spelled
       (answered.state text count);
   taking = λ open_now. takes;
@@ -218,20 +218,23 @@ spelled_turn full empty limits bounds id store store' before after front piece x
 }
 
 -- the turn of a value that was read
-pub value_turn : NoSpellingIsEmpty → TheEmptyTextIsViable → (limits : Bounds) → AreBounds limits → (id : ℕ) (store store' : Store)
+pub value_turn : NoSpellingIsEmpty → TheEmptyTextIsViable → (limits : Bounds) → AreBounds limits → (store store' : Store)
     (before after : Session) (front piece : List ℕ) (reading : Reading) (value : Value) (used commands : ℕ) →
     BeginsNoValue (server_rules limits) front → ReadsValue (server_rules limits) reading (front ++ take used piece) value → used ≤ length piece → after.decoder ≡ reading →
-    IsAnswerTo id (datum_of value) store store' before after commands → AnswersBytes limits id store store' before after front piece used commands
-value_turn full empty limits bounds id store store' before after front piece reading value used commands none given within kept answered =
-    spelled_turn full empty limits bounds id store store' before after front piece (datum_of value) used commands none given.spelling within
+    IsAnswerTo (datum_of value) store store' before after commands → AnswersBytes limits store store' before after front piece used commands
+value_turn full empty limits bounds store store' before after front piece reading value used commands none given within kept answered =
+    spelled_turn full empty limits bounds store store' before after front piece (datum_of value) used commands none given.spelling within
     (subst (λ d. HasReadFront d []) (sym kept) given.takes) answered
 
 -- it makes no difference to an answer with what the session reads
-pub same_answer : (id : ℕ) (x : Datum) (store store' : Store) (before middle after : Session) (commands : ℕ) → middle.version ≡ before.version →
-    middle.out.items ≡ before.out.items → IsAnswerTo id x store store' middle after commands → IsAnswerTo id x store store' before after commands
-same_answer id x store store' before middle after commands version out answered = record {
+pub same_answer : (x : Datum) (store store' : Store) (before middle after : Session) (commands : ℕ) →
+    IsAnswerTo x store store' middle after commands → middle.id ≡ before.id → middle.version ≡ before.version →
+    middle.out.items ≡ before.out.items → IsAnswerTo x store store' before after commands
+same_answer x store store' before middle after commands answered same version out = record {
   reply = answered.reply;
   replied = answered.replied ∙ ap (λ l. l ++ answered.reply) out;
-  state = λ text count. subst (λ v. after_value id (state_with store v text false count) x ≡
-      state_with store' after.version (text ++ answered.reply) after.closing (count + commands)) version (answered.state text count);
+  state = λ text count. subst (λ id. after_value id (state_with store before.version text false count) x ≡
+      state_with store' after.version (text ++ answered.reply) after.closing (count + commands)) same
+      (subst (λ v. after_value middle.id (state_with store v text false count) x ≡
+      state_with store' after.version (text ++ answered.reply) after.closing (count + commands)) version (answered.state text count));
 }

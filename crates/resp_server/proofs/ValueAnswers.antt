@@ -40,42 +40,42 @@ command_state effect store' before after text count store version closing =
     ap (λ b. state_with store' after.version whole b (count + 1)) (sym closing)
 
 -- a command that had its effect
-pub command_answer : (id : ℕ) (x : Datum) (name : List ℕ) (arguments : List (List ℕ)) (store store' : Store) (before after : Session) →
+pub command_answer : (x : Datum) (name : List ℕ) (arguments : List (List ℕ)) (store store' : Store) (before after : Session) →
     Call name arguments ≡ meaning_of x → before.closing ≡ false →
-    HasEffect store' before after (effect_of store before.version id (operation_of name arguments)) → HasSameRest before after →
-    IsAnswerTo id x store store' before after 1
-command_answer id x name arguments store store' before after h is_open effect rest =
-    let did : Effect = effect_of store before.version id (operation_of name arguments) in
+    HasEffect store' before after (effect_of store before.version before.id (operation_of name arguments)) → HasSameRest before after →
+    IsAnswerTo x store store' before after 1
+command_answer x name arguments store store' before after h is_open effect rest =
+    let did : Effect = effect_of store before.version before.id (operation_of name arguments) in
     record {
       reply = canonical_text did.version did.reply;
       replied = effect.replied;
-      state = λ text count. ap (after_meaning id (state_with store before.version text false count)) (sym h) ∙
+      state = λ text count. ap (after_meaning before.id (state_with store before.version text false count)) (sym h) ∙
           command_state did store' before after text count effect.store_of effect.version (rest.same_closing ∙ is_open);
     }
 
 -- what is passed over
-pub nothing_answer : (id : ℕ) (x : Datum) (store : Store) (session : Session) → Nothing ≡ meaning_of x → session.closing ≡ false →
-    IsAnswerTo id x store store session session 0
-nothing_answer id x store session h is_open = record {
+pub nothing_answer : (x : Datum) (store : Store) (session : Session) → Nothing ≡ meaning_of x → session.closing ≡ false →
+    IsAnswerTo x store store session session 0
+nothing_answer x store session h is_open = record {
   reply = [];
   replied = sym (append-nil session.out.items);
-  state = λ text count. ap (after_meaning id (state_with store session.version text false count)) (sym h) ∙
+  state = λ text count. ap (after_meaning session.id (state_with store session.version text false count)) (sym h) ∙
       ap (λ t. state_with store session.version t false count) (sym (append-nil text)) ∙
       ap (λ b. state_with store session.version (text ++ []) b count) (sym is_open) ∙
       (let e : count ≡ count + 0 = omega arith in ap (λ n. state_with store session.version (text ++ []) session.closing n) e);
 }
 
 -- what is no command closes the session
-pub no_command_answer : (id : ℕ) (x : Datum) (store : Store) (before after : Session) → NoCommand ≡ meaning_of x → after.version ≡ before.version →
+pub no_command_answer : (x : Datum) (store : Store) (before after : Session) → NoCommand ≡ meaning_of x → after.version ≡ before.version →
     after.closing ≡ true →
     after.out.items ≡ before.out.items ++ canonical_text before.version
-    (error (codes "ERR Protocol error: " ++ codes "NotCommand" ++ codes " at byte " ++ decimal 0)) → IsAnswerTo id x store store before after 0
-no_command_answer id x store before after h version closes line =
+    (error (codes "ERR Protocol error: " ++ codes "NotCommand" ++ codes " at byte " ++ decimal 0)) → IsAnswerTo x store store before after 0
+no_command_answer x store before after h version closes line =
     let reply = canonical_text before.version (error (codes "ERR Protocol error: " ++ codes "NotCommand" ++ codes " at byte " ++ decimal 0)) in
     record {
       reply = reply;
       replied = line;
-      state = λ text count. ap (after_meaning id (state_with store before.version text false count)) (sym h) ∙
+      state = λ text count. ap (after_meaning before.id (state_with store before.version text false count)) (sym h) ∙
           ap (λ v. state_with store v (text ++ reply) true count) (sym version) ∙
           ap (λ b. state_with store after.version (text ++ reply) b count) (sym closes) ∙
           (let e : count ≡ count + 0 = omega arith in ap (λ n. state_with store after.version (text ++ reply) after.closing n) e);

@@ -26,16 +26,16 @@ used_is piece written rest whole =
       omega arith,
     )
 
-pub whole_turn : NoSpellingIsEmpty → TheEmptyTextIsViable → ACommandIsItsWords → (limits : Bounds) → AreBounds limits → (id : ℕ) (store store' : Store)
+pub whole_turn : NoSpellingIsEmpty → TheEmptyTextIsViable → ACommandIsItsWords → (limits : Bounds) → AreBounds limits → (store store' : Store)
     (before after : Session) (piece name : List ℕ) (arguments : List (List ℕ)) (rest : List ℕ) → HasReadFront before.decoder [] →
     before.closing ≡ false → BeginsWith limits piece (command_of (name ∷ arguments)) rest →
-    HasEffect store' before after (effect_of store before.version id (operation_of name arguments)) → HasSameRest before after →
-    AnswersBytes limits id store store' before after [] piece (length piece - length rest) 1
-whole_turn full empty words_law limits bounds id store store' before after piece name arguments rest between is_open begins effect same =
+    HasEffect store' before after (effect_of store before.version before.id (operation_of name arguments)) → HasSameRest before after →
+    AnswersBytes limits store store' before after [] piece (length piece - length rest) 1
+whole_turn full empty words_law limits bounds store store' before after piece name arguments rest between is_open begins effect same =
     let x = command_of (name ∷ arguments) in
     let (bytes, within) = used_is piece begins.written rest begins.whole in
-    spelled_turn full empty limits bounds id store store' before after [] piece x (length piece - length rest) 1
+    spelled_turn full empty limits bounds store store' before after [] piece x (length piece - length rest) 1
     (none_taken full (server_rules limits) before.decoder [] between)
     (subst (IsSpelling (server_rules limits) x) (sym bytes) begins.spelled) within
     (subst (λ d. HasReadFront d []) (sym same.same_decoder) between)
-    (command_answer id x name arguments store store' before after (sym ((words_law x name arguments).1 refl)) is_open effect same)
+    (command_answer x name arguments store store' before after (sym ((words_law x name arguments).1 refl)) is_open effect same)

@@ -20,19 +20,19 @@ state_with store version text closing count =
     record { store = store; version = version; text = text; closing = closing; count = count }
 
 -- the state after a value, whatever was written and run before it
-pub record IsAnswerTo (id : ℕ) (x : Datum) (store store' : Store) (before after : Session) (commands : ℕ) : Type 0 where
+pub record IsAnswerTo (x : Datum) (store store' : Store) (before after : Session) (commands : ℕ) : Type 0 where
   pub reply : List ℕ
   pub replied : after.out.items ≡ before.out.items ++ reply
-  pub state : (text : List ℕ) (count : ℕ) → after_value id (state_with store before.version text false count) x ≡
+  pub state : (text : List ℕ) (count : ℕ) → after_value before.id (state_with store before.version text false count) x ≡
       state_with store' after.version (text ++ reply) after.closing (count + commands)
 
 -- this many bytes of the piece were answered, after the front that was read, whatever was written and run before them
-pub record AnswersBytes (limits : Bounds) (id : ℕ) (store store' : Store) (before after : Session)
-    (front piece : List ℕ) (used commands : ℕ) : Type 0 where
+pub record AnswersBytes (limits : Bounds) (store store' : Store) (before after : Session) (front piece : List ℕ)
+    (used commands : ℕ) : Type 0 where
   pub reply : List ℕ
   pub rest : List ℕ
   pub replied : after.out.items ≡ before.out.items ++ reply
-  pub answers : (text : List ℕ) (count : ℕ) → Answers limits id (state_with store before.version text false count)
+  pub answers : (text : List ℕ) (count : ℕ) → Answers limits before.id (state_with store before.version text false count)
       (front ++ take used piece) (state_with store' after.version (text ++ reply) after.closing (count + commands)) rest
   pub taking : after.closing ≡ false → HasReadFront after.decoder rest
   pub within : used ≤ length piece
@@ -40,12 +40,12 @@ pub record AnswersBytes (limits : Bounds) (id : ℕ) (store store' : Store) (bef
   pub onward : after.closing ≡ false → 0 < length piece → 0 < used
 
 -- the text was answered: the reply follows the bytes that waited, and an open session has read the rest
-pub record IsAnswered (limits : Bounds) (id : ℕ) (store store' : Store) (before after : Session) (text : List ℕ)
+pub record IsAnswered (limits : Bounds) (store store' : Store) (before after : Session) (text : List ℕ)
     (commands : ℕ) : Type 0 where
   pub reply : List ℕ
   pub rest : List ℕ
   pub replied : after.out.items ≡ before.out.items ++ reply
-  pub answers : Answers limits id (state_with store before.version [] false 0) text
+  pub answers : Answers limits before.id (state_with store before.version [] false 0) text
       (state_with store' after.version reply after.closing commands) rest
   pub taking : after.closing ≡ false → HasReadFront after.decoder rest
 
@@ -58,13 +58,13 @@ pub record FirstOf (piece : List ℕ) : Type 0 where
 
 -- memory was out after the front and the first bytes of the piece, which were answered: nothing after them was done,
 -- and the session is closing
-pub record IsCutShort (limits : Bounds) (id : ℕ) (store store' : Store) (before after : Session) (front piece : List ℕ)
+pub record IsCutShort (limits : Bounds) (store store' : Store) (before after : Session) (front piece : List ℕ)
     (commands : ℕ) : Type 0 where
   pub first : FirstOf piece
   pub reply : List ℕ
   pub rest : List ℕ
   pub replied : after.out.items ≡ before.out.items ++ reply
-  pub answers : Answers limits id (state_with store before.version [] false 0) (front ++ first.bytes)
+  pub answers : Answers limits before.id (state_with store before.version [] false 0) (front ++ first.bytes)
       (state_with store' after.version reply false commands) rest
   pub closes : after.closing ≡ true
 

@@ -53,15 +53,17 @@ abbrev pub without_seat : List (ℕ × Seat) → ℕ → List (ℕ × Seat)
 without_seat [] id = []
 without_seat (e ∷ es) id = cond (id == e.0) es (e ∷ without_seat es id)
 
--- a session reads version 2 within the hub's limits, and while it is open it has read a front of a value
-pub record SessionIsSound (limits : Bounds) (last : ℕ) (id : ℕ) (decoder : Reading) (closing : Bool) : Type 0 where
-  pub numbered : id ≤ last
-  pub reading : ReadsBy (rules_under Two limits) decoder
-  pub taking : closing ≡ false → (front : List ℕ) × HasReadFront decoder front
+-- A session has the number under which the hub keeps it. It reads version 2 within the hub's limits, and while it is
+-- open it has read a front of a value.
+pub record SessionIsSound (limits : Bounds) (last id : ℕ) (s : Session) : Type 0 where
+  pub same_id : s.id ≡ id
+  pub given : id ≤ last
+  pub reading : ReadsBy (rules_under Two limits) s.decoder
+  pub taking : s.closing ≡ false → (front : List ℕ) × HasReadFront s.decoder front
 
 abbrev pub AreSound : Bounds → ℕ → List (ℕ × Session) → Type 0
 AreSound limits last sessions =
-    AllByRecursion (λ (e : ℕ × Session). SessionIsSound limits last e.0 e.1.decoder e.1.closing) sessions
+    AllByRecursion (λ (e : ℕ × Session). SessionIsSound limits last e.0 e.1) sessions
 
 -- this holds of every hub
 pub record HubIsSound (limits : Bounds) (sessions : List (ℕ × Session)) (store : Store) (last : ℕ) : Type 0 where

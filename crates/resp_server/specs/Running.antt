@@ -16,7 +16,8 @@ pub record IsAsBefore (store store' : Store) (before after : Session) : Type 0 w
   pub same_version : after.version ≡ before.version
   pub same_out : after.out.items ≡ before.out.items
 
--- the decoder and whether the session is closing are unchanged
+-- the number of the session, its decoder and whether it is closing are unchanged
 pub record HasSameRest (before after : Session) : Type 0 where
+  pub same_id : after.id ≡ before.id
   pub same_decoder : after.decoder ≡ before.decoder
   pub same_closing : after.closing ≡ before.closing

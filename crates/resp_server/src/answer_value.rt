@@ -1,7 +1,6 @@
 //! The response to a complete value.
 
-ghost use Rattle.std.specs.Prelude.{◌≡◌, ◌<◌, ◌≤◌, ◌^◌, ◌∷◌, List, ℕ, false, IfOk, OnOk, OnErr};
-ghost use Rattle.resp_value.specs.Bounds.{AreBounds};
+ghost use Rattle.std.specs.Prelude.{◌≡◌, ◌≤◌, ◌∷◌, List, ℕ, false, IfOk, OnOk, OnErr};
 ghost use Rattle.resp_value.specs.Spellings.{IsSpelling};
 ghost use Rattle.resp_value.specs.Values.{datum_of};
 ghost use Rattle.resp_value.specs.Words.{command_of};
@@ -17,13 +16,12 @@ use crate::fault_line::append_fault;
 use crate::operation::operation_of;
 use crate::run::run;
 use crate::session::Session;
-use crate::store::Store;
+use crate::shared::Shared;
 use crate::words::Words;
 use resp_session::laws;
 use resp_session::words::{Asked, asked_by};
-use resp_value::limits::Limits;
 use resp_value::value::Value;
-use std::alloc::{AllocError, Global};
+use std::alloc::AllocError;
 use std::hash::BuildHasher;
 
 /// Runs a command of this name with these words after it, and queues the reply. When out of memory,
@@ -32,68 +30,58 @@ use std::hash::BuildHasher;
 pub(crate) fn run_command<S: BuildHasher>(
     name: &[u8],
     arguments: Words<'_>,
-    store: &mut Store<S>,
+    shared: &mut Shared<S>,
     session: &mut Session,
-    id: u64,
-    limits: &Limits,
-    alloc: Global,
 ) -> Result<(), AllocError>
-    requires stored { FitsStore limits.now store.old }
-    requires small { id < 2 ^ 63 }
-    requires spelled { (written : List ℕ) × IsSpelling (server_rules limits.now)
+    requires stored { FitsStore shared.old.limits shared.old.store }
+    requires spelled { (written : List ℕ) × IsSpelling (server_rules shared.old.limits)
         (command_of (name.now ∷ words_left arguments)) written }
-    ensures done { OnOk result (HasEffect store.new session.old session.new
-        (effect_of store.old session.old.version id
+    ensures done { OnOk result (HasEffect shared.new.store session.old session.new
+        (effect_of shared.old.store session.old.version session.old.id
         (operation_of name.now (words_left arguments.entry)))) }
-    ensures unchanged { OnErr result (IsAsBefore store.old store.new session.old session.new) }
-    ensures stored { FitsStore limits.now store.new }
+    ensures unchanged { OnErr result (IsAsBefore shared.old.store shared.new.store session.old
+        session.new) }
+    ensures stored { FitsStore shared.old.limits shared.new.store }
+    ensures same_limits { shared.new.limits ≡ shared.old.limits }
     ensures rest { HasSameRest session.old session.new }
 {
     laws::effects_fit();
-    limits.are_in_range();
+    shared.limits.are_in_range();
     let operation = operation_of(name, arguments);
-    run(operation, store, session, id, limits, alloc)
+    run(operation, shared, session)
 }
 
 /// Answers a value that was read, and returns the number of commands that were run, 0 or 1. When
 /// out of memory, the store, the session's version and the waiting bytes are unchanged.
 pub(crate) fn answer_value<S: BuildHasher>(
     value: Value,
-    store: &mut Store<S>,
+    shared: &mut Shared<S>,
     session: &mut Session,
-    id: u64,
-    limits: &Limits,
-    alloc: Global,
 ) -> Result<u64, AllocError>
     requires is_open { session.old.closing ≡ false }
-    requires stored { FitsStore limits.now store.old }
-    requires small { id < 2 ^ 63 }
+    requires stored { FitsStore shared.old.limits shared.old.store }
     requires spelled { (written : List ℕ) ×
-        IsSpelling (server_rules limits.now) (datum_of value) written }
-    ensures answered { IfOk result (IsAnswerTo id (datum_of value) store.old store.new session.old
+        IsSpelling (server_rules shared.old.limits) (datum_of value) written }
+    ensures answered { IfOk result (IsAnswerTo (datum_of value) shared.old.store shared.new.store
+        session.old session.new) }
+    ensures unchanged { OnErr result (IsAsBefore shared.old.store shared.new.store session.old
         session.new) }
-    ensures unchanged { OnErr result (IsAsBefore store.old store.new session.old session.new) }
-    ensures stored { FitsStore limits.now store.new }
+    ensures stored { FitsStore shared.old.limits shared.new.store }
+    ensures same_limits { shared.new.limits ≡ shared.old.limits }
     ensures same_decoder { session.new.decoder ≡ session.old.decoder }
+    ensures same_id { session.new.id ≡ session.old.id }
     ensures at_most_one { IfOk result (λ commands. commands ≤ 1) }
 {
     laws::a_command_is_its_words();
     match asked_by(value) {
         Asked::Command(words) => {
             let arguments = Words::Read(&words, 1);
-            run_command(words.word(0), arguments, store, session, id, limits, alloc)?;
+            run_command(words.word(0), arguments, shared, session)?;
             Ok(1)
         }
         Asked::Nothing => Ok(0),
         Asked::NoCommand => {
-            append_fault(
-                &mut session.out,
-                session.version,
-                limits,
-                alloc,
-                b"NotCommand",
-                0,
-            )?;
+            append_fault(shared, session, b"NotCommand", 0)?;
             session.closing = true;
             Ok(0)
         }

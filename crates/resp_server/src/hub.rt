@@ -17,6 +17,7 @@ use crate::entries::Entries;
 use crate::error::{HubError, NoSession, OpenError, PushError};
 use crate::push::queue_push;
 use crate::session::Session;
+use crate::shared::Shared;
 use crate::store::Store;
 use resp_value::limits::Limits;
 use resp_value::value::Value;
@@ -54,11 +55,9 @@ pub struct Handled {
 /// This prints `1 +OK\r\n`.
 #[derive(Drop)]
 pub struct Hub<S: BuildHasher> {
-    limits: Limits,
+    shared: Shared<S>,
     sessions: BTreeMap<u64, Session>,
-    store: Store<S>,
     last: u64,
-    alloc: Global,
 }
 
 impl<S: BuildHasher> Model for Hub<S> {
@@ -71,13 +70,14 @@ impl<S: BuildHasher> Model for Hub<S> {
     ghost coded = { Prim.hlevel (codes, value.the_row.coded) };
 
     ghost view = { λ hub. record {
-      limits = hub.limits;
+      limits = hub.shared.limits;
       sessions = seats_of hub.sessions.entries;
-      store = hub.store;
+      store = hub.shared.store;
       last = hub.last;
     } };
 
-    ghost invariant = { λ hub. HubIsSound hub.limits hub.sessions.entries hub.store hub.last };
+    ghost invariant = { λ hub. HubIsSound hub.shared.limits hub.sessions.entries hub.shared.store
+        hub.last };
 }
 
 impl<S: BuildHasher> Hub<S> {
@@ -89,12 +89,15 @@ impl<S: BuildHasher> Hub<S> {
     pub fn new(alloc: Global, limits: Limits, hasher: S) -> Hub<S>
         ensures { result ≡ record { limits = limits; sessions = []; store = []; last = 0 } }
     {
-        Hub {
-            limits,
-            sessions: BTreeMap::new(alloc),
+        let shared = Shared {
             store: Store::new(alloc, hasher),
-            last: 0,
+            limits,
             alloc,
+        };
+        Hub {
+            shared,
+            sessions: BTreeMap::new(alloc),
+            last: 0,
         }
     }
 
@@ -102,7 +105,7 @@ impl<S: BuildHasher> Hub<S> {
     pub fn get(&self, key: &[u8]) -> Option<&[u8]>
         ensures { option_map (λ value. value.now) result ≡ value_at self.now.store key.now }
     {
-        match self.store.get(key) {
+        match self.shared.store.get(key) {
             Some(stored) => Some(stored.bytes()),
             None => None,
         }
@@ -123,7 +126,7 @@ impl<S: BuildHasher> Hub<S> {
     pub fn entries(&self) -> Entries<'_>
         ensures { result ≡ self.now.store }
     {
-        self.store.entries()
+        self.shared.store.entries()
     }
 
     /// Returns the bytes that wait to be written to a session's client.
@@ -183,7 +186,7 @@ impl<S: BuildHasher> Hub<S> {
             return Err(NoSession);
         };
         // The contract of the decoder's `taken` states here that the bytes read are viable.
-        let _taken = session.decoder.taken(&self.limits);
+        let _taken = session.decoder.taken(&self.shared.limits);
         Ok(session.closing)
     }
 
@@ -219,7 +222,7 @@ impl<S: BuildHasher> Hub<S> {
             return Err(OpenError::TooManySessions);
         }
         let id = self.last + 1;
-        let session = Session::new(self.alloc);
+        let session = Session::new(self.shared.alloc, id);
         if let Err(_) = self.sessions.insert(id, session) {
             return Err(OpenError::OutOfMemory);
         }
@@ -296,14 +299,7 @@ impl<S: BuildHasher> Hub<S> {
         if session.closing {
             return Ok(Handled { commands: 0 });
         }
-        let answered = answer(
-            &mut self.store,
-            session,
-            id,
-            &self.limits,
-            self.alloc,
-            piece,
-        );
+        let answered = answer(&mut self.shared, session, piece);
         session.shrink();
         let commands = match answered {
             Ok(commands) => commands,
@@ -347,7 +343,7 @@ impl<S: BuildHasher> Hub<S> {
         let Some(session) = self.sessions.get_mut(&id) else {
             return Err(PushError::NoSession);
         };
-        if let Err(error) = queue_push(session, &self.limits, items) {
+        if let Err(error) = queue_push(session, &self.shared.limits, items) {
             return Err(error);
         }
         Ok(())

@@ -16,6 +16,7 @@ mod reply;
 mod row;
 mod run;
 mod session;
+mod shared;
 mod store;
 mod stored;
 mod turn;

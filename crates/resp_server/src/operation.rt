@@ -112,7 +112,7 @@ fn only(mut words: Words<'_>) -> &[u8]
     requires { length (words_left words) ≡ 1 }
     ensures { words_left words.entry ≡ result.now ∷ [] }
 {
-    match words.take() {
+    match words.next() {
         Some(word) => word,
         None => unreachable!(),
     }
@@ -159,13 +159,13 @@ fn set_key(mut words: Words<'_>) -> Operation<'_>
     requires few { length (words_left words) ≤ 3 }
     ensures { operation_in result ≡ spec.set_operation (words_left words.entry) }
 {
-    let Some(key) = words.take() else {
+    let Some(key) = words.next() else {
         unreachable!()
     };
-    let Some(value) = words.take() else {
+    let Some(value) = words.next() else {
         unreachable!()
     };
-    match words.take() {
+    match words.next() {
         None => Operation::Set(Condition::Always, key, value),
         Some(option) => match condition_of(option) {
             Some(condition) => Operation::Set(condition, key, value),

@@ -1,6 +1,6 @@
 //! Runs a command. All allocations come first, and after them nothing can fail.
 
-ghost use Rattle.std.specs.Prelude.{◌≡◌, ◌<◌, ◌^◌, ℕ, List, OnOk, OnErr};
+ghost use Rattle.std.specs.Prelude.{◌≡◌, OnOk, OnErr};
 ghost use Rattle.resp_session.specs.Fitting.{FitsEffect};
 ghost use Rattle.resp_session.specs.Operations as spec;
 ghost use Rattle.resp_session.specs.Stores.{effect_of, value_at};
@@ -12,13 +12,13 @@ ghost use Rattle.resp_server.specs.Words.{words_left};
 use crate::operation::{Condition, Operation};
 use crate::reply::{NUMBER_ROOM, reply, reply_greeting, reply_number};
 use crate::session::Session;
+use crate::shared::Shared;
 use crate::store::Store;
 use crate::words::Words;
 use resp_value::content::Content;
-use resp_value::limits::Limits;
 use resp_value::value::Value;
 use resp_value::version::Version;
-use std::alloc::{AllocError, Global};
+use std::alloc::AllocError;
 use std::hash::BuildHasher;
 
 /// Runs a command in the session of this number, and queues the reply. When out of memory, the
@@ -26,32 +26,28 @@ use std::hash::BuildHasher;
 #[inline(always)]
 pub(crate) fn run<S: BuildHasher>(
     operation: Operation<'_>,
-    store: &mut Store<S>,
+    shared: &mut Shared<S>,
     session: &mut Session,
-    id: u64,
-    limits: &Limits,
-    alloc: Global,
 ) -> Result<(), AllocError>
-    requires fits { FitsEffect limits.now
-        (effect_of store.old session.old.version id (operation_in operation)) }
-    requires small { id < 2 ^ 63 }
-    ensures done { OnOk result (HasEffect store.new session.old session.new
-        (effect_of store.old session.old.version id (operation_in operation.entry))) }
-    ensures unchanged { OnErr result (IsAsBefore store.old store.new session.old session.new) }
+    requires fits { FitsEffect shared.old.limits (effect_of shared.old.store session.old.version
+        session.old.id (operation_in operation)) }
+    ensures done { OnOk result (HasEffect shared.new.store session.old session.new (effect_of
+        shared.old.store session.old.version session.old.id (operation_in operation.entry))) }
+    ensures unchanged { OnErr result (IsAsBefore shared.old.store shared.new.store session.old
+        session.new) }
+    ensures same_limits { shared.new.limits ≡ shared.old.limits }
     ensures rest { HasSameRest session.old session.new }
 {
     match operation {
         Operation::Ping => session.out.extend_from_slice(b"+PONG\r\n"),
         Operation::Echo(word) => {
-            let word = Value::Bulk(Content::new(Vec::from_slice(alloc, word)?));
-            reply(&mut session.out, session.version, limits, &word)
+            let word = Value::Bulk(Content::new(Vec::from_slice(shared.alloc, word)?));
+            reply(&mut session.out, session.version, &shared.limits, &word)
         }
-        Operation::Get(key) => get(key, store, session, limits),
-        Operation::Set(condition, key, value) => {
-            set(condition, key, value, store, session, limits, alloc)
-        }
-        Operation::Del(keys) => del(keys, store, session, limits),
-        Operation::Hello(asked) => hello(asked, session, id, limits),
+        Operation::Get(key) => get(key, shared, session),
+        Operation::Set(condition, key, value) => set(condition, key, value, shared, session),
+        Operation::Del(keys) => del(keys, shared, session),
+        Operation::Hello(asked) => hello(asked, shared, session),
         Operation::Refused(refusal) => session.out.extend_from_slice(refusal.line()),
     }
 }
@@ -59,20 +55,30 @@ pub(crate) fn run<S: BuildHasher>(
 /// Replies with the value of a key.
 fn get<S: BuildHasher>(
     key: &[u8],
-    store: &Store<S>,
+    shared: &Shared<S>,
     session: &mut Session,
-    limits: &Limits,
 ) -> Result<(), AllocError>
-    requires { FitsEffect limits.now
-        (effect_of store.now session.old.version 0 (spec.Get key.now)) }
-    ensures done { OnOk result (HasEffect store.now session.old session.new
-        (effect_of store.now session.old.version 0 (spec.Get key.now))) }
-    ensures unchanged { OnErr result (IsAsBefore store.now store.now session.old session.new) }
+    requires { FitsEffect shared.now.limits
+        (effect_of shared.now.store session.old.version 0 (spec.Get key.now)) }
+    ensures done { OnOk result (HasEffect shared.now.store session.old session.new
+        (effect_of shared.now.store session.old.version 0 (spec.Get key.now))) }
+    ensures unchanged { OnErr result (IsAsBefore shared.now.store shared.now.store session.old
+        session.new) }
     ensures rest { HasSameRest session.old session.new }
 {
-    match store.get(key) {
-        Some(stored) => reply(&mut session.out, session.version, limits, stored.reply()),
-        None => reply(&mut session.out, session.version, limits, &Value::Null),
+    match shared.store.get(key) {
+        Some(stored) => reply(
+            &mut session.out,
+            session.version,
+            &shared.limits,
+            stored.reply(),
+        ),
+        None => reply(
+            &mut session.out,
+            session.version,
+            &shared.limits,
+            &Value::Null,
+        ),
     }
 }
 
@@ -93,24 +99,29 @@ fn set<S: BuildHasher>(
     condition: Condition,
     key: &[u8],
     value: &[u8],
-    store: &mut Store<S>,
+    shared: &mut Shared<S>,
     session: &mut Session,
-    limits: &Limits,
-    alloc: Global,
 ) -> Result<(), AllocError>
-    requires { FitsEffect limits.now (effect_of store.old session.old.version 0
+    requires { FitsEffect shared.old.limits (effect_of shared.old.store session.old.version 0
         (spec.Set (condition_in condition) key.now value.now)) }
-    ensures done { OnOk result (HasEffect store.new session.old session.new
-        (effect_of store.old session.old.version 0
+    ensures done { OnOk result (HasEffect shared.new.store session.old session.new
+        (effect_of shared.old.store session.old.version 0
         (spec.Set (condition_in condition) key.now value.now))) }
-    ensures unchanged { OnErr result (IsAsBefore store.old store.new session.old session.new) }
+    ensures unchanged { OnErr result (IsAsBefore shared.old.store shared.new.store session.old
+        session.new) }
+    ensures same_limits { shared.new.limits ≡ shared.old.limits }
     ensures rest { HasSameRest session.old session.new }
 {
-    if !is_met(condition, key, store) {
-        return reply(&mut session.out, session.version, limits, &Value::Null);
+    if !is_met(condition, key, &shared.store) {
+        return reply(
+            &mut session.out,
+            session.version,
+            &shared.limits,
+            &Value::Null,
+        );
     }
     session.out.reserve(5)?;
-    store.set(key, value, alloc)?;
+    shared.store.set(key, value, shared.alloc)?;
     session.out.extend_reserved(b"+OK\r\n");
     Ok(())
 }
@@ -118,40 +129,39 @@ fn set<S: BuildHasher>(
 /// Removes the keys, and replies with the number of keys that existed.
 fn del<S: BuildHasher>(
     keys: Words<'_>,
-    store: &mut Store<S>,
+    shared: &mut Shared<S>,
     session: &mut Session,
-    limits: &Limits,
 ) -> Result<(), AllocError>
-    requires { FitsEffect limits.now (effect_of store.old session.old.version 0
+    requires { FitsEffect shared.old.limits (effect_of shared.old.store session.old.version 0
         (spec.Del (words_left keys))) }
-    ensures done { OnOk result (HasEffect store.new session.old session.new
-        (effect_of store.old session.old.version 0 (spec.Del (words_left keys.entry)))) }
-    ensures unchanged { OnErr result (IsAsBefore store.old store.new session.old session.new) }
+    ensures done { OnOk result (HasEffect shared.new.store session.old session.new
+        (effect_of shared.old.store session.old.version 0 (spec.Del (words_left keys.entry)))) }
+    ensures unchanged { OnErr result (IsAsBefore shared.old.store shared.new.store session.old
+        session.new) }
+    ensures same_limits { shared.new.limits ≡ shared.old.limits }
     ensures rest { HasSameRest session.old session.new }
 {
     session.out.reserve(NUMBER_ROOM)?;
-    let removed = store.remove(keys);
-    reply_number(&mut session.out, session.version, limits, removed);
+    let removed = shared.store.remove(keys);
+    reply_number(&mut session.out, session.version, &shared.limits, removed);
     Ok(())
 }
 
 /// Changes the version if one is requested, and replies with the description of the session in that
 /// version.
-fn hello(
+fn hello<S: BuildHasher>(
     asked: Option<Version>,
+    shared: &Shared<S>,
     session: &mut Session,
-    id: u64,
-    limits: &Limits,
 ) -> Result<(), AllocError>
-    requires { id < 2 ^ 63 }
-    ensures done { (store : List (List ℕ × List ℕ)) → OnOk result (HasEffect store session.old
-        session.new (effect_of store session.old.version id (spec.Hello asked))) }
-    ensures unchanged { (store : List (List ℕ × List ℕ)) →
-        OnErr result (IsAsBefore store store session.old session.new) }
+    ensures done { OnOk result (HasEffect shared.now.store session.old session.new
+        (effect_of shared.now.store session.old.version session.old.id (spec.Hello asked))) }
+    ensures unchanged { OnErr result (IsAsBefore shared.now.store shared.now.store session.old
+        session.new) }
     ensures rest { HasSameRest session.old session.new }
 {
     let next = asked.unwrap_or(session.version);
-    reply_greeting(&mut session.out, next, limits, id)?;
+    reply_greeting(&mut session.out, next, &shared.limits, session.id)?;
     session.version = next;
     Ok(())
 }

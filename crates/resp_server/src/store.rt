@@ -130,7 +130,7 @@ impl<S: BuildHasher> Store<S> {
     {
         let mut removed = 0;
         for _ in 0..keys.len() {
-            let Some(key) = keys.take() else {
+            let Some(key) = keys.next() else {
                 unreachable!()
             };
             removed += self.remove_key(key);

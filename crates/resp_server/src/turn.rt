@@ -1,6 +1,6 @@
 //! One turn of a session: it reads up to the end of a value or of the piece.
 
-ghost use Rattle.std.specs.Prelude.{◌≡◌, ◌<◌, ◌≤◌, ◌^◌, ◌∷◌, List, [], ℕ, false, length, IfOk, OnOk, OnErr};
+ghost use Rattle.std.specs.Prelude.{◌≡◌, ◌≤◌, ◌∷◌, List, [], ℕ, false, length, IfOk, OnOk, OnErr};
 ghost use Rattle.resp_value.specs.declared.cause.Cause.TheVariants.{OutOfMemory};
 ghost use Rattle.resp_session.specs.Answers.{server_rules};
 ghost use Rattle.resp_session.specs.Fitting.{FitsStore};
@@ -13,15 +13,14 @@ ghost use Rattle.resp_value.specs.Words.{command_of};
 use crate::answer_value::{answer_value, run_command};
 use crate::fault_line::append_fault;
 use crate::session::Session;
-use crate::store::Store;
+use crate::shared::Shared;
 use crate::words::Words;
 use resp_scan::event::Fault;
 use resp_scan::whole::{self, WholeCommand};
 use resp_session::laws;
 use resp_value::cause::Cause;
 use resp_value::laws as grammar;
-use resp_value::limits::Limits;
-use std::alloc::{AllocError, Global};
+use std::alloc::AllocError;
 use std::hash::BuildHasher;
 
 /// The result of a turn.
@@ -36,64 +35,62 @@ pub(crate) struct Turn {
 /// Reads up to the end of a value or of the piece, and responds to the value or the fault. When out
 /// of memory, the store, the session's version and the waiting bytes are unchanged.
 pub(crate) fn take_turn<S: BuildHasher>(
-    store: &mut Store<S>,
+    shared: &mut Shared<S>,
     session: &mut Session,
-    id: u64,
-    limits: &Limits,
-    alloc: Global,
     piece: &[u8],
 ) -> Result<Turn, AllocError>
     requires is_open { session.old.closing ≡ false }
-    requires stored { FitsStore limits.now store.old }
-    requires small { id < 2 ^ 63 }
-    requires reading { ReadsBy (server_rules limits.now) session.old.decoder }
+    requires stored { FitsStore shared.old.limits shared.old.store }
+    requires reading { ReadsBy (server_rules shared.old.limits) session.old.decoder }
     requires taking { (front : List ℕ) × HasReadFront session.old.decoder front }
     ensures answered { WhereFrontRead session.old.decoder (λ front. IfOk result (λ turn.
-        AnswersBytes limits.now id store.old store.new session.old session.new front piece.now
-        turn.used turn.commands)) }
-    ensures unchanged { OnErr result (IsAsBefore store.old store.new session.old session.new) }
-    ensures stored { FitsStore limits.now store.new }
-    ensures reading { ReadsBy (server_rules limits.now) session.new.decoder }
+        AnswersBytes shared.old.limits shared.old.store shared.new.store session.old session.new
+        front piece.now turn.used turn.commands)) }
+    ensures unchanged { OnErr result (IsAsBefore shared.old.store shared.new.store session.old
+        session.new) }
+    ensures stored { FitsStore shared.old.limits shared.new.store }
+    ensures same_limits { shared.new.limits ≡ shared.old.limits }
+    ensures same_id { session.new.id ≡ session.old.id }
+    ensures reading { ReadsBy (server_rules shared.old.limits) session.new.decoder }
     ensures at_most_one { IfOk result (λ turn. turn.commands ≤ 1) }
 {
     if session.decoder.is_between() {
-        if let Some(command) = whole::command(piece, limits) {
-            return run_whole(command, store, session, id, limits, alloc, piece);
+        if let Some(command) = whole::command(piece, &shared.limits) {
+            return run_whole(command, shared, session, piece);
         }
     }
-    read_turn(store, session, id, limits, alloc, piece)
+    read_turn(shared, session, piece)
 }
 
 /// Runs a command that lies completely in the piece.
 fn run_whole<S: BuildHasher>(
     command: WholeCommand<'_>,
-    store: &mut Store<S>,
+    shared: &mut Shared<S>,
     session: &mut Session,
-    id: u64,
-    limits: &Limits,
-    alloc: Global,
     piece: &[u8],
 ) -> Result<Turn, AllocError>
     requires is_open { session.old.closing ≡ false }
-    requires stored { FitsStore limits.now store.old }
-    requires small { id < 2 ^ 63 }
+    requires stored { FitsStore shared.old.limits shared.old.store }
     requires between { HasReadFront session.old.decoder [] }
-    requires begins { BeginsWith limits.now piece.now
+    requires begins { BeginsWith shared.old.limits piece.now
         (command_of (command.name.now ∷ command.arguments)) command.rest.now }
-    ensures answered { IfOk result (λ turn. AnswersBytes limits.now id store.old store.new
-        session.old session.new [] piece.now turn.used turn.commands) }
-    ensures unchanged { OnErr result (IsAsBefore store.old store.new session.old session.new) }
-    ensures stored { FitsStore limits.now store.new }
+    ensures answered { IfOk result (λ turn. AnswersBytes shared.old.limits shared.old.store
+        shared.new.store session.old session.new [] piece.now turn.used turn.commands) }
+    ensures unchanged { OnErr result (IsAsBefore shared.old.store shared.new.store session.old
+        session.new) }
+    ensures stored { FitsStore shared.old.limits shared.new.store }
+    ensures same_limits { shared.new.limits ≡ shared.old.limits }
+    ensures same_id { session.new.id ≡ session.old.id }
     ensures same_decoder { session.new.decoder ≡ session.old.decoder }
     ensures at_most_one { IfOk result (λ turn. turn.commands ≤ 1) }
 {
     laws::a_command_is_its_words();
     grammar::no_spelling_is_empty();
     grammar::the_empty_text_is_viable();
-    limits.are_in_range();
+    shared.limits.are_in_range();
     let used = piece.len() - command.rest.len();
     let arguments = Words::Lent(command.arguments);
-    run_command(command.name, arguments, store, session, id, limits, alloc)?;
+    run_command(command.name, arguments, shared, session)?;
     Ok(Turn { used, commands: 1 })
 }
 
@@ -101,33 +98,32 @@ fn run_whole<S: BuildHasher>(
 /// commands lie completely in a piece.
 #[inline(never)]
 fn read_turn<S: BuildHasher>(
-    store: &mut Store<S>,
+    shared: &mut Shared<S>,
     session: &mut Session,
-    id: u64,
-    limits: &Limits,
-    alloc: Global,
     piece: &[u8],
 ) -> Result<Turn, AllocError>
     requires is_open { session.old.closing ≡ false }
-    requires stored { FitsStore limits.now store.old }
-    requires small { id < 2 ^ 63 }
-    requires reading { ReadsBy (server_rules limits.now) session.old.decoder }
+    requires stored { FitsStore shared.old.limits shared.old.store }
+    requires reading { ReadsBy (server_rules shared.old.limits) session.old.decoder }
     requires taking { (front : List ℕ) × HasReadFront session.old.decoder front }
     ensures answered { WhereFrontRead session.old.decoder (λ front. IfOk result (λ turn.
-        AnswersBytes limits.now id store.old store.new session.old session.new front piece.now
-        turn.used turn.commands)) }
-    ensures unchanged { OnErr result (IsAsBefore store.old store.new session.old session.new) }
-    ensures stored { FitsStore limits.now store.new }
-    ensures reading { ReadsBy (server_rules limits.now) session.new.decoder }
+        AnswersBytes shared.old.limits shared.old.store shared.new.store session.old session.new
+        front piece.now turn.used turn.commands)) }
+    ensures unchanged { OnErr result (IsAsBefore shared.old.store shared.new.store session.old
+        session.new) }
+    ensures stored { FitsStore shared.old.limits shared.new.store }
+    ensures same_limits { shared.new.limits ≡ shared.old.limits }
+    ensures same_id { session.new.id ≡ session.old.id }
+    ensures reading { ReadsBy (server_rules shared.old.limits) session.new.decoder }
     ensures at_most_one { IfOk result (λ turn. turn.commands ≤ 1) }
 {
     grammar::no_spelling_is_empty();
     grammar::the_empty_text_is_viable();
-    limits.are_in_range();
-    let fed = match session.decoder.feed(alloc, limits, piece) {
+    shared.limits.are_in_range();
+    let fed = match session.decoder.feed(shared.alloc, &shared.limits, piece) {
         Ok(fed) => fed,
         Err(fault) => {
-            refuse(session, limits, alloc, fault)?;
+            refuse(shared, session, fault)?;
             return Ok(Turn {
                 used: piece.len(),
                 commands: 0,
@@ -138,16 +134,15 @@ fn read_turn<S: BuildHasher>(
     let Some(value) = fed.value else {
         return Ok(Turn { used, commands: 0 });
     };
-    let commands = answer_value(value, store, session, id, limits, alloc)?;
+    let commands = answer_value(value, shared, session)?;
     Ok(Turn { used, commands })
 }
 
 /// Queues the error reply for a fault and closes the session. Fails if the fault is `OutOfMemory`
 /// or the allocation for the reply fails.
-fn refuse(
+fn refuse<S: BuildHasher>(
+    shared: &Shared<S>,
     session: &mut Session,
-    limits: &Limits,
-    alloc: Global,
     fault: Fault,
 ) -> Result<(), AllocError>
     requires { (fault.cause ≡ OutOfMemory → ⊥) → IsNamedFault fault }
@@ -155,19 +150,13 @@ fn refuse(
     ensures unchanged { OnErr result (session.new.out.items ≡ session.old.out.items) }
     ensures same_version { session.new.version ≡ session.old.version }
     ensures same_decoder { session.new.decoder ≡ session.old.decoder }
+    ensures same_id { session.new.id ≡ session.old.id }
 {
     if let Cause::OutOfMemory = fault.cause {
         return Err(AllocError);
     }
     let name = fault.cause.name().as_bytes();
-    append_fault(
-        &mut session.out,
-        session.version,
-        limits,
-        alloc,
-        name,
-        fault.at,
-    )?;
+    append_fault(shared, session, name, fault.at)?;
     session.closing = true;
     Ok(())
 }

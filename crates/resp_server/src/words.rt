@@ -1,6 +1,7 @@
 //! The words of a command, borrowed from a piece or from a value that the decoder has read.
 
 ghost use Rattle.std.specs.Prelude.{◌≡◌, length};
+ghost use Rattle.std.specs.Iterator.{at_most};
 ghost use Rattle.std.specs.Map.Iter.{TakesFirst, deref};
 ghost use Rattle.resp_server.specs.Words.{words_left};
 
@@ -27,12 +28,17 @@ impl<'a> Words<'a> {
             Words::Read(words, taken) => words.len().saturating_sub(*taken) as u64,
         }
     }
+}
 
-    /// Takes the first word.
+impl<'a> Iterator for Words<'a> {
+    type Item = &'a [u8];
+
+    ghost next_gives = { λ old given new. TakesFirst deref (words_left old) given (words_left new) };
+
+    ghost remaining = { λ words. at_most (length (words_left words)) };
+
     #[inline(always)]
-    pub(crate) fn take(&mut self) -> Option<&'a [u8]>
-        ensures { TakesFirst deref (words_left self.old) result (words_left self.new) }
-    {
+    fn next(&mut self) -> Option<&'a [u8]> {
         match self {
             Words::Lent(words) => words.next(),
             Words::Read(words, taken) => {

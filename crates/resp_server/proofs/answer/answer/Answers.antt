@@ -1,13 +1,19 @@
-use Rattle.std.proofs.Common.{◌≡◌, ◌+◌, ◌-◌, length, take, drop, true, refl, ap, ◌∙◌, arith, length-drop}
+use Rattle.std.proofs.Common.{◌≡◌, ◌+◌, ◌-◌, length, take, drop, refl, sym, ap, subst, ◌∙◌, arith, length-drop}
 use Rattle.std.proofs.lemmas.List.{take_rest}
+use Rattle.resp_session.specs.Answers.{server_rules}
+use Rattle.resp_session.specs.Fitting.{FitsStore}
+use Rattle.resp_server.specs.Answering.{AnswersBytes}
+use Rattle.resp_server.specs.Reading.{ReadsBy}
 use Rattle.resp_server.specs.declared.session.Session.{Session}
 use Rattle.resp_server.proofs.AnsweredPieces.{none_answered, turn_answered, closed_answered, cut_short}
 use Rattle.resp_server.proofs.answer.answer.Goals as goal
 
 pub loop-used-init : goal.loop-used-init
 loop-used-init g c = record {
-  answered = λ front taken. none_answered c.args.limits.now c.args.id c.args.store.now c.args.session.now front taken
+  answered = λ front taken. none_answered c.args.shared.now.limits c.args.shared.now.store c.args.session.now front taken
       (c.taken-taken.ensures.no_value front taken) (c.taken-taken.ensures.viable front taken) c.requires.is_open;
+  same_limits = refl;
+  same_id = refl;
   is_open = c.requires.is_open;
   stored = c.requires.stored;
   reading = c.requires.reading;
@@ -16,25 +22,46 @@ loop-used-init g c = record {
   few = omega arith;
 }
 
+pub take_turn-requires-clause-reading : goal.take_turn-requires-clause-reading
+take_turn-requires-clause-reading g c =
+    let i = c.loop-used.invariant in
+    subst (λ limits. ReadsBy (server_rules limits) c.loop-used.session.decoder) (sym i.same_limits) i.reading
+
+pub take_turn-requires-clause-stored : goal.take_turn-requires-clause-stored
+take_turn-requires-clause-stored g c =
+    let i = c.loop-used.invariant in
+    subst (λ limits. FitsStore limits c.loop-used.shared.store) (sym i.same_limits) i.stored
+
+pub returns-in-Err-clause-stored : goal.returns-in-Err-clause-stored
+returns-in-Err-clause-stored g c =
+    let i = c.loop-used.invariant in
+    subst (λ limits. FitsStore limits c.take_turn.new.shared.store) i.same_limits c.take_turn.ensures.stored
+
+pub returns-then-session-clause-stored : goal.returns-then-session-clause-stored
+returns-then-session-clause-stored g c =
+    let i = c.loop-used.invariant in
+    subst (λ limits. FitsStore limits c.take_turn.new.shared.store) i.same_limits c.take_turn.ensures.stored
+
 pub returns-in-Err-clause-cut_short : goal.returns-in-Err-clause-cut_short
 returns-in-Err-clause-cut_short g c front taken =
     let i = c.loop-used.invariant in
     let after : Session = c.take_turn.new.session in
-    let last : Session = record { decoder = after.decoder; version = after.version; out = after.out; closing = true } in
-    cut_short c.args.limits.now c.args.id c.args.store.now c.loop-used.store c.take_turn.new.store c.args.session.now c.loop-used.session
-    after last front c.args.piece.now c.loop-used.used c.loop-used.commands i.is_open (i.answered front taken) c.in-Err.ensures.unchanged refl refl refl
+    cut_short c.args.shared.now.limits c.args.shared.now.store c.loop-used.shared.store c.take_turn.new.shared.store c.args.session.now c.loop-used.session
+    after _ front c.args.piece.now c.loop-used.used c.loop-used.commands i.is_open (i.answered front taken) c.in-Err.ensures.unchanged refl refl refl
     (omega arith)
 
 pub returns-then-session-clause-answered : goal.returns-then-session-clause-answered
 returns-then-session-clause-answered g c front taken =
     let i = c.loop-used.invariant in
     let before = i.answered front taken in
-    let turn = c.in-Ok.ensures.answered before.rest (before.taking i.is_open) in
-    closed_answered c.answers_end.ensures c.args.limits.now c.args.id c.args.store.now c.take_turn.new.store c.args.session.now c.take_turn.new.session front
-    c.args.piece.now (c.loop-used.used + c.in-Ok.turn.used) (c.loop-used.commands + c.in-Ok.turn.commands) c.if-session.true
-    (turn_answered c.answers_go_on.ensures c.args.limits.now c.args.id c.args.store.now c.loop-used.store c.take_turn.new.store c.args.session.now
-    c.loop-used.session c.take_turn.new.session front c.args.piece.now c.loop-used.used c.in-Ok.turn.used c.loop-used.commands c.in-Ok.turn.commands
-    i.is_open before turn)
+    let turn = subst (λ limits. AnswersBytes limits c.loop-used.shared.store c.take_turn.new.shared.store c.loop-used.session c.take_turn.new.session
+    before.rest (take (length c.args.piece.now - c.loop-used.used) (drop c.loop-used.used c.args.piece.now)) c.in-Ok.turn.used c.in-Ok.turn.commands)
+    i.same_limits (c.in-Ok.ensures.answered before.rest (before.taking i.is_open)) in
+    closed_answered c.answers_end.ensures c.args.shared.now.limits c.args.shared.now.store c.take_turn.new.shared.store c.args.session.now
+    c.take_turn.new.session front c.args.piece.now (c.loop-used.used + c.in-Ok.turn.used) (c.loop-used.commands + c.in-Ok.turn.commands) c.if-session.true
+    (turn_answered c.answers_go_on.ensures c.args.shared.now.limits c.args.shared.now.store c.loop-used.shared.store c.take_turn.new.shared.store
+    c.args.session.now c.loop-used.session c.take_turn.new.session front c.args.piece.now c.loop-used.used c.in-Ok.turn.used c.loop-used.commands
+    c.in-Ok.turn.commands i.same_id i.is_open before turn)
 
 pub loop-used-preserved : goal.loop-used-preserved
 loop-used-preserved g c =
@@ -51,12 +78,18 @@ loop-used-preserved g c =
     let some = one.onward c.if-session.false (omega (arith, size, test)) in
     record {
       answered = λ front taken.
-          turn_answered c.answers_go_on.ensures c.args.limits.now c.args.id c.args.store.now c.loop-used.store c.take_turn.new.store c.args.session.now
-          c.loop-used.session c.take_turn.new.session front c.args.piece.now c.loop-used.used c.in-Ok.turn.used c.loop-used.commands c.in-Ok.turn.commands
-          i.is_open (i.answered front taken) (c.in-Ok.ensures.answered (i.answered front taken).rest ((i.answered front taken).taking i.is_open));
+          let a = i.answered front taken in
+          let turn = subst (λ limits. AnswersBytes limits c.loop-used.shared.store c.take_turn.new.shared.store c.loop-used.session
+          c.take_turn.new.session a.rest (take (length c.args.piece.now - c.loop-used.used) (drop c.loop-used.used c.args.piece.now)) c.in-Ok.turn.used
+          c.in-Ok.turn.commands) i.same_limits (c.in-Ok.ensures.answered a.rest (a.taking i.is_open)) in
+          turn_answered c.answers_go_on.ensures c.args.shared.now.limits c.args.shared.now.store c.loop-used.shared.store c.take_turn.new.shared.store
+          c.args.session.now c.loop-used.session c.take_turn.new.session front c.args.piece.now c.loop-used.used c.in-Ok.turn.used c.loop-used.commands
+          c.in-Ok.turn.commands i.same_id i.is_open a turn;
+      same_limits = c.in-Ok.ensures.same_limits ∙ i.same_limits;
+      same_id = c.in-Ok.ensures.same_id ∙ i.same_id;
       is_open = c.if-session.false;
-      stored = c.in-Ok.ensures.stored;
-      reading = c.in-Ok.ensures.reading;
+      stored = subst (λ limits. FitsStore limits c.take_turn.new.shared.store) i.same_limits c.take_turn.ensures.stored;
+      reading = subst (λ limits. ReadsBy (server_rules limits) c.take_turn.new.session.decoder) i.same_limits c.in-Ok.ensures.reading;
       taking = (one.rest, one.taking c.if-session.false);
       within = omega (arith, within, size, before);
       few = omega (arith, few, most, some);

@@ -8,10 +8,12 @@ use Rattle.resp_server.proofs.answer.answer.Given as goal
 abbrev pub invariant-loop-used : goal.invariant-loop-used
 invariant-loop-used g l = record {
   answered : (front : List ℕ) → HasReadFront l.fn.session.decoder front →
-      IsAnswered l.limits l.id l.fn.store l.store l.fn.session l.session (front ++ take l.used l.piece) l.commands;
+      IsAnswered l.fn.shared.limits l.fn.shared.store l.shared.store l.fn.session l.session (front ++ take l.used l.piece) l.commands;
+  same_limits : l.shared.limits ≡ l.fn.shared.limits;
+  same_id : l.session.id ≡ l.fn.session.id;
   is_open : l.session.closing ≡ false;
-  stored : FitsStore l.limits l.store;
-  reading : ReadsBy (server_rules l.limits) l.session.decoder;
+  stored : FitsStore l.fn.shared.limits l.shared.store;
+  reading : ReadsBy (server_rules l.fn.shared.limits) l.session.decoder;
   taking : (front : List ℕ) × HasReadFront l.session.decoder front;
   within : l.used ≤ length l.piece;
   few : l.commands ≤ l.used;

@@ -10,7 +10,7 @@ pub run_command-requires-clause-spelled : goal.run_command-requires-clause-spell
 run_command-requires-clause-spelled g c =
     let (written, spelled) = c.requires.spelled in (
       written,
-      subst (λ x. IsSpelling (server_rules c.args.limits.now) x written)
+      subst (λ x. IsSpelling (server_rules c.args.shared.now.limits) x written)
           (words_value c.a_command_is_its_words.ensures (datum_of c.args.value) c.in-Command.words c.in-Command.ensures.has_name
           c.in-Command.ensures.meaning ∙ ap (λ name. command_of (name ∷ drop 1 c.in-Command.words)) (sym c.word.ensures))
           spelled,

@@ -7,7 +7,7 @@ use Rattle.resp_server.proofs.FaultLines.{digits_line, fault_text}
 use Rattle.resp_server.proofs.fault_line.append_fault.Goals as goal
 
 pub extend_reserved-requires-4 : goal.extend_reserved-requires-4
-extend_reserved-requires-4 c =
+extend_reserved-requires-4 g c =
     let number = c.as_slice.ensures ∙ c.reply_number.ensures.appended ∙
     ap (λ l. l ++ canonical_text Two (natural c.args.at)) (c.in_ok-reserve.ensures.items ∙ c.new-number.ensures.items) in
     let size = ap length (digits_line c.args.at c.as_slice.result.now number) in
@@ -17,8 +17,8 @@ extend_reserved-requires-4 c =
     omega (arith, size, short, room, name, c.extend_reserved.ensures.spare, c.extend_reserved-2.ensures.spare, c.extend_reserved-3.ensures.spare)
 
 pub returns-clause-appended : goal.returns-clause-appended
-returns-clause-appended c =
-    let old = c.args.out.now.items in
+returns-clause-appended g c =
+    let old = c.args.session.now.out.items in
     let name = c.args.name.now in
     let A = codes "-ERR Protocol error: " in
     let B = codes " at byte " in

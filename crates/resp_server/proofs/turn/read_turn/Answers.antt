@@ -10,19 +10,19 @@ use Rattle.resp_server.proofs.turn.read_turn.Goals as goal
 pub refuse-requires : goal.refuse-requires
 refuse-requires g c =
     let (front, taken) = c.requires.taking in
-    fault_is_named c.args.limits.now c.are_in_range.ensures front c.args.piece.now c.in-Err.fault
+    fault_is_named c.args.shared.now.limits c.are_in_range.ensures front c.args.piece.now c.in-Err.fault
     (c.in-Err.ensures.refusal front taken)
 
 pub returns-in-Err-clause-answered : goal.returns-in-Err-clause-answered
 returns-in-Err-clause-answered g c front taken =
     let done = c.in_ok-refuse-in-Err.ensures.refused in
-    refused_turn c.args.limits.now c.args.id c.args.store.now c.args.session.now c.refuse.new.session front c.args.piece.now c.in-Err.fault
-    (refused_by c.args.limits.now front c.args.piece.now c.in-Err.fault
+    refused_turn c.args.shared.now.limits c.args.shared.now.store c.args.session.now c.refuse.new.session front c.args.piece.now c.in-Err.fault
+    (refused_by c.args.shared.now.limits front c.args.piece.now c.in-Err.fault
     (c.in-Err.ensures.refusal front taken) done.caused) c.in_ok-refuse-in-Err.ensures.same_version done.closes done.line
 
 pub returns-in_default-clause-answered : goal.returns-in_default-clause-answered
 returns-in_default-clause-answered g c front taken =
-    waiting_turn c.args.limits.now c.args.id c.args.store.now c.args.session.now _ front c.args.piece.now
+    waiting_turn c.args.shared.now.limits c.args.shared.now.store c.args.session.now _ front c.args.piece.now
     c.in-Ok.fed.used (c.in-Ok.ensures.used_up front taken c.in_default.is) refl c.requires.is_open refl
 
 pub answer_value-requires-clause-spelled : goal.answer_value-requires-clause-spelled
@@ -31,7 +31,7 @@ answer_value-requires-clause-spelled g c =
     let given = c.in-Ok.ensures.value_whole front taken c.in-Some.value c.in-Some.is in
     let written = front ++ take c.in-Ok.fed.used c.args.piece.now in (
       written,
-      subst (λ v. IsSpelling (server_rules c.args.limits.now) (datum_of v) written) (sym c.in-Some.value-is)
+      subst (λ v. IsSpelling (server_rules c.args.shared.now.limits) (datum_of v) written) (sym c.in-Some.value-is)
           given.spelling,
     )
 
@@ -39,13 +39,11 @@ pub returns-clause-answered : goal.returns-clause-answered
 returns-clause-answered g c front taken =
     let given = c.in-Ok.ensures.value_whole front taken c.in-Some.value c.in-Some.is in
     let before : Session = c.args.session.now in
-    let middle : Session = record { decoder = c.feed.new.self; version = before.version; out = before.out; closing = before.closing } in
-    let answered = subst (λ v. IsAnswerTo c.args.id (datum_of v) c.args.store.now c.answer_value.new.store middle c.answer_value.new.session
-    c.in_ok-commands.commands) c.in-Some.value-is c.in_ok-commands.ensures.answered in
-    value_turn c.no_spelling_is_empty.ensures c.the_empty_text_is_viable.ensures c.args.limits.now c.are_in_range.ensures c.args.id c.args.store.now
-    c.answer_value.new.store before c.answer_value.new.session front c.args.piece.now
-    c.feed.new.self c.in-Some.value c.in-Ok.fed.used c.in_ok-commands.commands (none_taken c.no_spelling_is_empty.ensures
-    (server_rules c.args.limits.now) c.args.session.now.decoder front taken) given c.in-Ok.ensures.within_piece
-    c.answer_value.ensures.same_decoder
-    (same_answer c.args.id (datum_of c.in-Some.value) c.args.store.now c.answer_value.new.store before middle c.answer_value.new.session
-    c.in_ok-commands.commands refl refl answered)
+    let store' = c.answer_value.new.shared.store in
+    let answered = subst (λ v. IsAnswerTo (datum_of v) c.args.shared.now.store store' before c.answer_value.new.session c.in_ok-commands.commands)
+    c.in-Some.value-is (same_answer _ c.args.shared.now.store store' before _ c.answer_value.new.session c.in_ok-commands.commands
+    c.in_ok-commands.ensures.answered refl refl refl) in
+    value_turn c.no_spelling_is_empty.ensures c.the_empty_text_is_viable.ensures c.args.shared.now.limits c.are_in_range.ensures c.args.shared.now.store store'
+    before c.answer_value.new.session front c.args.piece.now c.feed.new.self c.in-Some.value c.in-Ok.fed.used c.in_ok-commands.commands
+    (none_taken c.no_spelling_is_empty.ensures (server_rules c.args.shared.now.limits) c.args.session.now.decoder front taken) given
+    c.in-Ok.ensures.within_piece c.answer_value.ensures.same_decoder answered

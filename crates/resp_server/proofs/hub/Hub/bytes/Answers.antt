@@ -1,4 +1,4 @@
-use Rattle.std.proofs.Common.{◌++◌, None, refl, sym, ◌∙◌, arith}
+use Rattle.std.proofs.Common.{◌++◌, None, refl, sym, ◌∙◌}
 use Rattle.std.proofs.lemmas.Bool.{false≢true}
 use Rattle.resp_session.specs.Answers.{server_rules}
 use Rattle.resp_server.specs.Hubs.{seat_at}
@@ -10,120 +10,114 @@ use Rattle.resp_server.proofs.hub.Hub.bytes.Goals as goal
 pub returns-in_default-clause-closing : goal.returns-in_default-clause-closing
 returns-in_default-clause-closing g c =
     let i = c.self.inside in
-    if_none (seat_at c.args.self.now c.args.id) _ (seat_is i.limits i.sessions.entries i.store i.last c.args.self.now c.self.view_is
+    if_none (seat_at c.args.self.now c.args.id) _ (seat_is i.shared.limits i.sessions.entries i.shared.store i.last c.args.self.now c.self.view_is
     c.args.id None c.in_default.ensures.value)
 
 pub returns-in_default-clause-none : goal.returns-in_default-clause-none
 returns-in_default-clause-none g c refused =
     let i = c.self.inside in
-    seat_is i.limits i.sessions.entries i.store i.last c.args.self.now c.self.view_is c.args.id None c.in_default.ensures.value
+    seat_is i.shared.limits i.sessions.entries i.shared.store i.last c.args.self.now c.self.view_is c.args.id None c.in_default.ensures.value
 
 pub invariant_of-self-then-session : goal.invariant_of-self-then-session
 invariant_of-self-then-session g c =
     let i = c.self.inside in
-    sound_with i.limits i.sessions.entries i.store i.last c.self.invariant _ c.args.id c.in-Some.session.now _ (c.get_mut.follows.holds _).0
-    c.in-Some.ensures.value refl refl
+    sound_with i.shared.limits i.sessions.entries i.shared.store i.last c.self.invariant _ c.args.id c.in-Some.session.now _ (c.get_mut.follows.holds _).0
+    c.in-Some.ensures.value (record { same_id = refl; same_decoder = refl; same_closing = refl })
 
 pub returns-then-session-clause-answered : goal.returns-then-session-clause-answered
 returns-then-session-clause-answered g c =
     let i = c.self.inside in
-    not_open i.limits i.sessions.entries i.store i.last c.args.self.now c.self.view_is c.args.id c.in-Some.session.now
+    not_open i.shared.limits i.sessions.entries i.shared.store i.last c.args.self.now c.self.view_is c.args.id c.in-Some.session.now
     c.in-Some.ensures.value c.if-session.true _
 
 pub returns-then-session-clause-closing : goal.returns-then-session-clause-closing
 returns-then-session-clause-closing g c =
     let i = c.self.inside in
-    if_closing i.limits i.sessions.entries i.store i.last c.args.self.now c.self.view_is c.args.id c.in-Some.session.now
+    if_closing i.shared.limits i.sessions.entries i.shared.store i.last c.args.self.now c.self.view_is c.args.id c.in-Some.session.now
     c.in-Some.ensures.value _ (
       refl,
-      same_state i.limits i.sessions.entries i.store i.last c.args.self.now c.self.view_is _ c.args.id
+      same_state i.shared.limits i.sessions.entries i.shared.store i.last c.args.self.now c.self.view_is _ c.args.id
           c.in-Some.session.now _ (c.get_mut.follows.holds _).0 c.in-Some.ensures.value refl,
     )
 
 pub returns-then-session-clause-no_session : goal.returns-then-session-clause-no_session
 returns-then-session-clause-no_session g c none =
     let i = c.self.inside in
-    absurd (seat_is_there i.limits i.sessions.entries i.store i.last c.args.self.now c.self.view_is c.args.id c.in-Some.session.now
+    absurd (seat_is_there i.shared.limits i.sessions.entries i.shared.store i.last c.args.self.now c.self.view_is c.args.id c.in-Some.session.now
     c.in-Some.ensures.value none)
-
-pub answer-answered-requires-clause-small : goal.answer-answered-requires-clause-small
-answer-answered-requires-clause-small g c =
-    let i = c.self.inside in
-    let sound = sound_at i.limits i.last i.sessions.entries c.args.id c.in-Some.session.now c.in-Some.ensures.value c.self.invariant.sound in
-    let numbered = sound.numbered in
-    let few = c.self.invariant.few in
-    omega (arith, numbered, few)
 
 pub answer-answered-requires-clause-reading : goal.answer-answered-requires-clause-reading
 answer-answered-requires-clause-reading g c =
     let i = c.self.inside in
-    (sound_at i.limits i.last i.sessions.entries c.args.id c.in-Some.session.now c.in-Some.ensures.value c.self.invariant.sound).reading
+    (sound_at i.shared.limits i.last i.sessions.entries c.args.id c.in-Some.session.now c.in-Some.ensures.value c.self.invariant.sound).reading
 
 pub answer-answered-requires-clause-taking : goal.answer-answered-requires-clause-taking
 answer-answered-requires-clause-taking g c =
     let i = c.self.inside in
-    (sound_at i.limits i.last i.sessions.entries c.args.id c.in-Some.session.now c.in-Some.ensures.value c.self.invariant.sound).taking c.if-session.false
+    (sound_at i.shared.limits i.last i.sessions.entries c.args.id c.in-Some.session.now c.in-Some.ensures.value c.self.invariant.sound).taking c.if-session.false
 
 pub invariant_of-self-in-Err : goal.invariant_of-self-in-Err
 invariant_of-self-in-Err g c =
     let i = c.self.inside in
-    let (front, taken) = (sound_at i.limits i.last i.sessions.entries c.args.id c.in-Some.session.now c.in-Some.ensures.value
+    let (front, taken) = (sound_at i.shared.limits i.last i.sessions.entries c.args.id c.in-Some.session.now c.in-Some.ensures.value
     c.self.invariant.sound).taking c.if-session.false in
-    answered_sound i.limits i.sessions.entries i.store i.last c.self.invariant _ c.answer-answered.new.store c.args.id c.in-Some.session.now
+    answered_sound i.shared.limits i.sessions.entries i.shared.store i.last c.self.invariant _ c.answer-answered.ensures.same_limits _ c.answer-answered.new.shared.store c.args.id c.in-Some.session.now
     c.shrink.new.self (c.get_mut.follows.holds _).0 c.in-Some.ensures.value
-    c.answer-answered.ensures.stored (c.shrink.ensures.reading (server_rules i.limits) c.answer-answered.ensures.reading)
+    c.answer-answered.ensures.stored (c.shrink.ensures.same_id ∙ c.answer-answered.ensures.same_id) (c.shrink.ensures.reading (server_rules i.shared.limits) c.answer-answered.ensures.reading)
     (λ is_open. absurd (false≢true (sym is_open ∙ c.shrink.ensures.same_closing ∙ (c.in-Err.ensures.cut_short front taken).closes)))
 
 pub returns-in-Err-clause-cut_short : goal.returns-in-Err-clause-cut_short
 returns-in-Err-clause-cut_short g c =
     let i = c.self.inside in
-    hub_cut_short i.limits i.sessions.entries i.store i.last c.args.self.now c.self.view_is _ c.answer-answered.new.store c.args.id
+    hub_cut_short i.shared.limits i.sessions.entries i.shared.store i.last c.args.self.now c.self.view_is _ c.answer-answered.ensures.same_limits _ c.answer-answered.new.shared.store c.args.id
     c.in-Some.session.now c.shrink.new.self (c.get_mut.follows.holds _).0 c.in-Some.ensures.value c.args.piece.now c.in-Err.commands
-    (λ front taken. let s = c.shrink.ensures in cut_short_shrunk i.limits c.args.id i.store c.answer-answered.new.store c.in-Some.session.now
+    (sound_at i.shared.limits i.last i.sessions.entries c.args.id c.in-Some.session.now c.in-Some.ensures.value c.self.invariant.sound).same_id
+    (λ front taken. let s = c.shrink.ensures in cut_short_shrunk i.shared.limits i.shared.store c.answer-answered.new.shared.store c.in-Some.session.now
     c.answer-answered.new.session c.shrink.new.self front c.args.piece.now c.in-Err.commands s.same_version s.same_out s.same_closing
     (c.in-Err.ensures.cut_short front taken))
 
 pub returns-in-Err-clause-closing : goal.returns-in-Err-clause-closing
 returns-in-Err-clause-closing g c =
     let i = c.self.inside in
-    not_closing i.limits i.sessions.entries i.store i.last c.args.self.now c.self.view_is c.args.id c.in-Some.session.now
+    not_closing i.shared.limits i.sessions.entries i.shared.store i.last c.args.self.now c.self.view_is c.args.id c.in-Some.session.now
     c.in-Some.ensures.value c.if-session.false _
 
 pub returns-in-Err-clause-no_session : goal.returns-in-Err-clause-no_session
 returns-in-Err-clause-no_session g c none =
     let i = c.self.inside in
-    absurd (seat_is_there i.limits i.sessions.entries i.store i.last c.args.self.now c.self.view_is c.args.id c.in-Some.session.now
+    absurd (seat_is_there i.shared.limits i.sessions.entries i.shared.store i.last c.args.self.now c.self.view_is c.args.id c.in-Some.session.now
     c.in-Some.ensures.value none)
 
 pub invariant_of-self-2 : goal.invariant_of-self-2
 invariant_of-self-2 g c =
     let i = c.self.inside in
-    let (front, taken) = (sound_at i.limits i.last i.sessions.entries c.args.id c.in-Some.session.now c.in-Some.ensures.value
+    let (front, taken) = (sound_at i.shared.limits i.last i.sessions.entries c.args.id c.in-Some.session.now c.in-Some.ensures.value
     c.self.invariant.sound).taking c.if-session.false in
     let answered = c.in-Ok.ensures.answered front taken in
-    answered_sound i.limits i.sessions.entries i.store i.last c.self.invariant _ c.answer-answered.new.store c.args.id c.in-Some.session.now
+    answered_sound i.shared.limits i.sessions.entries i.shared.store i.last c.self.invariant _ c.answer-answered.ensures.same_limits _ c.answer-answered.new.shared.store c.args.id c.in-Some.session.now
     c.shrink.new.self (c.get_mut.follows.holds _).0 c.in-Some.ensures.value
-    c.answer-answered.ensures.stored (c.shrink.ensures.reading (server_rules i.limits) c.answer-answered.ensures.reading)
+    c.answer-answered.ensures.stored (c.shrink.ensures.same_id ∙ c.answer-answered.ensures.same_id) (c.shrink.ensures.reading (server_rules i.shared.limits) c.answer-answered.ensures.reading)
     (λ is_open. let open_before = sym c.shrink.ensures.same_closing ∙ is_open in
     (answered.rest, c.shrink.ensures.same_taken open_before answered.rest (answered.taking open_before)))
 
 pub returns-clause-answered : goal.returns-clause-answered
 returns-clause-answered g c =
     let i = c.self.inside in
-    hub_answered i.limits i.sessions.entries i.store i.last c.args.self.now c.self.view_is _ c.answer-answered.new.store c.args.id
+    hub_answered i.shared.limits i.sessions.entries i.shared.store i.last c.args.self.now c.self.view_is _ c.answer-answered.ensures.same_limits _ c.answer-answered.new.shared.store c.args.id
     c.in-Some.session.now c.shrink.new.self (c.get_mut.follows.holds _).0 c.in-Some.ensures.value c.args.piece.now c.in-Ok.commands
-    (λ front taken. let s = c.shrink.ensures in answered_shrunk i.limits c.args.id i.store c.answer-answered.new.store c.in-Some.session.now
+    (sound_at i.shared.limits i.last i.sessions.entries c.args.id c.in-Some.session.now c.in-Some.ensures.value c.self.invariant.sound).same_id
+    (λ front taken. let s = c.shrink.ensures in answered_shrunk i.shared.limits i.shared.store c.answer-answered.new.shared.store c.in-Some.session.now
     c.answer-answered.new.session c.shrink.new.self (front ++ c.args.piece.now) c.in-Ok.commands s.same_version s.same_out s.same_closing
     s.same_taken (c.in-Ok.ensures.answered front taken))
 
 pub returns-clause-closing : goal.returns-clause-closing
 returns-clause-closing g c =
     let i = c.self.inside in
-    not_closing i.limits i.sessions.entries i.store i.last c.args.self.now c.self.view_is c.args.id c.in-Some.session.now
+    not_closing i.shared.limits i.sessions.entries i.shared.store i.last c.args.self.now c.self.view_is c.args.id c.in-Some.session.now
     c.in-Some.ensures.value c.if-session.false _
 
 pub returns-clause-no_session : goal.returns-clause-no_session
 returns-clause-no_session g c none =
     let i = c.self.inside in
-    absurd (seat_is_there i.limits i.sessions.entries i.store i.last c.args.self.now c.self.view_is c.args.id c.in-Some.session.now
+    absurd (seat_is_there i.shared.limits i.sessions.entries i.shared.store i.last c.args.self.now c.self.view_is c.args.id c.in-Some.session.now
     c.in-Some.ensures.value none)

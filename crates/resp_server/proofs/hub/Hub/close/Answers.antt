@@ -6,7 +6,7 @@ use Rattle.resp_server.proofs.hub.Hub.close.Goals as goal
 pub returns-in_default-clause-none : goal.returns-in_default-clause-none
 returns-in_default-clause-none g c =
     let i = c.self.inside in
-    seat_is i.limits i.sessions.entries i.store i.last c.args.self.now c.self.view_is c.args.id None c.in_default.ensures.value
+    seat_is i.shared.limits i.sessions.entries i.shared.store i.last c.args.self.now c.self.view_is c.args.id None c.in_default.ensures.value
 
 pub invariant_of-self-2 : goal.invariant_of-self-2
 invariant_of-self-2 g c =
@@ -14,23 +14,23 @@ invariant_of-self-2 g c =
     record {
       stored = c.self.invariant.stored;
       few = c.self.invariant.few;
-      sound = subst (AreSound i.limits i.last) (sym c.in-Some.ensures.entries)
-          (sound_remove i.limits i.last i.sessions.entries c.args.id c.self.invariant.sound);
+      sound = subst (AreSound i.shared.limits i.last) (sym c.in-Some.ensures.entries)
+          (sound_remove i.shared.limits i.last i.sessions.entries c.args.id c.self.invariant.sound);
     }
 
 pub returns-clause-closed : goal.returns-clause-closed
 returns-clause-closed g c =
     let i = c.self.inside in
-    ap (λ sessions. record { limits = i.limits; sessions = sessions; store = i.store; last = i.last })
+    ap (λ sessions. record { limits = i.shared.limits; sessions = sessions; store = i.shared.store; last = i.last })
     (ap seats_of c.in-Some.ensures.entries ∙ seats-remove i.sessions.entries c.args.id) ∙
     ap (λ (hub : HubState). record hub { sessions = without_seat hub.sessions c.args.id }) c.self.view_is
 
 pub returns-clause-some : goal.returns-clause-some
 returns-clause-some g c =
     let i = c.self.inside in
-    seat_is_there i.limits i.sessions.entries i.store i.last c.args.self.now c.self.view_is c.args.id c.in-Some._session c.in-Some.ensures.value
+    seat_is_there i.shared.limits i.sessions.entries i.shared.store i.last c.args.self.now c.self.view_is c.args.id c.in-Some._session c.in-Some.ensures.value
 
 pub returns-clause-gone : goal.returns-clause-gone
 returns-clause-gone g c =
     let i = c.self.inside in
-    seat_is i.limits c.remove.new.self.entries i.store i.last _ refl c.args.id None (sym c.in-Some.ensures.updates.1)
+    seat_is i.shared.limits c.remove.new.self.entries i.shared.store i.last _ refl c.args.id None (sym c.in-Some.ensures.updates.1)

@@ -7,10 +7,10 @@ use Rattle.resp_server.proofs.hub.Hub.out.Goals as goal
 pub returns-in-Some-clause-waiting : goal.returns-in-Some-clause-waiting
 returns-in-Some-clause-waiting g c =
     let i = c.self.inside in
-    ap (option_map (λ (s : Seat). s.out)) (seat_is i.limits i.sessions.entries i.store i.last c.args.self.now c.self.view_is c.args.id
+    ap (option_map (λ (s : Seat). s.out)) (seat_is i.shared.limits i.sessions.entries i.shared.store i.last c.args.self.now c.self.view_is c.args.id
     (Some c.in-Some.session.now) c.in-Some.ensures.value) ∙ ap Some (sym c.as_slice.ensures)
 
 pub returns-in-None-clause-none : goal.returns-in-None-clause-none
 returns-in-None-clause-none g c =
     let i = c.self.inside in
-    seat_is i.limits i.sessions.entries i.store i.last c.args.self.now c.self.view_is c.args.id None c.in-None.ensures.value
+    seat_is i.shared.limits i.sessions.entries i.shared.store i.last c.args.self.now c.self.view_is c.args.id None c.in-None.ensures.value

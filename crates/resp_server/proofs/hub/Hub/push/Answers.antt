@@ -12,19 +12,18 @@ pub returns-in_default-clause-verdict : goal.returns-in_default-clause-verdict
 returns-in_default-clause-verdict g c =
     let i = c.self.inside in
     no_session c.args.self.now.limits (seat_at c.args.self.now c.args.id) (push_of c.args.items.now)
-    (seat_is i.limits i.sessions.entries i.store i.last c.args.self.now c.self.view_is c.args.id None c.in_default.ensures.value)
+    (seat_is i.shared.limits i.sessions.entries i.shared.store i.last c.args.self.now c.self.view_is c.args.id None c.in_default.ensures.value)
 
 pub invariant_of-self-in-Err : goal.invariant_of-self-in-Err
 invariant_of-self-in-Err g c =
     let i = c.self.inside in
-    sound_with i.limits i.sessions.entries i.store i.last c.self.invariant _ c.args.id c.in-Some.session.now _ (c.get_mut.follows.holds _).0
-    c.in-Some.ensures.value
-    c.queue_push.ensures.rest.same_decoder c.queue_push.ensures.rest.same_closing
+    sound_with i.shared.limits i.sessions.entries i.shared.store i.last c.self.invariant _ c.args.id c.in-Some.session.now _ (c.get_mut.follows.holds _).0
+    c.in-Some.ensures.value c.queue_push.ensures.rest
 
 pub returns-in-Err-clause-unchanged : goal.returns-in-Err-clause-unchanged
 returns-in-Err-clause-unchanged g c =
     let i = c.self.inside in
-    same_state i.limits i.sessions.entries i.store i.last c.args.self.now c.self.view_is _ c.args.id c.in-Some.session.now _
+    same_state i.shared.limits i.sessions.entries i.shared.store i.last c.args.self.now c.self.view_is _ c.args.id c.in-Some.session.now _
     (c.get_mut.follows.holds _).0 c.in-Some.ensures.value
     (same_seat c.queue_push.new.session c.in-Some.session.now c.in-Some.session.now.out.items c.queue_push.ensures.same_version c.in-Err.ensures.unchanged
     c.queue_push.ensures.rest.same_closing c.queue_push.ensures.rest.same_decoder)
@@ -34,22 +33,21 @@ returns-in-Err-clause-verdict g c =
     let i = c.self.inside in
     subst (λ limits. IsPushVerdict limits (seat_at c.args.self.now c.args.id) (push_of c.args.items.now) (Err c.in-Err.error))
     (ap (λ (hub : HubState). hub.limits) c.self.view_is)
-    (subst (λ seat. IsPushVerdict i.limits seat (push_of c.args.items.now) (Err c.in-Err.error))
-    (sym (seat_is i.limits i.sessions.entries i.store i.last c.args.self.now c.self.view_is c.args.id (Some c.in-Some.session.now)
+    (subst (λ seat. IsPushVerdict i.shared.limits seat (push_of c.args.items.now) (Err c.in-Err.error))
+    (sym (seat_is i.shared.limits i.sessions.entries i.shared.store i.last c.args.self.now c.self.view_is c.args.id (Some c.in-Some.session.now)
     c.in-Some.ensures.value)) c.in-Err.ensures.verdict)
 
 pub invariant_of-self-2 : goal.invariant_of-self-2
 invariant_of-self-2 g c =
     let i = c.self.inside in
-    sound_with i.limits i.sessions.entries i.store i.last c.self.invariant _ c.args.id c.in-Some.session.now _ (c.get_mut.follows.holds _).0
-    c.in-Some.ensures.value
-    c.queue_push.ensures.rest.same_decoder c.queue_push.ensures.rest.same_closing
+    sound_with i.shared.limits i.sessions.entries i.shared.store i.last c.self.invariant _ c.args.id c.in-Some.session.now _ (c.get_mut.follows.holds _).0
+    c.in-Some.ensures.value c.queue_push.ensures.rest
 
 pub returns-clause-queued : goal.returns-clause-queued
 returns-clause-queued g c =
     let i = c.self.inside in
     let push = canonical_text Three (push_of c.args.items.now) in
-    seated_is i.limits i.sessions.entries i.store i.last c.args.self.now c.self.view_is _ c.args.id c.in-Some.session.now _
+    seated_is i.shared.limits i.sessions.entries i.shared.store i.last c.args.self.now c.self.view_is _ c.args.id c.in-Some.session.now _
     (c.get_mut.follows.holds _).0 c.in-Some.ensures.value
     (λ (s : Seat). record s { out = s.out ++ push })
     (same_seat c.queue_push.new.session c.in-Some.session.now (c.in-Some.session.now.out.items ++ push) c.queue_push.ensures.same_version
@@ -61,6 +59,6 @@ returns-clause-verdict g c =
     let i = c.self.inside in
     subst (λ limits. IsPushVerdict limits (seat_at c.args.self.now c.args.id) (push_of c.args.items.now) (Ok tt))
     (ap (λ (hub : HubState). hub.limits) c.self.view_is)
-    (subst (λ seat. IsPushVerdict i.limits seat (push_of c.args.items.now) (Ok tt))
-    (sym (seat_is i.limits i.sessions.entries i.store i.last c.args.self.now c.self.view_is c.args.id (Some c.in-Some.session.now)
+    (subst (λ seat. IsPushVerdict i.shared.limits seat (push_of c.args.items.now) (Ok tt))
+    (sym (seat_is i.shared.limits i.sessions.entries i.shared.store i.last c.args.self.now c.self.view_is c.args.id (Some c.in-Some.session.now)
     c.in-Some.ensures.value)) c.in_default-queue_push.ensures.verdict)

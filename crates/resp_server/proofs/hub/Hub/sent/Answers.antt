@@ -6,24 +6,24 @@ use Rattle.resp_server.proofs.hub.Hub.sent.Goals as goal
 pub returns-in_default-clause-none : goal.returns-in_default-clause-none
 returns-in_default-clause-none g c =
     let i = c.self.inside in
-    seat_is i.limits i.sessions.entries i.store i.last c.args.self.now c.self.view_is c.args.id None c.in_default.ensures.value
+    seat_is i.shared.limits i.sessions.entries i.shared.store i.last c.args.self.now c.self.view_is c.args.id None c.in_default.ensures.value
 
 pub advance-requires : goal.advance-requires
 advance-requires g c =
     let i = c.self.inside in
-    if_seated i.limits i.sessions.entries i.store i.last c.args.self.now c.self.view_is c.args.id c.in-Some.session.now c.in-Some.ensures.value
+    if_seated i.shared.limits i.sessions.entries i.shared.store i.last c.args.self.now c.self.view_is c.args.id c.in-Some.session.now c.in-Some.ensures.value
     (λ (s : Seat). c.args.count ≤ length s.out) c.requires
 
 pub invariant_of-self-2 : goal.invariant_of-self-2
 invariant_of-self-2 g c =
     let i = c.self.inside in
-    sound_with i.limits i.sessions.entries i.store i.last c.self.invariant _ c.args.id c.in-Some.session.now _ (c.get_mut.follows.holds _).0
-    c.in-Some.ensures.value refl refl
+    sound_with i.shared.limits i.sessions.entries i.shared.store i.last c.self.invariant _ c.args.id c.in-Some.session.now _ (c.get_mut.follows.holds _).0
+    c.in-Some.ensures.value (record { same_id = refl; same_decoder = refl; same_closing = refl })
 
 pub returns-clause-dropped : goal.returns-clause-dropped
 returns-clause-dropped g c =
     let i = c.self.inside in
-    seated_is i.limits i.sessions.entries i.store i.last c.args.self.now c.self.view_is _ c.args.id c.in-Some.session.now _ (c.get_mut.follows.holds _).0
+    seated_is i.shared.limits i.sessions.entries i.shared.store i.last c.args.self.now c.self.view_is _ c.args.id c.in-Some.session.now _ (c.get_mut.follows.holds _).0
     c.in-Some.ensures.value (λ (s : Seat). record s { out = drop c.args.count s.out })
     (ap (λ items. record {
       version = c.in-Some.session.now.version;
@@ -35,4 +35,4 @@ returns-clause-dropped g c =
 pub returns-clause-some : goal.returns-clause-some
 returns-clause-some g c =
     let i = c.self.inside in
-    seat_is_there i.limits i.sessions.entries i.store i.last c.args.self.now c.self.view_is c.args.id c.in-Some.session.now c.in-Some.ensures.value
+    seat_is_there i.shared.limits i.sessions.entries i.shared.store i.last c.args.self.now c.self.view_is c.args.id c.in-Some.session.now c.in-Some.ensures.value

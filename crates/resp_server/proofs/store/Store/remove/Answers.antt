@@ -10,12 +10,12 @@ none_left (word ∷ words) none = absurd (omega (arith, none))
 
 pub loop-preserved : goal.loop-preserved
 loop-preserved g c =
-    let left = words_left c.take.new.self in
-    let first = ap length c.in-Some.ensures in
+    let left = words_left c.next.new.self in
+    let first = ap length c.in-Some.ensures.steps in
     let same = c.loop.invariant in
     record {
       left = ap (λ store. store_without store left) c.remove_key-removed.ensures.removed ∙ sym (without_first c.loop.self c.in-Some.key.now left) ∙
-          ap (store_without c.loop.self) (sym c.in-Some.ensures) ∙ same.left;
+          ap (store_without c.loop.self) (sym c.in-Some.ensures.steps) ∙ same.left;
       taken = omega (arith, first, same.taken);
       count = omega (arith, same.count, c.remove_key-removed.ensures.count);
       few = omega (arith, same.few, c.remove_key-removed.ensures.at_most_one);
