@@ -1,5 +1,5 @@
 -- What a hub does with a piece, in words of its state.
-use Rattle.std.proofs.Common.{◌≡◌, ℕ, ◌==◌, true, false, Option, None, Some, List, [], ◌++◌, IfSome, append-nil, refl, sym, ap, subst, ◌∙◌}
+use Rattle.std.proofs.Common.{◌≡◌, ℕ, ◌==◌, true, false, Bool, cond, Option, None, Some, List, [], ◌∷◌, ◌++◌, IfSome, append-nil, refl, sym, ap, subst, ◌∙◌}
 use Rattle.std.specs.Map.{lookup, set_value}
 use Rattle.std.specs.Option.{option_map}
 use Rattle.std.proofs.lemmas.Bool.{false≢true}
@@ -12,7 +12,7 @@ use Rattle.resp_session.specs.Stores.{Store}
 use Rattle.resp_server.specs.Answering.{IsAnswered, IsCutShort, state_with}
 use Rattle.resp_server.specs.Handling.{WhereOpen, HasAnswered, HasCutShort}
 use Rattle.resp_server.specs.Hubs.{HubState, Seat, AreSound, HubIsSound, seat_of, seats_of, seat_at, with_seat}
-use Rattle.resp_server.specs.Reading.{HasReadFront, ReadsBy}
+use Rattle.resp_server.specs.Reading.{HasReadFront, HoldsNoIdleDecoder, ReadsBy}
 use Rattle.resp_server.specs.declared.session.Session.{Session}
 use Rattle.resp_server.proofs.Seats.{is_id, state_of, seats-lookup, seats-set, sound_set, with_same}
 use Rattle.resp_server.proofs.Turns.{waits_on}
@@ -81,13 +81,14 @@ hub_cut_short limits es store last hub view limits' same_limits ns store' id old
 pub answered_sound : (limits : Bounds) (es : List (ℕ × Session)) (store : Store) (last : ℕ) → HubIsSound limits es store last →
     (limits' : Bounds) → limits' ≡ limits → (ns : List (ℕ × Session)) (store' : Store) (id : ℕ) (old new : Session) → ns ≡ set_value (is_id id) es new →
     Some old ≡ lookup (is_id id) es → FitsStore limits store' → new.id ≡ old.id → ReadsBy (server_rules limits) new.decoder →
-    (new.closing ≡ false → (front : List ℕ) × HasReadFront new.decoder front) → HubIsSound limits' ns store' last
-answered_sound limits es store last h limits' same_limits ns store' id old new written found stored same reading taking =
+    (new.closing ≡ false → (front : List ℕ) × HasReadFront new.decoder front) → HoldsNoIdleDecoder new.closing new.decoder →
+    HubIsSound limits' ns store' last
+answered_sound limits es store last h limits' same_limits ns store' id old new written found stored same reading taking idle =
     subst (λ l. HubIsSound l ns store' last) (sym same_limits) (record {
       stored = stored;
       few = h.few;
       sound = subst (AreSound limits last) (sym written) (sound_set limits last es id old new found
-          (λ other s. record { same_id = same ∙ s.same_id; given = s.given; reading = reading; taking = taking }) h.sound);
+          (λ other s. record { same_id = same ∙ s.same_id; given = s.given; reading = reading; taking = taking; idle = idle }) h.sound);
     })
 
 -- a session that was found is closing, or isn't, as its seat is
@@ -148,3 +149,19 @@ hub_waits limits es store last hub view id old found none viable =
 pub found_seat : (limits : Bounds) (es : List (ℕ × Session)) (store : Store) (last : ℕ) (hub : HubState) → state_of limits es store last ≡ hub → (id : ℕ)
     (old : Session) → Some old ≡ lookup (is_id id) es → (P : Seat → Type 0) → P (seat_of old) → IfSome (seat_at hub id) P
 found_seat limits es store last hub view id old found P p = at_found limits es store last hub view id old found (λ h s. P s) p
+
+if_either : (P : Seat → Type 0) (b : Bool) (seat : Seat) (rest : Option Seat) → P seat → IfSome rest P → IfSome (cond b (Some seat) rest) P
+if_either P true seat rest here later = here
+if_either P false seat rest here later = later
+
+idle_seat : (limits : Bounds) (last : ℕ) (es : List (ℕ × Session)) (id : ℕ) → AreSound limits last es →
+    IfSome (lookup (λ other. id == other) (seats_of es)) (λ s. HoldsNoIdleDecoder s.closing s.decoder)
+idle_seat limits last [] id sound = tt
+idle_seat limits last (e ∷ es) id sound =
+    if_either (λ s. HoldsNoIdleDecoder s.closing s.decoder) (id == e.0) (seat_of e.1) (lookup (λ other. id == other) (seats_of es)) sound.0.idle
+    (idle_seat limits last es id sound.1)
+
+-- each session of a sound hub has a decoder only inside a value
+pub holds_no_idle : (limits : Bounds) (es : List (ℕ × Session)) (store : Store) (last id : ℕ) → HubIsSound limits es store last →
+    IfSome (seat_at (state_of limits es store last) id) (λ s. HoldsNoIdleDecoder s.closing s.decoder)
+holds_no_idle limits es store last id sound = idle_seat limits last es id sound.sound

@@ -12,7 +12,7 @@ use Rattle.resp_value.specs.Rules.{rules_under}
 use Rattle.resp_value.specs.declared.version.Version.TheVariants.{Two}
 use Rattle.resp_session.specs.Stores.{Store}
 use Rattle.resp_server.specs.declared.session.Session.{Session}
-use Rattle.resp_server.specs.Reading.{HasReadFront, ReadsBy}
+use Rattle.resp_server.specs.Reading.{HasReadFront, HoldsNoIdleDecoder, ReadsBy}
 use Rattle.resp_server.specs.Running.{HasSameRest}
 use Rattle.resp_server.specs.Hubs.{HubState, Seat, SessionIsSound, AreSound, HubIsSound, seat_of, seats_of, seat_at, with_seat, without_seat, seated}
 
@@ -116,6 +116,8 @@ sound_with limits es store last h ns id old new written found rest = record {
     same_id = rest.same_id ∙ s.same_id;
     given = s.given;
     reading = subst (ReadsBy (rules_under Two limits)) (sym rest.same_decoder) s.reading;
+    idle = subst (λ d. HoldsNoIdleDecoder new.closing d) (sym rest.same_decoder)
+        (subst (λ b. HoldsNoIdleDecoder b old.decoder) (sym rest.same_closing) s.idle);
     taking = λ is_open. subst (λ d. (front : List ℕ) × HasReadFront d front) (sym rest.same_decoder) (s.taking (sym rest.same_closing ∙ is_open));
   }) h.sound);
 }
@@ -208,7 +210,7 @@ pub sound_append : (limits : Bounds) (last : ℕ) (es : List (ℕ × Session)) (
 sound_append limits last [] new h s = (s, tt)
 sound_append limits last (e ∷ es) new h s =
     let earlier = h.0.given in (
-      record { same_id = h.0.same_id; given = omega (arith, earlier); reading = h.0.reading; taking = h.0.taking },
+      record { same_id = h.0.same_id; given = omega (arith, earlier); reading = h.0.reading; taking = h.0.taking; idle = h.0.idle },
       sound_append limits last es new h.1 s,
     )
 

@@ -8,7 +8,7 @@ use Rattle.resp_value.specs.declared.version.Version.{Version}
 use Rattle.resp_value.specs.declared.version.Version.TheVariants.{Two}
 use Rattle.resp_session.specs.Fitting.{FitsStore}
 use Rattle.resp_session.specs.Stores.{Store}
-use Rattle.resp_server.specs.Reading.{HasReadFront, Reading, ReadsBy}
+use Rattle.resp_server.specs.Reading.{HasReadFront, HoldsNoIdleDecoder, Reading, ReadsBy}
 use Rattle.resp_server.specs.declared.session.Session.{Session}
 
 -- a session: the version of its replies, the bytes that wait to be written, whether it is closing, and its reader
@@ -54,12 +54,13 @@ without_seat [] id = []
 without_seat (e ∷ es) id = cond (id == e.0) es (e ∷ without_seat es id)
 
 -- A session has the number under which the hub keeps it. It reads version 2 within the hub's limits, and while it is
--- open it has read a front of a value.
+-- open it has read a front of a value. It has a decoder only inside a value.
 pub record SessionIsSound (limits : Bounds) (last id : ℕ) (s : Session) : Type 0 where
   pub same_id : s.id ≡ id
   pub given : id ≤ last
   pub reading : ReadsBy (rules_under Two limits) s.decoder
   pub taking : s.closing ≡ false → (front : List ℕ) × HasReadFront s.decoder front
+  pub idle : HoldsNoIdleDecoder s.closing s.decoder
 
 abbrev pub AreSound : Bounds → ℕ → List (ℕ × Session) → Type 0
 AreSound limits last sessions =

@@ -1,5 +1,5 @@
 -- The bytes that a session has read of a value.
-use Rattle.std.specs.Prelude.{◌≡◌, ◌⊎◌, ℕ, List, [], length, Option, None, Some}
+use Rattle.std.specs.Prelude.{◌≡◌, ◌⊎◌, ℕ, Bool, true, List, [], length, Option, None, Some}
 use Rattle.resp_value.specs.Rules.{Rules, WithinTotal}
 use Rattle.resp_value.specs.Spellings.{IsSpelling, IsViable}
 use Rattle.resp_value.specs.Values.{datum_of}
@@ -28,6 +28,11 @@ WhereFrontRead reading P = (front : List ℕ) → HasReadFront reading front →
 abbrev pub ReadsBy : Rules → Reading → Type 0
 ReadsBy rules None = Unit {0}
 ReadsBy rules (Some decoder) = decoding.rules_of decoder ≡ rules
+
+-- between two values there is no decoder, and a session that is closing has no decoder either
+pub record HoldsNoIdleDecoder (closing : Bool) (reading : Reading) : Type 0 where
+  pub between : HasReadFront reading [] → reading ≡ None
+  pub at_end : closing ≡ true → reading ≡ None
 
 -- the text is a spelling of the value, and no byte of the next value was read
 pub record ReadsValue (rules : Rules) (reading : Reading) (written : List ℕ) (value : Value) : Type 0 where

@@ -7,7 +7,7 @@ ghost use Rattle.resp_value.specs.declared.version.Version.TheVariants.{Three};
 ghost use Rattle.resp_encode.specs.Pushes.{push_of};
 ghost use Rattle.resp_session.specs.Stores.{value_at};
 ghost use Rattle.resp_server.specs.PushRefusals.{IsPushVerdict};
-ghost use Rattle.resp_server.specs.Reading.{HasReadFront};
+ghost use Rattle.resp_server.specs.Reading.{HasReadFront, HoldsNoIdleDecoder};
 ghost use Rattle.resp_server.specs.Handling.{WhereOpen, HasAnswered, HasCutShort, IfOutOfMemory};
 ghost use Rattle.resp_server.specs.declared.error.HubError.{HubError};
 ghost use Rattle.resp_server.specs.declared.error.OpenError.{OpenError};
@@ -289,6 +289,9 @@ impl<S: BuildHasher> Hub<S> {
             IfOutOfMemory error (HasCutShort self.old self.new id s front piece.now))) }
         ensures closing { IfSome (seat_at self.old id) (λ (s : Seat). s.closing ≡ true →
             (result ≡ Ok (record { commands = 0 })) × (self.new ≡ self.old)) }
+        // A session has a decoder only inside a value, and none once it is closing.
+        ensures idle { IfSome (seat_at self.new id) (λ (s : Seat).
+            HoldsNoIdleDecoder s.closing s.decoder) }
         ensures no_session { seat_at self.old id ≡ None → result ≡ Err HubError.NoSession }
         ensures none { IsErrOf result HubError.NoSession → seat_at self.old id ≡ None }
         ensures unchanged { IsErrOf result HubError.NoSession → self.new ≡ self.old }

@@ -1,6 +1,6 @@
 //! The reader of a session.
 
-ghost use Rattle.std.specs.Prelude.{◌≡◌, ◌≤◌, ◌++◌, [], length, take, true, Some, IfOk, IfErr};
+ghost use Rattle.std.specs.Prelude.{◌≡◌, ◌≤◌, ◌++◌, [], length, take, true, false, None, Some, IfOk, IfErr};
 ghost use Rattle.std.specs.Option.{option_map};
 ghost use Rattle.resp_decode.specs.Decoding.{IfNoValue, IfValue};
 ghost use Rattle.resp_value.specs.Rules.{Rules, WithinTotal};
@@ -40,7 +40,7 @@ impl Model for Reader {
 impl Reader {
     /// Makes a reader that has read nothing. Does not allocate.
     pub(crate) fn new() -> Reader
-        ensures nothing_taken { HasReadFront result [] }
+        ensures no_decoder { result ≡ None }
         ensures reading { (rules : Rules) → ReadsBy rules result }
     {
         Reader { decoder: None }
@@ -77,7 +77,8 @@ impl Reader {
 
     /// Returns whether no byte of a value has been read.
     pub(crate) fn is_between(&self) -> bool
-        ensures { result ≡ true → WhereFrontRead self.now (λ front. front ≡ []) }
+        ensures nothing_taken { result ≡ true → WhereFrontRead self.now (λ front. front ≡ []) }
+        ensures some_taken { result ≡ false → HasReadFront self.now [] → ⊥ }
     {
         match &self.decoder {
             Some(decoder) => decoder.taken() == 0,
@@ -88,6 +89,7 @@ impl Reader {
     /// Frees the decoder if no byte of a value has been read.
     pub(crate) fn shrink(&mut self)
         ensures same_taken { WhereFrontRead self.old (HasReadFront self.new) }
+        ensures between { HasReadFront self.new [] → self.new ≡ None }
         ensures reading { (rules : Rules) → ReadsBy rules self.old → ReadsBy rules self.new }
     {
         if self.is_between() {

@@ -1,9 +1,9 @@
 //! A session: the bytes read from its client, and the bytes that wait to be written to it.
 
-ghost use Rattle.std.specs.Prelude.{◌≡◌, ◌<◌, ◌^◌, [], false};
+ghost use Rattle.std.specs.Prelude.{◌≡◌, ◌<◌, ◌^◌, [], false, None};
 ghost use Rattle.resp_value.specs.Rules.{Rules};
 ghost use Rattle.resp_value.specs.declared.version.Version.TheVariants.{Two};
-ghost use Rattle.resp_server.specs.Reading.{HasReadFront, ReadsBy, WhereFrontRead};
+ghost use Rattle.resp_server.specs.Reading.{HasReadFront, HoldsNoIdleDecoder, ReadsBy, WhereFrontRead};
 
 use crate::reader::Reader;
 use bytes::BytesMut;
@@ -34,7 +34,7 @@ impl Session {
         ensures version { result.version ≡ Two }
         ensures out { result.out.items ≡ [] }
         ensures open { result.closing ≡ false }
-        ensures nothing_taken { HasReadFront result.decoder [] }
+        ensures no_decoder { result.decoder ≡ None }
         ensures reading { (rules : Rules) → ReadsBy rules result.decoder }
     {
         Session {
@@ -53,6 +53,7 @@ impl Session {
         ensures same_version { self.new.version ≡ self.old.version }
         ensures same_out { self.new.out.items ≡ self.old.out.items }
         ensures same_closing { self.new.closing ≡ self.old.closing }
+        ensures idle { HoldsNoIdleDecoder self.new.closing self.new.decoder }
         ensures same_taken { self.old.closing ≡ false →
             WhereFrontRead self.old.decoder (HasReadFront self.new.decoder) }
         ensures reading { (rules : Rules) →

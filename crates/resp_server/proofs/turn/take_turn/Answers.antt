@@ -5,4 +5,4 @@ use Rattle.resp_server.proofs.turn.take_turn.Goals as goal
 pub run_whole-requires-clause-between : goal.run_whole-requires-clause-between
 run_whole-requires-clause-between g c =
     let (front, taken) = c.requires.taking in
-    subst (HasReadFront c.args.session.now.decoder) (c.if-is_between.ensures refl front taken) taken
+    subst (HasReadFront c.args.session.now.decoder) (c.if-is_between.ensures.nothing_taken refl front taken) taken

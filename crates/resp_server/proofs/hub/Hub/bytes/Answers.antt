@@ -1,10 +1,11 @@
-use Rattle.std.proofs.Common.{◌++◌, None, refl, sym, ◌∙◌}
+use Rattle.std.proofs.Common.{◌++◌, None, refl, sym, subst, ◌∙◌, ℕ, BTreeMap}
 use Rattle.std.proofs.lemmas.Bool.{false≢true}
 use Rattle.resp_session.specs.Answers.{server_rules}
-use Rattle.resp_server.specs.Hubs.{seat_at}
+use Rattle.resp_server.specs.Hubs.{HubIsSound, seat_at}
+use Rattle.resp_server.specs.declared.session.Session.{Session}
 use Rattle.resp_server.proofs.Seats.{seat_is, seat_is_there, same_state, sound_at, sound_with}
 use Rattle.resp_server.proofs.AnsweredPieces.{answered_shrunk, cut_short_shrunk}
-use Rattle.resp_server.proofs.AnsweredHubs.{hub_answered, hub_cut_short, answered_sound, not_closing, if_closing, not_open, if_none}
+use Rattle.resp_server.proofs.AnsweredHubs.{hub_answered, hub_cut_short, answered_sound, not_closing, if_closing, not_open, if_none, holds_no_idle}
 use Rattle.resp_server.proofs.hub.Hub.bytes.Goals as goal
 
 pub returns-in_default-clause-closing : goal.returns-in_default-clause-closing
@@ -64,7 +65,7 @@ invariant_of-self-in-Err g c =
     answered_sound i.shared.limits i.sessions.entries i.shared.store i.last c.self.invariant _ c.answer-answered.ensures.same_limits _ c.answer-answered.new.shared.store c.args.id c.in-Some.session.now
     c.shrink.new.self (c.get_mut.follows.holds _).0 c.in-Some.ensures.value
     c.answer-answered.ensures.stored (c.shrink.ensures.same_id ∙ c.answer-answered.ensures.same_id) (c.shrink.ensures.reading (server_rules i.shared.limits) c.answer-answered.ensures.reading)
-    (λ is_open. absurd (false≢true (sym is_open ∙ c.shrink.ensures.same_closing ∙ (c.in-Err.ensures.cut_short front taken).closes)))
+    (λ is_open. absurd (false≢true (sym is_open ∙ c.shrink.ensures.same_closing ∙ (c.in-Err.ensures.cut_short front taken).closes))) c.shrink.ensures.idle
 
 pub returns-in-Err-clause-cut_short : goal.returns-in-Err-clause-cut_short
 returns-in-Err-clause-cut_short g c =
@@ -98,7 +99,7 @@ invariant_of-self-2 g c =
     c.shrink.new.self (c.get_mut.follows.holds _).0 c.in-Some.ensures.value
     c.answer-answered.ensures.stored (c.shrink.ensures.same_id ∙ c.answer-answered.ensures.same_id) (c.shrink.ensures.reading (server_rules i.shared.limits) c.answer-answered.ensures.reading)
     (λ is_open. let open_before = sym c.shrink.ensures.same_closing ∙ is_open in
-    (answered.rest, c.shrink.ensures.same_taken open_before answered.rest (answered.taking open_before)))
+    (answered.rest, c.shrink.ensures.same_taken open_before answered.rest (answered.taking open_before))) c.shrink.ensures.idle
 
 pub returns-clause-answered : goal.returns-clause-answered
 returns-clause-answered g c =
@@ -121,3 +122,18 @@ returns-clause-no_session g c none =
     let i = c.self.inside in
     absurd (seat_is_there i.shared.limits i.sessions.entries i.shared.store i.last c.args.self.now c.self.view_is c.args.id c.in-Some.session.now
     c.in-Some.ensures.value none)
+
+pub returns-in_default-clause-idle : goal.returns-in_default-clause-idle
+returns-in_default-clause-idle g c =
+    let i = c.self.inside in
+    holds_no_idle i.shared.limits _ i.shared.store i.last c.args.id
+    (subst (λ (m : BTreeMap ℕ Session). HubIsSound i.shared.limits m.entries i.shared.store i.last) (sym c.get_mut.follows.holds-at-none) c.self.invariant)
+
+pub returns-then-session-clause-idle : goal.returns-then-session-clause-idle
+returns-then-session-clause-idle g c = holds_no_idle _ _ _ _ c.args.id (invariant_of-self-then-session g c)
+
+pub returns-in-Err-clause-idle : goal.returns-in-Err-clause-idle
+returns-in-Err-clause-idle g c = holds_no_idle _ _ _ _ c.args.id (invariant_of-self-in-Err g c)
+
+pub returns-clause-idle : goal.returns-clause-idle
+returns-clause-idle g c = holds_no_idle _ _ _ _ c.args.id (invariant_of-self-2 g c)

@@ -1,7 +1,8 @@
-use Rattle.std.proofs.Common.{◌+◌, ◌==◌, false, [], subst, sym, ap, ◌∙◌, arith, ◌++◌, ◌∷◌}
+use Rattle.std.proofs.Common.{◌+◌, ◌==◌, false, [], refl, subst, sym, ap, ◌∙◌, arith, ◌++◌, ◌∷◌}
 use Rattle.std.specs.Map.{lookup}
 use Rattle.resp_value.specs.Rules.{rules_under}
 use Rattle.resp_value.specs.declared.version.Version.TheVariants.{Two}
+use Rattle.resp_server.specs.Reading.{HasReadFront}
 use Rattle.resp_server.specs.Hubs.{HubState, Seat, AreSound, seat_at, seats_of}
 use Rattle.resp_server.proofs.Seats.{found_last, insert_last, new_seat, none_next, seats-append, sound_append}
 use Rattle.resp_server.proofs.hub.Hub.open.Goals as goal
@@ -20,7 +21,8 @@ invariant_of-self-2 g c =
             same_id = c.new-session.ensures.id;
             given = omega arith;
             reading = c.new-session.ensures.reading (rules_under Two i.shared.limits);
-            taking = λ open_now. ([], c.new-session.ensures.nothing_taken);
+            taking = λ open_now. ([], subst (λ d. HasReadFront d []) (sym c.new-session.ensures.no_decoder) refl);
+            idle = record { between = λ taken. c.new-session.ensures.no_decoder; at_end = λ closes. c.new-session.ensures.no_decoder };
           }));
     }
 
@@ -37,7 +39,7 @@ returns-clause-opened g c =
     record {
       next = ap (λ (hub : HubState). hub.last + 1) c.self.view_is;
       decoder = session.decoder;
-      nothing_taken = c.new-session.ensures.nothing_taken;
+      nothing_taken = subst (λ d. HasReadFront d []) (sym c.new-session.ensures.no_decoder) refl;
       fresh = ap (λ (hub : HubState). seat_at hub (i.last + 1)) (sym c.self.view_is) ∙ none;
       there = ap (λ sessions. lookup (λ other. i.last + 1 == other) sessions) entries ∙
           found_last (i.last + 1) opened (seats_of i.sessions.entries) none;
