@@ -14,6 +14,16 @@
 #include <stdlib.h>
 #include <string.h>
 
+/* A program may replace the allocators of newer hiredis. */
+#ifdef REDIS_READER_MAX_ARRAY_ELEMENTS
+#include "alloc.h"
+#else
+#define hi_malloc malloc
+#define hi_calloc calloc
+#define hi_realloc realloc
+#define hi_free free
+#endif
+
 /* If read.h is older and lacks a type of reply, another type replaces it. */
 #ifdef REDIS_REPLY_DOUBLE
 #define REPLY_MAP REDIS_REPLY_MAP
@@ -57,6 +67,9 @@
 /* The most memory that is reserved because of a length in a head. */
 #define MOST_BELIEVED 65536
 
+/* The frames for which a reader has room at first. */
+#define FIRST_FRAMES 9
+
 /* The top level, or an open aggregate. */
 struct frame {
     /* The task that is passed to the create functions for the next value. */
@@ -94,9 +107,14 @@ struct reader {
     bool is_gathered;
     char *gathered;
     size_t gathered_room;
-    struct resp_event events[MOST_EVENTS + 1];
-    struct frame frames[MOST_OPEN + 1];
+    /* The array of events, and the frames from the top level on. They, and the scanner's memory, are allocated when the
+     * first bytes arrive. */
+    struct resp_event *events;
+    struct frame *frames, *last_frame;
 };
+
+/* The events of a reader that has no more of them. */
+static const struct resp_event NOTHING = {.kind = RESP_MORE};
 
 /* Stores the error and frees the reply that was begun. Returns false. */
 static bool fail(struct reader *reader, int type, const char *text) {
@@ -104,7 +122,7 @@ static bool fail(struct reader *reader, int type, const char *text) {
     if (base->reply && base->fn && base->fn->freeObject)
         base->fn->freeObject(base->reply);
     base->reply = NULL;
-    free(base->buf);
+    hi_free(base->buf);
     base->buf = NULL;
     base->pos = base->len = reader->room = 0;
     base->err = type;
@@ -123,7 +141,7 @@ static bool reserve(char **start, size_t *room, size_t length) {
     if (length <= *room)
         return true;
     size_t more = length < SIZE_MAX / 2 ? 2 * length : length;
-    char *grown = realloc(*start, more < 512 ? 512 : more);
+    char *grown = hi_realloc(*start, more < 512 ? 512 : more);
     if (!grown)
         return false;
     *start = grown;
@@ -264,21 +282,52 @@ static bool end_text(struct reader *reader) {
     return add_text(reader, reader->form, start + front, reader->length - front);
 }
 
-/* Returns whether an array may have this number of members. */
-static bool is_allowed(struct reader *reader, uint64_t members) {
+/* Returns whether an aggregate may have this number of members; `items` counts pairs if it is a map. */
+static bool is_allowed(struct reader *reader, uint64_t items, uint64_t members) {
 #ifdef REDIS_READER_MAX_ARRAY_ELEMENTS
     long long most = reader->base.maxelements;
-    return most <= 0 || members <= (uint64_t)most;
+    (void)members;
+    return most <= 0 || items <= (uint64_t)most;
 #else
     (void)reader;
+    (void)items;
     return members <= INT_MAX;
 #endif
 }
 
+/* Doubles the room for frames. Each frame of a member has a pointer to the frame of its aggregate. */
+static APART bool grow_frames(struct reader *reader) {
+    struct frame *frames = reader->frames;
+    size_t count = (size_t)(reader->frame - frames) + 1, room = 2 * count;
+    if (room > MOST_OPEN + 1)
+        room = MOST_OPEN + 1;
+    struct frame *grown = hi_malloc(room * sizeof *grown);
+    if (!grown)
+        return out_of_memory(reader);
+    memcpy(grown, frames, count * sizeof *grown);
+    for (size_t at = 1; at < count; at++)
+        if (grown[at].task.parent)
+            grown[at].task.parent = &grown[(struct frame *)grown[at].task.parent - frames].task;
+    hi_free(frames);
+    reader->frames = grown;
+    reader->frame = grown + count - 1;
+    reader->last_frame = grown + room - 1;
+    return true;
+}
+
+/* Makes room for one more frame, which may move the others. */
+static inline bool reserve_frame(struct reader *reader) {
+    return reader->frame != reader->last_frame || grow_frames(reader);
+}
+
 /* Begins the frame of an aggregate other than an attribute. */
-static inline void begin_places(struct reader *reader, redisReadTask *task) {
+static inline bool begin_places(struct reader *reader) {
+    if (!reserve_frame(reader))
+        return false;
+    redisReadTask *task = &reader->frame->task;
     struct frame *inner = ++reader->frame;
     *inner = (struct frame){.task = {.elements = -1, .parent = task, .privdata = reader->base.privdata}, .step = 1};
+    return true;
 }
 
 /* Opens an aggregate other than an attribute. */
@@ -288,10 +337,12 @@ static inline bool open(struct reader *reader, const struct resp_event *event) {
     };
     redisReplyObjectFunctions *fn = reader->base.fn;
     uint64_t members = event->form == RESP_MAP ? 2 * event->members : event->members;
-    redisReadTask *task = task_of(reader, types[event->form]);
-    if (!is_allowed(reader, members))
+    if (!is_allowed(reader, event->members, members))
         return is_out_of_range(reader);
-    begin_places(reader, task);
+    if (!begin_places(reader))
+        return false;
+    redisReadTask *task = &reader->frame[-1].task;
+    task->type = types[event->form];
     task->elements = (long long)members;
     task->obj = fn && fn->createArray ? fn->createArray(task, members) : kind(task);
     return keep(reader, task, task->obj);
@@ -324,14 +375,17 @@ static APART bool take_seldom(struct reader *reader, const struct resp_event *ev
 }
 
 /* Begins the frame of an attribute. The value that it annotates takes the attribute's place. */
-static void begin_attribute(struct reader *reader, const struct resp_event *event) {
+static bool begin_attribute(struct reader *reader, const struct resp_event *event) {
+    if (!reserve_frame(reader))
+        return false;
     redisReadTask task = reader->frame->task;
     *++reader->frame = (struct frame){.task = task, .before = 2 * event->members};
     reader->unread += event->members > 0;
+    return true;
 }
 
-/* Skips an event of the pairs of an attribute. */
-static void pass(struct reader *reader, const struct resp_event *event) {
+/* Skips an event of the pairs of an attribute. Returns false if memory is out. */
+static bool pass(struct reader *reader, const struct resp_event *event) {
     switch (event->kind) {
     case RESP_TEXT:
         reader->is_text = true;
@@ -339,11 +393,7 @@ static void pass(struct reader *reader, const struct resp_event *event) {
     case RESP_PART:
         break;
     case RESP_OPEN:
-        if (event->form == RESP_ATTRIBUTE)
-            begin_attribute(reader, event);
-        else
-            begin_places(reader, &reader->frame->task);
-        break;
+        return event->form == RESP_ATTRIBUTE ? begin_attribute(reader, event) : begin_places(reader);
     case RESP_CLOSE:
         reader->frame--;
         end_unread(reader);
@@ -353,20 +403,24 @@ static void pass(struct reader *reader, const struct resp_event *event) {
         end_unread(reader);
         break;
     }
+    return true;
 }
 
-/* Skips the events of the pairs of attributes, from `pos` on. Returns the event after them. */
+/* Skips the events of the pairs of attributes, from `pos` on. Returns the event after them, or NULL if memory is out. */
 static APART const struct resp_event *pass_all(struct reader *reader, const struct resp_event *event) {
     while (reader->unread && event->kind != RESP_MORE) {
-        pass(reader, event);
+        if (!pass(reader, event))
+            return NULL;
         reader->base.pos += event++->used;
     }
     return event;
 }
 
-/* Opens an attribute at `pos` and skips its pairs. Returns the event after them, or RESP_MORE. */
+/* Opens an attribute at `pos` and skips its pairs. Returns the event after them, or RESP_MORE, or NULL if memory is out.
+ */
 static APART const struct resp_event *open_attribute(struct reader *reader, const struct resp_event *event) {
-    begin_attribute(reader, event);
+    if (!begin_attribute(reader, event))
+        return NULL;
     reader->base.pos += event->used;
     return pass_all(reader, event + 1);
 }
@@ -409,7 +463,7 @@ static bool refuse(struct reader *reader) {
     char text[sizeof base->errstr];
     const char *known = NULL;
     if (cause == RESP_CAUSE_ITEMS)
-        return is_allowed(reader, UINT64_MAX) ? out_of_memory(reader) : is_out_of_range(reader);
+        return is_allowed(reader, UINT64_MAX, UINT64_MAX) ? out_of_memory(reader) : is_out_of_range(reader);
     if (cause == RESP_CAUSE_RANGE)
         known = "Bad integer value";
     else if (cause == RESP_CAUSE_LENGTH)
@@ -460,8 +514,7 @@ static APART const struct resp_event *scan(struct reader *reader) {
 static inline bool is_read(struct reader *reader) {
     if (reader->base.pos < reader->base.len || reader->is_full)
         return false;
-    reader->next = reader->events;
-    reader->events[0].kind = RESP_MORE;
+    reader->next = &NOTHING;
     return true;
 }
 
@@ -507,19 +560,10 @@ static inline bool read_reply(struct reader *reader) {
 }
 
 redisReader *redisReaderCreateWithFunctions(redisReplyObjectFunctions *fn) {
-    struct reader *reader = calloc(1, sizeof *reader);
-    struct resp_limits limits = {MOST_OPEN, 1073741824, 1099511627776, 1099511627776, false, true};
+    struct reader *reader = hi_calloc(1, sizeof *reader);
     if (!reader)
         return NULL;
-    reader->scanner.memory = malloc(resp_scanner_size());
-    if (!reader->scanner.memory || resp_scanner_init(&reader->scanner, 3, &limits) != RESP_OK) {
-        free(reader->scanner.memory);
-        free(reader);
-        return NULL;
-    }
-    reader->next = reader->events;
-    reader->frame = reader->frames;
-    reader->frame->task.elements = reader->frame->task.idx = -1;
+    reader->next = &NOTHING;
     reader->base.fn = fn;
     reader->base.maxbuf = REDIS_READER_MAX_BUF;
     reader->base.ridx = -1;
@@ -529,16 +573,33 @@ redisReader *redisReaderCreateWithFunctions(redisReplyObjectFunctions *fn) {
     return &reader->base;
 }
 
+/* Allocates what a reader needs to read. Returns false if memory is out. */
+static APART bool begin_reading(struct reader *reader) {
+    const struct resp_limits limits = {MOST_OPEN, 1073741824, 1099511627776, 1099511627776, false, true};
+    reader->events = hi_malloc((MOST_EVENTS + 1) * sizeof *reader->events);
+    reader->frames = hi_calloc(FIRST_FRAMES, sizeof *reader->frames);
+    reader->scanner.memory = hi_malloc(resp_scanner_size());
+    if (!reader->events || !reader->frames || !reader->scanner.memory ||
+        resp_scanner_init(&reader->scanner, 3, &limits) != RESP_OK)
+        return out_of_memory(reader);
+    reader->frame = reader->frames;
+    reader->last_frame = reader->frames + FIRST_FRAMES - 1;
+    reader->frame->task.elements = reader->frame->task.idx = -1;
+    return true;
+}
+
 void redisReaderFree(redisReader *base) {
     struct reader *reader = (struct reader *)base;
     if (!base)
         return;
     if (base->reply && base->fn && base->fn->freeObject)
         base->fn->freeObject(base->reply);
-    free(base->buf);
-    free(reader->gathered);
-    free(reader->scanner.memory);
-    free(reader);
+    hi_free(base->buf);
+    hi_free(reader->gathered);
+    hi_free(reader->scanner.memory);
+    hi_free(reader->events);
+    hi_free(reader->frames);
+    hi_free(reader);
 }
 
 /* Drops the bytes that have been read, except those of a text that hasn't ended. */
@@ -571,9 +632,11 @@ int redisReaderFeed(redisReader *base, const char *more, size_t length) {
         return REDIS_ERR;
     if (!more || !length)
         return REDIS_OK;
+    if (!reader->events && !begin_reading(reader))
+        return REDIS_ERR;
     drop_read(reader);
     if (!base->len && base->maxbuf && reader->room > base->maxbuf && reader->room / 4 > length) {
-        free(base->buf);
+        hi_free(base->buf);
         base->buf = NULL;
         reader->room = 0;
     }
@@ -588,7 +651,8 @@ int redisReaderFeed(redisReader *base, const char *more, size_t length) {
 
 int redisReaderGetReply(redisReader *base, void **reply) {
     struct reader *reader = (struct reader *)base;
-    reader->frames->task.privdata = base->privdata;
+    if (reader->frames)
+        reader->frames->task.privdata = base->privdata;
     if (base->err || !read_reply(reader)) {
         if (reply)
             *reply = NULL;

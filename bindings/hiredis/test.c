@@ -1,4 +1,5 @@
-/* Tests of the reader in rows. Each text is fed whole, cut in two at each byte, and byte by byte. */
+/* Tests of the reader in rows. Each text is fed whole, cut in two at each byte, and byte by byte. With -DTHEIRS it tests
+ * that hiredis' own reader differs from ours as README.md says. */
 #include "read.h"
 
 #include <inttypes.h>
@@ -7,6 +8,10 @@
 #include <stdio.h>
 #include <stdlib.h>
 #include <string.h>
+
+#ifdef REDIS_READER_MAX_ARRAY_ELEMENTS
+#include "alloc.h"
+#endif
 
 static unsigned passed, failed;
 
@@ -283,7 +288,164 @@ static void read_deep(void) {
     redisReaderFree(reader);
 }
 
+#ifdef REDIS_READER_MAX_ARRAY_ELEMENTS
+/* A text that our reader and hiredis' reader read in different ways. */
+struct difference {
+    const char *text;
+    size_t length;
+    const char *ours, *theirs;
+};
+
+#define TEXT(text) text, sizeof text - 1
+
+static const struct difference DIFFERENCES[] = {
+    {TEXT(":007\r\n"), "3:7 .", "!Bad integer value"},
+    {TEXT(":+0\r\n"), "3:0 .", "!Bad integer value"},
+    {TEXT("$00\r\n\r\n"), "1\"\" .", "!Bad bulk string length"},
+    {TEXT("*02\r\n:1\r\n:2\r\n"), "2*2@-1 3:1 3:2 .", "!Bad multi-bulk length"},
+    {TEXT("(+0012\r\n"), "13\"12\" .", "!Bad bignum value"},
+    {TEXT("(-0012\r\n"), "13\"-12\" .", "13\"-0012\" ."},
+    {TEXT("(\r\n"), "!Bad bignum value", "13\"\" ."},
+    {TEXT(", 1\r\n"), "!Bad double value", "7\" 1\"=1 ."},
+    {TEXT(",\r0\r\n"), "!Protocol error, Syntax at byte 2 of the reply", "7\"\r0\"=0 ."},
+    {TEXT(",nan\r\n"), "7\"nan\"=nan .", "!Bad double value"},
+    {TEXT(",1e999\r\n"), "7\"1e999\"=inf .", "!Bad double value"},
+    {TEXT("#\0\r\n"), "!Bad bool value", "8=0 ."},
+    {TEXT("#T\r\n"), "!Bad bool value", "8=1 ."},
+    {TEXT("=-1\r\n"), "!Bad bulk string length", "14 ."},
+    {TEXT(">-1\r\n"), "!Bad multi-bulk length", "12 ."},
+    {TEXT("%-1\r\n"), "!Bad multi-bulk length", "9 ."},
+    {TEXT("$-1\r\n"), "4 .", "1 ."},
+    {TEXT("*-1\r\n"), "4 .", "2 ."},
+    {TEXT("$1\r\nabc"), "!Protocol error, Syntax at byte 5 of the reply", "1\"a\" ."},
+    {TEXT("*1\r\n>1\r\n+a\r\n"), "!Protocol error, NestedPush at byte 4 of the reply", "2*1@-1 12*1@0 5\"a\" ."},
+    {TEXT("!5\r\nERR x\r\n"), "6\"ERR x\" .", "!Protocol error, got \"!\" as reply type byte"},
+    {TEXT("|1\r\n+a\r\n:1\r\n+b\r\n"), "5\"b\" .", "!Protocol error, got \"|\" as reply type byte"},
+    {TEXT("*?\r\n"), "!Protocol error, Streamed at byte 1 of the reply", "!Bad multi-bulk length"},
+    {TEXT("$x"), "!Bad bulk string length", ""},
+};
+
+static void differ(const struct difference *row) {
+    char said[500] = "";
+    redisReader *reader = new_reader();
+    redisReaderFeed(reader, row->text, row->length);
+    hear(reader, said, sizeof said);
+    redisReaderFree(reader);
+#ifdef THEIRS
+    bool is_right = !strcmp(said, row->theirs);
+#else
+    bool is_right = !strcmp(said, row->ours);
+#endif
+    passed += is_right;
+    failed += !is_right;
+    if (!is_right)
+        printf("%.*s: %s\n", (int)row->length, row->text, said);
+    held = 0;
+}
+
+/* A limit of members counts the pairs of a map. */
+static void read_limited(void) {
+    static const char *const texts[] = {"%2\r\n", "*2\r\n", "%3\r\n", "*3\r\n"};
+    for (size_t at = 0; at < 4; at++) {
+        void *reply;
+        redisReader *reader = new_reader();
+        reader->maxelements = 2;
+        redisReaderFeed(reader, texts[at], 4);
+        int status = redisReaderGetReply(reader, &reply);
+        bool is_right = at < 2 ? status == REDIS_OK && !reply && !reader->err
+                               : status == REDIS_ERR && !strcmp(reader->errstr, "Multi-bulk length out of range");
+        passed += is_right;
+        failed += !is_right;
+        if (!is_right)
+            printf("%s within 2: %s\n", texts[at], reader->errstr);
+        redisReaderFree(reader);
+    }
+}
+
+/* The bytes that were allocated, and the number of allocations until one is refused. */
+static size_t taken;
+static long left;
+
+static void *take(size_t size) {
+    taken += size;
+    return left-- ? malloc(size) : NULL;
+}
+
+static void *take_array(size_t count, size_t size) {
+    taken += count * size;
+    return left-- ? calloc(count, size) : NULL;
+}
+
+static void *take_again(void *start, size_t size) {
+    taken += size;
+    return left-- ? realloc(start, size) : NULL;
+}
+
+static char *take_text(const char *text) {
+    char *copy = take(strlen(text) + 1);
+    return copy ? strcpy(copy, text) : NULL;
+}
+
+/* Refuses each allocation in turn: a reader has the error, and everything is freed. An idle reader takes little. */
+static void read_refused(void) {
+    static const char text[] = "*1\r\n*1\r\n*1\r\n*1\r\n*1\r\n*1\r\n*1\r\n*1\r\n*1\r\n|1\r\n+a\r\n*1\r\n:1\r\n=6\r\ntxt:ab\r\n";
+    hiredisAllocFuncs functions = {take, take_array, take_again, take_text, free};
+    bool is_whole = false;
+    hiredisSetAllocators(&functions);
+    for (long at = 0; !is_whole; at++) {
+        void *reply = NULL;
+        left = at;
+        taken = 0;
+        redisReader *reader = redisReaderCreateWithFunctions(NULL);
+        if (!reader)
+            continue;
+        size_t idle = taken;
+        bool is_read = redisReaderFeed(reader, text, sizeof text - 1) == REDIS_OK &&
+                       redisReaderGetReply(reader, &reply) == REDIS_OK;
+        bool is_right = (is_read ? reply && !reader->err : !reply && reader->err == REDIS_ERR_OOM) && at > 0 &&
+                        idle <= 1536;
+        passed += is_right;
+        failed += !is_right;
+        if (!is_right)
+            printf("allocation %ld refused: %d, %zu bytes when idle\n", at, reader->err, idle);
+        is_whole = is_read;
+        redisReaderFree(reader);
+    }
+    hiredisResetAllocators();
+}
+#endif
+
+/* Reads arrays and attributes inside one another: a member's parent is the array around the attribute. */
+static void read_annotated(void) {
+    redisReader *reader = new_reader();
+    void *reply = NULL;
+    char wanted[400] = "2*1@-1 ";
+    for (int depth = 0; depth < 30; depth++) {
+        redisReaderFeed(reader, "*1\r\n|1\r\n+a\r\n*1\r\n+b\r\n", 20);
+        if (depth)
+            strcat(wanted, "2*1@0 ");
+    }
+    strcat(wanted, "3:7 ");
+    redisReaderFeed(reader, ":7\r\n", 4);
+    redisReaderGetReply(reader, &reply);
+    expect(reply, wanted, "30 arrays and attributes");
+    redisReaderFree(reader);
+}
+
 int main(void) {
+#ifdef REDIS_READER_MAX_ARRAY_ELEMENTS
+    for (size_t at = 0; at < sizeof DIFFERENCES / sizeof *DIFFERENCES; at++)
+        differ(&DIFFERENCES[at]);
+#endif
+#ifdef THEIRS
+    printf("%u passed, %u failed\n", passed, failed);
+    return failed > 0;
+#endif
+#ifdef REDIS_READER_MAX_ARRAY_ELEMENTS
+    read_limited();
+    read_refused();
+#endif
+    read_annotated();
     for (size_t size = 1; size < 200; size++)
         read_late(size);
     read_deep();
