@@ -107,10 +107,11 @@ struct reader {
     bool is_gathered;
     char *gathered;
     size_t gathered_room;
-    /* The array of events, and the frames from the top level on. They, and the scanner's memory, are allocated when the
-     * first bytes arrive. */
+    /* The array of events. It and the scanner's memory, which is behind it, are allocated when the first bytes arrive. */
     struct resp_event *events;
+    /* The frames from the top level on: the first ones, or more of them in other memory. */
     struct frame *frames, *last_frame;
+    struct frame first[FIRST_FRAMES];
 };
 
 /* The events of a reader that has no more of them. */
@@ -308,7 +309,8 @@ static APART bool grow_frames(struct reader *reader) {
     for (size_t at = 1; at < count; at++)
         if (grown[at].task.parent)
             grown[at].task.parent = &grown[(struct frame *)grown[at].task.parent - frames].task;
-    hi_free(frames);
+    if (frames != reader->first)
+        hi_free(frames);
     reader->frames = grown;
     reader->frame = grown + count - 1;
     reader->last_frame = grown + room - 1;
@@ -564,6 +566,9 @@ redisReader *redisReaderCreateWithFunctions(redisReplyObjectFunctions *fn) {
     if (!reader)
         return NULL;
     reader->next = &NOTHING;
+    reader->frame = reader->frames = reader->first;
+    reader->last_frame = reader->first + FIRST_FRAMES - 1;
+    reader->frame->task.elements = reader->frame->task.idx = -1;
     reader->base.fn = fn;
     reader->base.maxbuf = REDIS_READER_MAX_BUF;
     reader->base.ridx = -1;
@@ -576,15 +581,11 @@ redisReader *redisReaderCreateWithFunctions(redisReplyObjectFunctions *fn) {
 /* Allocates what a reader needs to read. Returns false if memory is out. */
 static APART bool begin_reading(struct reader *reader) {
     const struct resp_limits limits = {MOST_OPEN, 1073741824, 1099511627776, 1099511627776, false, true};
-    reader->events = hi_malloc((MOST_EVENTS + 1) * sizeof *reader->events);
-    reader->frames = hi_calloc(FIRST_FRAMES, sizeof *reader->frames);
-    reader->scanner.memory = hi_malloc(resp_scanner_size());
-    if (!reader->events || !reader->frames || !reader->scanner.memory ||
-        resp_scanner_init(&reader->scanner, 3, &limits) != RESP_OK)
+    reader->events = hi_malloc((MOST_EVENTS + 1) * sizeof *reader->events + resp_scanner_size());
+    if (!reader->events)
         return out_of_memory(reader);
-    reader->frame = reader->frames;
-    reader->last_frame = reader->frames + FIRST_FRAMES - 1;
-    reader->frame->task.elements = reader->frame->task.idx = -1;
+    reader->scanner.memory = reader->events + MOST_EVENTS + 1;
+    resp_scanner_init(&reader->scanner, 3, &limits);
     return true;
 }
 
@@ -596,9 +597,9 @@ void redisReaderFree(redisReader *base) {
         base->fn->freeObject(base->reply);
     hi_free(base->buf);
     hi_free(reader->gathered);
-    hi_free(reader->scanner.memory);
     hi_free(reader->events);
-    hi_free(reader->frames);
+    if (reader->frames != reader->first)
+        hi_free(reader->frames);
     hi_free(reader);
 }
 
@@ -651,8 +652,7 @@ int redisReaderFeed(redisReader *base, const char *more, size_t length) {
 
 int redisReaderGetReply(redisReader *base, void **reply) {
     struct reader *reader = (struct reader *)base;
-    if (reader->frames)
-        reader->frames->task.privdata = base->privdata;
+    reader->frames->task.privdata = base->privdata;
     if (base->err || !read_reply(reader)) {
         if (reply)
             *reply = NULL;
