@@ -12,7 +12,6 @@
  *
  *     struct resp_limits limits;
  *     resp_limits_standard(&limits);
- *     limits.doubles = true;   // in version 3 redis-server sends doubles, to ZSCORE for example
  *     struct resp_scanner scanner = { malloc(resp_scanner_size()) };
  *     resp_scanner_init(&scanner, 3, &limits);
  *
@@ -36,7 +35,12 @@
 extern "C" {
 #endif
 
+/* The version of this header, and the same as a number: 65,536 x major + 256 x minor + patch. */
 #define RESP_VERSION "0.2.0"
+#define RESP_VERSION_NUMBER 0x000200u
+
+/* Returns the version of the library that the program runs with, as a number. */
+uint32_t resp_version(void);
 
 /* The result of a call: RESP_OK, or an error. docs/errors.md explains each error. */
 enum resp_cause {
@@ -82,7 +86,9 @@ enum resp_cause {
     /* No aggregate has this kind. */
     RESP_CAUSE_BAD_KIND = 66,
     /* Another HELLO that asks for a version waits for its reply. */
-    RESP_CAUSE_HELLO_WAITS = 67
+    RESP_CAUSE_HELLO_WAITS = 67,
+    /* The command doesn't have exactly one reply, or changes the version in another way than HELLO. */
+    RESP_CAUSE_UNPAIRED = 68
 };
 
 /* Returns the name of an error, such as "Syntax", or "" if no error has this number. */
@@ -109,6 +115,7 @@ static inline const char *resp_cause_name(uint32_t cause) {
     case RESP_CAUSE_NO_ROOM: return "NoRoom";
     case RESP_CAUSE_BAD_KIND: return "BadKind";
     case RESP_CAUSE_HELLO_WAITS: return "HelloWaits";
+    case RESP_CAUSE_UNPAIRED: return "Unpaired";
     default: return "";
     }
 }
@@ -144,7 +151,7 @@ enum resp_kind {
 enum resp_text {
     RESP_TEXT_SIMPLE = 0,
     RESP_TEXT_ERROR = 1,
-    /* A double, as the text that was received. Only if the limits allow doubles. */
+    /* A double, as the text that was received. Its text is not checked to be a number. */
     RESP_TEXT_DOUBLE = 2,
     RESP_TEXT_BULK = 3,
     RESP_TEXT_BULK_ERROR = 4,
@@ -165,6 +172,49 @@ enum resp_aggregate {
     RESP_ATTRIBUTE = 3,
     RESP_PUSH = 4
 };
+
+/* Return the name of a kind of event, of text, and of aggregate, such as "text", "bulk string" and
+ * "array", or "" if there is no such kind. */
+static inline const char *resp_kind_name(uint32_t kind) {
+    switch (kind) {
+    case RESP_MORE: return "more";
+    case RESP_NULL: return "null";
+    case RESP_BOOL: return "boolean";
+    case RESP_INT: return "integer";
+    case RESP_TEXT: return "text";
+    case RESP_PART: return "part";
+    case RESP_TEXT_END: return "end of text";
+    case RESP_OPEN: return "open";
+    case RESP_CLOSE: return "close";
+    case RESP_DONE: return "done";
+    case RESP_WHOLE: return "whole text";
+    default: return "";
+    }
+}
+
+static inline const char *resp_text_name(uint32_t text) {
+    switch (text) {
+    case RESP_TEXT_SIMPLE: return "simple string";
+    case RESP_TEXT_ERROR: return "error";
+    case RESP_TEXT_DOUBLE: return "double";
+    case RESP_TEXT_BULK: return "bulk string";
+    case RESP_TEXT_BULK_ERROR: return "bulk error";
+    case RESP_TEXT_VERBATIM: return "verbatim string";
+    case RESP_TEXT_BIG: return "big number";
+    default: return "";
+    }
+}
+
+static inline const char *resp_aggregate_name(uint32_t aggregate) {
+    switch (aggregate) {
+    case RESP_ARRAY: return "array";
+    case RESP_SET: return "set";
+    case RESP_MAP: return "map";
+    case RESP_ATTRIBUTE: return "attribute";
+    case RESP_PUSH: return "push";
+    default: return "";
+    }
+}
 
 /* `members` of a streamed aggregate, whose size isn't known at its head. */
 #define RESP_STREAMED UINT64_MAX
@@ -205,8 +255,15 @@ struct resp_event {
     uint8_t digit;
 };
 
+/* Return `kind` and `form` of an event as enums. Compilers then warn if a switch lacks a case. */
+static inline enum resp_kind resp_event_kind(const struct resp_event *event) { return (enum resp_kind)event->kind; }
+static inline enum resp_text resp_event_text(const struct resp_event *event) { return (enum resp_text)event->form; }
+static inline enum resp_aggregate resp_event_aggregate(const struct resp_event *event) {
+    return (enum resp_aggregate)event->form;
+}
+
 /* Sets the standard limits: depth 32, texts of 536,870,912 bytes, values of 1,073,741,824 bytes,
- * 1,099,511,627,776 items, with streamed strings and aggregates, without doubles. */
+ * 1,099,511,627,776 items, with streamed strings and aggregates, and with doubles. */
 void resp_limits_standard(struct resp_limits *limits);
 
 /* Return the number of bytes of a scanner's memory, and its alignment. */
@@ -218,6 +275,30 @@ size_t resp_scanner_align(void);
  * Errors: RESP_CAUSE_BAD_VERSION, RESP_CAUSE_BAD_LIMITS. The memory is then unchanged. */
 uint32_t resp_scanner_init(struct resp_scanner *scanner, uint32_t version,
                            const struct resp_limits *limits);
+
+/* Memory that is large enough for a scanner of this version of the library, for example on the stack:
+ *
+ *     union resp_scanner_memory memory;
+ *     struct resp_scanner scanner;
+ *     uint32_t cause = resp_scanner_init_in(&scanner, &memory, 3, &limits);
+ */
+#define RESP_SCANNER_SIZE 4096
+union resp_scanner_memory {
+    uint64_t align;
+    uint8_t bytes[RESP_SCANNER_SIZE];
+};
+
+/* Initialises a scanner in this memory, which may not be moved while the scanner is used.
+ *
+ * Errors: as resp_scanner_init; RESP_CAUSE_NO_ROOM if the library that the program runs with is a
+ * newer one, whose scanner is larger. */
+static inline uint32_t resp_scanner_init_in(struct resp_scanner *scanner, union resp_scanner_memory *memory,
+                                            uint32_t version, const struct resp_limits *limits) {
+    if (resp_scanner_size() > sizeof *memory || resp_scanner_align() > sizeof memory->align)
+        return RESP_CAUSE_NO_ROOM;
+    scanner->memory = memory;
+    return resp_scanner_init(scanner, version, limits);
+}
 
 /* Reads bytes of the piece up to the next event or the end of the piece. A step may return an event
  * without reading a byte, so call it until it returns RESP_MORE, with an empty piece too.
@@ -310,17 +391,48 @@ struct resp_pairing {
  * values. */
 void resp_pairing_init(struct resp_pairing *pairing);
 
-/* Counts a command that is sent. `hello` is the version that a HELLO asks for, and 0 for any other
- * command. Sets `*number` to the number of the command and of its reply, from 1.
+/* How a command is answered. */
+enum resp_command {
+    /* By exactly one reply. */
+    RESP_COMMAND_ONE_REPLY = 0,
+    /* HELLO that asks for version 2 or 3: by exactly one reply, which may change the version. */
+    RESP_COMMAND_HELLO_2 = 2,
+    RESP_COMMAND_HELLO_3 = 3,
+    /* SUBSCRIBE, PSUBSCRIBE, SSUBSCRIBE, UNSUBSCRIBE, PUNSUBSCRIBE, SUNSUBSCRIBE: by a reply for each
+     * channel in version 2, and by a push for each channel in version 3. */
+    RESP_COMMAND_SUBSCRIBING = 16,
+    /* MONITOR, SYNC, PSYNC, RESET, CLIENT REPLY, and a command without a word: by no reply or by
+     * several, or the version changes. */
+    RESP_COMMAND_NOT_PAIRED = 17
+};
+
+/* Returns how a command of `count` words is answered, as an enum resp_command. Only its first two
+ * words matter: `name`, and `argument`, which isn't read if there is one word. Their case doesn't
+ * matter. */
+uint32_t resp_command_kind(size_t count, const uint8_t *name, size_t name_length, const uint8_t *argument,
+                           size_t argument_length);
+
+/* Counts a command that is sent, of the kind that resp_command_kind returns. Sets `*number` to the
+ * number of the command and of its reply, from 1. resp_pairing_queue_command finds the kind itself.
  *
- * Do not queue a command that gets no reply or several replies, such as SUBSCRIBE, PSUBSCRIBE,
- * SSUBSCRIBE and their UN- forms, MONITOR, SYNC, PSYNC, CLIENT REPLY. Later replies would be paired
- * with the wrong commands. Do not queue RESET either: it changes the version of the connection.
- * Nothing checks this.
+ * Errors: RESP_CAUSE_UNPAIRED for RESP_COMMAND_SUBSCRIBING and RESP_COMMAND_NOT_PAIRED, since later
+ * replies would be paired with the wrong commands; RESP_CAUSE_BAD_VERSION for a number that is no
+ * kind; RESP_CAUSE_HELLO_WAITS for a HELLO with a version while another one waits;
+ * RESP_CAUSE_TOO_MANY after 2^63 commands. An error changes nothing. */
+uint32_t resp_pairing_queue(struct resp_pairing *pairing, uint32_t kind, uint64_t *number);
+
+/* Counts a command of `argc` words that is sent, `argvlen` bytes at each `argv`. The errors are those
+ * of resp_pairing_queue.
  *
- * Errors: RESP_CAUSE_BAD_VERSION; RESP_CAUSE_HELLO_WAITS for a HELLO with a version while another
- * one waits; RESP_CAUSE_TOO_MANY after 2^63 commands. An error changes nothing. */
-uint32_t resp_pairing_queue(struct resp_pairing *pairing, uint32_t hello, uint64_t *number);
+ * This function calls resp_command_kind and resp_pairing_queue. It is tested, and they are proved. */
+static inline uint32_t resp_pairing_queue_command(struct resp_pairing *pairing, size_t argc, const char *const *argv,
+                                                  const size_t *argvlen, uint64_t *number) {
+    static const uint8_t none[1] = {0};
+    const uint8_t *name = argc > 0 ? (const uint8_t *)argv[0] : none;
+    const uint8_t *argument = argc > 1 ? (const uint8_t *)argv[1] : none;
+    uint32_t kind = resp_command_kind(argc, name, argc > 0 ? argvlen[0] : 0, argument, argc > 1 ? argvlen[1] : 0);
+    return resp_pairing_queue(pairing, kind, number);
+}
 
 /* Call this with the first byte of a value, before the scanner reads it. Sets `*version` to the
  * version of the value: the pairing's version, or the version asked for by the HELLO that waits
@@ -369,7 +481,7 @@ static inline uint32_t resp_pairing_step(struct resp_pairing *pairing, struct re
  * the buffer after the text are unchanged.
  *
  * Errors: RESP_CAUSE_NO_ROOM if the buffer is shorter than the text; nothing is written, and
- * `*size` is set. The other errors, which are named at each call, change neither the buffer nor
+ * `*size` is set, to SIZE_MAX if the text has a length that no memory has. The other errors, which are named at each call, change neither the buffer nor
  * `*size`.
  *
  * Only resp_command_size checks limits. The other calls don't know what value they write a part of.
@@ -448,6 +560,25 @@ static inline uint32_t resp_write_command(uint8_t *room, size_t length, const st
         cause = resp_write_bulk(room + at, length - at, (const uint8_t *)argv[word], argvlen[word], &used);
     }
     return cause;
+}
+
+/* Makes room for `more` bytes at the end of a buffer of the caller. Returns where they begin, or NULL
+ * if there is no memory for them. */
+typedef uint8_t *(*resp_make_room)(void *buffer, size_t more);
+
+/* Writes a command as resp_write_command does, into the room that `make_room` makes for it. It is
+ * called once, with the size of the command, and not at all after an error.
+ *
+ * Errors: as resp_command_size; RESP_CAUSE_NO_ROOM if `make_room` returns NULL, with `*size` set. */
+static inline uint32_t resp_append_command(resp_make_room make_room, void *buffer, const struct resp_limits *limits,
+                                           size_t argc, const char *const *argv, const size_t *argvlen,
+                                           size_t *size) {
+    uint8_t *room;
+    uint32_t cause = resp_command_size(limits, argvlen, argc, size);
+    if (cause != RESP_OK)
+        return cause;
+    room = make_room(buffer, *size);
+    return room ? resp_write_command(room, *size, limits, argc, argv, argvlen, size) : (uint32_t)RESP_CAUSE_NO_ROOM;
 }
 
 #ifdef __cplusplus

@@ -57,7 +57,6 @@ static uint32_t scan(struct resp_scanner *scanner, const uint8_t *piece, size_t 
 int main(void) {
     struct resp_limits limits;
     resp_limits_standard(&limits);
-    limits.doubles = true;
     struct resp_scanner scanner = {malloc(resp_scanner_size())};
     if (!scanner.memory)
         return 3;

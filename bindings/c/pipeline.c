@@ -37,9 +37,9 @@ static uint32_t queue_commands(struct resp_pairing *pairing, const char *key, ui
     if (cause == RESP_OK)
         cause = resp_write_command(room + first, length - first, &limits, 2, words + 2, lengths + 2, &second);
     if (cause == RESP_OK)
-        cause = resp_pairing_queue(pairing, 3, &number);
+        cause = resp_pairing_queue_command(pairing, 2, words, lengths, &number);
     if (cause == RESP_OK)
-        cause = resp_pairing_queue(pairing, 0, &number);
+        cause = resp_pairing_queue_command(pairing, 2, words + 2, lengths + 2, &number);
     if (cause == RESP_OK)
         *size = first + second;
     return cause;
@@ -74,7 +74,6 @@ int main(int argc, char **argv) {
     struct resp_pairing pairing;
     struct resp_limits limits;
     resp_limits_standard(&limits);
-    limits.doubles = true;
     struct resp_scanner scanner = {malloc(resp_scanner_size())};
     int fd = argc == 4 ? connected(argv[1], argv[2]) : -1;
     if (fd < 0 || !scanner.memory || resp_scanner_init(&scanner, 2, &limits) != RESP_OK)

@@ -29,7 +29,7 @@ struct row {
     void (*limit)(struct resp_limits *);
 };
 
-static void doubles(struct resp_limits *limits) { limits->doubles = true; }
+static void no_doubles(struct resp_limits *limits) { limits->doubles = false; }
 static void unstreamed(struct resp_limits *limits) { limits->streamed = false; }
 static void shallow(struct resp_limits *limits) { limits->depth = 4; }
 static void short_content(struct resp_limits *limits) { limits->length = 64; }
@@ -70,9 +70,9 @@ static const struct row ROWS[] = {
     {3, "|1\r\n+a\r\n:1\r\n+v\r\n", "|1+\"a\":1+\"v\"].", 0},
     {3, ">2\r\n+m\r\n+n\r\n", ">2+\"m\"+\"n\"].", 0},
     {3, "*1\r\n>", "*1!4@4", 0},
-    {3, ",1.5\r\n", "!2@0", 0},
-    {3, ",1.5\r\n,-inf\r\n", ",\"1.5\".,\"-inf\".", doubles},
-    {2, ",1.5\r\n", "!3@0", doubles},
+    {3, ",1.5\r\n", "!2@0", no_doubles},
+    {3, ",1.5\r\n,-inf\r\n", ",\"1.5\".,\"-inf\".", 0},
+    {2, ",1.5\r\n", "!3@0", 0},
     {3, "*?", "!12@1", unstreamed},
     /* After the fifth `*` a null is still possible. */
     {2, "*1\r\n*1\r\n*1\r\n*1\r\n*1\r\n", "*1*1*1*1!6@17", shallow},
@@ -238,7 +238,7 @@ static void calls(void) {
     const uint8_t *text = (const uint8_t *)"*2\r\n$5\r\nhello\r\n:1\r\n";
     resp_limits_standard(&limits);
     check(limits.depth == 32 && limits.length == 536870912 && limits.total == 1073741824 &&
-          limits.items == 1099511627776 && limits.streamed && !limits.doubles, "standard", "other limits");
+          limits.items == 1099511627776 && limits.streamed && limits.doubles, "standard", "other limits");
     check(resp_scanner_init(&scanner, 2, &limits) == RESP_OK, "init", "refused");
     check(resp_scanner_needed(&scanner) == 3, "needed between values", "not 3");
     check(resp_scanner_step(&scanner, text, 8, &event) == RESP_OK && event.used == 4, "step", "no open");
@@ -410,6 +410,53 @@ static void write_into(const struct written *row, size_t length) {
     free(room);
 }
 
+/* The calls that write, each with a count that wraps if something is added to it. */
+static size_t GREAT;
+
+WRITES(great_bulk, resp_write_bulk(room, length, (const uint8_t *)"x", GREAT, size))
+WRITES(great_bulk_error, resp_write_bulk_error(room, length, (const uint8_t *)"x", GREAT, size))
+WRITES(great_verbatim, resp_write_verbatim(room, length, (const uint8_t *)"txt", (const uint8_t *)"x", GREAT, size))
+WRITES(great_simple, resp_write_simple(room, length, (const uint8_t *)"x", GREAT, size))
+WRITES(great_error, resp_write_error(room, length, (const uint8_t *)"x", GREAT, size))
+WRITES(great_double, resp_write_double(room, length, (const uint8_t *)"1", GREAT, size))
+WRITES(great_big, resp_write_big(room, length, false, (const uint8_t *)"1", GREAT, size))
+WRITES(great_negative, resp_write_big(room, length, true, (const uint8_t *)"1", GREAT, size))
+
+/* Writes with each count near the greatest number, into buffers of several lengths: nothing is written. */
+static void great_writes(void) {
+    static uint32_t (*const writing[])(uint8_t *, size_t, size_t *) = {
+        great_bulk, great_bulk_error, great_verbatim, great_simple, great_error, great_double, great_big, great_negative,
+    };
+    static const size_t greatest[] = {SIZE_MAX, SIZE_MAX / 2};
+    for (size_t at = 0; at < sizeof writing / sizeof *writing; at++)
+        for (size_t below = 0; below <= 64; below++)
+            for (size_t length = 0; length <= 64; length++) {
+                size_t size = 999;
+                uint8_t *room = malloc(length ? length : 1);
+                memset(room, 0xAA, length ? length : 1);
+                GREAT = greatest[below % 2] - below / 2;
+                GREAT += below % 2 ? 33 : 0;
+                check(writing[at](room, length, &size) == RESP_CAUSE_NO_ROOM && size > SIZE_MAX / 2 &&
+                      is_blank(room, length), "a great count", "written");
+                free(room);
+            }
+}
+
+/* A command with a number of words, or with a word, that no memory has. */
+static void great_commands(void) {
+    struct resp_limits limits;
+    uint8_t room[64];
+    size_t size = 999;
+    resp_limits_standard(&limits);
+    for (size_t below = 0; below <= 64; below++) {
+        size_t lengths[3] = {3, SIZE_MAX - below, 4};
+        uint32_t cause = resp_write_command(room, sizeof room, &limits, 3, WORDS, lengths, &size);
+        check(cause == RESP_CAUSE_LENGTH && size == 999, "a great word", "written");
+        cause = resp_write_command(room, sizeof room, &limits, SIZE_MAX - below, WORDS, LENGTHS, &size);
+        check(cause == RESP_CAUSE_ITEMS && size == 999, "a great number of words", "written");
+    }
+}
+
 static void writes(void) {
     size_t size = 999;
     struct resp_limits limits;
@@ -562,9 +609,124 @@ static void pairs(void) {
     check(resp_pairing_queue(&pairing, 0, &number) == RESP_CAUSE_TOO_MANY && number == 2, "queue", "too many");
 }
 
+/* The words of a command, separated by spaces, and its kind. */
+struct kind {
+    const char *words;
+    uint32_t kind;
+};
+
+static const struct kind KINDS[] = {
+    {"", RESP_COMMAND_NOT_PAIRED}, {"GET a", RESP_COMMAND_ONE_REPLY}, {"HELLO", RESP_COMMAND_ONE_REPLY},
+    {"HELLO 2", RESP_COMMAND_HELLO_2}, {"hello 3 SETNAME a", RESP_COMMAND_HELLO_3}, {"HELLO 4", RESP_COMMAND_ONE_REPLY},
+    {"HELLO 33", RESP_COMMAND_ONE_REPLY}, {"SUBSCRIBE a b", RESP_COMMAND_SUBSCRIBING},
+    {"subScribe a", RESP_COMMAND_SUBSCRIBING}, {"UNSUBSCRIBE", RESP_COMMAND_SUBSCRIBING},
+    {"PSUBSCRIBE a", RESP_COMMAND_SUBSCRIBING}, {"PUNSUBSCRIBE", RESP_COMMAND_SUBSCRIBING},
+    {"SSUBSCRIBE a", RESP_COMMAND_SUBSCRIBING}, {"sunsubscribe", RESP_COMMAND_SUBSCRIBING},
+    {"MONITOR", RESP_COMMAND_NOT_PAIRED}, {"sync", RESP_COMMAND_NOT_PAIRED}, {"PSYNC ? -1", RESP_COMMAND_NOT_PAIRED},
+    {"RESET", RESP_COMMAND_NOT_PAIRED}, {"CLIENT REPLY OFF", RESP_COMMAND_NOT_PAIRED},
+    {"client reply", RESP_COMMAND_NOT_PAIRED}, {"CLIENT ID", RESP_COMMAND_ONE_REPLY}, {"CLIENT", RESP_COMMAND_ONE_REPLY},
+    {"RESETS", RESP_COMMAND_ONE_REPLY}, {"GET RESET", RESP_COMMAND_ONE_REPLY}, {"PUBSUB CHANNELS", RESP_COMMAND_ONE_REPLY},
+};
+
+static void kinds(void) {
+    for (size_t row = 0; row < sizeof KINDS / sizeof *KINDS; row++) {
+        const char *argv[8], *at = KINDS[row].words;
+        size_t argvlen[8], argc = 0;
+        while (*at) {
+            argvlen[argc] = strcspn(at, " ");
+            /* Each word has its own memory, which lets valgrind find a read outside it. */
+            argv[argc] = memcpy(malloc(argvlen[argc]), at, argvlen[argc]);
+            at += argvlen[argc++];
+            at += *at == ' ';
+        }
+        struct resp_pairing pairing, before;
+        uint64_t number = 99;
+        uint32_t kind = KINDS[row].kind;
+        bool is_paired = kind != RESP_COMMAND_SUBSCRIBING && kind != RESP_COMMAND_NOT_PAIRED;
+        resp_pairing_init(&pairing);
+        before = pairing;
+        uint32_t cause = resp_pairing_queue_command(&pairing, argc, argv, argvlen, &number);
+        check(cause == (is_paired ? RESP_OK : RESP_CAUSE_UNPAIRED), KINDS[row].words, "queued otherwise");
+        check(is_paired ? number == 1 : number == 99 && !memcmp(&before, &pairing, sizeof pairing), KINDS[row].words,
+              "another state");
+        check(pairing.hello == (is_paired ? kind : 0), KINDS[row].words, "another version");
+        while (argc > 0)
+            free((char *)argv[--argc]);
+    }
+    check(!strcmp(resp_cause_name(RESP_CAUSE_UNPAIRED), "Unpaired"), "unpaired", "another name");
+}
+
+/* A buffer that grows up to a limit. */
+struct growing {
+    uint8_t *start;
+    size_t length, most, calls;
+};
+
+static uint8_t *make_room(void *buffer, size_t more) {
+    struct growing *growing = buffer;
+    growing->calls++;
+    if (growing->length + more > growing->most)
+        return NULL;
+    uint8_t *start = realloc(growing->start, growing->length + more);
+    growing->start = start;
+    growing->length += more;
+    return start + growing->length - more;
+}
+
+static void appends(void) {
+    struct resp_limits limits;
+    struct growing growing = {NULL, 0, 70, 0};
+    size_t size = 0;
+    resp_limits_standard(&limits);
+    for (size_t at = 0; at < 2; at++)
+        check(resp_append_command(make_room, &growing, &limits, 3, WORDS, LENGTHS, &size) == RESP_OK && size == 32,
+              "append", "not written");
+    static const char wanted[] = "*3\r\n$3\r\nSET\r\n$3\r\nkey\r\n$4\r\na\r\nb\r\n";
+    check(growing.length == 64 && !memcmp(growing.start, wanted, 32) && !memcmp(growing.start + 32, wanted, 32), "append",
+          "another text");
+    size = 0;
+    check(resp_append_command(make_room, &growing, &limits, 3, WORDS, LENGTHS, &size) == RESP_CAUSE_NO_ROOM && size == 32 &&
+          growing.length == 64 && growing.calls == 3, "append", "written without room");
+    limits.depth = 0;
+    check(resp_append_command(make_room, &growing, &limits, 3, WORDS, LENGTHS, &size) == RESP_CAUSE_BAD_LIMITS &&
+          growing.calls == 3, "append", "room was made");
+    free(growing.start);
+}
+
+/* A scanner on the stack, and the names of what it returns. */
+static void on_the_stack(void) {
+    union resp_scanner_memory memory;
+    struct resp_scanner scanner;
+    struct resp_limits limits;
+    struct resp_event event;
+    resp_limits_standard(&limits);
+    check(resp_scanner_init_in(&scanner, &memory, 4, &limits) == RESP_CAUSE_BAD_VERSION, "stack", "version 4");
+    check(resp_scanner_init_in(&scanner, &memory, 3, &limits) == RESP_OK, "stack", "no room");
+    check(resp_scanner_step(&scanner, (const uint8_t *)"*2\r\n", 4, &event) == RESP_OK, "stack", "no step");
+    check(resp_event_kind(&event) == RESP_OPEN && resp_event_aggregate(&event) == RESP_ARRAY, "stack", "no array");
+    check(!strcmp(resp_kind_name(event.kind), "open") && !strcmp(resp_aggregate_name(event.form), "array"), "names", "other");
+    check(resp_scanner_step(&scanner, (const uint8_t *)"+a\r\n", 4, &event) == RESP_OK, "stack", "no second step");
+    check(resp_event_kind(&event) == RESP_TEXT && resp_event_text(&event) == RESP_TEXT_SIMPLE, "stack", "no text");
+    check(!strcmp(resp_text_name(event.form), "simple string"), "names", "another text");
+    for (uint32_t number = 0; number <= 12; number++) {
+        check((*resp_kind_name(number) != 0) == (number <= RESP_WHOLE), "names", "of kinds");
+        check((*resp_text_name(number) != 0) == (number <= RESP_TEXT_BIG), "names", "of texts");
+        check((*resp_aggregate_name(number) != 0) == (number <= RESP_PUSH), "names", "of aggregates");
+    }
+}
+
 int main(void) {
+    check(resp_version() == RESP_VERSION_NUMBER && RESP_VERSION_NUMBER == 0x000200 && !strcmp(RESP_VERSION, "0.2.0"), "version",
+          "another one");
+    check(sizeof(void *) != 8 || (sizeof(struct resp_event) == 48 && sizeof(struct resp_pairing) == 48 &&
+          sizeof(struct resp_limits) == 40 && sizeof(struct resp_scanned) == 16), "structs", "have other sizes");
+    appends();
+    on_the_stack();
     writes();
+    great_writes();
+    great_commands();
     pairs();
+    kinds();
     for (size_t row = 0; row < sizeof ROWS / sizeof *ROWS; row++)
         for (size_t cut = 0; cut <= strlen(ROWS[row].text) + 1; cut++)
             for (size_t room = 0; room <= 5; room++)

@@ -6,6 +6,7 @@ use std::fmt;
 
 /// The error of [`command`].
 #[derive(Clone, Copy, Debug, PartialEq, Eq)]
+#[non_exhaustive]
 pub enum CommandError {
     /// A limit is outside its range.
     BadLimits,

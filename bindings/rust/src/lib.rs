@@ -3,7 +3,8 @@
 //!
 //! This crate wraps the C library `libresp`. Its scanner is proved: the events are those of the
 //! grammar, and the first byte that no valid value can contain there is an error. The crate itself is
-//! tested. A [`Scanner`] copies nothing: each part of a text is borrowed from your input.
+//! tested. A [`Scanner`] copies nothing: each part of a text is borrowed from your input, except that the
+//! first digit of a big number may be borrowed from a static ([`Event::Part`]).
 //!
 //! # Examples
 //!
@@ -31,6 +32,7 @@ pub use scan::Scan;
 
 use std::error::Error;
 use std::fmt;
+use std::ops::Range;
 
 /// A version of the protocol.
 #[derive(Clone, Copy, Debug, PartialEq, Eq)]
@@ -79,6 +81,7 @@ pub struct Busy;
 
 /// The reason of a [`Fault`].
 #[derive(Clone, Copy, Debug, PartialEq, Eq)]
+#[non_exhaustive]
 pub enum Cause {
     /// No value of version 2 or 3 can contain this byte here.
     Syntax,
@@ -183,7 +186,9 @@ pub enum Event<'a> {
     Int(i64),
     /// A text begins. Its parts follow, then [`Event::TextEnd`].
     Text(Text),
-    /// Some bytes of the text, never empty.
+    /// Some bytes of the text, never empty. They are borrowed from the piece, except that the first digit
+    /// of a big number may be a part of its own which is borrowed from a static. [`Event::range`] returns
+    /// `None` for that part.
     Part(&'a [u8]),
     /// The text has ended.
     TextEnd,
@@ -194,6 +199,31 @@ pub enum Event<'a> {
     Close,
     /// The top-level value is complete.
     Done,
+}
+
+impl Event<'_> {
+    /// Returns where in the piece the bytes of a part are, or `None` if they are not in the piece, and for
+    /// another event. `piece` is the piece that the event was read from, or any slice that contains it.
+    ///
+    /// # Examples
+    ///
+    /// ```
+    /// use resp::{Event, Limits, Scanner, Version};
+    ///
+    /// let mut scanner = Scanner::new(Version::Two, &Limits::default())?;
+    /// let piece = b"$5\r\nhello\r\n";
+    /// let parts: Vec<_> = scanner.scan(piece).flatten().filter_map(|event| event.range(piece)).collect();
+    /// assert_eq!(parts, [4..9]);
+    /// # Ok::<(), resp::BadLimits>(())
+    /// ```
+    pub fn range(&self, piece: &[u8]) -> Option<Range<usize>> {
+        let part = match self {
+            Event::Part(part) => part,
+            _ => return None,
+        };
+        let start = (part.as_ptr() as usize).checked_sub(piece.as_ptr() as usize)?;
+        (start < piece.len()).then_some(start..start + part.len())
+    }
 }
 
 /// The result of [`Scanner::step`].

@@ -4,9 +4,15 @@ use crate::{raw, BadLimits, Event, Fault, Limits, Scanner, Version};
 use std::error::Error;
 use std::fmt;
 
-/// The error of [`Pairing::queue`] and [`Pairing::hello`]. Nothing changes.
+/// The error of [`Pairing::queue_command`], [`Pairing::queue`] and [`Pairing::hello`]. Nothing changes.
 #[derive(Clone, Copy, Debug, PartialEq, Eq)]
+#[non_exhaustive]
 pub enum QueueError {
+    /// The command does not have exactly one reply, or it changes the version in another way than HELLO:
+    /// SUBSCRIBE, PSUBSCRIBE, SSUBSCRIBE, UNSUBSCRIBE, PUNSUBSCRIBE, SUNSUBSCRIBE, MONITOR, SYNC, PSYNC,
+    /// RESET, CLIENT REPLY, and a command without a word. Later replies would be paired with the wrong
+    /// commands.
+    Unpaired,
     /// Another HELLO that asks for a version waits for its reply.
     HelloWaits,
     /// 2^63 commands were queued.
@@ -15,6 +21,7 @@ pub enum QueueError {
 
 /// The error of [`Pairing::step`].
 #[derive(Clone, Copy, Debug, PartialEq, Eq)]
+#[non_exhaustive]
 pub enum PairError {
     /// A value other than a push arrived while no command waits. Nothing was read. Queue the command,
     /// and give the same bytes again.
@@ -26,6 +33,7 @@ pub enum PairError {
 impl fmt::Display for QueueError {
     fn fmt(&self, f: &mut fmt::Formatter<'_>) -> fmt::Result {
         f.write_str(match self {
+            QueueError::Unpaired => "the command does not have exactly one reply, or changes the version",
             QueueError::HelloWaits => "a HELLO with a version waits",
             QueueError::TooMany => "the numbers of commands are used up",
         })
@@ -62,8 +70,8 @@ pub struct Paired<'a> {
 /// use resp::{Event, Limits, Pairing, Version};
 ///
 /// let mut pairing = Pairing::new(&Limits::default())?;
-/// assert_eq!(pairing.hello(Version::Three), Ok(1));
-/// assert_eq!(pairing.queue(), Ok(2));
+/// assert_eq!(pairing.queue_command(&["HELLO", "3"]), Ok(1));
+/// assert_eq!(pairing.queue_command(&["GET", "key"]), Ok(2));
 /// let mut rest: &[u8] = b"%0\r\n_\r\n";
 /// let mut last = None;
 /// while let Some(event) = {
@@ -95,31 +103,52 @@ impl Pairing {
         Ok(Pairing { scanner: Scanner::new(Version::Two, limits)?, pairing })
     }
 
-    /// Counts a command that is sent, and returns the number of its reply.
+    /// Counts a command of these words that is sent, and returns the number of its reply. After the reply
+    /// to a HELLO that asks for a version, unless it is an error, values are read in that version.
     ///
-    /// Do not queue a command that gets no reply or several replies, such as SUBSCRIBE, PSUBSCRIBE,
-    /// SSUBSCRIBE and their UN- forms, MONITOR, SYNC, PSYNC, CLIENT REPLY. Later replies would be
-    /// paired with the wrong commands. Do not queue RESET either: it changes the version of the
-    /// connection. Nothing checks this.
+    /// # Errors
+    ///
+    /// [`QueueError::Unpaired`] for a command that is not paired, [`QueueError::HelloWaits`] for a HELLO
+    /// that asks for a version while another one waits, and [`QueueError::TooMany`] after 2^63 commands.
+    pub fn queue_command<W: AsRef<[u8]>>(&mut self, words: &[W]) -> Result<u64, QueueError> {
+        let name = words.first().map_or(&[][..], AsRef::as_ref);
+        let argument = words.get(1).map_or(&[][..], AsRef::as_ref);
+        // SAFETY: the two words have these lengths.
+        let kind = unsafe {
+            raw::resp_command_kind(words.len(), name.as_ptr(), name.len(), argument.as_ptr(), argument.len())
+        };
+        self.queue_kind(kind)
+    }
+
+    /// Counts a command that is sent, without its words, and returns the number of its reply.
+    ///
+    /// The command must have exactly one reply, and not change the version, which this call cannot check.
+    /// Otherwise later replies are paired with the wrong commands.
     ///
     /// # Errors
     ///
     /// [`QueueError::TooMany`] after 2^63 commands.
     pub fn queue(&mut self) -> Result<u64, QueueError> {
-        self.queue_asking(0)
+        self.queue_kind(0)
     }
 
     /// Counts a HELLO that asks for this version, and returns the number of its reply. After the reply,
     /// unless it is an error, values are read in that version.
+    ///
+    /// # Errors
+    ///
+    /// [`QueueError::HelloWaits`] while another HELLO that asks for a version waits, and
+    /// [`QueueError::TooMany`] after 2^63 commands.
     pub fn hello(&mut self, version: Version) -> Result<u64, QueueError> {
-        self.queue_asking(version as u32)
+        self.queue_kind(version as u32)
     }
 
-    fn queue_asking(&mut self, hello: u32) -> Result<u64, QueueError> {
+    fn queue_kind(&mut self, kind: u32) -> Result<u64, QueueError> {
         let mut number = 0;
         // SAFETY: `new` has initialised the pairing, and the other pointer is to our own number.
-        match unsafe { raw::resp_pairing_queue(&mut self.pairing, hello, &mut number) } {
+        match unsafe { raw::resp_pairing_queue(&mut self.pairing, kind, &mut number) } {
             raw::OK => Ok(number),
+            raw::UNPAIRED => Err(QueueError::Unpaired),
             raw::HELLO_WAITS => Err(QueueError::HelloWaits),
             _ => Err(QueueError::TooMany),
         }

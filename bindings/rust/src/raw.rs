@@ -8,6 +8,7 @@ pub const LENGTH: u32 = 7;
 pub const TOTAL: u32 = 8;
 pub const ITEMS: u32 = 13;
 pub const HELLO_WAITS: u32 = 67;
+pub const UNPAIRED: u32 = 68;
 
 /// `RESP_ARRAY`.
 pub const ARRAY: u32 = 0;
@@ -81,7 +82,14 @@ extern "C" {
     pub fn resp_scanner_taken(scanner: *mut Scanner) -> u64;
     pub fn resp_scanner_needed(scanner: *mut Scanner) -> u64;
     pub fn resp_pairing_init(pairing: *mut Pairing);
-    pub fn resp_pairing_queue(pairing: *mut Pairing, hello: u32, number: *mut u64) -> u32;
+    pub fn resp_command_kind(
+        count: usize,
+        name: *const u8,
+        name_length: usize,
+        argument: *const u8,
+        argument_length: usize,
+    ) -> u32;
+    pub fn resp_pairing_queue(pairing: *mut Pairing, kind: u32, number: *mut u64) -> u32;
     pub fn resp_pairing_first(pairing: *mut Pairing, byte: u8, version: *mut u32) -> u32;
     pub fn resp_pairing_take(pairing: *mut Pairing, event: *const Event, number: *mut u64);
     pub fn resp_command_size(limits: *const Limits, lengths: *const usize, count: usize, size: *mut usize) -> u32;

@@ -72,3 +72,34 @@ fn refusals() {
     assert_eq!(pairing.step(b"x"), Err(PairError::Fault(Fault { cause: Cause::Syntax, at: 0 })));
     assert_eq!(pairing.finish(), Err(Fault { cause: Cause::Syntax, at: 0 }));
 }
+
+#[test]
+fn commands() {
+    let mut pairing = Pairing::new(&Limits::default()).expect("limits");
+    let unpaired: [&[&str]; 13] = [
+        &[],
+        &["SUBSCRIBE", "a"],
+        &["unsubscribe"],
+        &["PSUBSCRIBE", "a"],
+        &["PUNSUBSCRIBE"],
+        &["SSUBSCRIBE", "a"],
+        &["SUNSUBSCRIBE"],
+        &["MONITOR"],
+        &["SYNC"],
+        &["psync", "?", "-1"],
+        &["RESET"],
+        &["CLIENT", "REPLY", "OFF"],
+        &["client", "reply"],
+    ];
+    for words in unpaired {
+        assert_eq!(pairing.queue_command(words), Err(QueueError::Unpaired), "{words:?}");
+    }
+    let paired: [&[&str]; 6] =
+        [&["GET", "RESET"], &["HELLO"], &["HELLO", "4"], &["CLIENT", "ID"], &["CLIENT"], &["hello", "3", "SETNAME", "a"]];
+    for (at, words) in paired.iter().enumerate() {
+        assert_eq!(pairing.queue_command(words), Ok(at as u64 + 1), "{words:?}");
+    }
+    assert_eq!(pairing.queue_command(&[b"HELLO".to_vec(), b"2".to_vec()]), Err(QueueError::HelloWaits));
+    assert_eq!(said(&mut pairing, &[b":1\r\n:2\r\n:3\r\n:4\r\n:5\r\n%0\r\n"]), "1.2.3.4.5.6.");
+    assert_eq!(pairing.version(), Version::Three);
+}

@@ -123,7 +123,7 @@ fn version_two() {
 
 #[test]
 fn version_three() {
-    let limits = Limits { doubles: true, ..Limits::default() };
+    let limits = Limits::default();
     for (text, wanted) in [
         (&b"_\r\n#t\r\n#f\r\n"[..], "_.#t.#f."),
         (b"(-0012\r\n(0\r\n", "(-\"12\".(\"\"."),
@@ -139,7 +139,7 @@ fn version_three() {
     ] {
         check(Version::Three, &limits, text, wanted);
     }
-    let limits = Limits { streamed: false, ..Limits::default() };
+    let limits = Limits { streamed: false, doubles: false, ..Limits::default() };
     check(Version::Three, &limits, b",1.5\r\n", "!Double at byte 0 of the value");
     check(Version::Three, &limits, b"*?\r\n", "!Streamed at byte 1 of the value");
 }
@@ -197,4 +197,58 @@ fn commands() {
     assert_eq!(command(&limits, &["a"; 17]), Err(CommandError::Items));
     assert_eq!(command(&limits, &[[0; 64]; 4]), Err(CommandError::Total));
     assert_eq!(command(&Limits { depth: 3, ..limits }, &["a"]), Err(CommandError::BadLimits));
+}
+
+/// Returns the parts of a text that is read in two pieces, by steps and by `scan`: each with its range in the piece.
+fn parts<'a>(pieces: [&'a [u8]; 2], by_steps: bool) -> Vec<(&'a [u8], Option<std::ops::Range<usize>>)> {
+    let mut scanner = Scanner::new(Version::Three, &Limits::default()).expect("limits");
+    let mut parts = Vec::new();
+    for piece in pieces {
+        let mut events = Vec::new();
+        if by_steps {
+            let mut rest = piece;
+            loop {
+                let step = scanner.step(rest).expect("a step");
+                rest = &rest[step.used..];
+                match step.event {
+                    Some(event) => events.push(event),
+                    None => break,
+                }
+            }
+        } else {
+            events.extend(scanner.scan(piece).map(|event| event.expect("an event")));
+        }
+        for event in events {
+            match event {
+                Event::Part(part) => parts.push((part, event.range(piece))),
+                _ => assert_eq!(event.range(piece), None),
+            }
+        }
+    }
+    parts
+}
+
+#[test]
+fn ranges_of_parts() {
+    for by_steps in [false, true] {
+        assert_eq!(parts([b"+OK\r\n$5\r\nhel", b"lo\r\n"], by_steps).iter().map(|it| it.1.clone()).collect::<Vec<_>>(), [
+            Some(1..3),
+            Some(9..12),
+            Some(0..2)
+        ]);
+        // Each part is in its piece, or has no range.
+        for text in [&b"(0012\r\n(1200\r\n(-0\r\n(00\r\n(123\r\n"[..], b"=6\r\ntxt:ab\r\n$?\r\n;2\r\nab\r\n;0\r\n"] {
+            for cut in 0..=text.len() {
+                let (first, second) = text.split_at(cut);
+                for (part, range) in parts([first, second], by_steps) {
+                    match range {
+                        Some(range) => assert!(first.get(range.clone()) == Some(part) || second.get(range) == Some(part)),
+                        None => assert!(part.len() == 1 && part[0].is_ascii_digit(), "{part:?}"),
+                    }
+                }
+            }
+        }
+    }
+    // The first digit of a big number after leading zeros that ended a piece.
+    assert_eq!(parts([b"(00", b"12\r\n"], true), [(&b"1"[..], None), (&b"2"[..], Some(1..2))]);
 }

@@ -16,3 +16,7 @@ bad_kind = 66
 -- a HELLO with a version waits
 abbrev pub hello_waits : ℕ
 hello_waits = 67
+
+-- the command does not have exactly one reply, or changes the version in another way than HELLO
+abbrev pub unpaired : ℕ
+unpaired = 68

@@ -13,5 +13,6 @@ pub mod Lent
 -- The texts that are written.
 pub mod Writes
 -- The reply that an event belongs to.
+pub mod CommandKinds
 pub mod Pairs
 pub mod Runs

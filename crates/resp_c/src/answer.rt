@@ -12,3 +12,7 @@ pub(crate) const BAD_KIND: u32 = 66;
 
 /// The error number of a HELLO while another HELLO waits.
 pub(crate) const HELLO_WAITS: u32 = 67;
+
+/// The error number of a command that does not have exactly one reply, or that changes the version
+/// in another way than HELLO.
+pub(crate) const UNPAIRED: u32 = 68;

@@ -14,6 +14,7 @@
 
 mod answer;
 pub mod command;
+pub mod command_kind;
 pub mod event;
 pub mod laws;
 mod lends;
@@ -21,6 +22,7 @@ pub mod limits;
 pub mod memory;
 mod number;
 pub mod pairing;
+pub mod release;
 mod room;
 pub mod scan;
 pub mod scanner;

@@ -26,7 +26,7 @@ pub struct RespLimits {
 }
 
 /// Sets the standard limits: depth 32, contents of 536,870,912 bytes, values of 1,073,741,824
-/// bytes, 1,099,511,627,776 items, with streamed forms and without doubles.
+/// bytes, 1,099,511,627,776 items, with streamed forms and doubles.
 #[unsafe(no_mangle)]
 pub extern "C" fn resp_limits_standard(limits: &mut RespLimits)
     ensures standard { bounds_of limits.new ≡ record {
@@ -35,7 +35,7 @@ pub extern "C" fn resp_limits_standard(limits: &mut RespLimits)
       total = 1_073_741_824;
       items = 1_099_511_627_776;
       streamed = true;
-      doubles = false;
+      doubles = true;
     } }
 {
     let standard = Limits::standard();
@@ -45,7 +45,7 @@ pub extern "C" fn resp_limits_standard(limits: &mut RespLimits)
         total: standard.total(),
         items: standard.items(),
         streamed: true,
-        doubles: false,
+        doubles: true,
     };
 }
 

@@ -1,4 +1,5 @@
-//! The numbers of events, of texts and of aggregates, as `include/resp.h` names them.
+//! The numbers of events, of texts, of aggregates and of kinds of commands, as `include/resp.h`
+//! names them.
 
 pub(crate) const MORE: u32 = 0;
 
@@ -48,3 +49,18 @@ pub(crate) const PUSH: u32 = 4;
 
 /// The number of members of a streamed aggregate.
 pub(crate) const STREAMED: u64 = u64::MAX;
+
+/// The kind of a command that has exactly one reply.
+pub(crate) const ONE_REPLY: u32 = 0;
+
+/// The kind of a HELLO that requests version 2.
+pub(crate) const HELLO_TWO: u32 = 2;
+
+/// The kind of a HELLO that requests version 3.
+pub(crate) const HELLO_THREE: u32 = 3;
+
+/// The kind of a command that subscribes or unsubscribes.
+pub(crate) const SUBSCRIBING: u32 = 16;
+
+/// The kind of another command that does not have exactly one reply, or that changes the version.
+pub(crate) const NOT_PAIRED: u32 = 17;

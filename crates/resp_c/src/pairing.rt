@@ -16,14 +16,15 @@ ghost use Rattle.resp_scan.specs.declared.event.Event.{Event};
 ghost use Rattle.resp_scan.specs.declared.event.TextKind.{TextKind};
 ghost use Rattle.resp_session.specs.Heard.{is_push};
 ghost use Rattle.resp_session.specs.Reading.{IsUnasked, is_refusal, reading_version, waiting_after};
-ghost use Rattle.resp_c.specs.Answers.{bad_version, hello_waits};
+ghost use Rattle.resp_c.specs.Answers.{bad_version, hello_waits, unpaired};
+ghost use Rattle.resp_c.specs.CommandKinds.{IsUnpaired};
 ghost use Rattle.resp_c.specs.EventNumbers.{done_number};
 ghost use Rattle.resp_c.specs.Told.{Tells, TellsWhole};
 ghost use Rattle.resp_c.specs.Versions.{IsVersion, version_of};
 ghost use Rattle.resp_c.specs.Runs.{Begins, Ends, Shows};
 ghost use Rattle.resp_c.specs.Pairs.{HasVersions, IsAsk, after_events, ask_of, count_of_reply, hello_asks, look_of, nested_by, new_look, number_of_reply, reads_push, refuses_by, waiting_of, with_ask_queued};
 
-use crate::answer::{BAD_VERSION, HELLO_WAITS};
+use crate::answer::{BAD_VERSION, HELLO_WAITS, UNPAIRED};
 use crate::event::RespEvent;
 use crate::number;
 use resp_value::cause::Cause;
@@ -93,37 +94,43 @@ fn waits(pairing: &RespPairing) -> u64
     pairing.before.saturating_add(from_hello(pairing))
 }
 
-/// Queues a command. Call it before or after its text is sent. `hello` is 0 for a command that
-/// requests no version, and the version for a HELLO that does. Sets `number` to the number of its
-/// reply, counted from 1.
+/// Queues a command of this kind, which [`crate::command_kind::resp_command_kind`] returns. Call it
+/// before or after the command's text is sent. `kind` is 0 for a command that has exactly one reply,
+/// and the version for a HELLO that requests one. Sets `number` to the number of its reply, counted
+/// from 1.
 ///
-/// Returns 0, or the number of an error, and then changes nothing: 64 for another version, 67 for a
-/// HELLO while a HELLO waits, 24 if all numbers have been used.
+/// Returns 0, or the number of an error, and then changes nothing: 68 for a kind of commands that
+/// are not paired, 64 for another kind, 67 for a HELLO while a HELLO waits, 24 if all numbers have
+/// been used.
 #[unsafe(no_mangle)]
-pub extern "C" fn resp_pairing_queue(pairing: &mut RespPairing, hello: u32, number: &mut u64) -> u32
+pub extern "C" fn resp_pairing_queue(pairing: &mut RespPairing, kind: u32, number: &mut u64) -> u32
     ensures queued { result ≡ 0 → waiting_of pairing.new ≡
-        with_ask_queued (ask_of hello) (waiting_of pairing.old) }
+        with_ask_queued (ask_of kind) (waiting_of pairing.old) }
     ensures number { result ≡ 0 →
         number.new ≡ pairing.old.answered + length (waiting_of pairing.old).asks + 1 }
     ensures same_value { (look_of pairing.new ≡ look_of pairing.old) ×
         (number_of_reply pairing.new ≡ number_of_reply pairing.old) }
-    ensures bad_version { (result ≡ bad_version) ↔ (IsAsk hello → ⊥) }
-    ensures hello_waits { (result ≡ hello_waits) ↔ (IsAsk hello × (hello ≡ 0 → ⊥) ×
+    ensures unpaired { (result ≡ unpaired) ↔ IsUnpaired kind }
+    ensures bad_version { (result ≡ bad_version) ↔ ((IsAsk kind → ⊥) × (IsUnpaired kind → ⊥)) }
+    ensures hello_waits { (result ≡ hello_waits) ↔ (IsAsk kind × (kind ≡ 0 → ⊥) ×
         (pairing.old.hello ≡ 0 → ⊥)) }
-    ensures too_many { (result ≡ number_of cause.TooMany) ↔ (IsAsk hello × ((hello ≡ 0) ⊎ (pairing.old.hello ≡ 0)) ×
+    ensures too_many { (result ≡ number_of cause.TooMany) ↔ (IsAsk kind × ((kind ≡ 0) ⊎ (pairing.old.hello ≡ 0)) ×
         (2 ^ 63 ≤ pairing.old.answered + length (waiting_of pairing.old).asks)) }
-    ensures ok { IsAsk hello → ((hello ≡ 0) ⊎ (pairing.old.hello ≡ 0)) →
+    ensures ok { IsAsk kind → ((kind ≡ 0) ⊎ (pairing.old.hello ≡ 0)) →
         pairing.old.answered + length (waiting_of pairing.old).asks < 2 ^ 63 → result ≡ 0 }
-    ensures causes { (result ≡ 0) ⊎ (result ≡ bad_version) ⊎ (result ≡ hello_waits) ⊎
-        (result ≡ number_of cause.TooMany) }
+    ensures causes { (result ≡ 0) ⊎ (result ≡ unpaired) ⊎ (result ≡ bad_version) ⊎
+        (result ≡ hello_waits) ⊎ (result ≡ number_of cause.TooMany) }
     ensures versions { HasVersions pairing.old → HasVersions pairing.new }
     ensures unchanged { (result ≡ 0 → ⊥) → (pairing.new ≡ pairing.old) ×
         (number.new ≡ number.old) }
 {
-    if hello != 0 && hello != 2 && hello != 3 {
+    if kind == number::SUBSCRIBING || kind == number::NOT_PAIRED {
+        return UNPAIRED;
+    }
+    if kind != 0 && kind != 2 && kind != 3 {
         return BAD_VERSION;
     }
-    if hello != 0 && pairing.hello != 0 {
+    if kind != 0 && pairing.hello != 0 {
         return HELLO_WAITS;
     }
     let queued = pairing.answered.saturating_add(waits(pairing));
@@ -131,8 +138,8 @@ pub extern "C" fn resp_pairing_queue(pairing: &mut RespPairing, hello: u32, numb
         return Cause::TooMany.number();
     }
     *number = queued + 1;
-    if hello != 0 {
-        pairing.hello = hello;
+    if kind != 0 {
+        pairing.hello = kind;
         pairing.beyond = 0;
     } else if pairing.hello == 0 {
         pairing.before += 1;

@@ -1,12 +1,29 @@
 //! Writes texts to the beginning of the caller's buffer.
 
-ghost use Rattle.std.specs.Prelude.{◌≡◌, ◌+◌, ◌≤◌, ◌++◌, ◌∷◌, ℕ, List, [], length};
+ghost use Rattle.std.specs.Prelude.{◌≡◌, false, ◌+◌, ◌≤◌, ◌++◌, ◌∷◌, ℕ, List, [], length};
 ghost use Rattle.resp_value.specs.Bytes.{crlf};
 ghost use Rattle.resp_value.specs.Numbers.{decimal};
 ghost use Rattle.resp_c.specs.Writes.{StandsInRoom, Writes};
 
 use crate::answer::NO_ROOM;
 use itoa::Buffer;
+
+/// Returns whether C passed a length that no text in memory has. A slice in Rust never has one.
+pub(crate) fn is_too_long(text: &[u8]) -> bool
+    ensures { result ≡ false }
+{
+    text.len() > isize::MAX as usize
+}
+
+/// Returns the number of bytes of a text with `more` bytes around it, at most the greatest number of
+/// the type. A text in memory is always shorter than that.
+#[inline(always)]
+pub(crate) fn size_with(text: &[u8], more: usize) -> usize
+    requires { more ≤ 64 }
+    ensures { result ≡ length text.now + more }
+{
+    text.len().saturating_add(more)
+}
 
 /// Copies these bytes into the buffer from index `at` on, and returns the index after them.
 #[inline(always)]
@@ -27,7 +44,7 @@ pub(crate) fn write_line(room: &mut [u8], front: &[u8], text: &[u8], size: &mut 
     requires { length front.now ≤ 8 }
     ensures { Writes room.old room.new (front.now ++ (text.now ++ crlf [])) size.new result }
 {
-    let wanted = text.len() + front.len() + 2;
+    let wanted = size_with(text, front.len() + 2);
     *size = wanted;
     if room.len() < wanted {
         return NO_ROOM;
@@ -64,7 +81,7 @@ pub(crate) fn write_string(
 {
     let mut buffer = Buffer::new();
     let digits = buffer.format(counted).as_bytes();
-    let wanted = bytes.len() + digits.len() + prefix.len() + 5;
+    let wanted = size_with(bytes, digits.len() + prefix.len() + 5);
     *size = wanted;
     if room.len() < wanted {
         return NO_ROOM;

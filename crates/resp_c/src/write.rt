@@ -3,7 +3,8 @@
 //!
 //! Each function returns 0 and sets `size` to the number of bytes of the text. It returns 65 if the
 //! buffer is shorter than the text, and sets `size` then too. It returns another number if there is
-//! no such text. After an error the buffer is unchanged.
+//! no such text. After an error the buffer is unchanged. A text whose length no text in memory has,
+//! which C may pass, is longer than each buffer: the result is 65.
 
 ghost use Rattle.std.specs.Prelude.{◌≡◌, ◌↔◌, ◌<◌, ◌≤◌, ◌++◌, [], All, IsTrue, IfSome, length};
 ghost use Rattle.resp_value.specs.Bytes.{IsLine, crlf};
@@ -21,7 +22,7 @@ ghost use Rattle.resp_c.specs.Writes.{IsAggregate, Writes, WritesNothing, aggreg
 
 use crate::answer::{BAD_KIND, BAD_VERSION};
 use crate::number;
-use crate::room::{write_line, write_number, write_string};
+use crate::room::{is_too_long, size_with, write_line, write_number, write_string};
 use resp_value::cause::Cause;
 use resp_value::kind::OpenKind;
 use resp_value::version::Version;
@@ -87,7 +88,7 @@ pub extern "C" fn resp_write_verbatim(
 {
     let mut prefix = [b':'; 4];
     prefix[..3].copy_from_slice(format);
-    write_string(room, b'=', text.len() as u64 + 4, &prefix, text, size)
+    write_string(room, b'=', size_with(text, 4) as u64, &prefix, text, size)
 }
 
 /// Writes an integer.
@@ -147,7 +148,7 @@ fn write_plain(room: &mut [u8], front: &[u8], text: &[u8], size: &mut usize) -> 
     ensures bad_line { (IsLine text.now → ⊥) → (result ≡ number_of cause.BadLine) ×
         WritesNothing room.old room.new size.old size.new }
 {
-    if !is_line(text) {
+    if !is_too_long(text) && !is_line(text) {
         return Cause::BadLine.number();
     }
     write_line(room, front, text, size)
@@ -226,7 +227,7 @@ pub extern "C" fn resp_write_big(
     ensures bad_digits { (IsKept negative digits.now → ⊥) → (result ≡ number_of cause.BadDigits) ×
         WritesNothing room.old room.new size.old size.new }
 {
-    if !is_kept(negative, digits) {
+    if !is_too_long(digits) && !is_kept(negative, digits) {
         return Cause::BadDigits.number();
     }
     if negative {

@@ -21,11 +21,11 @@ overflow_add-pairing-else-pairing-eq0 c =
 pub returns-then-pairing-eq0-clause-queued : goal.returns-then-pairing-eq0-clause-queued
 returns-then-pairing-eq0-clause-queued c = λ _.
     ap (λ asks. let w : Waiting = record { version = version_of c.args.pairing.now.version; asks = asks } in w)
-    (queued_before c.args.pairing.now.before c.args.pairing.now.hello c.args.pairing.now.beyond c.args.hello
-    c.if-pairing-eq0.true c.if-hello-ne0-3.false)
+    (queued_before c.args.pairing.now.before c.args.pairing.now.hello c.args.pairing.now.beyond c.args.kind
+    c.if-pairing-eq0.true c.if-kind-ne0-3.false)
 
 pub returns-else-pairing-eq0-clause-queued : goal.returns-else-pairing-eq0-clause-queued
 returns-else-pairing-eq0-clause-queued c = λ _.
     ap (λ asks. let w : Waiting = record { version = version_of c.args.pairing.now.version; asks = asks } in w)
-    (queued_beyond c.args.pairing.now.before c.args.pairing.now.hello c.args.pairing.now.beyond c.args.hello
-    c.if-pairing-eq0.false c.if-hello-ne0-3.false)
+    (queued_beyond c.args.pairing.now.before c.args.pairing.now.hello c.args.pairing.now.beyond c.args.kind
+    c.if-pairing-eq0.false c.if-kind-ne0-3.false)

@@ -1,4 +1,4 @@
-use Rattle.std.proofs.Common.{◌≡◌, ◌+◌, [], ◌∷◌, ◌++◌, length, sym, ◌∙◌, subst, arith}
+use Rattle.std.proofs.Common.{◌≡◌, [], ◌∷◌, ◌++◌, ◌∙◌, subst, arith}
 use Rattle.resp_value.specs.Bytes.{crlf}
 use Rattle.resp_value.specs.Numbers.{decimal}
 use Rattle.resp_encode.proofs.Decimals.{decimal-std}
@@ -18,9 +18,9 @@ returns-then-room-wanted c =
     let prefix = c.args.prefix.now in
     let bytes = c.args.bytes.now in
     subst (λ ds. Writes c.args.room.now c.args.room.now ((c.args.byte ∷ ds) ++ crlf (prefix ++ (bytes ++ crlf [])))
-    (length bytes + length digits + length prefix + 5) 65) same
+    c.size_with-wanted.result 65) same
     (writes_nothing c.args.room.now ((c.args.byte ∷ digits) ++ crlf (prefix ++ (bytes ++ crlf [])))
-    (length bytes + length digits + length prefix + 5) (sym (length-string c.args.byte digits prefix bytes))
+    c.size_with-wanted.result (omega (arith, c.size_with-wanted.ensures, length-string c.args.byte digits prefix bytes))
     c.if-room-wanted.true)
 
 pub returns : goal.returns
@@ -30,7 +30,7 @@ returns c =
     let digits = c.as_bytes-digits.result.now in
     let prefix = c.args.prefix.now in
     let bytes = c.args.bytes.now in
-    let wanted = length bytes + length digits + length prefix + 5 in
+    let wanted = c.size_with-wanted.result in
     let head = c.args.byte ∷ digits in
     let line = head ++ 13 ∷ 10 ∷ [] in
     let stands = c.put.ensures.more old ((line ++ prefix) ++ bytes)
@@ -42,6 +42,7 @@ returns c =
     let written = writes_whole old (((line ++ prefix) ++ bytes) ++ 13 ∷ 10 ∷ []) c.put.new.room wanted c.put.result stands
     (omega (
       arith,
+      c.size_with-wanted.ensures,
       c.put.ensures.end,
       c.put-at-5.ensures.end,
       c.put-at-4.ensures.end,

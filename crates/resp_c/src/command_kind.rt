@@ -1,0 +1,128 @@
+//! How a command is answered, from its words.
+
+ghost use Rattle.std.specs.Prelude.{◌≡◌, ◌≤◌, [], ◌∷◌, ℕ, List, codes, map};
+ghost use Rattle.std.specs.Char.{to_ascii_lowercase};
+ghost use Rattle.std.specs.List.{list_any};
+ghost use Rattle.resp_session.specs.Operations.{is_name};
+ghost use Rattle.resp_session.specs.Requests.{is_unsent, unsent_names};
+ghost use Rattle.resp_c.specs.CommandKinds.{is_subscribing, kind_of_command, kind_of_version};
+
+use crate::number;
+
+/// Returns whether a word is this name in upper, lower or mixed case. The name is given in lower
+/// case.
+fn is_name(word: &[u8], name: &[u8]) -> bool
+    requires { map to_ascii_lowercase name.now ≡ name.now }
+    ensures { result ≡ is_name name.now word.now }
+{
+    word.eq_ignore_ascii_case(name)
+}
+
+/// Returns whether a command of this name subscribes or unsubscribes.
+fn is_subscribing(name: &[u8]) -> bool
+    ensures { result ≡ is_subscribing name.now }
+{
+    is_name(name, b"subscribe")
+        || is_name(name, b"unsubscribe")
+        || is_name(name, b"psubscribe")
+        || is_name(name, b"punsubscribe")
+        || is_name(name, b"ssubscribe")
+        || is_name(name, b"sunsubscribe")
+}
+
+/// Returns whether a command of this name does not have exactly one reply, or changes the version.
+fn is_unsent_name(name: &[u8]) -> bool
+    ensures { result ≡ list_any (λ unsent. is_name unsent name.now) unsent_names }
+{
+    is_name(name, b"hello")
+        || is_name(name, b"subscribe")
+        || is_name(name, b"unsubscribe")
+        || is_name(name, b"psubscribe")
+        || is_name(name, b"punsubscribe")
+        || is_name(name, b"ssubscribe")
+        || is_name(name, b"sunsubscribe")
+        || is_name(name, b"monitor")
+        || is_name(name, b"sync")
+        || is_name(name, b"psync")
+        || is_name(name, b"reset")
+}
+
+/// Returns whether a client does not send a command of one word.
+fn is_unsent_alone(name: &[u8]) -> bool
+    ensures { result ≡ is_unsent (name.now ∷ []) }
+{
+    is_unsent_name(name)
+}
+
+/// Returns whether a client does not send a command that begins with these words.
+fn is_unsent(name: &[u8], argument: &[u8]) -> bool
+    ensures { result ≡ is_unsent (name.now ∷ argument.now ∷ []) }
+{
+    is_unsent_name(name) || is_name(name, b"client") && is_name(argument, b"reply")
+}
+
+/// Returns the kind of a HELLO with this version argument.
+fn kind_of_version(word: &[u8]) -> u32
+    ensures { result ≡ kind_of_version word.now }
+{
+    if word == b"2".as_slice() {
+        return number::HELLO_TWO;
+    }
+    if word == b"3".as_slice() {
+        return number::HELLO_THREE;
+    }
+    number::ONE_REPLY
+}
+
+/// Returns the kind of a command of one word.
+fn kind_of_name(name: &[u8]) -> u32
+    ensures { result ≡ kind_of_command (name.now ∷ []) }
+{
+    if is_name(name, b"hello") {
+        return number::ONE_REPLY;
+    }
+    if is_subscribing(name) {
+        return number::SUBSCRIBING;
+    }
+    if is_unsent_alone(name) {
+        return number::NOT_PAIRED;
+    }
+    number::ONE_REPLY
+}
+
+/// Returns the kind of a command that begins with these words.
+fn kind_of_words(name: &[u8], argument: &[u8]) -> u32
+    ensures { result ≡ kind_of_command (name.now ∷ argument.now ∷ []) }
+{
+    if is_name(name, b"hello") {
+        return kind_of_version(argument);
+    }
+    if is_subscribing(name) {
+        return number::SUBSCRIBING;
+    }
+    if is_unsent(name, argument) {
+        return number::NOT_PAIRED;
+    }
+    number::ONE_REPLY
+}
+
+/// Returns how a command of `count` words is answered, the kind for
+/// [`crate::pairing::resp_pairing_queue`]. `name` is the first word, and `argument` the second. They
+/// have no meaning if there are fewer words. Upper and lower case of a name are the same.
+///
+/// Returns 0 for a command that has exactly one reply, 2 or 3 for a HELLO that requests this
+/// version, 16 for SUBSCRIBE, PSUBSCRIBE, SSUBSCRIBE and their UN- forms, and 17 for the other
+/// commands that a client does not send: MONITOR, SYNC, PSYNC, RESET, CLIENT REPLY and no word.
+#[unsafe(no_mangle)]
+pub extern "C" fn resp_command_kind(count: usize, name: &[u8], argument: &[u8]) -> u32
+    ensures none { count ≡ 0 → result ≡ kind_of_command [] }
+    ensures one { count ≡ 1 → result ≡ kind_of_command (name.now ∷ []) }
+    ensures more { 2 ≤ count → (others : List (List ℕ)) →
+        result ≡ kind_of_command (name.now ∷ argument.now ∷ others) }
+{
+    match count {
+        0 => number::NOT_PAIRED,
+        1 => kind_of_name(name),
+        _ => kind_of_words(name, argument),
+    }
+}
