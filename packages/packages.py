@@ -16,7 +16,9 @@ from files import HERE, TOP, content
 
 SUMMARY = "Reads RESP2 and RESP3, the wire protocol of Redis"
 LONG = " The parser is proved to follow the grammar of the protocol, in whatever\n pieces the input arrives."
-PYTHON = ["resp.c", "bytes.h", "values.h", "setup.py", "test.py", "README.md"]
+PYTHON_PARTS = ["__init__.py", "__init__.pyi", "py.typed", "redis_parser.py"]
+PYTHON = ["_resp.c", "bytes.h", "values.h", "setup.py", "MANIFEST.in", "test.py", "redis_py.py", "README.md",
+          *(f"src/resp/{it}" for it in PYTHON_PARTS)]
 RUST = ["Cargo.toml", "README.md", "build.rs"]
 # The processors with a package of the library: the name for Debian, for rt, and for the tools of gcc.
 OTHER = ("arm64", "aarch64-unknown-linux-gnu", "aarch64-linux-gnu")
@@ -106,16 +108,17 @@ class Debian:
 
 
 def wheel(version, time, archive):
-    """Returns the file name and the text of the wheel: the module with the library inside."""
+    """Returns the file name and the text of the wheel: the package with the library inside."""
     tag = "cp311-abi3-linux_x86_64"
     with tempfile.TemporaryDirectory() as room:
         source = f"{TOP}/bindings/python"
         words = ["-shared", "-fPIC", "-O3", "-fno-plt", "-DNDEBUG", f"-ffile-prefix-map={source}=.", "-Wl,--build-id=none"]
         words += ["-Wl,-z,relro", "-Wl,-z,now", f"-I{sysconfig.get_path('include')}", f"-I{TOP}/include"]
         hidden = "-Wl,--exclude-libs,ALL"
-        files.call(files.CC, *words, f"{source}/resp.c", archive, hidden, "-o", f"{room}/resp.abi3.so")
-        module = Entry("resp.abi3.so", files.stripped(f"{room}/resp.abi3.so", "--strip-unneeded"), 0o755)
-    return f"resp-{version}-{tag}.whl", archives.wheel("resp", version, tag, metadata(version), [module], time)
+        files.call(files.CC, *words, f"{source}/_resp.c", archive, hidden, "-o", f"{room}/_resp.abi3.so")
+        module = Entry("resp/_resp.abi3.so", files.stripped(f"{room}/_resp.abi3.so", "--strip-unneeded"), 0o755)
+        parts = [Entry(f"resp/{it}", content(f"{source}/src/resp/{it}")) for it in PYTHON_PARTS]
+    return f"resp-{version}-{tag}.whl", archives.wheel("resp", version, tag, metadata(version), [*parts, module], time)
 
 
 def metadata(version):

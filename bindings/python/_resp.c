@@ -1,4 +1,4 @@
-/* The module resp for Python: readers of RESP2 and RESP3 that make Python's values from events. */
+/* The compiled part of the package resp: readers of RESP2 and RESP3 that make Python's values from events. */
 #define PY_SSIZE_T_CLEAN
 #define Py_LIMITED_API 0x030b0000
 #include <Python.h>
@@ -37,10 +37,15 @@ struct reader {
     bool pairs;
     struct resp_pairing pairing;
     uint64_t number;
-    struct resp_event events[MOST_EVENTS + 1];
+    /* The most memory that is kept for bytes, or 0 for any. */
+    size_t maxbuf;
+    /* The array of events. It, the scanner's memory and the room for open aggregates are allocated when the first bytes
+     * arrive. */
+    struct resp_event *events;
 };
 
-static PyObject *ProtocolError, *ReplyError;
+/* The events of a reader that has no more of them. */
+static const struct resp_event NOTHING = {.kind = RESP_MORE};
 
 /* Raises protocolError, with the name of the error and the byte of the value as attributes. */
 static PyObject *refuse(struct reader *reader, uint32_t cause, uint64_t at) {
@@ -59,11 +64,21 @@ static PyObject *refuse(struct reader *reader, uint32_t cause, uint64_t at) {
     return NULL;
 }
 
+/* Raises protocolError for a double that is no number. The byte isn't known. */
+static APART PyObject *refuse_double(struct reader *reader) {
+    PyObject *error = PyObject_CallFunction(reader->protocol_error, "s", "Syntax in a double");
+    PyObject *cause = error ? PyUnicode_FromString("Syntax") : NULL;
+    if (cause && !PyObject_SetAttrString(error, "cause", cause) && !PyObject_SetAttrString(error, "at", Py_None))
+        PyErr_SetObject((PyObject *)Py_TYPE(error), error);
+    Py_XDECREF(cause);
+    Py_XDECREF(error);
+    return NULL;
+}
+
 /* Drops the events that haven't been read. */
 static void begin_scanning(struct reader *reader, uint32_t version) {
     reader->version = version;
-    reader->events[0].kind = RESP_MORE;
-    reader->next = reader->events;
+    reader->next = &NOTHING;
     reader->scanned = reader->pos;
     reader->cause = RESP_OK;
     reader->is_full = false;
@@ -71,7 +86,8 @@ static void begin_scanning(struct reader *reader, uint32_t version) {
 
 /* Scans the bytes after a reply again in another version. */
 static APART void scan_again(struct reader *reader, uint32_t version) {
-    resp_scanner_init(&reader->scanner, version, &reader->limits);
+    if (reader->events)
+        resp_scanner_init(&reader->scanner, version, &reader->limits);
     begin_scanning(reader, version);
 }
 
@@ -95,7 +111,7 @@ static APART bool scan(struct reader *reader) {
 /* Drops the bytes that were fed, after all have been read. */
 static void drop_fed(struct reader *reader) {
     Py_CLEAR(reader->lent);
-    empty(&reader->kept);
+    empty(&reader->kept, reader->maxbuf ? reader->maxbuf : SIZE_MAX);
     reader->fed = (const uint8_t *)"";
     reader->length = reader->pos = reader->scanned = 0;
 }
@@ -178,13 +194,36 @@ static bool feed_buffer(struct reader *reader, PyObject *const *args, Py_ssize_t
     return is_fed;
 }
 
+/* Allocates what a reader needs to read, unless it has it. */
+static inline bool begin_reading(struct reader *reader) {
+    if (reader->events)
+        return true;
+    if (!is_ready(reader))
+        return false;
+    void *scanner = PyMem_Malloc(resp_scanner_size());
+    struct open *open = PyMem_Malloc((size_t)reader->limits.depth * sizeof *open);
+    struct resp_event *events = PyMem_Malloc((MOST_EVENTS + 1) * sizeof *events);
+    if (!scanner || !open || !events) {
+        PyMem_Free(scanner);
+        PyMem_Free(open);
+        PyMem_Free(events);
+        PyErr_NoMemory();
+        return false;
+    }
+    reader->scanner.memory = scanner;
+    reader->values.open = open;
+    reader->events = events;
+    resp_scanner_init(&reader->scanner, reader->version, &reader->limits);
+    return true;
+}
+
 static PyObject *reader_feed(struct reader *reader, PyObject *const *args, Py_ssize_t count) {
     if (count < 1 || count > 3) {
         PyErr_SetString(PyExc_TypeError, "feed takes bytes, and where a slice of them begins, and its length");
         return NULL;
     }
     bool is_bytes = Py_TYPE(args[0]) == &PyBytes_Type;
-    if (!(is_bytes ? feed_bytes(reader, args, count) : feed_buffer(reader, args, count)))
+    if (!begin_reading(reader) || !(is_bytes ? feed_bytes(reader, args, count) : feed_buffer(reader, args, count)))
         return NULL;
     Py_RETURN_NONE;
 }
@@ -225,6 +264,10 @@ static inline PyObject *read_on(struct reader *reader, bool pairs) {
             reader->next = event + 1;
             reader->pos = (size_t)(at - reader->fed) + event->used;
             reader->is_begun = false;
+            if (reader->values.is_bad) {
+                forget(&reader->values);
+                return refuse_double(reader);
+            }
             return whole(&reader->values);
         } else if (scan(reader)) {
             event = reader->next;
@@ -264,6 +307,8 @@ static PyObject *reader_gets(struct reader *reader, PyObject *const *args, Py_ss
     if (count > 1 || decodes < 0 || !is_ready(reader))
         return NULL;
     reader->values.reads_now = decodes ? reader->values.reads : AS_BYTES;
+    if (reader->values.is_bad)
+        return refuse_double(reader);
     reader->is_reading = true;
     PyObject *reply = reader->pairs ? read_paired(reader) : read_reply(reader);
     reader->is_reading = false;
@@ -273,6 +318,28 @@ static PyObject *reader_gets(struct reader *reader, PyObject *const *args, Py_ss
 static PyObject *reader_has_data(struct reader *reader, PyObject *args) {
     (void)args;
     return PyBool_FromLong(reader->pos < reader->length || reader->is_begun);
+}
+
+static PyObject *reader_len(struct reader *reader, PyObject *args) {
+    (void)args;
+    return PyLong_FromSize_t(reader->length - reader->pos);
+}
+
+static PyObject *reader_getmaxbuf(struct reader *reader, PyObject *args) {
+    (void)args;
+    return PyLong_FromSize_t(reader->maxbuf);
+}
+
+static PyObject *reader_setmaxbuf(struct reader *reader, PyObject *most) {
+    Py_ssize_t number = most == Py_None ? MOST_KEPT : PyNumber_AsSsize_t(most, PyExc_OverflowError);
+    if (number == -1 && PyErr_Occurred())
+        return NULL;
+    if (number < 0) {
+        PyErr_SetString(PyExc_ValueError, "maxbuf is negative");
+        return NULL;
+    }
+    reader->maxbuf = (size_t)number;
+    Py_RETURN_NONE;
 }
 
 static PyObject *reader_set_protocol(struct reader *reader, PyObject *args) {
@@ -292,14 +359,64 @@ static PyObject *reader_set_protocol(struct reader *reader, PyObject *args) {
     Py_RETURN_NONE;
 }
 
+/* Returns the bytes of a word of a command that decides how it is answered. */
+static bool word_bytes(PyObject *word, PyObject **held, Py_buffer *bytes) {
+    *held = PyUnicode_Check(word) ? PyUnicode_AsUTF8String(word) : PyLong_Check(word) ? PyNumber_ToBase(word, 10) : NULL;
+    if (*held && PyUnicode_Check(*held))
+        replace(held, PyUnicode_AsUTF8String(*held));
+    if (PyErr_Occurred())
+        return false;
+    return !PyObject_GetBuffer(*held ? *held : word, bytes, PyBUF_SIMPLE);
+}
+
+/* Sets the kind of a command of these words. Returns false with an exception if a word isn't a word. */
+static bool kind_of(PyObject *words, uint32_t *kind) {
+    Py_ssize_t count = PyTuple_Size(words);
+    PyObject *held[2] = {NULL, NULL};
+    Py_buffer bytes[2] = {{0}, {0}};
+    Py_ssize_t read = 0, most = count < 2 ? count : 2;
+    while (read < most && word_bytes(PyTuple_GetItem(words, read), &held[read], &bytes[read]))
+        read++;
+    if (read == most)
+        *kind = resp_command_kind((size_t)count, read > 0 && bytes[0].len ? bytes[0].buf : (const uint8_t *)"",
+                                  (size_t)bytes[0].len, read > 1 && bytes[1].len ? bytes[1].buf : (const uint8_t *)"",
+                                  (size_t)bytes[1].len);
+    for (Py_ssize_t at = 0; at < read; at++)
+        PyBuffer_Release(&bytes[at]);
+    Py_XDECREF(held[0]);
+    Py_XDECREF(held[1]);
+    return read == most;
+}
+
+/* Sets the kind that the arguments of queue() name: none for a command with one reply, the version of a HELLO, or the
+ * words of a command. */
+static bool kind_of_queued(PyObject *args, uint32_t *kind) {
+    Py_ssize_t count = PyTuple_Size(args);
+    *kind = RESP_COMMAND_ONE_REPLY;
+    if (!count)
+        return true;
+    PyObject *first = PyTuple_GetItem(args, 0);
+    if (count > 1 || !PyLong_Check(first))
+        return kind_of(args, kind);
+    unsigned long hello = PyLong_AsUnsignedLong(first);
+    if (hello == (unsigned long)-1 && PyErr_Occurred())
+        return false;
+    /* The kinds that aren't versions have names of words. */
+    *kind = hello <= 3 ? (uint32_t)hello : 4;
+    return true;
+}
+
 static PyObject *pairing_queue(struct reader *reader, PyObject *args) {
-    unsigned int hello = 0;
+    uint32_t kind;
     uint64_t number;
-    if (!PyArg_ParseTuple(args, "|I:queue", &hello) || !is_ready(reader))
+    if (!kind_of_queued(args, &kind) || !is_ready(reader))
         return NULL;
-    switch (resp_pairing_queue(&reader->pairing, hello, &number)) {
+    switch (resp_pairing_queue(&reader->pairing, kind, &number)) {
     case RESP_OK:
         return PyLong_FromUnsignedLongLong(number);
+    case RESP_CAUSE_UNPAIRED:
+        PyErr_SetString(PyExc_ValueError, "a command that does not have exactly one reply, or that changes the protocol");
+        return NULL;
     case RESP_CAUSE_HELLO_WAITS:
         PyErr_SetString(PyExc_ValueError, "a HELLO with a protocol waits");
         return NULL;
@@ -323,19 +440,32 @@ struct words {
     const char *encoding, *errors;
     unsigned int version;
     struct resp_limits limits;
+    int lists_sets;
 };
 
-static bool read_words(struct words *to, PyObject *args, PyObject *words) {
+/* Checks the version and the limits. */
+static bool are_right(unsigned int version, const struct resp_limits *limits) {
+    size_t size, lengths[1] = {0};
+    if (version != 2 && version != 3)
+        PyErr_SetString(PyExc_ValueError, "a protocol that is neither 2 nor 3");
+    else if (resp_command_size(limits, lengths, 1, &size) == RESP_CAUSE_BAD_LIMITS)
+        PyErr_SetString(PyExc_ValueError, "a limit is out of range");
+    else
+        return true;
+    return false;
+}
+
+static bool read_words(struct words *to, const struct module *module, PyObject *args, PyObject *words) {
     static char *names[] = {"protocolError", "replyError", "encoding", "errors", "notEnoughData", "protocol",
-                            "depth", "length", "total", "items", "streamed", "doubles", NULL};
+                            "depth", "length", "total", "items", "streamed", "doubles", "convertSetsToLists", NULL};
     struct resp_limits limits;
     resp_limits_standard(&limits);
     unsigned long long depth = limits.depth, length = limits.length, total = limits.total, items = limits.items;
     int streamed = limits.streamed, doubles = 1;
-    *to = (struct words){ProtocolError, ReplyError, Py_False, NULL, "strict", 2, limits};
-    if (!PyArg_ParseTupleAndKeywords(args, words, "|OOzzOIKKKKpp:Reader", names, &to->protocol_error, &to->reply_error,
+    *to = (struct words){module->protocol_error, module->reply_error, Py_False, NULL, NULL, 2, limits, 0};
+    if (!PyArg_ParseTupleAndKeywords(args, words, "|OOzzOIKKKKppp:Reader", names, &to->protocol_error, &to->reply_error,
                                      &to->encoding, &to->errors, &to->not_enough_data, &to->version, &depth, &length,
-                                     &total, &items, &streamed, &doubles))
+                                     &total, &items, &streamed, &doubles, &to->lists_sets))
         return false;
     to->limits = (struct resp_limits){depth, length, total, items, streamed, doubles};
     if (PyCallable_Check(to->protocol_error) && PyCallable_Check(to->reply_error))
@@ -364,33 +494,69 @@ static enum reading reading_of(const char *encoding) {
     return encoding ? AS_ENCODED : AS_BYTES;
 }
 
-/* Initialises the scanner. An error leaves it unchanged. */
-static bool begin_scanner(struct reader *reader, unsigned int version, const struct resp_limits *limits) {
-    if (!reader->scanner.memory && !(reader->scanner.memory = PyMem_Malloc(resp_scanner_size()))) {
-        PyErr_NoMemory();
+/* Sets how strings are decoded. An error changes nothing. */
+static bool set_texts(struct values *values, const char *encoding, const char *errors) {
+    char *copy = NULL, *errors_copy = NULL;
+    if (encoding && !PyCodec_KnownEncoding(encoding)) {
+        PyErr_Format(PyExc_LookupError, "unknown encoding: %s", encoding);
         return false;
     }
-    switch (resp_scanner_init(&reader->scanner, version, limits)) {
-    case RESP_OK:
-        return true;
-    case RESP_CAUSE_BAD_LIMITS:
-        PyErr_SetString(PyExc_ValueError, "a limit is out of range");
-        return false;
-    default:
-        PyErr_SetString(PyExc_ValueError, "a protocol that is neither 2 nor 3");
+    PyObject *handler = PyCodec_LookupError(errors);
+    Py_XDECREF(handler);
+    if (!handler || !copy_text(&copy, encoding) || !copy_text(&errors_copy, errors)) {
+        PyMem_Free(copy);
         return false;
     }
+    PyMem_Free(values->encoding);
+    PyMem_Free(values->errors);
+    values->encoding = copy;
+    values->errors = errors_copy;
+    values->reads = reading_of(copy);
+    return true;
+}
+
+static PyObject *reader_set_encoding(struct reader *reader, PyObject *args, PyObject *words) {
+    static char *names[] = {"encoding", "errors", NULL};
+    const char *encoding = NULL, *errors = NULL;
+    if (!PyArg_ParseTupleAndKeywords(args, words, "|zz:set_encoding", names, &encoding, &errors) || !is_ready(reader) ||
+        !set_texts(&reader->values, encoding, errors))
+        return NULL;
+    Py_RETURN_NONE;
+}
+
+/* Frees what begin_reading has allocated. */
+static void end_reading(struct reader *reader) {
+    PyMem_Free(reader->scanner.memory);
+    PyMem_Free(reader->values.open);
+    PyMem_Free(reader->events);
+    reader->scanner.memory = NULL;
+    reader->values.open = NULL;
+    reader->events = NULL;
+}
+
+/* Returns the module of a reader's type, or of the type that it is derived from. */
+static struct module *module_of(PyTypeObject *type) {
+    struct module *module = NULL;
+    while (type && !(module = PyType_GetModuleState(type))) {
+        PyErr_Clear();
+        type = PyType_GetSlot(type, Py_tp_base);
+    }
+    return module;
 }
 
 /* Resets the reader: nothing was fed. */
 static void begin(struct reader *reader, const struct words *given) {
     /* The objects that are released may run Python code. */
     reader->is_reading = true;
-    reader->limits = given->limits;
     reader->is_begun = false;
+    forget(&reader->values);
+    end_reading(reader);
+    reader->limits = given->limits;
+    reader->maxbuf = MOST_KEPT;
+    reader->values.lists_sets = given->lists_sets;
+    reader->values.is_bad = false;
     drop_fed(reader);
     begin_scanning(reader, given->version);
-    forget(&reader->values);
     Py_INCREF(given->protocol_error);
     replace(&reader->protocol_error, given->protocol_error);
     Py_INCREF(given->reply_error);
@@ -402,21 +568,11 @@ static void begin(struct reader *reader, const struct words *given) {
 
 static int reader_init(struct reader *reader, PyObject *args, PyObject *words) {
     struct words given;
-    struct values *values = &reader->values;
-    char *encoding = NULL, *errors = NULL;
-    if (!read_words(&given, args, words) || (reader->not_enough_data && !is_ready(reader)))
+    reader->values.module = module_of(Py_TYPE((PyObject *)reader));
+    if (!reader->values.module || !read_words(&given, reader->values.module, args, words) ||
+        (reader->not_enough_data && !is_ready(reader)) || !are_right(given.version, &given.limits) ||
+        !set_texts(&reader->values, given.encoding, given.errors))
         return -1;
-    if (!copy_text(&encoding, given.encoding) || !copy_text(&errors, given.errors) ||
-        !begin_scanner(reader, given.version, &given.limits)) {
-        PyMem_Free(encoding);
-        PyMem_Free(errors);
-        return -1;
-    }
-    PyMem_Free(values->encoding);
-    PyMem_Free(values->errors);
-    values->encoding = encoding;
-    values->errors = errors;
-    values->reads = reading_of(encoding);
     begin(reader, &given);
     return 0;
 }
@@ -458,7 +614,7 @@ static void reader_dealloc(struct reader *reader) {
     PyObject_GC_UnTrack(reader);
     reader_clear(reader);
     PyMem_Free(reader->kept.start);
-    PyMem_Free(reader->scanner.memory);
+    end_reading(reader);
     PyMem_Free(values->start);
     PyMem_Free(values->text.start);
     PyMem_Free(values->encoding);
@@ -544,6 +700,8 @@ static PyObject *pack(PyObject *module, PyObject *words) {
     return packed;
 }
 
+#define FLAGS (Py_TPFLAGS_DEFAULT | Py_TPFLAGS_BASETYPE | Py_TPFLAGS_HAVE_GC)
+
 static PyMethodDef READER_METHODS[] = {
     {"feed", (PyCFunction)reader_feed, METH_FASTCALL,
      "feed(bytes, from=0, length=-1)\n--\n\nAdds bytes that were received, or a slice of them."},
@@ -554,6 +712,13 @@ static PyMethodDef READER_METHODS[] = {
      "has_data()\n--\n\nReturns whether bytes wait to be read, or a reply was begun."},
     {"set_protocol", (PyCFunction)reader_set_protocol, METH_VARARGS,
      "set_protocol(protocol)\n--\n\nReads the next replies in protocol 2 or 3. Raises ValueError inside a reply."},
+    {"set_encoding", (PyCFunction)(void (*)(void))reader_set_encoding, METH_VARARGS | METH_KEYWORDS,
+     "set_encoding(encoding=None, errors=None)\n--\n\nSets how strings are decoded. Raises LookupError if Python knows no such encoding or error handler."},
+    {"len", (PyCFunction)reader_len, METH_NOARGS, "len()\n--\n\nReturns the number of bytes that were fed and not read yet."},
+    {"getmaxbuf", (PyCFunction)reader_getmaxbuf, METH_NOARGS,
+     "getmaxbuf()\n--\n\nReturns the most bytes of memory that the reader keeps for the next pieces, or 0 for any number."},
+    {"setmaxbuf", (PyCFunction)reader_setmaxbuf, METH_O,
+     "setmaxbuf(most)\n--\n\nSets that number. None sets the number that a new reader has."},
     {NULL, NULL, 0, NULL},
 };
 
@@ -563,13 +728,14 @@ static PyType_Slot READER_SLOTS[] = {
     {Py_tp_traverse, reader_traverse},
     {Py_tp_clear, reader_clear},
     {Py_tp_methods, READER_METHODS},
-    {Py_tp_doc, "Reader(protocolError, replyError, encoding=None, errors='strict', notEnoughData=False, protocol=2, depth=32,\n"
-                "       length=536870912, total=1073741824, items=1099511627776, streamed=True, doubles=True)\n--\n\n"
+    {Py_tp_doc, "Reader(protocolError, replyError, encoding=None, errors=None, notEnoughData=False, protocol=2, depth=32,\n"
+                "       length=536870912, total=1073741824, items=1099511627776, streamed=True, doubles=True,\n"
+                "       convertSetsToLists=False)\n--\n\n"
                 "Reads replies of RESP2 or RESP3 from pieces of any size."},
     {0, NULL},
 };
 
-static PyType_Spec READER = {"resp.Reader", sizeof(struct reader), 0, Py_TPFLAGS_DEFAULT | Py_TPFLAGS_HAVE_GC, READER_SLOTS};
+static PyType_Spec READER = {"resp.Reader", sizeof(struct reader), 0, FLAGS, READER_SLOTS};
 
 static PyMethodDef PAIRING_METHODS[] = {
     {"feed", (PyCFunction)reader_feed, METH_FASTCALL,
@@ -581,11 +747,10 @@ static PyMethodDef PAIRING_METHODS[] = {
     {"has_data", (PyCFunction)reader_has_data, METH_NOARGS,
      "has_data()\n--\n\nReturns whether bytes wait to be read, or a reply was begun."},
     {"queue", (PyCFunction)pairing_queue, METH_VARARGS,
-     "queue(hello=0)\n--\n\nCounts a command that is sent, or a HELLO that asks for protocol 2 or 3. Returns the number of its\n"
-     "reply, from 1. Raises ValueError for another protocol, or if another such HELLO waits.\n\n"
-     "Do not queue a command that gets no reply or several replies (such as SUBSCRIBE, PSUBSCRIBE, SSUBSCRIBE and their UN- forms,\n"
-     "MONITOR, SYNC, PSYNC, CLIENT REPLY), or RESET. Later replies would be paired with the wrong commands. Nothing checks\n"
-     "this."},
+     "queue(*words)\n--\n\nCounts a command of these words that is sent. Returns the number of its reply, from 1. Raises\n"
+     "ValueError for a command that does not have exactly one reply or that changes the protocol (SUBSCRIBE, PSUBSCRIBE, SSUBSCRIBE\n"
+     "and their UN- forms, MONITOR, SYNC, PSYNC, RESET, CLIENT REPLY), and for a HELLO with a protocol while another one waits.\n\n"
+     "queue() counts a command that has exactly one reply, and queue(2) or queue(3) a HELLO that asks for this protocol."},
     {"protocol", (PyCFunction)pairing_protocol, METH_NOARGS,
      "protocol()\n--\n\nReturns the protocol: 2, or the one of the last HELLO that was answered without an error."},
     {NULL, NULL, 0, NULL},
@@ -602,7 +767,7 @@ static PyType_Slot PAIRING_SLOTS[] = {
     {0, NULL},
 };
 
-static PyType_Spec PAIRING = {"resp.Pairing", sizeof(struct reader), 0, Py_TPFLAGS_DEFAULT | Py_TPFLAGS_HAVE_GC, PAIRING_SLOTS};
+static PyType_Spec PAIRING = {"resp.Pairing", sizeof(struct reader), 0, FLAGS, PAIRING_SLOTS};
 
 static PyMethodDef METHODS[] = {
     {"pack", pack, METH_VARARGS, "pack(*words)\n--\n\nReturns the bytes of a command. A word is bytes or another buffer, a str, which is encoded in\n"
@@ -610,11 +775,7 @@ static PyMethodDef METHODS[] = {
     {NULL, NULL, 0, NULL},
 };
 
-static struct PyModuleDef MODULE = {
-    PyModuleDef_HEAD_INIT, "resp", "Reads RESP2 and RESP3, the wire protocol of Redis.", -1, METHODS, NULL, NULL, NULL, NULL,
-};
-
-/* Adds a name to the module, and keeps our own reference. */
+/* Adds a name to the module. Keeps our own reference. */
 static bool add_name(PyObject *module, const char *name, PyObject *value) {
     if (!value)
         return false;
@@ -625,22 +786,71 @@ static bool add_name(PyObject *module, const char *name, PyObject *value) {
     return false;
 }
 
-PyMODINIT_FUNC PyInit_resp(void) {
-    PyObject *module = PyModule_Create(&MODULE);
-    if (!module)
-        return NULL;
-    PyObject *error = PyErr_NewException("resp.RespError", NULL, NULL);
-    ProtocolError = PyErr_NewException("resp.ProtocolError", error, NULL);
-    ReplyError = PyErr_NewException("resp.ReplyError", error, NULL);
-    /* (with the name of the module a push can be pickled) */
-    Push = PyObject_CallFunction((PyObject *)&PyType_Type, "s(O){ssss}", "Push", (PyObject *)&PyList_Type, "__doc__",
-                                 "The members of a push.", "__module__", "resp");
-    if (make_usual() && add_name(module, "RespError", error) && add_name(module, "ProtocolError", ProtocolError) &&
-        add_name(module, "ReplyError", ReplyError) && add_name(module, "Push", Push) &&
-        add_name(module, "Reader", PyType_FromSpec(&READER)) &&
-        add_name(module, "Pairing", PyType_FromSpec(&PAIRING)) &&
-        !PyModule_AddStringConstant(module, "__version__", RESP_VERSION))
-        return module;
-    Py_DECREF(module);
-    return NULL;
+/* Adds a type to the module. */
+static bool add_type(PyObject *module, const char *name, PyType_Spec *spec) {
+    PyObject *type = PyType_FromModuleAndSpec(module, spec, NULL);
+    bool is_added = add_name(module, name, type);
+    Py_XDECREF(type);
+    return is_added;
 }
+
+static bool make_usual(struct module *to) {
+    if (!(to->ok = PyBytes_FromString("OK")))
+        return false;
+    for (long at = 0; at < MOST_SMALL; at++)
+        if (!(to->small[at] = PyLong_FromLong(at)))
+            return false;
+    return true;
+}
+
+static int fill_module(PyObject *module) {
+    struct module *to = PyModule_GetState(module);
+    PyObject *error = PyErr_NewException("resp.RespError", NULL, NULL);
+    if (!error)
+        return -1;
+    to->protocol_error = PyErr_NewException("resp.ProtocolError", error, NULL);
+    to->reply_error = PyErr_NewException("resp.ReplyError", error, NULL);
+    /* With the name of the package a push can be pickled. */
+    to->push = PyObject_CallFunction((PyObject *)&PyType_Type, "s(O){ssss}", "Push", (PyObject *)&PyList_Type, "__doc__",
+                                     "The members of a push.", "__module__", "resp");
+    bool is_filled = make_usual(to) && add_name(module, "RespError", error) &&
+                     add_name(module, "ProtocolError", to->protocol_error) &&
+                     add_name(module, "ReplyError", to->reply_error) && add_name(module, "Push", to->push) &&
+                     add_type(module, "Reader", &READER) && add_type(module, "Pairing", &PAIRING) &&
+                     !PyModule_AddStringConstant(module, "__version__", RESP_VERSION);
+    Py_DECREF(error);
+    return is_filled ? 0 : -1;
+}
+
+static int module_traverse(PyObject *module, visitproc visit, void *arg) {
+    struct module *to = PyModule_GetState(module);
+    Py_VISIT(to->protocol_error);
+    Py_VISIT(to->reply_error);
+    Py_VISIT(to->push);
+    return 0;
+}
+
+/* Readers may outlive this call, so they keep what makes their values until the module is freed. */
+static void module_free(void *module) {
+    struct module *to = PyModule_GetState(module);
+    if (!to)
+        return;
+    Py_CLEAR(to->protocol_error);
+    Py_CLEAR(to->reply_error);
+    Py_CLEAR(to->push);
+    Py_CLEAR(to->ok);
+    for (size_t at = 0; at < MOST_SMALL; at++)
+        Py_CLEAR(to->small[at]);
+}
+
+static PyModuleDef_Slot MODULE_SLOTS[] = {
+    {Py_mod_exec, fill_module},
+    {0, NULL},
+};
+
+static struct PyModuleDef MODULE = {
+    PyModuleDef_HEAD_INIT, "resp._resp", "The compiled part of the package resp.", sizeof(struct module), METHODS, MODULE_SLOTS,
+    module_traverse, NULL, module_free,
+};
+
+PyMODINIT_FUNC PyInit__resp(void) { return PyModuleDef_Init(&MODULE); }

@@ -8,7 +8,7 @@
 #include <stdint.h>
 #include <string.h>
 
-/* The most memory that is kept for the next bytes. */
+/* The most memory that is kept for the next bytes, unless the caller sets another number. */
 #define MOST_KEPT 65536
 
 struct bytes {
@@ -41,10 +41,10 @@ static bool append(struct bytes *bytes, const uint8_t *more, size_t length) {
     return true;
 }
 
-/* Drops the bytes, and frees a large buffer. */
-static void empty(struct bytes *bytes) {
+/* Drops the bytes, and frees a buffer of more than `most` bytes. */
+static void empty(struct bytes *bytes, size_t most) {
     bytes->length = 0;
-    if (bytes->room > MOST_KEPT) {
+    if (bytes->room > most) {
         PyMem_Free(bytes->start);
         bytes->start = NULL;
         bytes->room = 0;

@@ -1,4 +1,6 @@
-"""Talks to redis-server on a port with redis-py, which reads with the module resp: redis_py.py PORT"""
+"""Talks to redis-server on a port with redis-py, which reads with the package resp in place of hiredis for Python, and
+with the parsers of resp.redis_parser: redis_py.py PORT"""
+import asyncio
 import sys
 import types
 
@@ -10,7 +12,10 @@ hiredis.Reader, hiredis.__version__ = resp.Reader, "2.0.0"
 sys.modules["hiredis"] = hiredis
 
 import redis  # noqa: E402
+import redis.asyncio  # noqa: E402
 from redis.connection import HiredisParser  # noqa: E402
+
+from resp.redis_parser import AsyncParser, Parser  # noqa: E402
 
 
 def check(said, wanted):
@@ -18,9 +23,8 @@ def check(said, wanted):
         sys.exit(f"{said!r} in place of {wanted!r}")
 
 
-def main(port):
-    server = redis.Redis(port=port)
-    check(server.connection_pool.connection_class().__dict__["_parser"].__class__, HiredisParser)
+def talk(server, texts):
+    """Sends commands of several kinds. `texts` is a client that decodes its replies."""
     check(server.set("a", b"1\r\n2"), True)
     check(server.get("a"), b"1\r\n2")
     check(server.get("none"), None)
@@ -41,13 +45,87 @@ def main(port):
     for number in range(10000):
         pipeline.incr("number")
     check(pipeline.execute(), list(range(1, 10001)))
-    texts = redis.Redis(port=port, decode_responses=True)
     check(texts.set("text", "\xe4\u20ac") and texts.get("text"), "\xe4\u20ac")
     subscription = server.pubsub()
     subscription.subscribe("channel")
     check(subscription.get_message(timeout=10)["type"], "subscribe")
     check(server.publish("channel", "hello"), 1)
     check(subscription.get_message(timeout=10)["data"], b"hello")
+
+
+def client(port, **words):
+    """Returns a client whose connections read with our parser."""
+    return redis.Redis(connection_pool=redis.ConnectionPool(port=port, parser_class=Parser, **words))
+
+
+def talk_in_protocol_3(port):
+    """Reads replies and pushes of protocol 3 on one connection."""
+    pushes = []
+    connection = client(port).connection_pool.get_connection("HELLO")
+    other = client(port)
+
+    def said(*words, **how):
+        connection.send_command(*words)
+        return connection._parser.read_response(**how)
+
+    check(said("HELLO", 3)[b"proto"], 3)
+    check(said("HSET", "hash3", "x", 1), 1)
+    check(said("HGETALL", "hash3"), {b"x": b"1"})
+    check(said("ZADD", "set3", "1.5", "m"), 1)
+    check(said("ZSCORE", "set3", "m"), 1.5)
+    check(said("GET", "none"), None)
+    check(said("SET", "text3", b"\xff"), b"OK")
+    check(said("GET", "text3", disable_decoding=True), b"\xff")
+    check(repr(said("INCR", "text3")), "ResponseError('value is not an integer or out of range')")
+    connection._parser.set_invalidation_push_handler(pushes.append)
+    check(said("CLIENT", "TRACKING", "ON"), b"OK")
+    check(said("GET", "text3"), b"\xff")
+    other.set("text3", "new")
+    check(said("GET", "text3"), b"new")
+    check(pushes, [[b"invalidate", [b"text3"]]])
+    connection._parser.set_pubsub_push_handler(lambda push: push[0])
+    check(said("SUBSCRIBE", "channel3", push_request=True), b"subscribe")
+    check(connection.can_read(0), False)
+    other.publish("channel3", "hello")
+    check(connection.can_read(10), True)
+    check(connection._parser.read_response(push_request=True), b"message")
+    connection.disconnect()
+
+
+async def talk_by_asyncio(port):
+    pool = redis.asyncio.ConnectionPool(port=port, parser_class=AsyncParser)
+    server = redis.asyncio.Redis(connection_pool=pool)
+    check(await server.set("b", b"1\r\n2"), True)
+    check(await server.get("b"), b"1\r\n2")
+    large = bytes(range(256)) * 4096
+    check(await server.set("large", large) and await server.get("large"), large)
+    try:
+        await server.incr("large")
+        sys.exit("a text was incremented")
+    except redis.ResponseError as error:
+        check(str(error), "value is not an integer or out of range")
+    pipeline = server.pipeline(transaction=False)
+    for _ in range(1000):
+        pipeline.incr("numbers")
+    check(await pipeline.execute(), list(range(1, 1001)))
+    subscription = server.pubsub()
+    await subscription.subscribe("channel")
+    check((await subscription.get_message(timeout=10))["type"], "subscribe")
+    check(await subscription.get_message(timeout=0.01), None)
+    check(await server.publish("channel", "hello"), 1)
+    check((await subscription.get_message(timeout=10))["data"], b"hello")
+    await subscription.unsubscribe("channel")
+    await pool.disconnect()
+
+
+def main(port):
+    server = redis.Redis(port=port)
+    check(server.connection_pool.connection_class().__dict__["_parser"].__class__, HiredisParser)
+    talk(server, redis.Redis(port=port, decode_responses=True))
+    server.flushall()
+    talk(client(port), client(port, decode_responses=True))
+    talk_in_protocol_3(port)
+    asyncio.run(talk_by_asyncio(port))
     print("redis-py reads by resp")
 
 

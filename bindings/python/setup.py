@@ -1,4 +1,4 @@
-"""Builds the module resp over the library: the one in the folder that RESP_PREFIX names, or the one inside this folder,
+"""Builds the package resp over the library: the one in the folder that RESP_PREFIX names, or the one inside this folder,
 or the one that ./build c installs in out/c."""
 import os
 import re
@@ -31,11 +31,14 @@ setup(
     version=version(),
     description="Reads RESP2 and RESP3, the wire protocol of Redis, with a proved scanner",
     python_requires=">=3.11",
-    py_modules=[],
+    packages=["resp"],
+    package_dir={"": "src"},
+    package_data={"resp": ["py.typed", "__init__.pyi"]},
+    options={"bdist_wheel": {"py_limited_api": "cp311"}},
     ext_modules=[
         Extension(
-            "resp",
-            sources=["resp.c"],
+            "resp._resp",
+            sources=["_resp.c"],
             depends=["bytes.h", "values.h"],
             include_dirs=[os.path.join(PREFIX, "include")],
             extra_objects=[os.path.join(PREFIX, "lib", "libresp.a")],

@@ -1,5 +1,6 @@
 """Tests of the module resp in rows: texts and their replies, at every cut; and of its other calls."""
 import array
+import ast
 import contextlib
 import enum
 import gc
@@ -478,6 +479,135 @@ class Rows(unittest.TestCase):
         read.set_protocol(3)
         read.feed(b"_\r\n")
         self.assertIsNone(read.gets())
+
+    def test_the_stubs_name_all(self):
+        with open(resp.__file__.replace("__init__.py", "__init__.pyi"), encoding="utf-8") as file:
+            stubs = ast.parse(file.read())
+        named = {it.name: it for it in stubs.body if isinstance(it, (ast.ClassDef, ast.FunctionDef))}
+        self.assertEqual({*named} | {"__version__"}, {*resp.__all__})
+        for name in ("Reader", "Pairing"):
+            methods = {it.name for it in named[name].body if isinstance(it, ast.FunctionDef)} - {"__init__"}
+            self.assertEqual(methods, {it for it in vars(getattr(resp, name)) if not it.startswith("__")})
+
+    def test_doubles(self):
+        for text, wanted in [(b"1.5", 1.5), (b"-1", -1.0), (b"+1.", 1.0), (b".5", 0.5), (b"1e3", 1000.0), (b"1.5E-1", 0.15),
+                             (b"inf", math.inf), (b"-inf", -math.inf), (b"1e400", math.inf)]:
+            for pieces in cuts(b"," + text + b"\r\n:1\r\n"):
+                self.assertEqual(replies(reader(protocol=3), pieces), [wanted, 1], text)
+        for text in [b"abc", b"1_0", b" 12", b"12 ", b"1,5", b"", b".", b"-", b"1e", b"1e+", b"e1", b"0x1p3", b"infinity", b"1.5.2",
+                     b"\xc2\xb2", b"1\0"]:
+            for given in (b":1\r\n," + text + b"\r\n:2\r\n", b":1\r\n*2\r\n," + text + b"\r\n:3\r\n:2\r\n"):
+                for pieces in cuts(given):
+                    broken, said = reader(protocol=3), []
+                    for piece in pieces:
+                        broken.feed(piece)
+                        with contextlib.suppress(resp.ProtocolError):
+                            while (reply := broken.gets()) is not reader_waits:
+                                said.append(reply)
+                    self.assertEqual(said, [1], (text, pieces))
+                    for _ in range(2):
+                        with self.assertRaises(resp.ProtocolError) as raised:
+                            broken.gets()
+                        self.assertEqual((raised.exception.cause, raised.exception.at), ("Syntax", None) if text else
+                                         (raised.exception.cause, raised.exception.at))
+
+    def test_a_small_reader(self):
+        """Until the first bytes arrive a reader needs little memory."""
+        gc.collect()
+        tracemalloc.start()
+        try:
+            held = [resp.Reader() for _ in range(100)]
+            self.assertLess(tracemalloc.get_traced_memory()[0], 100 * 1536)
+            self.assertFalse(held[0].gets())
+        finally:
+            tracemalloc.stop()
+
+    def test_as_hiredis(self):
+        given = resp.Reader()
+        self.assertEqual((given.len(), given.getmaxbuf()), (0, 65536))
+        given.feed(b":1\r\n:2\r\n")
+        self.assertEqual((given.gets(), given.len(), given.gets(), given.len()), (1, 4, 2, 0))
+        given.setmaxbuf(0)
+        self.assertEqual(given.getmaxbuf(), 0)
+        given.setmaxbuf(10)
+        given.feed(b"$100\r\n")
+        given.feed(b"x" * 100)
+        given.feed(b"\r\n")
+        self.assertEqual((given.gets(), given.getmaxbuf()), (b"x" * 100, 10))
+        given.setmaxbuf(None)
+        self.assertEqual(given.getmaxbuf(), 65536)
+        with self.assertRaises(ValueError):
+            given.setmaxbuf(-1)
+        with self.assertRaises(TypeError):
+            given.setmaxbuf("1")
+        lists = resp.Reader(protocol=3, convertSetsToLists=True)
+        lists.feed(b"~2\r\n:1\r\n:1\r\n")
+        self.assertEqual(lists.gets(), [1, 1])
+
+    def test_set_encoding(self):
+        given = resp.Reader()
+        for words, wanted in [({}, b"\xe4"), ({"encoding": "latin-1"}, "\xe4"), ({"encoding": "utf-8", "errors": "replace"}, "\ufffd"),
+                              ({"encoding": "ascii", "errors": "ignore"}, ""), ({}, b"\xe4")]:
+            given.set_encoding(**words)
+            given.feed(b"+\xe4\r\n")
+            self.assertEqual(given.gets(), wanted)
+        for words in ({"encoding": "no such"}, {"encoding": "utf-8", "errors": "no such"}, {"errors": "no such"}):
+            for call in (given.set_encoding, resp.Reader, resp.Pairing):
+                with self.assertRaises(LookupError):
+                    call(**words)
+        given.feed(b"+\xe4\r\n")
+        self.assertEqual(given.gets(), b"\xe4")
+
+    def test_a_type_of_its_own(self):
+        class Own(resp.Reader):
+            def __init__(self, **words):
+                super().__init__(**words)
+                self.count = 0
+
+            def gets(self, *words):
+                self.count += 1
+                return super().gets(*words)
+
+        own = Own(protocol=3)
+        own.feed(b">1\r\n:1\r\n+OK\r\n:7\r\n")
+        self.assertEqual([own.gets() for _ in range(4)], [[1], b"OK", 7, False])
+        self.assertEqual(own.count, 4)
+        own.self = own
+        seen = weakref.ref(own)
+        del own
+        gc.collect()
+        self.assertIsNone(seen())
+
+    def test_queue_by_words(self):
+        pairing = resp.Pairing()
+        for number, words in enumerate([("GET", "a"), (b"get",), ("HELLO",), ("CLIENT", "ID"), ("SET", "a", 1.5), ("GET", memoryview(b"a"))]):
+            self.assertEqual(pairing.queue(*words), number + 1)
+        for words in [("SUBSCRIBE", "a"), ("unsubscribe",), ("PSUBSCRIBE", "a"), ("PUNSUBSCRIBE",), (b"SSUBSCRIBE", b"a"),
+                      ("SUNSUBSCRIBE",), ("MONITOR",), ("SYNC",), ("PSYNC", "?", -1), ("RESET",), ("CLIENT", "REPLY", "OFF"),
+                      (bytearray(b"reset"),)]:
+            with self.assertRaisesRegex(ValueError, "exactly one reply"):
+                pairing.queue(*words)
+        with self.assertRaises(TypeError):
+            pairing.queue(None, "a")
+        for hello in (1, 4, 16, 17, 2**32, 2**32 + 3):
+            with self.assertRaisesRegex(ValueError, "neither"):
+                pairing.queue(hello)
+        self.assertEqual(pairing.queue("hello", 3), 7)
+        with self.assertRaisesRegex(ValueError, "waits"):
+            pairing.queue("HELLO", b"2", "SETNAME", "a")
+        pairing.feed(b"+1\r\n+2\r\n+3\r\n+4\r\n+5\r\n+6\r\n%0\r\n")
+        self.assertEqual([pairing.gets() for _ in range(7)][-1], (7, {}))
+        self.assertEqual(pairing.protocol(), 3)
+
+    def test_an_interpreter_of_its_own(self):
+        if not _testcapi:
+            self.skipTest("this Python has no _testcapi")
+        code = "import resp; r = resp.Reader(protocol=3); r.feed(b'>1\\r\\n:7\\r\\n-no\\r\\n'); assert r.gets() == [7]; r.gets()"
+        for _ in range(3):
+            self.assertEqual(_testcapi.run_in_subinterp(code), 0)
+        given = resp.Reader()
+        given.feed(b":7\r\n+OK\r\n-no\r\n")
+        self.assertEqual([given.gets(), given.gets(), type(given.gets())], [7, b"OK", resp.ReplyError])
 
     def test_pack(self):
         self.assertEqual(resp.pack("SET", b"\xff", 1, 1.5, "\xe4"),

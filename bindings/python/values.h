@@ -7,9 +7,6 @@
 #include "bytes.h"
 #include "resp.h"
 
-/* The greatest limit of depth. */
-#define MOST_OPEN 128
-
 /* The most values whose memory is kept for the next reply. */
 #define MOST_VALUES 4096
 
@@ -37,11 +34,23 @@ struct open {
 /* How strings are read. */
 enum reading { AS_BYTES, AS_UTF8, AS_ENCODED };
 
+/* The small integers that each module has. */
+#define MOST_SMALL 256
+
+/* The objects of a module. Each interpreter has a module of its own. */
+struct module {
+    PyObject *protocol_error, *reply_error, *push;
+    /* The most frequent replies of redis-server: `OK` as bytes, and small integers. */
+    PyObject *ok, *small[MOST_SMALL];
+};
+
 struct values {
+    struct module *module;
     /* The complete values: the members of the open aggregates, in order, or the top-level value. */
     PyObject **start;
     size_t count, room;
-    struct open open[MOST_OPEN];
+    /* As many as the limit of depth allows, and how many are open. */
+    struct open *open;
     size_t depth;
     /* The innermost aggregate, if it is a list that is filled. */
     struct open *filling;
@@ -56,22 +65,9 @@ struct values {
     PyObject *reply_error;
     char *encoding, *errors;
     enum reading reads, reads_now;
+    /* Whether sets become lists. Whether a double was no number: then no more replies are read. */
+    bool lists_sets, is_bad;
 };
-
-static PyObject *Push;
-
-/* The most frequent replies of redis-server: `OK` as bytes, and small integers. */
-#define MOST_SMALL 256
-static PyObject *OK, *Small[MOST_SMALL];
-
-/* Makes them. Returns false if memory is out. */
-static bool make_usual(void) {
-    OK = PyBytes_FromString("OK");
-    for (long at = 0; at < MOST_SMALL; at++)
-        if (!(Small[at] = PyLong_FromLong(at)))
-            return false;
-    return OK;
-}
 
 /* Replaces a value by another. Steals the reference to the new one. */
 static void replace(PyObject **place, PyObject *value) {
@@ -142,11 +138,12 @@ static inline PyObject *hashable(PyObject *value) {
     return value;
 }
 
-static inline PyObject *integer_of(int64_t number) {
+static inline PyObject *integer_of(struct values *values, int64_t number) {
     if ((uint64_t)number >= MOST_SMALL)
         return PyLong_FromLongLong(number);
-    Py_INCREF(Small[number]);
-    return Small[number];
+    PyObject *small = values->module->small[number];
+    Py_INCREF(small);
+    return small;
 }
 
 /* The functions that follow make the value of a text. */
@@ -158,7 +155,42 @@ static PyObject *error_of(struct values *values, const char *start, Py_ssize_t l
     return value;
 }
 
-static PyObject *double_of(const char *start, Py_ssize_t length) {
+/* Returns the first byte that is no digit. */
+static const char *digits(const char *at, const char *end) {
+    while (at < end && *at >= '0' && *at <= '9')
+        at++;
+    return at;
+}
+
+/* Returns whether a text is a double: an optional sign, then `inf`, `nan`, or digits with an optional fraction and
+ * exponent. Python's float() accepts more, such as `1_0` and spaces. */
+static bool is_double(const char *at, const char *end) {
+    if (at < end && (*at == '+' || *at == '-'))
+        at++;
+    if (end - at == 3 && (!memcmp(at, "inf", 3) || !memcmp(at, "nan", 3)))
+        return true;
+    const char *whole = digits(at, end), *fraction = whole;
+    if (whole < end && *whole == '.')
+        fraction = digits(whole + 1, end);
+    /* There is a digit before the point or after it. */
+    if (whole == at && fraction <= whole + 1)
+        return false;
+    at = fraction;
+    if (at == end)
+        return true;
+    if (*at++ != 'e' && at[-1] != 'E')
+        return false;
+    if (at < end && (*at == '+' || *at == '-'))
+        at++;
+    return at < end && digits(at, end) == end;
+}
+
+/* A text that is no double breaks the protocol: the reader raises the error once the reply has been read. */
+static PyObject *double_of(struct values *values, const char *start, Py_ssize_t length) {
+    if (!is_double(start, start + length)) {
+        values->is_bad = true;
+        return PyFloat_FromDouble(0);
+    }
     PyObject *text = PyUnicode_DecodeUTF8(start, length, "strict");
     PyObject *value = text ? PyFloat_FromString(text) : NULL;
     Py_XDECREF(text);
@@ -178,7 +210,7 @@ static PyObject *big_of(const char *start, Py_ssize_t length, bool is_negative) 
 static APART PyObject *other_of(struct values *values, uint32_t form, const char *start, Py_ssize_t length) {
     switch (form) {
     case RESP_TEXT_DOUBLE:
-        return double_of(start, length);
+        return double_of(values, start, length);
     case RESP_TEXT_BIG:
         return big_of(start, length, values->is_negative);
     default:
@@ -199,8 +231,8 @@ static inline PyObject *text_of(struct values *values, uint32_t form, const uint
     if (values->reads_now != AS_BYTES)
         return decoded(values, start, length);
     if (length == 2 && start[0] == 'O' && start[1] == 'K') {
-        Py_INCREF(OK);
-        return OK;
+        Py_INCREF(values->module->ok);
+        return values->module->ok;
     }
     return PyBytes_FromStringAndSize(start, length);
 }
@@ -224,9 +256,9 @@ static PyObject *list_of(PyObject **members, size_t count) {
 }
 
 /* Makes a push, which has a type of its own. */
-static PyObject *push_of(PyObject **members, size_t count) {
+static PyObject *push_of(struct values *values, PyObject **members, size_t count) {
     PyObject *list = list_of(members, count);
-    PyObject *push = list ? PyObject_CallFunctionObjArgs(Push, list, NULL) : NULL;
+    PyObject *push = list ? PyObject_CallFunctionObjArgs(values->module->push, list, NULL) : NULL;
     Py_XDECREF(list);
     return push;
 }
@@ -263,14 +295,14 @@ static PyObject *annotated(PyObject **members, size_t count) {
     return value;
 }
 
-static PyObject *aggregate_of(uint32_t form, PyObject **members, size_t count) {
+static PyObject *aggregate_of(struct values *values, uint32_t form, PyObject **members, size_t count) {
     switch (form) {
     case RESP_MAP:
         return dict_of(members, count);
     case RESP_SET:
-        return set_of(members, count);
+        return values->lists_sets ? list_of(members, count) : set_of(members, count);
     case RESP_PUSH:
-        return push_of(members, count);
+        return push_of(values, members, count);
     case RESP_ATTRIBUTE:
         return annotated(members, count);
     default:
@@ -334,7 +366,7 @@ static APART void end(struct values *values) {
     size_t count = values->count - open->first;
     /* From here on the garbage collector sees the members in their new place. */
     values->count = open->first;
-    add(values, aggregate_of(open->form, members, count));
+    add(values, aggregate_of(values, open->form, members, count));
 }
 
 /* Processes an event of a rare kind, whose bytes begin at `at`. */
@@ -359,7 +391,7 @@ static APART void take_seldom(struct values *values, const struct resp_event *ev
     case RESP_TEXT_END:
         add(values, text_of(values, values->form, values->text.length ? values->text.start : (const uint8_t *)"",
                             values->text.length));
-        empty(&values->text);
+        empty(&values->text, MOST_KEPT);
         break;
     }
 }
@@ -369,7 +401,7 @@ static inline bool take(struct values *values, const struct resp_event *event, c
     if (event->kind == RESP_WHOLE)
         add(values, text_of(values, event->form, resp_event_whole(event, at), event->part));
     else if (event->kind == RESP_INT)
-        add(values, integer_of(event->number));
+        add(values, integer_of(values, event->number));
     else if (event->kind == RESP_DONE || event->kind == RESP_MORE)
         return false;
     else if (event->kind == RESP_OPEN)
