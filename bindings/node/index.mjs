@@ -144,6 +144,7 @@ export class Connection {
     this.pairing = new LibraryPairing(this.reader.scanner.library);
     this.number = 0;
     this.numbers = [];
+    this.isBetween = true;
   }
 
   /**
@@ -162,7 +163,8 @@ export class Connection {
     let at = 0;
     while (at < piece.length && !reader.failure) {
       let done = false;
-      if (reader.scanner.taken === 0 && !this.begin(piece[at])) return;
+      // The scanner has also read what follows a value, perhaps in the wrong version, so it begins anew.
+      if (this.isBetween && !this.begin(piece[at])) return;
       const cause = reader.scanner.scan(piece, (events, index, place) => {
         this.number = this.pairing.take(4 * index) || this.number;
         reader.take(events, index, piece, place);
@@ -170,8 +172,11 @@ export class Connection {
         done = KINDS[events[index]] === 'done';
         return !done;
       }, at);
-      if (cause) reader.failure = new RespError(cause);
-      if (!done) return;
+      this.isBetween = done;
+      if (!done) {
+        if (cause) reader.failure = new RespError(cause);
+        return;
+      }
       this.numbers.push(this.number);
       this.number = 0;
     }

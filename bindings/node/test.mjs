@@ -39,7 +39,7 @@ const tests = {
   },
   'commands are packed'() {
     assert.equal(String(pack('SET', 'k', Buffer.from('xy'), 12, 1n)), '*5\r\n$3\r\nSET\r\n$1\r\nk\r\n$2\r\nxy\r\n$2\r\n12\r\n$1\r\n1\r\n');
-    assert.equal(pack('SET', 'k', Buffer.alloc(1_000_000)).length, 1_000_039);
+    assert.equal(pack('SET', 'k', Buffer.alloc(1_000_000)).length, 1_000_032);
     for (const word of [true, null, undefined, [], {}, NaN]) assert.throws(() => pack('GET', word), TypeError);
   },
   'each reply has the number of its command, over HELLO'() {
