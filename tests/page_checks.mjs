@@ -61,7 +61,8 @@ function isSteady(capture) {
   return true;
 }
 
-const library = await load(module_bytes);
+// Compiled at once, since the time of a browser without a window does not wait for other threads.
+const library = new Library(new WebAssembly.Instance(new WebAssembly.Module(module_bytes), {}).exports);
 const results = JSON.parse(document.getElementById('cases').textContent).map((it) => {
   try {
     return found(library, it);

@@ -1,8 +1,14 @@
 // RESP2 and RESP3 for Node: a reader of replies, commands, and the pairing of replies with commands.
 import { readFileSync } from 'node:fs';
-import { KINDS, Library, Pairing as LibraryPairing, RespError, Scanner, STREAMED, Writer } from './library.mjs';
+import { AGGREGATES, KINDS, Library, Pairing as LibraryPairing, RespError, Scanner, TEXTS, Writer } from './library.mjs';
 
 export { RespError };
+
+const [NULL, BOOLEAN, INTEGER, TEXT, PART, TEXT_END, OPEN, CLOSE, DONE, WHOLE] =
+  ['null', 'boolean', 'integer', 'text', 'part', 'text end', 'open', 'close', 'done', 'whole'].map((name) => KINDS.indexOf(name));
+const [ERROR, DOUBLE, BULK_ERROR, VERBATIM, BIG] =
+  ['error', 'double', 'bulk error', 'verbatim string', 'big number'].map((name) => TEXTS.indexOf(name));
+const [SET, MAP, ATTRIBUTE, PUSH] = ['set', 'map', 'attribute', 'push'].map((name) => AGGREGATES.indexOf(name));
 
 const module = new WebAssembly.Module(readFileSync(new URL('resp.wasm', import.meta.url)));
 
@@ -39,14 +45,17 @@ export class Reader {
     this.open = [];
     this.text = null;
     this.replies = [];
+    // The number of replies that were returned.
+    this.returned = 0;
     this.failure = null;
   }
 
   /** Reads a piece. The replies that are complete wait for `get`. */
   feed(piece) {
     if (this.failure) return;
-    const cause = this.scanner.scan(piece, (words, at, place) => {
-      this.take(words, at, piece, place);
+    const buffer = bufferOf(piece);
+    const cause = this.scanner.scan(buffer, (words, at, place) => {
+      this.take(words, at, buffer, place + words[at + 6]);
     });
     if (cause) this.failure = new RespError(cause);
   }
@@ -56,70 +65,87 @@ export class Reader {
    * the replies before it were returned, and then again at each call.
    */
   get() {
-    if (this.replies.length > 0) return this.replies.shift();
+    if (this.returned < this.replies.length) return this.replies[this.returned++];
+    this.replies.length = this.returned = 0;
     if (this.failure) throw this.failure;
     return undefined;
   }
 
-  take(words, at, piece, place) {
-    const view = new DataView(words.buffer, 4 * at, 48);
-    const to = place + words[at + 6];
-    switch (KINDS[words[at]]) {
-      case 'null': return this.add(null);
-      case 'boolean': return this.add(view.getBigInt64(8, true) === 1n);
-      case 'integer': return this.add(integer(view.getBigInt64(8, true)));
-      case 'text': this.text = { form: words[at + 1], parts: [], view: new Uint8Array(words.buffer.slice(4 * at, 4 * at + 48)) }; return undefined;
-      case 'part': this.text.parts.push(words[at + 6] ? Buffer.from(piece.subarray(to - words[at + 8], to)) : Buffer.of(view.getUint8(43))); return undefined;
-      case 'text end': return this.endText();
-      case 'whole': return this.add(this.valueOf(words[at + 1], Buffer.from(piece.subarray(to - words[at + 8] - 2, to - 2))));
-      case 'open': return this.openAggregate(view, words[at + 1]);
-      case 'close': return this.close();
+  // Takes an event, which ends at `to` in the piece. Its 12 words begin at `at` of `words`.
+  take(words, at, piece, to) {
+    switch (words[at]) {
+      case WHOLE: return this.add(this.valueOf(words[at + 1], piece, to - words[at + 8] - 2, to - 2));
+      case INTEGER: return this.add(integer(words[at + 2], words[at + 3]));
+      case OPEN: return this.openAggregate(words[at + 1]);
+      case CLOSE: return this.close();
+      case NULL: return this.add(null);
+      case BOOLEAN: return this.add(words[at + 2] === 1);
+      case TEXT: return this.beginText(words, at);
+      case PART: return this.takePart(words, at, piece, to);
+      case TEXT_END: return this.endText();
       default: return undefined;
     }
   }
 
+  // The last words have the format of a verbatim string, and the digit of a part that uses no byte.
+  beginText(words, at) {
+    this.text = { form: words[at + 1], isNegative: words[at + 2] === 1, format: words[at + 10], parts: [] };
+  }
+
+  takePart(words, at, piece, to) {
+    const length = words[at + 8];
+    this.text.parts.push(words[at + 6] ? Buffer.from(piece.subarray(to - length, to)) : Buffer.of(words[at + 10] >>> 24));
+  }
+
   endText() {
-    const { form, parts, view } = this.text;
+    const { form, isNegative, format, parts } = this.text;
     const content = Buffer.concat(parts);
     this.text = null;
-    if (form === 5) return this.add(new Verbatim(Buffer.from(view.subarray(40, 43)).toString('latin1'), this.decode(content)));
-    if (form === 6) return this.add(BigInt(`${content}` || '0') * (new DataView(view.buffer).getBigInt64(8, true) === 1n ? -1n : 1n));
-    return this.add(this.valueOf(form, content));
+    if (form === VERBATIM) {
+      const name = String.fromCharCode(format & 255, (format >> 8) & 255, (format >> 16) & 255);
+      this.add(new Verbatim(name, this.decode(content, 0, content.length)));
+    } else if (form === BIG) this.add(BigInt(`${content}` || '0') * (isNegative ? -1n : 1n));
+    else this.add(this.valueOf(form, content, 0, content.length));
   }
 
   // The value of a simple string, an error, a double or a bulk string.
-  valueOf(form, content) {
-    if (form === 1 || form === 4) return new ErrorReply(content.toString('utf8'));
-    if (form === 2) return double(content.toString('latin1'));
-    return this.decode(content);
+  valueOf(form, buffer, from, to) {
+    if (form === ERROR || form === BULK_ERROR) return new ErrorReply(buffer.utf8Slice(from, to));
+    if (form === DOUBLE) return double(buffer.latin1Slice(from, to));
+    return this.decode(buffer, from, to);
   }
 
-  decode(content) {
-    return this.encoding ? content.toString(this.encoding) : content;
+  decode(buffer, from, to) {
+    if (this.encoding === 'utf8') return buffer.utf8Slice(from, to);
+    return this.encoding ? buffer.toString(this.encoding, from, to) : Buffer.from(buffer.subarray(from, to));
   }
 
-  openAggregate(view, form) {
-    const count = view.getBigUint64(16, true);
-    this.open.push({ form, members: [], count: count === STREAMED ? null : count });
+  openAggregate(form) {
+    this.open.push({ form, members: [] });
   }
 
   close() {
     const { form, members } = this.open.pop();
-    if (form === 1) return this.add(new Set(members));
-    if (form === 2) return this.add(new Map(pairs(members)));
+    if (form === SET) this.add(new Set(members));
+    else if (form === MAP) this.add(new Map(pairs(members)));
     // The value that an attribute annotates is the reply; the attribute itself is dropped.
-    if (form === 3) return this.add(members.at(-1));
-    return this.add(form === 4 ? Push.from(members) : members);
+    else if (form === ATTRIBUTE) this.add(members.at(-1));
+    else this.add(form === PUSH ? Push.from(members) : members);
   }
 
   add(value) {
-    const outer = this.open.at(-1);
-    if (outer) outer.members.push(value);
+    const { open } = this;
+    if (open.length > 0) open[open.length - 1].members.push(value);
     else this.replies.push(value);
   }
 }
 
-const integer = (number) => (Number.isSafeInteger(Number(number)) ? Number(number) : number);
+// The integer of these two halves: a number, or a BigInt if it is no safe integer.
+function integer(low, high) {
+  const number = (high | 0) * 4294967296 + low;
+  return Number.isSafeInteger(number) ? number : BigInt.asIntN(64, (BigInt(high) << 32n) | BigInt(low));
+}
+
 const double = (text) => ({ inf: Infinity, '-inf': -Infinity })[text] ?? Number(text);
 
 function* pairs(members) {
@@ -160,16 +186,17 @@ export class Connection {
   /** Reads a piece. The replies that are complete wait for `get`. */
   feed(piece) {
     const { reader } = this;
+    const buffer = bufferOf(piece);
     let at = 0;
-    while (at < piece.length && !reader.failure) {
+    while (at < buffer.length && !reader.failure) {
       let done = false;
       // The scanner has also read what follows a value, perhaps in the wrong version, so it begins anew.
-      if (this.isBetween && !this.begin(piece[at])) return;
-      const cause = reader.scanner.scan(piece, (events, index, place) => {
+      if (this.isBetween && !this.begin(buffer[at])) return;
+      const cause = reader.scanner.scan(buffer, (events, index, place) => {
         this.number = this.pairing.take(4 * index) || this.number;
-        reader.take(events, index, piece, place);
         at = place + events[index + 6];
-        done = KINDS[events[index]] === 'done';
+        reader.take(events, index, buffer, at);
+        done = events[index] === DONE;
         return !done;
       }, at);
       this.isBetween = done;
@@ -199,6 +226,8 @@ export class Connection {
     return reply === undefined ? undefined : { number: this.numbers.shift(), reply };
   }
 }
+
+const bufferOf = (piece) => (Buffer.isBuffer(piece) ? piece : Buffer.from(piece.buffer, piece.byteOffset, piece.byteLength));
 
 function bytesOf(word) {
   if (word instanceof Uint8Array) return word;
