@@ -32,12 +32,9 @@ class Numbers {
 /** Where the rows of the picture begin: after each LF, and after `width` bytes. */
 export function rowsOf(bytes, width) {
   const starts = new Numbers();
-  for (let at = 0; at < bytes.length; ) {
-    starts.push(at);
-    const found = bytes.indexOf(10, at);
-    const line = found < 0 ? bytes.length : found + 1;
-    for (at += width; at < line; at += width) starts.push(at);
-    at = line;
+  for (let at = 0, start = 0; at < bytes.length; at++) {
+    if (at === start) starts.push(at);
+    if (bytes[at] === 10 || at - start + 1 === width) start = at + 1;
   }
   return starts.whole();
 }
@@ -138,6 +135,19 @@ export class Capture {
     }, kept.at, Math.max(kept.at, cut));
     const { taken, depth } = this.scanner;
     return { values, taken, depth, read, needed: cause ? null : this.scanner.needed, cause: CAUSES[cause] ?? null };
+  }
+
+  /** The bytes that a valid value may have after the bytes before `at`, in ascending order. */
+  valid(at) {
+    if (this.refused && this.refused.at < at) return [];
+    this.reread(at, at, () => true);
+    const state = this.scanner.save();
+    const found = [];
+    for (let byte = 0; byte < 256; byte++) {
+      this.scanner.restore(state);
+      if (this.scanner.scan(Uint8Array.of(byte), () => true) === 0) found.push(byte);
+    }
+    return found;
   }
 
   /** The tree of a value, of at most `most` nodes. */

@@ -76,6 +76,23 @@ export function quoted(bytes, most = 200) {
   }
 }
 
+/** Some bytes, given in ascending order: "any byte", or names and ranges. */
+export function named(bytes) {
+  if (bytes.length === 256) return 'any byte';
+  if (bytes.length > 128) return `any byte except ${named(Array.from({ length: 256 }, (_, byte) => byte).filter((byte) => !bytes.includes(byte)))}`;
+  const name = (byte) => ({ 10: 'LF', 13: 'CR', 32: 'space' })[byte] ?? glyph(byte);
+  const isAlike = (byte, next) => next === byte + 1 && (/[0-9A-Za-z]/.test(glyph(byte)) ? /[0-9A-Za-z]/.test(glyph(next)) : byte > 126 || next < 10);
+  const parts = [];
+  for (let at = 0; at < bytes.length; ) {
+    let last = at;
+    while (last + 1 < bytes.length && isAlike(bytes[last], bytes[last + 1])) last++;
+    if (last - at > 1) parts.push(`${name(bytes[at])} to ${name(bytes[last])}`);
+    else for (let one = at; one <= last; one++) parts.push(name(bytes[one]));
+    at = last + 1;
+  }
+  return parts.join('  ') || 'no byte';
+}
+
 /** A node of a tree in one line. */
 export function summary(bytes, node) {
   if (node.members) return `${node.type} of ${node.count ?? 'unknown number'}${pairs(node)}`;

@@ -1,7 +1,7 @@
 // The page: fields, the picture of the bytes, the tree, the cut and the conversation.
 import { load, STANDARD } from './library.mjs';
 import { BYTE, Capture, index, nodeAt, rowsOf } from './capture.mjs';
-import { explain, fromBase64, fromEscapes, fromHex, glyph, summary, toBase64, toEscapes, toJson } from './text.mjs';
+import { explain, fromBase64, fromEscapes, fromHex, glyph, named, summary, toBase64, toEscapes, toJson } from './text.mjs';
 import { converse } from './conversation.mjs';
 import { Rows } from './rows.mjs';
 import { EXAMPLES, TALK } from './examples.mjs';
@@ -139,7 +139,7 @@ class Page {
       this.capture = new Capture(this.library, bytes, found.indexed);
       this.starts = found.rows;
     } catch (error) {
-      return this.say(`${error.message}: a limit is outside its range.`, true);
+      return this.say(error.message === 'BadLimits' ? 'A limit is outside its range.' : `The input was not read: ${error.message}`, true);
     }
     this.opened.clear();
     this.chosen = null;
@@ -160,7 +160,7 @@ class Page {
   // Reads a large capture in a worker, with a bar for its progress.
   readBeside(bytes, settings, width) {
     const source = new Blob([$('worker').textContent], { type: 'text/javascript' });
-    this.worker = new Worker(URL.createObjectURL(source), { type: 'module' });
+    this.worker = new Worker(URL.createObjectURL(source));
     $('progress').classList.remove('hidden');
     this.say(`Reading ${plural(bytes.length, 'byte')}.`);
     return new Promise((resolve, reject) => {
@@ -169,7 +169,7 @@ class Page {
         else if (data.error) reject(new Error(data.error));
         else resolve(data);
       };
-      this.worker.onerror = (event) => reject(new Error(event.message));
+      this.worker.onerror = (event) => reject(new Error(event.message || 'the worker did not start'));
       this.worker.postMessage({ module: this.module, bytes, settings, width });
     }).finally(() => {
       $('progress').classList.add('hidden');
@@ -183,7 +183,8 @@ class Page {
     const values = plural(ends.length, 'complete value');
     if (refused) {
       const where = `Byte ${refused.at.toLocaleString('en')} is refused: ${refused.cause}.`;
-      this.say(`${where} ${explain(this.bytes, refused, this.capture)} Before it: ${values}.`, true);
+      const valid = `Valid here: ${named(this.capture.valid(refused.at))}.`;
+      this.say(`${where} ${explain(this.bytes, refused, this.capture)} ${valid} Before it: ${values}.`, true);
     } else if (truncated) {
       const { needed } = this.capture.known(length);
       this.say(`${values}. The input ends inside a value that begins at byte ${begun.toLocaleString('en')}. At least ${plural(needed, 'more byte')} ${needed === 1 ? 'is' : 'are'} needed.`);
@@ -204,7 +205,7 @@ class Page {
     $('cut-place').textContent = `${cut.toLocaleString('en')} of ${plural(this.bytes.length, 'byte')} have arrived`;
     const facts = known.cause
       ? [['Complete values', known.values], ['Refused', known.cause]]
-      : [['Complete values', known.values], ['Bytes of the next value', known.taken], ['Open aggregates', known.depth], ['At least missing', known.needed]];
+      : [['Complete values', known.values], ['Bytes of the next value', known.taken], ['Open aggregates', known.depth], ['At least missing', known.needed], ['Valid next', named(this.capture.valid(cut))]];
     $('known').replaceChildren(...facts.map(([name, fact]) =>
       element('div', '', element('dt', '', name), element('dd', '', fact.toLocaleString('en')))));
     this.picture.now();

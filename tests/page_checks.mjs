@@ -46,7 +46,16 @@ function found(library, { bytes, version, limits }) {
   const { refused, truncated, ends } = capture;
   const end = refused ? `${refused.cause} at ${refused.taken}` : truncated ? `Truncated at ${known.taken}` : 'whole';
   const marked = refused ? kinds.indexOf(BYTE.refused) === refused.at : !kinds.includes(BYTE.refused);
-  return { lines, end, values: ends.length, taken: known.taken, needed: known.needed, depth: known.depth, marked, steady: isSteady(capture) };
+  return { lines, end, values: ends.length, taken: known.taken, needed: known.needed, depth: known.depth, marked, steady: isSteady(capture) && isFollowed(capture) };
+}
+
+/** Whether the next byte is valid at a cut in the middle, and not at the refused byte. */
+function isFollowed(capture) {
+  const { bytes, refused } = capture;
+  const end = refused ? refused.at : bytes.length;
+  const middle = end >> 1;
+  if (middle < end && !capture.valid(middle).includes(bytes[middle])) return false;
+  return refused === null || !capture.valid(refused.at).includes(bytes[refused.at]);
 }
 
 /** Whether every cut of a short input knows a front of what the whole input shows. */
