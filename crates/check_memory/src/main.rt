@@ -10,6 +10,7 @@ mod encoding;
 mod engines;
 mod framing;
 mod given;
+mod multiplexing;
 mod outcome;
 mod pipelining;
 mod scheduling;
@@ -61,7 +62,7 @@ fn print(rt: &impl Print, parts: &[Part]) -> Result<()> {
 }
 
 /// Runs each part, and returns their outcomes in order.
-fn parts(alloc: Global) -> [Part; 31] {
+fn parts(alloc: Global) -> [Part; 36] {
     [
         ("decode a piece", decoding::of_one_piece(alloc)),
         ("decode bytes", decoding::of_single_bytes(alloc)),
@@ -90,6 +91,11 @@ fn parts(alloc: Global) -> [Part; 31] {
         ("ask", engines::of_ask(alloc)),
         ("serve", engines::of_serve(alloc)),
         ("schedule open", scheduling::of_open(alloc)),
+        ("mux open", multiplexing::of_open(alloc)),
+        ("mux forward", multiplexing::of_forward(alloc)),
+        ("mux own", multiplexing::of_own(alloc)),
+        ("mux answer", multiplexing::of_answer(alloc)),
+        ("mux lose", multiplexing::of_lose(alloc)),
         ("world", worlds::of_run(alloc)),
         ("framed values in", framing::of_values_in(alloc)),
         ("framed commands in", framing::of_commands_in(alloc)),
