@@ -8,6 +8,7 @@
 mod decoding;
 mod encoding;
 mod engines;
+mod frames;
 mod framing;
 mod given;
 mod multiplexing;
@@ -62,7 +63,7 @@ fn print(rt: &impl Print, parts: &[Part]) -> Result<()> {
 }
 
 /// Runs each part, and returns their outcomes in order.
-fn parts(alloc: Global) -> [Part; 36] {
+fn parts(alloc: Global) -> [Part; 38] {
     [
         ("decode a piece", decoding::of_one_piece(alloc)),
         ("decode bytes", decoding::of_single_bytes(alloc)),
@@ -96,6 +97,8 @@ fn parts(alloc: Global) -> [Part; 36] {
         ("mux own", multiplexing::of_own(alloc)),
         ("mux answer", multiplexing::of_answer(alloc)),
         ("mux lose", multiplexing::of_lose(alloc)),
+        ("frames", frames::of_next(alloc)),
+        ("take reply", frames::of_join(alloc)),
         ("world", worlds::of_run(alloc)),
         ("framed values in", framing::of_values_in(alloc)),
         ("framed commands in", framing::of_commands_in(alloc)),

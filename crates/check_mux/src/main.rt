@@ -15,7 +15,7 @@ use anyhow::Result;
 use world::World;
 
 /// The number of events of a run.
-const EVENTS: u64 = 60_000;
+const EVENTS: u64 = 20_000;
 
 fn main(rt: HostRuntime) -> Result<()> {
     let alloc = rt.alloc();

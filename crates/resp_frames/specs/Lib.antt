@@ -1,0 +1,5 @@
+-- The definitions that callers read.
+pub mod Texts
+pub mod Framing
+pub mod Commands
+pub mod Laws

@@ -1,0 +1,29 @@
+//! The value that a connection has begun.
+
+ghost use Rattle.resp_frames.specs.Framing.{HasBegun};
+ghost use Rattle.resp_value.specs.Rules.{Rules};
+ghost use Rattle.std.specs.Prelude.{[]};
+
+use resp_scan::scanner::Scanner;
+
+/// The bytes of a value that has begun, and the scanner that has read them.
+#[derive(Drop)]
+pub(crate) struct Held {
+    pub(crate) scanner: Scanner,
+    pub(crate) bytes: Vec<u8>,
+}
+
+/// The value that a connection has begun. Between two values it holds no memory.
+#[derive(Drop)]
+pub struct Begun {
+    pub(crate) held: Option<Box<Held>>,
+}
+
+impl Begun {
+    /// Returns a connection between two values.
+    pub fn new() -> Begun
+        ensures nothing { (rules : Rules) → HasBegun rules result [] }
+    {
+        Begun { held: None }
+    }
+}

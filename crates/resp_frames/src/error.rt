@@ -1,0 +1,19 @@
+//! The error of a piece.
+
+use resp_scan::event::Fault;
+use thiserror::Error;
+
+/// The error of [`Frames::next`](crate::Frames::next) and
+/// [`Frames::next_command`](crate::Frames::next_command). The connection has no value begun after it.
+#[derive(Clone, Copy, Debug, PartialEq, Eq, Error)]
+pub enum FrameError {
+    /// A byte was rejected.
+    #[error(transparent)]
+    Fault(Fault),
+    /// The value is no command.
+    #[error("the value is no command")]
+    NotACommand,
+    /// An allocation failed.
+    #[error("out of memory")]
+    OutOfMemory,
+}

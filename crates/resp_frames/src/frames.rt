@@ -1,0 +1,206 @@
+//! Where values end.
+
+ghost use Rattle.std.specs.Prelude.{◌≡◌, ◌++◌, ℕ, List, None, false, true, [], IfErr, IfNone, IfOk, IfSome, OnErr};
+ghost use Rattle.resp_value.specs.Rules.{Rules, rules_under};
+ghost use Rattle.resp_frames.specs.Framing.{EndsWithin, HasBegun, IsFrame, IsHeld, OnFault, RejectsByte};
+ghost use Rattle.resp_scan.specs.Reading.{HasNoValue};
+
+use crate::begun::{Begun, Held};
+use crate::error::FrameError;
+use crate::frame::Frame;
+use crate::nobody::Nobody;
+use resp_scan::event::{ScanError, Scanned};
+use resp_scan::scanner::Scanner;
+use resp_value::limits::Limits;
+use resp_value::version::Version;
+use std::alloc::{AllocError, Global};
+use std::mem;
+
+/// Finds the ends of values, for any number of connections of one version and with the same limits.
+///
+/// One scanner serves all connections. It moves into a block of a connection only if a piece ends
+/// inside a value.
+#[derive(Drop)]
+pub struct Frames {
+    alloc: Global,
+    pub(crate) version: Version,
+    pub(crate) limits: Limits,
+    pub(crate) scanner: Scanner,
+}
+
+impl Frames {
+    ghost use Rattle.resp_frames.specs.Framing.{IsReady, WhereBegun, frame_rules};
+
+    /// Returns frames for values of this version with these limits. Does not allocate.
+    pub fn new(alloc: Global, version: Version, limits: &Limits) -> Frames
+        ensures ready { IsReady result }
+        ensures rules { frame_rules result ≡ rules_under version limits.now }
+    {
+        Frames {
+            alloc,
+            version,
+            limits: *limits,
+            scanner: Scanner::new(version, limits),
+        }
+    }
+
+    /// Finds the end of the value that the connection has begun, or of the value at the beginning of
+    /// the piece. Returns the bytes of the value, or `None` if it does not end in the piece. Then all
+    /// bytes of the piece are held. Call it again with the bytes after the value.
+    ///
+    /// # Errors
+    ///
+    /// - `Fault` at the first byte that no value within the limits could contain there.
+    /// - `OutOfMemory` if an allocation fails. Only a value that does not lie whole in a piece needs
+    ///   memory.
+    ///
+    /// The connection is between two values afterwards, and the bytes that it had begun are lost.
+    pub fn next<'a>(
+        &mut self,
+        begun: &mut Begun,
+        piece: &'a [u8],
+    ) -> Result<Option<Frame<'a>>, FrameError>
+        // The bytes that came since the last value are a spelling, and the next value may begin.
+        ensures whole { WhereBegun self.old begun.old (λ front. IfOk result (λ found.
+            IfSome found (λ frame. IsFrame (frame_rules self.old) front piece.now frame ×
+            HasBegun (frame_rules self.old) begun.new []))) }
+
+        // No value has ended, in any version and under any limits.
+        ensures more { WhereBegun self.old begun.old (λ front. IfOk result (λ found.
+            IfNone found (HasNoValue (front ++ piece.now) ×
+            HasBegun (frame_rules self.old) begun.new (front ++ piece.now)))) }
+
+        // The byte is the first that cannot follow the bytes before it, and the fault has its cause.
+        ensures refused { WhereBegun self.old begun.old (λ front. IfErr result (λ error.
+            OnFault error (RejectsByte (frame_rules self.old) front piece.now))) }
+        ensures nothing_begun { OnErr result (HasBegun (frame_rules self.old) begun.new []) }
+        ensures ready { IsReady self.old → IsReady self.new }
+        ensures same_rules { frame_rules self.new ≡ frame_rules self.old }
+    {
+        match begun.held.take() {
+            Some(held) => resume(begun, held, piece),
+            None => self.begin(begun, piece),
+        }
+    }
+
+    /// Does what [`Frames::next`] does if no value has begun.
+    fn begin<'a>(
+        &mut self,
+        begun: &mut Begun,
+        piece: &'a [u8],
+    ) -> Result<Option<Frame<'a>>, FrameError>
+        ensures whole { IsReady self.old → IfOk result (λ found. IfSome found (λ frame.
+            IsFrame (frame_rules self.old) [] piece.now frame × (begun.new ≡ begun.old))) }
+        ensures more { IsReady self.old → begun.old.held ≡ None → IfOk result (λ found.
+            IfNone found (HasNoValue piece.now ×
+            HasBegun (frame_rules self.old) begun.new piece.now)) }
+        ensures refused { IsReady self.old → IfErr result (λ error.
+            OnFault error (RejectsByte (frame_rules self.old) [] piece.now)) }
+        ensures nothing_begun { OnErr result (begun.new ≡ begun.old) }
+        ensures ready { IsReady self.old → IsReady self.new }
+        ensures same_rules { frame_rules self.new ≡ frame_rules self.old }
+    {
+        let scanned = match self.scanner.scan(piece, &mut Nobody) {
+            Ok(scanned) => scanned,
+            Err(error) => {
+                self.scanner = Scanner::new(self.version, &self.limits);
+                return Err(frame_error(error));
+            }
+        };
+        if scanned.is_whole {
+            return Ok(Some(Frame::InPiece(&piece[..scanned.used])));
+        }
+        let scanner = mem::replace(&mut self.scanner, Scanner::new(self.version, &self.limits));
+        if piece.is_empty() {
+            return Ok(None);
+        }
+        let Ok(held) = hold(self.alloc, scanner, piece) else {
+            return Err(FrameError::OutOfMemory);
+        };
+        begun.held = Some(held);
+        Ok(None)
+    }
+}
+
+/// Returns the error of a scan by a listener that never stops.
+fn frame_error(error: ScanError) -> FrameError
+    ensures { OnFault result (λ fault. error ≡ ScanError.Fault fault) }
+{
+    match error {
+        ScanError::Fault(fault) => FrameError::Fault(fault),
+        ScanError::Stopped { taken: _ } => FrameError::OutOfMemory,
+    }
+}
+
+/// Copies the bytes that a scanner has read.
+fn hold(alloc: Global, scanner: Scanner, piece: &[u8]) -> Result<Box<Held>, AllocError>
+    ensures scanner { IfOk result (λ held. held.value.scanner ≡ scanner) }
+    ensures bytes { IfOk result (λ held. held.value.bytes.items ≡ piece.now) }
+{
+    let bytes = Vec::from_slice(alloc, piece)?;
+    Ok(Box::new(alloc, Held { scanner, bytes })?)
+}
+
+/// Does what [`Frames::next`] does with the bytes that are held. The connection has begun no value.
+fn resume<'a>(
+    begun: &mut Begun,
+    held: Box<Held>,
+    piece: &'a [u8],
+) -> Result<Option<Frame<'a>>, FrameError>
+    ensures whole { (rules : Rules) (front : List ℕ) → IsHeld rules held.value front →
+        IfOk result (λ found. IfSome found (λ frame. IsFrame rules front piece.now frame ×
+        (begun.new ≡ begun.old))) }
+    ensures more { (rules : Rules) (front : List ℕ) → IsHeld rules held.value front →
+        IfOk result (λ found. IfNone found (HasNoValue (front ++ piece.now) ×
+        HasBegun rules begun.new (front ++ piece.now))) }
+    ensures refused { (rules : Rules) (front : List ℕ) → IsHeld rules held.value front →
+        IfErr result (λ error. OnFault error (RejectsByte rules front piece.now)) }
+    ensures nothing_begun { OnErr result (begun.new ≡ begun.old) }
+{
+    let mut held = held;
+    let scanned = match extend(&mut held, piece) {
+        Ok(scanned) => scanned,
+        Err(error) => return Err(error),
+    };
+    if scanned.is_whole {
+        return Ok(Some(Frame::Held {
+            used: scanned.used,
+            text: bytes_of(held),
+        }));
+    }
+    begun.held = Some(held);
+    Ok(None)
+}
+
+/// Reads the piece up to the end of the value that is held, and holds the bytes that were read.
+fn extend(held: &mut Held, piece: &[u8]) -> Result<Scanned, FrameError>
+    ensures whole { (rules : Rules) (front : List ℕ) → IsHeld rules held.old front →
+        IfOk result (λ scanned. scanned.is_whole ≡ true →
+        EndsWithin rules held.new front piece.now scanned.used) }
+    ensures more { (rules : Rules) (front : List ℕ) → IsHeld rules held.old front →
+        IfOk result (λ scanned. scanned.is_whole ≡ false →
+        HasNoValue (front ++ piece.now) × IsHeld rules held.new (front ++ piece.now)) }
+    ensures refused { (rules : Rules) (front : List ℕ) → IsHeld rules held.old front →
+        IfErr result (λ error. OnFault error (RejectsByte rules front piece.now)) }
+{
+    let scanned = match held.scanner.scan(piece, &mut Nobody) {
+        Ok(scanned) => scanned,
+        Err(error) => return Err(frame_error(error)),
+    };
+    if held
+        .bytes
+        .extend_from_slice(&piece[..scanned.used])
+        .is_err()
+    {
+        return Err(FrameError::OutOfMemory);
+    }
+    Ok(scanned)
+}
+
+/// Returns the bytes that are held, and drops the scanner.
+fn bytes_of(held: Box<Held>) -> Vec<u8>
+    ensures { result.items ≡ held.value.bytes.items }
+{
+    let Held { scanner: _, bytes } = Box::into_inner(held);
+    bytes
+}

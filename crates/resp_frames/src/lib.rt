@@ -1,0 +1,18 @@
+//! Whole values among bytes that come in pieces of any size, without building them.
+//!
+//! [`Frames::next`] finds the end of the next value of a connection and lends its bytes. A value that
+//! lies whole in a piece is not copied. Only a connection that has begun a value holds memory.
+#![tactic(auto)]
+
+mod begun;
+mod commands;
+mod error;
+mod frame;
+mod frames;
+pub mod laws;
+mod nobody;
+
+pub use begun::Begun;
+pub use error::FrameError;
+pub use frame::Frame;
+pub use frames::Frames;
