@@ -1,8 +1,8 @@
 //! Whole commands.
 
-ghost use Rattle.std.specs.Prelude.{◌≡◌, ◌++◌, [], IfErr, IfNone, IfOk, IfSome, IsTrue};
+ghost use Rattle.std.specs.Prelude.{◌≡◌, ◌++◌, [], IfErr, IfNone, IfOk, IfSome, IsErrOf, IsTrue, false};
 ghost use Rattle.resp_frames.specs.declared.frame.Frame.TheVariants.{InPiece};
-ghost use Rattle.resp_frames.specs.Commands.{IsCommand, IsCommandFrame};
+ghost use Rattle.resp_frames.specs.Commands.{EndsOther, IsCommand, IsCommandFrame};
 ghost use Rattle.resp_frames.specs.Framing.{HasBegun, IsReady, OnFault, RejectsByte, WhereBegun, frame_limits, frame_rules};
 ghost use Rattle.resp_scan.specs.Reading.{HasNoValue};
 
@@ -11,6 +11,7 @@ use crate::error::FrameError;
 use crate::frame::Frame;
 use crate::frames::Frames;
 use resp_scan::whole;
+use resp_value::laws::no_spelling_begins_another;
 use resp_value::limits::Limits;
 
 impl Frames {
@@ -39,6 +40,11 @@ impl Frames {
         // The byte is the first that cannot follow the bytes before it, and the fault has its cause.
         ensures refused { WhereBegun self.old begun.old (λ front. IfErr result (λ error.
             OnFault error (RejectsByte (frame_rules self.old) front piece.now))) }
+
+        // A value has ended that is no command.
+        ensures no_command { WhereBegun self.old begun.old (λ front.
+            IsErrOf result FrameError.NotACommand →
+            EndsOther (frame_rules self.old) (frame_limits self.old) front piece.now) }
         ensures ready { IsReady self.old → IsReady self.new }
         ensures same_rules { frame_rules self.new ≡ frame_rules self.old }
     {
@@ -73,8 +79,10 @@ fn command_of_piece<'a>(piece: &'a [u8], limits: &Limits) -> Option<&'a [u8]>
 
 /// Returns whether the bytes are a command and nothing else.
 fn is_command(text: &[u8], limits: &Limits) -> bool
-    ensures { IsTrue result → IsCommand limits.now text.now }
+    ensures command { IsTrue result → IsCommand limits.now text.now }
+    ensures other { result ≡ false → IsCommand limits.now text.now → ⊥ }
 {
+    no_spelling_begins_another();
     match whole::command(text, limits) {
         Some(command) => command.rest.is_empty(),
         None => false,

@@ -1,6 +1,6 @@
 //! Where values end.
 
-ghost use Rattle.std.specs.Prelude.{◌≡◌, ◌++◌, ℕ, List, None, false, true, [], IfErr, IfNone, IfOk, IfSome, OnErr};
+ghost use Rattle.std.specs.Prelude.{◌≡◌, ◌++◌, ℕ, List, None, false, true, [], IfErr, IfNone, IfOk, IfSome, IsErrOf, OnErr, ◌≢◌};
 ghost use Rattle.resp_value.specs.Rules.{Rules, rules_under};
 ghost use Rattle.resp_frames.specs.Framing.{EndsWithin, HasBegun, IsFrame, IsHeld, OnFault, RejectsByte};
 ghost use Rattle.resp_scan.specs.Reading.{HasNoValue};
@@ -74,6 +74,7 @@ impl Frames {
         ensures refused { WhereBegun self.old begun.old (λ front. IfErr result (λ error.
             OnFault error (RejectsByte (frame_rules self.old) front piece.now))) }
         ensures nothing_begun { OnErr result (HasBegun (frame_rules self.old) begun.new []) }
+        ensures any_value { IsErrOf result FrameError.NotACommand → ⊥ }
         ensures ready { IsReady self.old → IsReady self.new }
         ensures same_rules { frame_rules self.new ≡ frame_rules self.old }
     {
@@ -97,6 +98,7 @@ impl Frames {
         ensures refused { IsReady self.old → IfErr result (λ error.
             OnFault error (RejectsByte (frame_rules self.old) [] piece.now)) }
         ensures nothing_begun { OnErr result (begun.new ≡ begun.old) }
+        ensures any_value { IsErrOf result FrameError.NotACommand → ⊥ }
         ensures ready { IsReady self.old → IsReady self.new }
         ensures same_rules { frame_rules self.new ≡ frame_rules self.old }
     {
@@ -124,7 +126,8 @@ impl Frames {
 
 /// Returns the error of a scan by a listener that never stops.
 fn frame_error(error: ScanError) -> FrameError
-    ensures { OnFault result (λ fault. error ≡ ScanError.Fault fault) }
+    ensures fault { OnFault result (λ fault. error ≡ ScanError.Fault fault) }
+    ensures any_value { result ≢ FrameError.NotACommand }
 {
     match error {
         ScanError::Fault(fault) => FrameError::Fault(fault),
@@ -156,6 +159,7 @@ fn resume<'a>(
     ensures refused { (rules : Rules) (front : List ℕ) → IsHeld rules held.value front →
         IfErr result (λ error. OnFault error (RejectsByte rules front piece.now)) }
     ensures nothing_begun { OnErr result (begun.new ≡ begun.old) }
+    ensures any_value { IsErrOf result FrameError.NotACommand → ⊥ }
 {
     let mut held = held;
     let scanned = match extend(&mut held, piece) {
@@ -182,6 +186,7 @@ fn extend(held: &mut Held, piece: &[u8]) -> Result<Scanned, FrameError>
         HasNoValue (front ++ piece.now) × IsHeld rules held.new (front ++ piece.now)) }
     ensures refused { (rules : Rules) (front : List ℕ) → IsHeld rules held.old front →
         IfErr result (λ error. OnFault error (RejectsByte rules front piece.now)) }
+    ensures any_value { IsErrOf result FrameError.NotACommand → ⊥ }
 {
     let scanned = match held.scanner.scan(piece, &mut Nobody) {
         Ok(scanned) => scanned,

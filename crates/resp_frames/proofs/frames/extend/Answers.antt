@@ -5,7 +5,7 @@ use Rattle.resp_frames.proofs.frames.extend.Goals as goal
 
 pub returns-in-Err-clause-refused : goal.returns-in-Err-clause-refused
 returns-in-Err-clause-refused c rules front h =
-    rejected c.frame_error.result c.in-Err.error _ _ _ front c.args.piece.now h.same_rules c.frame_error.ensures
+    rejected c.frame_error.result c.in-Err.error _ _ _ front c.args.piece.now h.same_rules c.frame_error.ensures.fault
     (c.in-Err.ensures.refusal tt front h.given h.read tt)
 
 pub returns-clause-whole : goal.returns-clause-whole

@@ -9,7 +9,7 @@ use Rattle.resp_frames.proofs.frames.Frames.begin.Goals as goal
 
 pub returns-in-Err-clause-refused : goal.returns-in-Err-clause-refused
 returns-in-Err-clause-refused c ready =
-    rejected c.frame_error.result c.in-Err.error _ _ _ [] c.args.piece.now ready.same_rules c.frame_error.ensures
+    rejected c.frame_error.result c.in-Err.error _ _ _ [] c.args.piece.now ready.same_rules c.frame_error.ensures.fault
     (c.in-Err.ensures.refusal tt [] [] ready.between tt)
 
 pub returns-then-scanned-clause-whole : goal.returns-then-scanned-clause-whole
