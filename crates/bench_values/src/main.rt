@@ -1,11 +1,12 @@
 //! Benchmarks of the encoder, the scanner and the decoder, to be compared with others.
 //!
 //! It is a separate program, because the speed of a call depends on the rest of the program. The
-//! arguments name a part, `encode` or `scan`, and its options. Without an argument each part counts
-//! its work on short texts, with the same output in every run.
+//! arguments name a part, `encode`, `frames` or `scan`, and its options. Without an argument the first
+//! and the last part count their work on short texts, with the same output in every run.
 #![tactic(auto)]
 
 mod encode;
+mod frames;
 mod scan;
 mod texts;
 
@@ -23,10 +24,13 @@ fn nanos(rt: &HostRuntime) -> Result<u128> {
     Ok(rt.thread_cpu_time()?.as_nanos())
 }
 
-/// Runs the part that the arguments name, or both parts if they name no part.
+/// Runs the part that the arguments name, or `encode` and `scan` if they name no part.
 fn main(rt: HostRuntime) -> Result<()> {
     let words: Vec<String> = env::args(&rt)?.collect(rt.alloc())?;
     let words = words.as_slice();
+    if has(words, "frames") {
+        return frames::bench(&rt, words);
+    }
     if !has(words, "scan") {
         encode::bench(&rt, words)?;
     }

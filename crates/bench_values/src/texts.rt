@@ -86,6 +86,24 @@ pub(crate) const MAP: Text = Text {
     end: b"",
 };
 
+/// A command of two words.
+pub(crate) const GET: Text = Text {
+    name: "GET commands",
+    head: b"*2\r\n$3\r\nGET\r\n",
+    part: b"$16\r\nxxxxxxxxxxxxxxxx\r\n",
+    count: 1,
+    end: b"",
+};
+
+/// A command of three words.
+pub(crate) const SET: Text = Text {
+    name: "SET commands",
+    head: b"*3\r\n$3\r\nSET\r\n",
+    part: b"$16\r\nxxxxxxxxxxxxxxxx\r\n",
+    count: 2,
+    end: b"",
+};
+
 impl Text {
     /// Returns the bytes of the text.
     pub(crate) fn bytes(&self, alloc: Global) -> Result<Vec<u8>, AllocError> {
