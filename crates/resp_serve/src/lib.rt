@@ -14,6 +14,7 @@
 mod connection;
 mod event_loop;
 mod non_blocking;
+mod own_address;
 mod server;
 mod service;
 mod tapped;

@@ -10,6 +10,8 @@ use resp_tap::way::{Visited, Way};
 use resp_value::device::{Device, Sink};
 use resp_value::limits::Limits;
 use std::alloc::{AllocError, Global};
+use std::io;
+use std::io::ErrorKind;
 use std::net::Shutdown;
 use std::rt::Clock;
 
@@ -35,11 +37,24 @@ enum Lately {
     Failed,
 }
 
+/// Whether the connection to the server stands.
+#[derive(Drop)]
+pub(crate) enum Standing {
+    /// The server has not accepted the connection yet.
+    Connecting,
+    /// The connection stands. `is_new` is true the first time.
+    Connected { is_new: bool },
+    /// The connection could not be opened.
+    Failed(io::Error),
+}
+
 /// The connection of a client, and the connection to the server for it.
 #[derive(Drop)]
 pub(crate) struct Tapped {
     client: TcpStream,
     server: TcpStream,
+    /// Whether the connection to the server stands. Nothing is read from the client before.
+    is_connected: bool,
     to_server: Lane,
     to_client: Lane,
     tap: TimedTap,
@@ -119,6 +134,22 @@ impl<W: Sink, C: Clock> Seeing<'_, W, C> {
     }
 }
 
+/// Returns whether a connection stands that was begun.
+///
+/// # Errors
+///
+/// The error of the system if the connection can't be opened.
+fn stands(server: &TcpStream) -> io::Result<bool> {
+    if let Some(error) = server.take_error()? {
+        return Err(error);
+    }
+    match server.peer_addr() {
+        Ok(_) => Ok(true),
+        Err(error) if error.kind() == ErrorKind::NotConnected => Ok(false),
+        Err(error) => Err(error),
+    }
+}
+
 impl Tapped {
     /// Returns a connection of which nothing was read.
     pub(crate) fn new(
@@ -131,11 +162,32 @@ impl Tapped {
         Ok(Tapped {
             client,
             server,
+            is_connected: false,
             to_server: Lane::new(alloc)?,
             to_client: Lane::new(alloc)?,
             tap: TimedTap::new(alloc, limits),
             number,
         })
+    }
+
+    /// Returns whether the connection to the server stands. The system is asked until it does.
+    pub(crate) fn standing(&mut self) -> Standing {
+        if self.is_connected {
+            return Standing::Connected { is_new: false };
+        }
+        match stands(&self.server) {
+            Ok(false) => Standing::Connecting,
+            Ok(true) => {
+                self.is_connected = true;
+                Standing::Connected { is_new: true }
+            }
+            Err(error) => Standing::Failed(error),
+        }
+    }
+
+    /// Returns whether the connection to the server has ever stood.
+    pub(crate) fn is_connected(&self) -> bool {
+        self.is_connected
     }
 
     /// Forwards the bytes received, until each call would block or the allowed number of pieces was

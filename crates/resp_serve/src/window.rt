@@ -1,8 +1,9 @@
 //! The window: its loop, its screen, and what it does with a connection.
 
 use crate::event_loop::Loop;
+use crate::own_address::{comes_back, is_own};
 use crate::service::{Next, Service, Tokens};
-use crate::tapped::Tapped;
+use crate::tapped::{Standing, Tapped};
 use crate::terminal::Terminal;
 use crate::timing::Timing;
 use mio::net::TcpStream;
@@ -29,8 +30,15 @@ const WRITES: usize = 64;
 /// The time until waiting text is printed again, in milliseconds.
 const PATIENCE: u64 = 5;
 
+/// The end of the line about a client for which memory is out.
+const NOT_CONNECTED: &[u8] = b" not connected";
+
+/// Why the tap does not listen on the address of the server.
+const COMES_BACK: &str = "connections to the server would come back to this address";
+
 /// Forwards connections to a server, and prints their traffic. Each client gets its own connection
-/// to the server, and the bytes of both sides are forwarded unchanged.
+/// to the server, and the bytes of both sides are forwarded unchanged. Nothing is read from a client
+/// before its connection to the server stands.
 ///
 /// A side is not read while its bytes wait to be forwarded. Connections with much to do are visited
 /// in turns. Text is written as far as standard output accepts it without blocking. At most
@@ -46,6 +54,8 @@ pub struct Window {
 struct View {
     alloc: Global,
     server: SocketAddr,
+    /// The address of the server, as it is printed.
+    server_text: String,
     limits: Limits,
     /// The number of connections that were accepted.
     count: u64,
@@ -69,8 +79,9 @@ impl Window {
     ///
     /// # Errors
     ///
-    /// The error of the system if the address can't be opened or a clock can't be read, or an error
-    /// of kind `OutOfMemory` if an allocation fails.
+    /// The error of the system if the address can't be opened or a clock can't be read, an error of
+    /// kind `InvalidInput` if the address of the server is the address to listen on, or an error of
+    /// kind `OutOfMemory` if an allocation fails.
     pub fn listen<R: Net + Clock + Files<File = File>>(
         rt: &R,
         alloc: Global,
@@ -80,11 +91,16 @@ impl Window {
         most: usize,
         tells_time: bool,
     ) -> io::Result<Self> {
+        let connections = Loop::listen(rt, alloc, address, most)?;
+        if comes_back(server, connections.address()?, is_own(rt, server.ip())) {
+            return Err(io::Error::new(ErrorKind::InvalidInput, COMES_BACK));
+        }
         Ok(Window {
-            connections: Loop::listen(rt, alloc, address, most)?,
+            connections,
             view: View {
                 alloc,
                 server,
+                server_text: format!(in alloc; "{server}")?,
                 limits,
                 count: 0,
                 screen: Screen::new(alloc, SCREEN),
@@ -153,12 +169,30 @@ impl View {
         let _ = write_client_line(client, what, stamp, &mut self.screen);
     }
 
-    /// Forwards the bytes of a connection.
+    /// Prints that no connection to the server could be opened for a client, and why.
+    fn tell_failure(&mut self, clock: &impl Clock, client: u64, error: &io::Error) {
+        let server = self.server_text.as_str();
+        match format!(in self.alloc; ": cannot connect to {server}: {error}") {
+            Ok(line) => self.tell(clock, client, line.as_str().as_bytes()),
+            Err(_) => self.tell(clock, client, NOT_CONNECTED),
+        }
+    }
+
+    /// Forwards the bytes of a connection once the connection to the server stands.
     fn visit(&mut self, connection: &mut Tapped, is_at_end: bool, clock: &impl Clock) -> Next {
+        let is_at_end = match connection.standing() {
+            Standing::Connecting => return Next::Wait,
+            // The event that reports the end of an input may already have passed.
+            Standing::Connected { is_new } => is_at_end || is_new,
+            Standing::Failed(error) => {
+                self.tell_failure(clock, connection.number, &error);
+                return Next::Close;
+            }
+        };
         connection.hand_on(is_at_end, clock, &mut self.timing, &mut self.screen)
     }
 
-    /// Connects to the server for a client, and returns both connections.
+    /// Begins to connect to the server for a client, and returns both connections.
     fn connect(
         &self,
         net: &impl Net,
@@ -200,15 +234,15 @@ impl<R: Net + Clock, W: LiveSink> Service<Tapped> for Watching<'_, R, W> {
     ) -> io::Result<Tapped> {
         let number = self.view.next_number();
         let admitted = self.view.connect(self.rt, client, number, registry, tokens);
-        if admitted.is_err() {
-            self.view.tell(self.rt, number, b" not connected");
+        if let Err(error) = &admitted {
+            self.view.tell_failure(self.rt, number, error);
         }
         admitted
     }
 
     fn lose(&mut self) {
         let number = self.view.next_number();
-        self.view.tell(self.rt, number, b" not connected");
+        self.view.tell(self.rt, number, NOT_CONNECTED);
     }
 
     fn visit(&mut self, connection: &mut Tapped, is_at_end: bool) -> Next {
@@ -216,7 +250,9 @@ impl<R: Net + Clock, W: LiveSink> Service<Tapped> for Watching<'_, R, W> {
     }
 
     fn close(&mut self, connection: Tapped) {
-        self.view.tell(self.rt, connection.number, b" gone");
+        if connection.is_connected() {
+            self.view.tell(self.rt, connection.number, b" gone");
+        }
     }
 
     fn patience(&self) -> Option<Duration> {

@@ -1,0 +1,38 @@
+//! Whether connections to a server come back to the listener that forwards them.
+
+ghost use Rattle.std.specs.Prelude.{◌≡◌, true};
+ghost use Rattle.std.specs.Net.Socket.{socket_port};
+
+use mio::net::TcpListener;
+use std::net::{IpAddr, Ipv4Addr, Ipv6Addr, Net, SocketAddr};
+
+/// Returns whether an address is one of this machine's.
+pub(crate) fn is_own(net: &impl Net, ip: IpAddr) -> bool {
+    TcpListener::bind(net, SocketAddr::new(ip, 0)).is_ok()
+}
+
+/// Returns whether connections to `server` reach a listener on the address `listening`. `is_own`
+/// says whether the address of the server is one of this machine's.
+pub(crate) fn comes_back(server: SocketAddr, listening: SocketAddr, is_own: bool) -> bool
+    ensures port { result ≡ true → socket_port server ≡ socket_port listening }
+{
+    server.port() == listening.port() && reaches(reached(server.ip()), listening.ip(), is_own)
+}
+
+/// Returns the address that connections to an address reach: the loopback address if it is
+/// unspecified.
+fn reached(ip: IpAddr) -> IpAddr {
+    match ip.to_canonical() {
+        IpAddr::V4(ip) if ip.is_unspecified() => IpAddr::V4(Ipv4Addr::LOCALHOST),
+        IpAddr::V6(ip) if ip.is_unspecified() => IpAddr::V6(Ipv6Addr::LOCALHOST),
+        ip => ip,
+    }
+}
+
+/// Returns whether a connection to `ip` reaches a listener on the address `listening`. A listener
+/// on `::` accepts connections to all addresses of this machine, and a listener on `0.0.0.0` those
+/// to its addresses of IPv4.
+fn reaches(ip: IpAddr, listening: IpAddr, is_own: bool) -> bool {
+    ip == listening.to_canonical()
+        || is_own && listening.is_unspecified() && (listening.is_ipv6() || ip.is_ipv4())
+}
