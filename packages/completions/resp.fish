@@ -27,3 +27,5 @@ complete -c resp -n $limited -l no-streamed -d 'Rejects streamed strings and agg
 
 complete -c resp -n '__fish_seen_subcommand_from serve tap' -l clients -x -d 'Maximum clients at once, 1 to 65536'
 complete -c resp -n '__fish_seen_subcommand_from tap' -l time -d 'Prints the time in UTC, and how long each reply took'
+complete -c resp -n '__fish_seen_subcommand_from tap' -l exit-with-output -d 'Ends at once if the output fails'
+complete -c resp -n '__fish_seen_subcommand_from tap' -l keep-going -d 'Accepts clients after the output has failed'

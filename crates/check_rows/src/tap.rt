@@ -74,7 +74,7 @@ impl Tapping {
         let text = bytes(alloc, given)?;
         let mut screen = Screen::new(alloc, MOST);
         for piece in pieces(alloc, text.as_slice(), cut)? {
-            watch(&mut self.tap, 1, side, piece, self.now, &mut screen);
+            watch(&mut self.tap, 1, side, piece, self.now, &mut screen)?;
         }
         said.push_str(str::from_utf8(screen.text())?)?;
         Ok(())

@@ -6,13 +6,16 @@ use resp_args::tool_error::ToolError;
 use resp_args::words::{refuse_file, stop};
 use resp_print::live::LiveSink;
 use resp_print::text::write_text;
-use resp_serve::{Server, Window};
+use resp_serve::{AfterFailure, Server, Settings, Window};
 use resp_value::device::Sink;
 use std::alloc::{AllocError, Global};
 use std::hash::RandomState;
 use std::io;
 use std::io::ErrorKind;
 use std::net::SocketAddr;
+
+/// The exit status after a failed device.
+const DEVICE_FAILED: u8 = 3;
 
 /// Why the program stops listening for clients.
 #[derive(Drop)]
@@ -67,7 +70,7 @@ fn serve<W: LiveSink>(
     Ok(server.run()?)
 }
 
-/// Runs the tap between clients and the server in the words. Returns the status if that fails.
+/// Runs the tap between clients and the server in the words. Returns the status when it has ended.
 pub fn run_tap<W: LiveSink, F: Sink>(
     rt: &HostRuntime,
     tapping: &Tapping<'_>,
@@ -75,27 +78,38 @@ pub fn run_tap<W: LiveSink, F: Sink>(
     faults: &mut F,
 ) -> Result<u8, AllocError> {
     match tap(rt, tapping, writer) {
-        Ok(()) => Ok(0),
+        // It ends this way only after a write has failed, which was reported then.
+        Ok(()) => Ok(DEVICE_FAILED),
         Err(error) => refuse(rt.alloc(), tapping.address_text, &error, faults),
     }
 }
 
-/// Runs the tap between clients and a server until that fails.
+/// Returns what the words ask for after a failed write. `--exit-with-output` has precedence.
+fn after_failure(tapping: &Tapping<'_>) -> AfterFailure {
+    if tapping.exits_with_output {
+        AfterFailure::End
+    } else if tapping.keeps_going {
+        AfterFailure::KeepGoing
+    } else {
+        AfterFailure::Finish
+    }
+}
+
+/// Runs the tap between clients and a server until that fails, or until its output has failed and
+/// all connections are closed.
 fn tap<W: LiveSink>(
     rt: &HostRuntime,
     tapping: &Tapping<'_>,
     writer: &mut W,
 ) -> Result<(), ListenError> {
     let alloc = rt.alloc();
-    let mut window = Window::listen(
-        rt,
-        alloc,
-        tapping.address,
-        tapping.server,
-        tapping.limits,
-        tapping.clients,
-        tapping.tells_time,
-    )?;
+    let settings = Settings {
+        limits: tapping.limits,
+        most: tapping.clients,
+        tells_time: tapping.tells_time,
+        after_failure: after_failure(tapping),
+    };
+    let mut window = Window::listen(rt, alloc, tapping.address, tapping.server, settings)?;
     write_listening(alloc, window.address()?, writer)?;
     match window.run(rt, writer) {
         Err(error) if error.kind() == ErrorKind::WriteZero => Err(ToolError::Write.into()),

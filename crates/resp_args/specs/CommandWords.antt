@@ -18,6 +18,7 @@ use Rattle.resp_args.specs.declared.options.Options.{Options}
 use Rattle.resp_args.specs.declared.options.Task.{Task}
 use Rattle.resp_args.specs.declared.options.Task.TheVariants.{Show, Check, Canon}
 use Rattle.resp_args.specs.declared.serving.Serving.{Serving}
+use Rattle.resp_args.specs.declared.tapping.TapOptions.{TapOptions}
 use Rattle.resp_args.specs.declared.tapping.Tapping.{Tapping}
 
 -- ---- one option, by the texts that the words or the defaults give for the options of a subcommand
@@ -78,20 +79,34 @@ abbrev pub HasServing : List Row → Serving → Type 0
 HasServing given serving = HasServeWords given serving.address_text.now serving.limits serving.clients ×
     IsSocketText serving.address_text.now serving.address
 
+-- the options of `tap` that are no address
+pub record HasTapOptions (given : List Row) (options : TapOptions) : Type 0 where
+  pub in_limits : HasLimits given options.limits
+  pub with_doubles : options.limits.doubles ≡ true
+  pub at_once : HasSmallNumber given (codes "clients") options.clients
+  pub tells : HasFlag given (codes "time") options.tells_time
+  pub exits : HasFlag given (codes "exit-with-output") options.exits_with_output
+  pub keeps : HasFlag given (codes "keep-going") options.keeps_going
+
 -- the options of `tap`, with the texts of its addresses
-pub record HasTapWords (given : List Row) (address server : Text) (limits : Bounds) (clients : ℕ) (tells_time : Bool) :
-    Type 0 where
-  pub in_limits : HasLimits given limits
-  pub with_doubles : limits.doubles ≡ true
-  pub at_once : HasSmallNumber given (codes "clients") clients
-  pub tells : HasFlag given (codes "time") tells_time
+pub record HasTapWords (given : List Row) (address server : Text) (options : TapOptions) : Type 0 where
+  pub has : HasTapOptions given options
   pub listen_text : first_of (codes "listen") given ≡ Some address
   pub server_text : first_of (codes "server") given ≡ Some server
+
+abbrev pub tap_options_of : Tapping → TapOptions
+tap_options_of tapping = record {
+  limits = tapping.limits;
+  clients = tapping.clients;
+  tells_time = tapping.tells_time;
+  exits_with_output = tapping.exits_with_output;
+  keeps_going = tapping.keeps_going;
+}
 
 -- the options of `tap`, with its addresses
 abbrev pub HasTapping : List Row → Tapping → Type 0
 HasTapping given tapping = (server_text : Text) ×
-    HasTapWords given tapping.address_text.now server_text tapping.limits tapping.clients tapping.tells_time ×
+    HasTapWords given tapping.address_text.now server_text (tap_options_of tapping) ×
     IsSocketText tapping.address_text.now tapping.address × IsSocketText server_text tapping.server
 
 abbrev pub task_word : Task → Text

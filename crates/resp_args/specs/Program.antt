@@ -76,7 +76,8 @@ serve_options = listening_options (address_word (codes "address") ∷ [])
 -- the options of `tap`
 abbrev pub tap_options : List Rule
 tap_options = listening_options
-    (flag_option (codes "time") ∷ address_word (codes "listen") ∷ address_word (codes "server") ∷ [])
+    (flag_option (codes "time") ∷ flag_option (codes "exit-with-output") ∷ flag_option (codes "keep-going") ∷
+    address_word (codes "listen") ∷ address_word (codes "server") ∷ [])
 
 -- ---- subcommands
 

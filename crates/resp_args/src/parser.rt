@@ -70,7 +70,8 @@ const TAP_HELP: &str = r"Examples:
   resp tap --time 127.0.0.1:6380 127.0.0.1:6379 >traffic.txt
 
 Clients connect to LISTEN instead of SERVER. Everything is printed, including
-passwords. The program runs until it is stopped.
+passwords. The program runs until it is stopped. If a write fails, it prints
+nothing more, accepts no client, and ends when the last connection closes.
 
 Exit status:
   2  Usage error
@@ -324,6 +325,16 @@ fn with_tap_options<'a>(alloc: Global, command: Command<'a>) -> Result<Command<'
                 alloc,
                 "time",
                 "Prints the time in UTC, and how long each reply took",
+            ))?
+            .arg(flag(
+                alloc,
+                "exit-with-output",
+                "Ends at once if the output fails",
+            ))?
+            .arg(flag(
+                alloc,
+                "keep-going",
+                "Accepts clients after the output has failed",
             ))?
             .arg(address(
                 alloc,

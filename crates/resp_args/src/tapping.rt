@@ -1,9 +1,8 @@
 //! The options of `resp tap`.
 
-ghost use Rattle.std.specs.Prelude.{ℕ, Bool, List, IfNone, IfOk, IfSome, OnErr};
+ghost use Rattle.std.specs.Prelude.{ℕ, List, IfNone, IfOk, IfSome, OnErr};
 ghost use Rattle.clap.specs.Words.{found_of, rows_of};
-ghost use Rattle.resp_args.specs.CommandWords.{HasTapWords, HasTapping};
-ghost use Rattle.resp_value.specs.Bounds.{Bounds};
+ghost use Rattle.resp_args.specs.CommandWords.{HasTapOptions, HasTapWords, HasTapping};
 
 use crate::asked::NothingAsked;
 use crate::options::{address_of, flag_of, limits_of, small_number_of, text_of};
@@ -26,6 +25,20 @@ pub struct Tapping<'a> {
     pub clients: usize,
     /// Whether times are printed.
     pub tells_time: bool,
+    /// Whether the tap ends at once when its output fails.
+    pub exits_with_output: bool,
+    /// Whether clients are accepted after its output has failed.
+    pub keeps_going: bool,
+}
+
+/// The options that are no address.
+#[derive(Clone, Copy)]
+struct TapOptions {
+    limits: Limits,
+    clients: usize,
+    tells_time: bool,
+    exits_with_output: bool,
+    keeps_going: bool,
 }
 
 /// The options before the addresses are parsed.
@@ -33,9 +46,7 @@ pub struct Tapping<'a> {
 struct Words<'a> {
     address: &'a str,
     server: &'a str,
-    limits: Limits,
-    clients: usize,
-    tells_time: bool,
+    options: TapOptions,
 }
 
 /// Returns the options of `tap`, or why there are none.
@@ -51,9 +62,11 @@ pub(crate) fn tapping_of<'a>(matches: &ArgMatches<'a>) -> Result<Tapping<'a>, No
         address: address_of(words.address, "LISTEN")?,
         address_text: words.address,
         server: address_of(words.server, "SERVER")?,
-        limits: words.limits,
-        clients: words.clients,
-        tells_time: words.tells_time,
+        limits: words.options.limits,
+        clients: words.options.clients,
+        tells_time: words.options.tells_time,
+        exits_with_output: words.options.exits_with_output,
+        keeps_going: words.options.keeps_going,
     })
 }
 
@@ -61,16 +74,28 @@ pub(crate) fn tapping_of<'a>(matches: &ArgMatches<'a>) -> Result<Tapping<'a>, No
 /// which the parser of the command line rejects before.
 fn words_of<'a>(matches: &ArgMatches<'a>) -> Option<Words<'a>>
     ensures some { IfSome result (λ words. HasTapWords (rows_of (found_of matches.now))
-        words.address.now words.server.now words.limits words.clients words.tells_time) }
-    ensures none { IfNone result ((address server : List ℕ) (limits : Bounds) (clients : ℕ)
-        (tells_time : Bool) → HasTapWords (rows_of (found_of matches.now)) address server limits
-        clients tells_time → ⊥) }
+        words.address.now words.server.now words.options) }
+    ensures none { IfNone result ((address server : List ℕ) (options : TapOptions)
+        → HasTapWords (rows_of (found_of matches.now)) address server options → ⊥) }
 {
     Some(Words {
         address: text_of(matches, "listen")?,
         server: text_of(matches, "server")?,
+        options: options_of(matches)?,
+    })
+}
+
+/// Returns the options that are no address; `None` if a number is outside its range.
+fn options_of(matches: &ArgMatches<'_>) -> Option<TapOptions>
+    ensures some { IfSome result (HasTapOptions (rows_of (found_of matches.now))) }
+    ensures none { IfNone result ((options : TapOptions)
+        → HasTapOptions (rows_of (found_of matches.now)) options → ⊥) }
+{
+    Some(TapOptions {
         limits: limits_of(matches)?.with_doubles(true),
         clients: small_number_of(matches, "clients")?,
         tells_time: flag_of(matches, "time")?,
+        exits_with_output: flag_of(matches, "exit-with-output")?,
+        keeps_going: flag_of(matches, "keep-going")?,
     })
 }

@@ -39,7 +39,8 @@ const TOO_MANY: &[u8] = b"-ERR max number of clients reached\r\n";
 pub(crate) struct Loop<C> {
     alloc: Global,
     poll: Poll,
-    listener: TcpListener,
+    /// The listener, until no connection is accepted any more.
+    listener: Option<TcpListener>,
     schedule: Schedule,
     /// The connection in each place.
     connections: Vec<Option<C>>,
@@ -68,7 +69,7 @@ impl<C: Drop> Loop<C> {
         Ok(Loop {
             alloc,
             poll,
-            listener,
+            listener: Some(listener),
             schedule: Schedule::new(alloc, most),
             connections: Vec::new(alloc),
         })
@@ -78,9 +79,13 @@ impl<C: Drop> Loop<C> {
     ///
     /// # Errors
     ///
-    /// The error of the system if it can't be read.
+    /// The error of the system if it can't be read, or an error of kind `NotConnected` if the loop
+    /// does not listen any more.
     pub(crate) fn address(&self) -> io::Result<SocketAddr> {
-        self.listener.local_addr()
+        match &self.listener {
+            Some(listener) => listener.local_addr(),
+            None => Err(ErrorKind::NotConnected.into()),
+        }
     }
 
     /// Returns room for the events of one wait.
@@ -96,7 +101,8 @@ impl<C: Drop> Loop<C> {
     }
 
     /// Visits the connections that are ready, until waiting for them or the service's own work
-    /// fails. Nothing is accepted after that.
+    /// fails. Nothing is accepted after that. If the service accepts no connection any more, the
+    /// listener is closed, and the loop ends when the last connection is closed.
     ///
     /// # Errors
     ///
@@ -107,12 +113,28 @@ impl<C: Drop> Loop<C> {
         events: &mut Events,
     ) -> io::Result<()> {
         for _ in 0..u64::MAX {
+            if !service.accepts() {
+                self.stop();
+                if self.schedule.open_places() == 0 {
+                    return Ok(());
+                }
+            }
             if let Err(error) = self.turn(service, events) {
-                self.schedule.stop();
+                self.stop();
                 return Err(error);
             }
         }
         Ok(())
+    }
+
+    /// Closes the listener, and accepts no connection any more.
+    fn stop(&mut self)
+        ensures stopped { self.new.schedule.backlog ≡ Backlog.Stopped }
+        ensures closed { self.new.listener ≡ None }
+        ensures same { self.new.connections.items ≡ self.old.connections.items }
+    {
+        self.schedule.stop();
+        self.listener = None;
     }
 
     /// Waits until a socket is ready, visits the connections that are ready or queued, and accepts
@@ -208,13 +230,10 @@ impl<C: Drop> Loop<C> {
     /// Accepts waiting connections.
     fn accept_some<T: Service<C>>(&mut self, service: &mut T) {
         for _ in 0..ACCEPTED {
-            match self.listener.accept() {
-                Ok((client, _)) => self.admit(service, client),
-                Err(error) => {
-                    self.schedule.set_backlog(match error.kind() {
-                        ErrorKind::WouldBlock => Backlog::Empty,
-                        _ => Backlog::Failing,
-                    });
+            match accept(&self.listener) {
+                Ok(client) => self.admit(service, client),
+                Err(backlog) => {
+                    self.schedule.set_backlog(backlog);
                     return;
                 }
             }
@@ -261,6 +280,22 @@ impl<C: Drop> Loop<C> {
             Ok(connection) => self.connections[place] = Some(connection),
             Err(_) => self.schedule.close(place),
         }
+    }
+}
+
+/// Accepts a connection.
+///
+/// # Errors
+///
+/// Whether connections may wait, if none is accepted.
+fn accept(listener: &Option<TcpListener>) -> Result<TcpStream, Backlog> {
+    let Some(listener) = listener else {
+        return Err(Backlog::Empty);
+    };
+    match listener.accept() {
+        Ok((client, _)) => Ok(client),
+        Err(error) if error.kind() == ErrorKind::WouldBlock => Err(Backlog::Empty),
+        Err(_) => Err(Backlog::Failing),
     }
 }
 

@@ -107,6 +107,10 @@ impl<S: BuildHasher + Drop> Service<Connection> for Replies<S> {
         connection.close();
     }
 
+    fn accepts(&self) -> bool {
+        true
+    }
+
     fn patience(&self) -> Option<Duration> {
         None
     }

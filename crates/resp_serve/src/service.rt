@@ -43,6 +43,10 @@ pub(crate) trait Service<C> {
     /// Closes a connection.
     fn close(&mut self, connection: C);
 
+    /// Returns whether connections are accepted. Once they are not, they never are again, and the
+    /// loop ends when the last connection is closed.
+    fn accepts(&self) -> bool;
+
     /// Returns the longest time of the next wait, if the service has work that is not about a
     /// connection.
     fn patience(&self) -> Option<Duration>;

@@ -1,11 +1,11 @@
 //! One forwarded connection.
 
 use crate::non_blocking::{Input, Output};
+use crate::paper::Paper;
 use crate::service::Next;
-use crate::timing::Timing;
 use mio::net::TcpStream;
 use resp_tap::TimedTap;
-use resp_tap::watch::{Side, watch};
+use resp_tap::watch::Side;
 use resp_tap::way::{Visited, Way};
 use resp_value::device::{Device, Sink};
 use resp_value::limits::Limits;
@@ -37,12 +37,12 @@ enum Lately {
     Failed,
 }
 
-/// Whether the connection to the server stands.
+/// Whether the connection to the server is open.
 #[derive(Drop)]
-pub(crate) enum Standing {
+pub(crate) enum Opening {
     /// The server has not accepted the connection yet.
     Connecting,
-    /// The connection stands. `is_new` is true the first time.
+    /// The connection is open. `is_new` is true the first time.
     Connected { is_new: bool },
     /// The connection could not be opened.
     Failed(io::Error),
@@ -53,7 +53,7 @@ pub(crate) enum Standing {
 pub(crate) struct Tapped {
     client: TcpStream,
     server: TcpStream,
-    /// Whether the connection to the server stands. Nothing is read from the client before.
+    /// Whether the connection to the server is open. Nothing is read from the client before.
     is_connected: bool,
     to_server: Lane,
     to_client: Lane,
@@ -77,7 +77,7 @@ impl Lane {
         from: &TcpStream,
         to: &TcpStream,
         is_at_end: bool,
-        see: &mut Seeing<'_, W, C>,
+        see: &mut Seeing<'_, '_, W, C>,
     ) -> Lately {
         if self.has_ended {
             return Lately::Waits;
@@ -114,32 +114,28 @@ fn after_write<W>(writer: &Output<W>) -> Lately {
 
 /// Gives the pieces that one side sends to the tap, and prints the results.
 #[derive(Drop)]
-struct Seeing<'a, W, C> {
+struct Seeing<'a, 'b, W, C> {
     tap: &'a mut TimedTap,
     client: u64,
     side: Side,
-    clock: &'a C,
-    timing: &'a mut Timing,
-    writer: &'a mut W,
+    paper: &'a mut Paper<'b, W, C>,
 }
 
-impl<W: Sink, C: Clock> Seeing<'_, W, C> {
+impl<W: Sink, C: Clock> Seeing<'_, '_, W, C> {
     /// Receives a piece.
     fn piece(&mut self, piece: &[u8]) {
-        if piece.is_empty() {
-            return;
+        if !piece.is_empty() {
+            self.paper.print(self.tap, self.client, self.side, piece);
         }
-        let now = self.timing.now(self.clock);
-        watch(self.tap, self.client, self.side, piece, now, self.writer);
     }
 }
 
-/// Returns whether a connection stands that was begun.
+/// Returns whether a connection that was begun is open.
 ///
 /// # Errors
 ///
 /// The error of the system if the connection can't be opened.
-fn stands(server: &TcpStream) -> io::Result<bool> {
+fn is_open(server: &TcpStream) -> io::Result<bool> {
     if let Some(error) = server.take_error()? {
         return Err(error);
     }
@@ -170,22 +166,22 @@ impl Tapped {
         })
     }
 
-    /// Returns whether the connection to the server stands. The system is asked until it does.
-    pub(crate) fn standing(&mut self) -> Standing {
+    /// Returns whether the connection to the server is open. The system is asked until it does.
+    pub(crate) fn opening(&mut self) -> Opening {
         if self.is_connected {
-            return Standing::Connected { is_new: false };
+            return Opening::Connected { is_new: false };
         }
-        match stands(&self.server) {
-            Ok(false) => Standing::Connecting,
+        match is_open(&self.server) {
+            Ok(false) => Opening::Connecting,
             Ok(true) => {
                 self.is_connected = true;
-                Standing::Connected { is_new: true }
+                Opening::Connected { is_new: true }
             }
-            Err(error) => Standing::Failed(error),
+            Err(error) => Opening::Failed(error),
         }
     }
 
-    /// Returns whether the connection to the server has ever stood.
+    /// Returns whether the connection to the server was ever open.
     pub(crate) fn is_connected(&self) -> bool {
         self.is_connected
     }
@@ -195,13 +191,11 @@ impl Tapped {
     pub(crate) fn hand_on<W: Sink, C: Clock>(
         &mut self,
         is_at_end: bool,
-        clock: &C,
-        timing: &mut Timing,
-        writer: &mut W,
+        paper: &mut Paper<'_, W, C>,
     ) -> Next {
         for _ in 0..TURNS {
-            let to_server = self.visit(Side::Client, is_at_end, clock, timing, writer);
-            let to_client = self.visit(Side::Server, is_at_end, clock, timing, writer);
+            let to_server = self.visit(Side::Client, is_at_end, paper);
+            let to_client = self.visit(Side::Server, is_at_end, paper);
             match (to_server, to_client) {
                 (Lately::Failed, _) | (_, Lately::Failed) => return Next::Close,
                 (Lately::Waits, Lately::Waits) if self.has_ended() => return Next::Close,
@@ -217,17 +211,13 @@ impl Tapped {
         &mut self,
         side: Side,
         is_at_end: bool,
-        clock: &C,
-        timing: &mut Timing,
-        writer: &mut W,
+        paper: &mut Paper<'_, W, C>,
     ) -> Lately {
         let mut see = Seeing {
             tap: &mut self.tap,
             client: self.number,
             side,
-            clock,
-            timing,
-            writer,
+            paper,
         };
         match side {
             Side::Client => {

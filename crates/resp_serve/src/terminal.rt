@@ -14,11 +14,8 @@ use std::os::fd::{OwnedFd, RawFd};
 use std::os::unix::net::UnixStream;
 use std::time::Duration;
 
-/// The bytes that a ready pipe or socket accepts without blocking.
+/// The bytes that a ready socket accepts without blocking.
 const FEW: usize = 4_096;
-
-/// The bytes that are written to a file at once.
-const MANY: usize = 65_536;
 
 /// The descriptor of standard output.
 const STANDARD_OUTPUT: RawFd = 1;
@@ -62,6 +59,11 @@ impl Terminal {
         })
     }
 
+    /// Returns whether a write may block, as for a pipe or a terminal. A write to a file does not.
+    pub(crate) fn may_wait(&self) -> bool {
+        self.may_wait
+    }
+
     /// Writes some bytes from the beginning of `text`, as many as standard output accepts without
     /// blocking, and returns their number. It is 0 if no byte is accepted now.
     ///
@@ -82,19 +84,15 @@ impl Terminal {
         if !self.is_ready() {
             return Ok(0);
         }
-        let most = if self.may_wait { FEW } else { MANY };
-        let written = out.write(&text[..most.min(text.len())]);
+        let written = out.write(&text[..FEW.min(text.len())]);
         match (written, out.flush()) {
             (Ok(count), Ok(())) if count > 0 => Ok(count),
             _ => Err(ErrorKind::WriteZero.into()),
         }
     }
 
-    /// Returns whether standard output accepts a write now. A file always does.
+    /// Returns whether standard output accepts a write now.
     fn is_ready(&mut self) -> bool {
-        if !self.may_wait {
-            return true;
-        }
         let mut source = SourceFd(&STANDARD_OUTPUT);
         // After this call the system reports again that standard output is ready.
         let again = self

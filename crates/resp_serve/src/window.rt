@@ -2,16 +2,16 @@
 
 use crate::event_loop::Loop;
 use crate::own_address::{comes_back, is_own};
+use crate::paper::Paper;
 use crate::service::{Next, Service, Tokens};
-use crate::tapped::{Standing, Tapped};
+use crate::tapped::{Opening, Tapped};
 use crate::terminal::Terminal;
 use crate::timing::Timing;
 use mio::net::TcpStream;
 use mio::{Interest, Registry};
 use resp_print::live::LiveSink;
-use resp_tap::print::write_client_line;
 use resp_tap::screen::Screen;
-use resp_tap::stamp::Stamp;
+use resp_value::device::Sink;
 use resp_value::limits::Limits;
 use std::alloc::Global;
 use std::fs::{File, Files};
@@ -36,17 +36,49 @@ const NOT_CONNECTED: &[u8] = b" not connected";
 /// Why the tap does not listen on the address of the server.
 const COMES_BACK: &str = "connections to the server would come back to this address";
 
+/// The notice on standard error after a failed write, if the window ends with the last connection.
+const FINISHES: &str = "write failed\n\
+    nothing more is printed, and no client is accepted; tap ends when the last connection closes";
+
+/// The notice on standard error after a failed write, if the window goes on.
+const KEEPS_GOING: &str = "write failed\nnothing more is printed; clients are still accepted";
+
 /// Forwards connections to a server, and prints their traffic. Each client gets its own connection
 /// to the server, and the bytes of both sides are forwarded unchanged. Nothing is read from a client
-/// before its connection to the server stands.
+/// before its connection to the server is open.
 ///
 /// A side is not read while its bytes wait to be forwarded. Connections with much to do are visited
 /// in turns. Text is written as far as standard output accepts it without blocking. At most
-/// 1,048,576 bytes of text wait; more text is omitted and counted.
+/// 1,048,576 bytes of text wait; more text is omitted and counted. A file always accepts text, so
+/// no text for a file is omitted.
 #[derive(Drop)]
 pub struct Window {
     connections: Loop<Tapped>,
     view: View,
+}
+
+/// What a [`Window`] does after a write to standard output has failed.
+#[derive(Clone, Copy, Debug, PartialEq, Eq)]
+pub enum AfterFailure {
+    /// It ends, and closes all connections.
+    End,
+    /// It prints nothing more, closes the listener, and ends when the last connection is closed.
+    Finish,
+    /// It prints nothing more, and accepts and forwards connections as before.
+    KeepGoing,
+}
+
+/// How a [`Window`] works.
+#[derive(Clone, Copy, Debug)]
+pub struct Settings {
+    /// The limits within which both sides are read.
+    pub limits: Limits,
+    /// The most clients at once.
+    pub most: usize,
+    /// Whether times are printed.
+    pub tells_time: bool,
+    /// What happens after a write to standard output has failed.
+    pub after_failure: AfterFailure,
 }
 
 /// The server to which connections are forwarded, and what is printed of them.
@@ -56,11 +88,15 @@ struct View {
     server: SocketAddr,
     /// The address of the server, as it is printed.
     server_text: String,
-    limits: Limits,
+    settings: Settings,
     /// The number of connections that were accepted.
     count: u64,
     screen: Screen,
     terminal: Terminal,
+    /// Whether a write to a file has failed.
+    has_failed: bool,
+    /// Whether nothing is printed any more, because a write has failed.
+    is_silent: bool,
     timing: Timing,
 }
 
@@ -73,9 +109,7 @@ struct Watching<'a, R, W> {
 }
 
 impl Window {
-    /// Listens on an address for at most `most` clients at once, and connects them to the server at
-    /// another address. Both sides are read within these limits. `tells_time` says whether times
-    /// are printed.
+    /// Listens on an address for clients, and connects them to the server at another address.
     ///
     /// # Errors
     ///
@@ -87,11 +121,9 @@ impl Window {
         alloc: Global,
         address: SocketAddr,
         server: SocketAddr,
-        limits: Limits,
-        most: usize,
-        tells_time: bool,
+        settings: Settings,
     ) -> io::Result<Self> {
-        let connections = Loop::listen(rt, alloc, address, most)?;
+        let connections = Loop::listen(rt, alloc, address, settings.most)?;
         if comes_back(server, connections.address()?, is_own(rt, server.ip())) {
             return Err(io::Error::new(ErrorKind::InvalidInput, COMES_BACK));
         }
@@ -101,11 +133,13 @@ impl Window {
                 alloc,
                 server,
                 server_text: format!(in alloc; "{server}")?,
-                limits,
+                settings,
                 count: 0,
                 screen: Screen::new(alloc, SCREEN),
                 terminal: Terminal::new(rt, alloc)?,
-                timing: Timing::new(rt, tells_time)?,
+                has_failed: false,
+                is_silent: false,
+                timing: Timing::new(rt, settings.tells_time)?,
             },
         })
     }
@@ -120,26 +154,43 @@ impl Window {
     }
 
     /// Forwards the bytes of all connections and prints their traffic, until waiting for
-    /// connections or printing fails.
+    /// connections fails. If printing fails, that is said on standard error, and the window goes on
+    /// or ends as [`AfterFailure`] says. It returns without an error if printing had failed and the
+    /// last connection was closed after that.
     ///
     /// # Errors
     ///
-    /// The error of that wait. An error of kind `WriteZero` if a write fails, or of kind
-    /// `OutOfMemory` if the first allocation fails.
-    pub fn run<R: Net + Clock, W: LiveSink>(&mut self, rt: &R, out: &mut W) -> io::Result<()> {
+    /// The error of that wait. An error of kind `OutOfMemory` if the first allocation fails. An
+    /// error of kind `WriteZero` if a write fails and the window ends at once: by
+    /// [`AfterFailure::End`], or by [`AfterFailure::Finish`] before it has accepted a client.
+    pub fn run<R: Net + Clock + Eprint, W: LiveSink>(
+        &mut self,
+        rt: &R,
+        out: &mut W,
+    ) -> io::Result<()> {
         let mut events = self.connections.events()?;
-        if out.flush().is_err() {
-            return Err(ErrorKind::WriteZero.into());
-        }
         let view = &mut self.view;
+        if out.flush().is_err() {
+            if view.settings.after_failure == AfterFailure::Finish {
+                return Err(ErrorKind::WriteZero.into());
+            }
+            view.fail(rt)?;
+        }
         self.connections
             .run(&mut Watching { view, rt, out }, &mut events)
     }
 }
 
 impl View {
-    /// Prints waiting text, as far as standard output accepts it without blocking.
+    /// Prints waiting text, as far as standard output accepts it without blocking. A file accepts
+    /// all text.
     fn show<W: LiveSink>(&mut self, out: &mut W) -> io::Result<()> {
+        if !self.terminal.may_wait() {
+            if self.has_failed || out.flush().is_err() {
+                return Err(ErrorKind::WriteZero.into());
+            }
+            return Ok(());
+        }
         for _ in 0..WRITES {
             let _ = self.screen.say_what_is_left_out();
             let text = self.screen.text();
@@ -154,6 +205,24 @@ impl View {
         Ok(())
     }
 
+    /// Ends printing after a failed write, and says so on standard error.
+    ///
+    /// # Errors
+    ///
+    /// An error of kind `WriteZero` if the window ends now.
+    fn fail(&mut self, rt: &impl Eprint) -> io::Result<()> {
+        let notice = match self.settings.after_failure {
+            AfterFailure::End => return Err(ErrorKind::WriteZero.into()),
+            AfterFailure::Finish => FINISHES,
+            AfterFailure::KeepGoing => KEEPS_GOING,
+        };
+        self.is_silent = true;
+        // The text that waits is never printed.
+        self.screen = Screen::new(self.alloc, 0);
+        let _ = rt.eprintln(notice);
+        Ok(())
+    }
+
     /// Returns the number of the next client.
     fn next_number(&mut self) -> u64 {
         self.count = self.count.saturating_add(1);
@@ -161,35 +230,72 @@ impl View {
     }
 
     /// Prints a line about a client.
-    fn tell(&mut self, clock: &impl Clock, client: u64, what: &[u8]) {
-        let stamp = match self.timing.now(clock) {
-            Some(now) => Some(Stamp::new(now)),
-            None => None,
-        };
-        let _ = write_client_line(client, what, stamp, &mut self.screen);
+    fn tell<W: Sink, C: Clock>(&mut self, client: u64, what: &[u8], clock: &C, out: &mut W) {
+        if self.terminal.may_wait() {
+            let screen = as_long(!self.is_silent, &mut self.screen);
+            Paper::new(clock, &mut self.timing, screen).tell(client, what);
+            return;
+        }
+        let out = as_long(!self.is_silent, out);
+        let mut paper = Paper::new(clock, &mut self.timing, out);
+        paper.tell(client, what);
+        self.has_failed = self.has_failed || paper.has_failed();
     }
 
     /// Prints that no connection to the server could be opened for a client, and why.
-    fn tell_failure(&mut self, clock: &impl Clock, client: u64, error: &io::Error) {
+    fn tell_failure<W: Sink, C: Clock>(
+        &mut self,
+        client: u64,
+        error: &io::Error,
+        clock: &C,
+        out: &mut W,
+    ) {
         let server = self.server_text.as_str();
         match format!(in self.alloc; ": cannot connect to {server}: {error}") {
-            Ok(line) => self.tell(clock, client, line.as_str().as_bytes()),
-            Err(_) => self.tell(clock, client, NOT_CONNECTED),
+            Ok(line) => self.tell(client, line.as_str().as_bytes(), clock, out),
+            Err(_) => self.tell(client, NOT_CONNECTED, clock, out),
         }
     }
 
-    /// Forwards the bytes of a connection once the connection to the server stands.
-    fn visit(&mut self, connection: &mut Tapped, is_at_end: bool, clock: &impl Clock) -> Next {
-        let is_at_end = match connection.standing() {
-            Standing::Connecting => return Next::Wait,
+    /// Forwards the bytes of a connection once the connection to the server is open.
+    fn visit<W: Sink, C: Clock>(
+        &mut self,
+        connection: &mut Tapped,
+        is_at_end: bool,
+        clock: &C,
+        out: &mut W,
+    ) -> Next {
+        match connection.opening() {
+            Opening::Connecting => Next::Wait,
             // The event that reports the end of an input may already have passed.
-            Standing::Connected { is_new } => is_at_end || is_new,
-            Standing::Failed(error) => {
-                self.tell_failure(clock, connection.number, &error);
-                return Next::Close;
+            Opening::Connected { is_new } => {
+                self.hand_on(connection, is_at_end || is_new, clock, out)
             }
-        };
-        connection.hand_on(is_at_end, clock, &mut self.timing, &mut self.screen)
+            Opening::Failed(error) => {
+                self.tell_failure(connection.number, &error, clock, out);
+                Next::Close
+            }
+        }
+    }
+
+    /// Forwards the bytes of a connection.
+    fn hand_on<W: Sink, C: Clock>(
+        &mut self,
+        connection: &mut Tapped,
+        is_at_end: bool,
+        clock: &C,
+        out: &mut W,
+    ) -> Next {
+        if self.terminal.may_wait() {
+            let screen = as_long(!self.is_silent, &mut self.screen);
+            let mut paper = Paper::new(clock, &mut self.timing, screen);
+            return connection.hand_on(is_at_end, &mut paper);
+        }
+        let out = as_long(!self.is_silent, out);
+        let mut paper = Paper::new(clock, &mut self.timing, out);
+        let next = connection.hand_on(is_at_end, &mut paper);
+        self.has_failed = self.has_failed || paper.has_failed();
+        next
     }
 
     /// Begins to connect to the server for a client, and returns both connections.
@@ -204,11 +310,16 @@ impl View {
         let mut client = client;
         let mut server = TcpStream::connect(net, self.server)?;
         register(&mut client, &mut server, registry, tokens)?;
-        match Tapped::new(self.alloc, client, server, &self.limits, number) {
+        match Tapped::new(self.alloc, client, server, &self.settings.limits, number) {
             Ok(tapped) => Ok(tapped),
             Err(_) => Err(ErrorKind::OutOfMemory.into()),
         }
     }
+}
+
+/// Returns a writer if it is used.
+fn as_long<W>(is_used: bool, writer: &mut W) -> Option<&mut W> {
+    if is_used { Some(writer) } else { None }
 }
 
 /// Sets the options of both sockets, and registers them under their tokens.
@@ -225,7 +336,7 @@ fn register(
     registry.register(server, tokens.server, both)
 }
 
-impl<R: Net + Clock, W: LiveSink> Service<Tapped> for Watching<'_, R, W> {
+impl<R: Net + Clock + Eprint, W: LiveSink> Service<Tapped> for Watching<'_, R, W> {
     fn admit(
         &mut self,
         client: TcpStream,
@@ -235,34 +346,43 @@ impl<R: Net + Clock, W: LiveSink> Service<Tapped> for Watching<'_, R, W> {
         let number = self.view.next_number();
         let admitted = self.view.connect(self.rt, client, number, registry, tokens);
         if let Err(error) = &admitted {
-            self.view.tell_failure(self.rt, number, error);
+            self.view.tell_failure(number, error, self.rt, self.out);
         }
         admitted
     }
 
     fn lose(&mut self) {
         let number = self.view.next_number();
-        self.view.tell(self.rt, number, NOT_CONNECTED);
+        self.view.tell(number, NOT_CONNECTED, self.rt, self.out);
     }
 
     fn visit(&mut self, connection: &mut Tapped, is_at_end: bool) -> Next {
-        self.view.visit(connection, is_at_end, self.rt)
+        self.view.visit(connection, is_at_end, self.rt, self.out)
     }
 
     fn close(&mut self, connection: Tapped) {
         if connection.is_connected() {
-            self.view.tell(self.rt, connection.number, b" gone");
+            let number = connection.number;
+            self.view.tell(number, b" gone", self.rt, self.out);
         }
     }
 
+    fn accepts(&self) -> bool {
+        !self.view.is_silent || self.view.settings.after_failure == AfterFailure::KeepGoing
+    }
+
     fn patience(&self) -> Option<Duration> {
-        if self.view.screen.text().is_empty() && self.view.screen.unshown() == 0 {
+        let is_empty = self.view.screen.text().is_empty() && self.view.screen.unshown() == 0;
+        if is_empty || self.view.is_silent {
             return None;
         }
         Some(Duration::from_millis(PATIENCE))
     }
 
     fn work(&mut self) -> io::Result<()> {
-        self.view.show(self.out)
+        if !self.view.is_silent && self.view.show(self.out).is_err() {
+            return self.view.fail(self.rt);
+        }
+        Ok(())
     }
 }

@@ -1,5 +1,5 @@
 -- The results that a tap reports and prints for the pieces of either side.
-use Rattle.std.specs.Prelude.{◌≡◌, ℕ, true, false, List, [], ◌∷◌, length, drop, slice_get, Option, Result}
+use Rattle.std.specs.Prelude.{◌≡◌, ℕ, true, false, List, [], ◌∷◌, length, drop, slice_get, Option, Result, Ok, Err}
 use Rattle.resp_print.specs.Printed.{Prints}
 use Rattle.resp_print.specs.declared.print_error.PrintError.{PrintError}
 use Rattle.resp_tap.specs.Taps.{TapState, at_front, tap_state}
@@ -44,13 +44,21 @@ pub record PrintsSeen (client : ℕ) (now : Option Moment) (old : TimedTap) (wha
   pub of_command : (times : List ℕ) → HasTimes old times → asked ≡ slice_get times (tap_state old.tap).answered
   pub text : Prints before after failures failures' printed (seen_text client (stamp_of now asked what) what) (levels_of what)
 
--- These are all results in a piece, in order. Each result is printed before the next one is read.
+-- the first of two results of printing that is an error
+abbrev pub first_error : Result (Unit {0}) PrintError → Result (Unit {0}) PrintError → Result (Unit {0}) PrintError
+first_error (Ok done) next = next
+first_error (Err error) next = Err error
+
+-- These are all results in a piece, in order. Each result is printed before the next one is read. The first error of
+-- printing is told.
 abbrev pub WatchesAll : ℕ → Side → Option Moment → List Seen → TimedTap → TimedTap → List ℕ → Option (List ℕ) →
-    Option (List ℕ) → ℕ → ℕ → Type 0
-WatchesAll client side now [] old new piece before after failures failures' =
-    (piece ≡ []) × (new ≡ old) × (after ≡ before) × (failures' ≡ failures)
-WatchesAll client side now (what ∷ more) old new piece before after failures failures' =
+    Option (List ℕ) → ℕ → ℕ → Result (Unit {0}) PrintError → Type 0
+WatchesAll client side now [] old new piece before after failures failures' told =
+    (piece ≡ []) × (new ≡ old) × (after ≡ before) × (failures' ≡ failures) × (told ≡ Ok tt)
+WatchesAll client side now (what ∷ more) old new piece before after failures failures' told =
     (next : TimedTap) × (used : ℕ) × (written : Option (List ℕ)) × (failed : ℕ) ×
-    (printed : Result (Unit {0}) PrintError) × SeesFirst side now old next piece used what ×
+    (printed : Result (Unit {0}) PrintError) × (later : Result (Unit {0}) PrintError) ×
+    SeesFirst side now old next piece used what ×
     PrintsSeen client now old what before written failures failed printed ×
-    WatchesAll client side now more next new (drop used piece) written after failed failures'
+    (told ≡ first_error printed later) ×
+    WatchesAll client side now more next new (drop used piece) written after failed failures' later

@@ -3,7 +3,7 @@
 ghost use Rattle.std.specs.Prelude.{◌≡◌, ◌<◌, ◌≤◌, List, length, true, false};
 ghost use Rattle.resp_tap.specs.Taps.{tap_state};
 ghost use Rattle.resp_tap.specs.Times.{KeepsTimes, stamp_of, waited_of};
-ghost use Rattle.resp_tap.specs.Watches.{KeepsOther, PrintsSeen, SeesFirst, SeesSent, WatchesAll, WhereSent};
+ghost use Rattle.resp_tap.specs.Watches.{KeepsOther, PrintsSeen, SeesFirst, SeesSent, WatchesAll, WhereSent, first_error};
 ghost use Rattle.resp_tap.specs.declared.seen.Seen.{Seen};
 
 use crate::moment::Moment;
@@ -103,8 +103,26 @@ pub fn watch_some<W: Sink>(
     }
 }
 
+/// Returns the first of two results of printing that is an error.
+fn first_error(
+    first: Result<(), PrintError>,
+    next: Result<(), PrintError>,
+) -> Result<(), PrintError>
+    ensures { result ≡ first_error first next }
+{
+    match first {
+        Ok(()) => next,
+        Err(error) => Err(error),
+    }
+}
+
 /// Reads a piece that one side sent, and prints all commands, replies and pushes in it, as
-/// [`watch_some`] does. Errors of printing are ignored.
+/// [`watch_some`] does.
+///
+/// # Errors
+///
+/// The first error of printing. The tap has read the whole piece, and has tried to print all of its
+/// results.
 ///
 /// # Examples
 ///
@@ -114,8 +132,8 @@ pub fn watch_some<W: Sink>(
 /// let mut tap = TimedTap::new(alloc, &Limits::standard());
 /// let mut text = MemorySink::new(alloc, 4_096, 4_096)?;
 /// let get = b"*2\r\n$3\r\nGET\r\n$4\r\nhits\r\n";
-/// watch(&mut tap, 1, Side::Client, get, None, &mut text);
-/// watch(&mut tap, 1, Side::Server, b":7\r\n", None, &mut text);
+/// watch(&mut tap, 1, Side::Client, get, None, &mut text)?;
+/// watch(&mut tap, 1, Side::Server, b":7\r\n", None, &mut text)?;
 /// print!(rt; "{}", str::from_utf8(text.bytes())?)?;
 /// ```
 ///
@@ -134,16 +152,19 @@ pub fn watch<W: Sink>(
     piece: &[u8],
     now: Option<Moment>,
     writer: &mut W,
-)
+) -> Result<(), PrintError>
     ensures watches { (all : List Seen) × WatchesAll client side now all tap.old tap.new piece.now
         (W.written writer.old) (W.written writer.new) (W.failures writer.old)
-        (W.failures writer.new) }
+        (W.failures writer.new) result }
     ensures other_side { KeepsOther side tap.old.tap tap.new.tap }
 {
     let mut rest = piece;
+    let mut printed = Ok(());
     while !rest.is_empty() {
         let watched = watch_some(tap, client, side, rest, now, writer);
+        printed = first_error(printed, watched.printed);
         // At least one byte was read.
         rest = &rest[watched.used..];
     }
+    printed
 }

@@ -41,8 +41,8 @@ fn print_traffic(rt: &impl Print, alloc: Global) -> Result<()> {
     let mut tap = TimedTap::new(alloc, &Limits::standard());
     let mut text = MemorySink::new(alloc, 4_096, 4_096)?;
     let get = b"*2\r\n$3\r\nGET\r\n$4\r\nhits\r\n";
-    watch(&mut tap, 1, Side::Client, get, None, &mut text);
-    watch(&mut tap, 1, Side::Server, b":7\r\n", None, &mut text);
+    watch(&mut tap, 1, Side::Client, get, None, &mut text)?;
+    watch(&mut tap, 1, Side::Server, b":7\r\n", None, &mut text)?;
     print!(rt; "{}", str::from_utf8(text.bytes())?)?;
     Ok(())
 }

@@ -1,7 +1,8 @@
-use Rattle.std.proofs.Common.{rules, ◌≡◌, [], ◌∷◌, refl, subst}
+use Rattle.std.proofs.Common.{rules, ◌≡◌, ◌∙◌, [], ◌∷◌, Result, Ok, Err, ap, refl, subst, sym}
 use Rattle.std.proofs.lemmas.List.{take_rest}
 use Rattle.resp_client.proofs.Fronts.{no_bytes}
-use Rattle.resp_tap.specs.Watches.{KeepsOther, WatchesAll}
+use Rattle.resp_print.specs.declared.print_error.PrintError.{PrintError}
+use Rattle.resp_tap.specs.Watches.{KeepsOther, WatchesAll, first_error}
 use Rattle.resp_tap.specs.declared.tap.Tap.{Tap}
 use Rattle.resp_tap.specs.declared.watch.Side.{Side}
 use Rattle.resp_tap.specs.declared.watch.Side.TheVariants.{Client, Server}
@@ -11,27 +12,50 @@ keeps_on : (side : Side) (first next last : Tap) → KeepsOther side first next 
 keeps_on Client first next last keeps more = λ front taken. more front (keeps front taken)
 keeps_on Server first next last keeps more = λ front taken. more front (keeps front taken)
 
+-- a success after a result changes nothing
+no_error_after : (a : Result (Unit {0}) PrintError) → first_error a (Ok tt) ≡ a
+no_error_after (Ok done) = refl
+no_error_after (Err error) = refl
+
+-- the first error of three results
+error_of_three : (a b c : Result (Unit {0}) PrintError) → first_error a (first_error b c) ≡ first_error (first_error a b) c
+error_of_three (Ok done) b c = refl
+error_of_three (Err error) b c = refl
+
 pub loop-rest-preserved : goal.loop-rest-preserved
 loop-rest-preserved g c =
     let watched = c.watch_some-watched in
     let seen = watched.ensures.watches in
     record {
       other = keeps_on c.args.side c.args.tap.now.tap c.loop-rest.tap.tap watched.new.tap.tap c.loop-rest.invariant.other watched.ensures.other_side;
-      so_far = λ more new after failures' beyond.
-          c.loop-rest.invariant.so_far (seen.0 ∷ more) new after failures' (
+      so_far = λ more new after failures' later beyond.
+          let all = c.loop-rest.invariant.so_far (seen.0 ∷ more) new after failures' (first_error watched.result.printed later) (
             watched.new.tap,
             watched.result.used,
             g.W.Sink.written watched.new.writer,
             g.W.Sink.failures watched.new.writer,
             watched.result.printed,
+            later,
             seen.1,
             seen.2,
+            refl,
             subst (λ rest. WatchesAll c.args.client c.args.side c.args.now more watched.new.tap new rest (g.W.Sink.written watched.new.writer) after
-                (g.W.Sink.failures watched.new.writer) failures') (take_rest c.loop-rest.rest.now watched.result.used) beyond,
+                (g.W.Sink.failures watched.new.writer) failures' later) (take_rest c.loop-rest.rest.now watched.result.used) beyond,
+          ) in (
+            all.0,
+            subst (λ told. WatchesAll c.args.client c.args.side c.args.now all.0 c.args.tap.now new c.args.piece.now
+                (g.W.Sink.written c.args.writer.now) after (g.W.Sink.failures c.args.writer.now) failures' told)
+                (error_of_three c.loop-rest.printed watched.result.printed later ∙ ap (λ told. first_error told later) (sym c.first_error-printed.ensures)) all.1,
           );
     }
 
 pub returns-clause-watches : goal.returns-clause-watches
 returns-clause-watches g c =
     let empty : c.loop-rest.rest.now ≡ [] = no_bytes c.loop-rest.rest.now (search rules) in
-    c.loop-rest.invariant.so_far [] c.loop-rest.tap (g.W.Sink.written c.loop-rest.writer) (g.W.Sink.failures c.loop-rest.writer) (empty, refl, refl, refl)
+    let all = c.loop-rest.invariant.so_far [] c.loop-rest.tap (g.W.Sink.written c.loop-rest.writer) (g.W.Sink.failures c.loop-rest.writer) (Ok tt)
+    (empty, refl, refl, refl, refl) in (
+      all.0,
+      subst (λ told. WatchesAll c.args.client c.args.side c.args.now all.0 c.args.tap.now c.loop-rest.tap c.args.piece.now
+          (g.W.Sink.written c.args.writer.now) (g.W.Sink.written c.loop-rest.writer) (g.W.Sink.failures c.args.writer.now)
+          (g.W.Sink.failures c.loop-rest.writer) told) (no_error_after c.loop-rest.printed) all.1,
+    )

@@ -1,5 +1,6 @@
-use Rattle.std.proofs.Common.{ℕ, List, length, Option}
-use Rattle.resp_tap.specs.Watches.{KeepsOther, WatchesAll}
+use Rattle.std.proofs.Common.{ℕ, List, length, Option, Result}
+use Rattle.resp_print.specs.declared.print_error.PrintError.{PrintError}
+use Rattle.resp_tap.specs.Watches.{KeepsOther, WatchesAll, first_error}
 use Rattle.resp_tap.specs.declared.seen.Seen.{Seen}
 use Rattle.resp_tap.specs.declared.timed.TimedTap.{TimedTap}
 use Rattle.resp_tap.proofs.watch.watch.Given as goal
@@ -8,10 +9,10 @@ use Rattle.resp_tap.proofs.watch.watch.Given as goal
 abbrev pub invariant-loop-rest : goal.invariant-loop-rest
 invariant-loop-rest g l = record {
   other : KeepsOther l.side l.initial.tap.tap l.tap.tap;
-  so_far : (more : List Seen) (new : TimedTap) (after : Option (List ℕ)) (failures' : ℕ) →
-      WatchesAll l.client l.side l.now more l.tap new l.rest (g.W.Sink.written l.writer) after (g.W.Sink.failures l.writer) failures' →
+  so_far : (more : List Seen) (new : TimedTap) (after : Option (List ℕ)) (failures' : ℕ) (later : Result (Unit {0}) PrintError) →
+      WatchesAll l.client l.side l.now more l.tap new l.rest (g.W.Sink.written l.writer) after (g.W.Sink.failures l.writer) failures' later →
       (all : List Seen) × WatchesAll l.client l.side l.now all l.initial.tap new l.piece (g.W.Sink.written l.initial.writer) after
-      (g.W.Sink.failures l.initial.writer) failures';
+      (g.W.Sink.failures l.initial.writer) failures' (first_error l.printed later);
 }
 
 abbrev pub decreases-loop-rest : goal.decreases-loop-rest
