@@ -64,7 +64,7 @@ for words in (["SET", "tapped", "1"], ["-3", "GET", "tapped"], ["INCR", "tapped"
         cli(server, "SET", "tapped", "1")
     assert cli(tap, *words) == direct, words
 waits_for('  "SET" "tapped" "1"\n')
-waits_for('client 3 command 1\n  "INCR" "tapped"\nclient 3 reply 1\n  int 2\nclient 3 gone\n')
+waits_for('client 3 command 1\n  "INCR" "tapped"\nclient 3 reply 1\n  int 2\nclient 3 closed\nclient 3 gone\n')
 
 # A pipeline with HELLO 3 in the middle. A null and a double show the version.
 pipeline = [command("ZADD", "scores", "1.5", "m"), command("GET", "no such key"), command("HELLO", "3"),
@@ -72,7 +72,7 @@ pipeline = [command("ZADD", "scores", "1.5", "m"), command("GET", "no such key")
 heard = talk(tap, b"".join(pipeline), b",1.5\r\n")
 assert b"\r\n$-1\r\n%" in heard and heard.endswith(b"_\r\n,1.5\r\n"), heard
 waits_for("client 7 reply 2\n  null\nclient 7 reply 3\n  map\n")
-waits_for('client 7 reply 4\n  null\nclient 7 reply 5\n  double "1.5" 3\nclient 7 gone\n')
+waits_for('client 7 reply 4\n  null\nclient 7 reply 5\n  double "1.5" 3\nclient 7 closed\nclient 7 gone\n')
 
 # Values after SUBSCRIBE are not paired with commands.
 talk(tap, command("PING") + command("SUBSCRIBE", "channel"), b":1\r\n")
@@ -104,14 +104,15 @@ talk(timed, command("BLPOP", "no such list", "0.2") + command("PING"), b"+PONG\r
 waits_for("client 1 gone", sys.argv[5])
 after = time.time()
 lines = [line for line in printed(sys.argv[5]).splitlines() if line.startswith("client ")]
-wanted = ["client 1 command 1", "client 1 command 2", "client 1 reply 1", "client 1 reply 2", "client 1 gone"]
+wanted = ["client 1 command 1", "client 1 command 2", "client 1 reply 1", "client 1 reply 2", "client 1 closed",
+          "client 1 gone"]
 assert len(lines) == len(wanted), lines
 moments = [told(line, text) for line, text in zip(lines, wanted)]
 DAY = 86400000000
 # The age of each time since the test began, which may have been before midnight.
 ages = [(of_day - int(before * 1000000)) % DAY for of_day, _ in moments]
 assert ages == sorted(ages) and ages[-1] <= (after - before) * 1000000 + 1, (ages, lines)
-assert [delay is not None for _, delay in moments] == [False, False, True, True, False], lines
+assert [delay is not None for _, delay in moments] == [False, False, True, True, False, False], lines
 # The server's timer may be a tick early.
 assert all(delay >= 180000 for _, delay in moments if delay is not None), lines
 assert not re.search(r" at \d\d:\d\d:", printed()), "a time that wasn't asked for"

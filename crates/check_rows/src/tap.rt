@@ -5,7 +5,9 @@ use crate::cut::{Cut, pieces};
 use crate::subject::Subject;
 use crate::text::bytes;
 use anyhow::{Result, bail};
+use resp_tap::end::write_end;
 use resp_tap::screen::Screen;
+use resp_tap::stamp::Stamp;
 use resp_tap::watch::{Side, watch};
 use resp_tap::{Moment, TimedTap};
 use resp_value::Limits;
@@ -43,6 +45,7 @@ impl Subject for Tapping {
             "now" => self.set_clock(given),
             "client" => self.pass(Side::Client, given, cut, said),
             "server" => self.pass(Side::Server, given, cut, said),
+            "end" => self.end(given, said),
             _ => bail!("an unknown row"),
         }
     }
@@ -65,6 +68,23 @@ impl Tapping {
             of_day: of_day.parse()?,
             steady: steady.parse()?,
         });
+        Ok(())
+    }
+
+    /// `end client` and `end server` print what the tap shows when this side has ended.
+    fn end(&mut self, side: &str, said: &mut String) -> Result<()> {
+        let (side, cut) = match side {
+            "client" => (Side::Client, self.tap.tap().incomplete_command()),
+            "server" => (Side::Server, self.tap.tap().incomplete_reply()),
+            _ => bail!("a side is the client or the server"),
+        };
+        let stamp = match self.now {
+            Some(now) => Some(Stamp::new(now)),
+            None => None,
+        };
+        let mut screen = Screen::new(self.alloc, MOST);
+        write_end(1, side, cut, stamp, &mut screen)?;
+        said.push_str(str::from_utf8(screen.text())?)?;
         Ok(())
     }
 

@@ -2,6 +2,7 @@
 
 use crate::timing::Timing;
 use resp_tap::TimedTap;
+use resp_tap::end::write_end;
 use resp_tap::print::write_client_line;
 use resp_tap::stamp::Stamp;
 use resp_tap::watch::{Side, watch};
@@ -47,15 +48,36 @@ impl<'a, W: Sink, C: Clock> Paper<'a, W, C> {
 
     /// Prints a line about a client.
     pub(crate) fn tell(&mut self, client: u64, what: &[u8]) {
+        let stamp = self.stamp();
         let Some(writer) = &mut self.writer else {
             return;
         };
-        let stamp = match self.timing.now(self.clock) {
-            Some(now) => Some(Stamp::new(now)),
-            None => None,
-        };
         if write_client_line(client, what, stamp, *writer).is_err() {
             self.has_failed = true;
+        }
+    }
+
+    /// Prints which side of a client's connection has ended, and the incomplete command or reply of
+    /// that side.
+    pub(crate) fn tell_end(&mut self, tap: &TimedTap, client: u64, side: Side) {
+        let stamp = self.stamp();
+        let Some(writer) = &mut self.writer else {
+            return;
+        };
+        let cut = match side {
+            Side::Client => tap.tap().incomplete_command(),
+            Side::Server => tap.tap().incomplete_reply(),
+        };
+        if write_end(client, side, cut, stamp, *writer).is_err() {
+            self.has_failed = true;
+        }
+    }
+
+    /// Returns the stamp of a line that is printed now.
+    fn stamp(&mut self) -> Option<Stamp> {
+        match self.timing.now(self.clock) {
+            Some(now) => Some(Stamp::new(now)),
+            None => None,
         }
     }
 }

@@ -94,6 +94,7 @@ impl Lane {
             Visited::NotWritten => after_write(&writer.into_inner()),
             Visited::Ended => {
                 self.has_ended = true;
+                see.end();
                 let _ = to.shutdown(Shutdown::Write);
                 Lately::Waits
             }
@@ -118,6 +119,8 @@ struct Seeing<'a, 'b, W, C> {
     tap: &'a mut TimedTap,
     client: u64,
     side: Side,
+    /// Whether the other side has not ended.
+    is_first: bool,
     paper: &'a mut Paper<'b, W, C>,
 }
 
@@ -126,6 +129,13 @@ impl<W: Sink, C: Clock> Seeing<'_, '_, W, C> {
     fn piece(&mut self, piece: &[u8]) {
         if !piece.is_empty() {
             self.paper.print(self.tap, self.client, self.side, piece);
+        }
+    }
+
+    /// Receives the end of the side. It is printed if the other side has not ended before.
+    fn end(&mut self) {
+        if self.is_first {
+            self.paper.tell_end(self.tap, self.client, self.side);
         }
     }
 }
@@ -217,6 +227,7 @@ impl Tapped {
             tap: &mut self.tap,
             client: self.number,
             side,
+            is_first: !self.to_server.has_ended && !self.to_client.has_ended,
             paper,
         };
         match side {

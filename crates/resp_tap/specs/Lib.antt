@@ -9,5 +9,6 @@ pub mod TimeLaws
 pub mod Times
 pub mod Screens
 pub mod Watches
+pub mod Ends
 -- What the steps of a tap promise one another, which no public clause names.
 pub mod SeenOf

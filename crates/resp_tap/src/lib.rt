@@ -7,6 +7,7 @@
 //! forwards the bytes of one direction.
 #![tactic(auto)]
 
+pub mod end;
 pub mod kind;
 pub mod laws;
 pub mod moment;
@@ -21,6 +22,7 @@ pub mod timed;
 pub mod watch;
 pub mod way;
 
+pub use end::Cut;
 pub use moment::Moment;
 pub use seen::{Place, Seen, Step};
 pub use tap::Tap;

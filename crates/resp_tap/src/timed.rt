@@ -61,6 +61,13 @@ impl TimedTap {
         }
     }
 
+    /// Returns the tap without the times.
+    pub fn tap(&self) -> &Tap
+        ensures { result.now ≡ self.now.tap }
+    {
+        &self.tap
+    }
+
     /// Returns the time of the command that the next reply belongs to, by the steady clock, if it
     /// is known.
     pub fn asked(&self) -> Option<u64>

@@ -1,0 +1,39 @@
+-- The end of one side of a connection.
+use Rattle.std.specs.Prelude.{ℕ, List, [], ◌∷◌, ◌++◌, length, Option, None, Some, codes, decimal}
+use Rattle.resp_tap.specs.Stamps.{ending_text}
+use Rattle.resp_tap.specs.Texts.{client_line}
+use Rattle.resp_tap.specs.declared.end.Cut.{Cut}
+use Rattle.resp_tap.specs.declared.seen.Place.{Place}
+use Rattle.resp_tap.specs.declared.seen.Place.TheVariants as place
+use Rattle.resp_tap.specs.declared.stamp.Stamp.{Stamp}
+use Rattle.resp_tap.specs.declared.watch.Side.{Side}
+use Rattle.resp_tap.specs.declared.watch.Side.TheVariants.{Client, Server}
+
+-- the incomplete part that these bytes begin, if there are any
+abbrev pub cut_of : Place → List ℕ → Option Cut
+cut_of where' [] = None
+cut_of where' (byte ∷ bytes) = Some (record { place = where'; bytes = length (byte ∷ bytes) })
+
+-- the words about the side that has ended
+abbrev pub ended_words : Side → List ℕ
+ended_words Client = codes " closed"
+ended_words Server = codes ": the server closed the connection"
+
+-- which command, reply or value is incomplete
+abbrev pub part_words : Place → List ℕ
+part_words (place.Command number) = codes " in command " ++ decimal number ++ codes ", after "
+part_words (place.Reply number) = codes " in reply " ++ decimal number ++ codes ", after "
+part_words place.Value = codes " in a value, after "
+
+-- a number of bytes and the end of the line
+abbrev pub bytes_end : ℕ → Option Stamp → List ℕ
+bytes_end bytes stamp = (codes "" ++ decimal bytes ++ codes " bytes") ++ ending_text stamp
+
+-- the end of a line about an incomplete command, reply or value
+abbrev pub cut_end : Cut → Option Stamp → List ℕ
+cut_end cut stamp = part_words cut.place ++ bytes_end cut.bytes stamp
+
+-- the line about the side that has ended
+abbrev pub end_text : ℕ → Side → Option Cut → Option Stamp → List ℕ
+end_text client side None stamp = client_line client (ended_words side) stamp
+end_text client side (Some cut) stamp = (codes "client " ++ decimal client ++ ended_words side) ++ cut_end cut stamp

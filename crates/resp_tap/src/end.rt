@@ -1,0 +1,154 @@
+//! The end of one side of a connection, and the command or reply that it cuts off.
+
+ghost use Rattle.std.specs.Prelude.{◌≡◌, ◌+◌, ◌++◌, ℕ, List, codes, decimal, length, None, false, true};
+ghost use Rattle.resp_print.specs.Written.{WritesText};
+ghost use Rattle.resp_tap.specs.Ends.{bytes_end, cut_end, cut_of, end_text, ended_words, part_words};
+ghost use Rattle.resp_tap.specs.Taps.{tap_state};
+ghost use Rattle.resp_tap.specs.Watching.{WhereAnswered, WhereRequested, place_of_value};
+ghost use Rattle.resp_tap.specs.declared.seen.Place.TheVariants as place;
+
+use crate::pairing::Pairing;
+use crate::print::write_client_line;
+use crate::seen::Place;
+use crate::stamp::{Stamp, write_ending};
+use crate::tap::Tap;
+use crate::watch::Side;
+use resp_print::text::{write_number, write_text};
+use resp_value::device::{DeviceFault, Sink};
+
+/// An incomplete command, reply or value.
+#[derive(Clone, Copy, Debug, PartialEq, Eq)]
+pub struct Cut {
+    /// The command, reply or value.
+    pub place: Place,
+    /// The number of its bytes that were received.
+    pub bytes: u64,
+}
+
+/// Returns the incomplete part with this number of bytes, if it has any.
+fn cut_at(place: Place, bytes: u64) -> Option<Cut>
+    ensures { (front : List ℕ) → bytes ≡ length front → result ≡ cut_of place front }
+{
+    if bytes == 0 {
+        return None;
+    }
+    Some(Cut { place, bytes })
+}
+
+impl Tap {
+    /// Returns the command of which the client has sent a part, if the connection is still read.
+    pub fn incomplete_command(&self) -> Option<Cut>
+        ensures read { (tap_state self.now).is_read ≡ true → WhereRequested self.now (λ front.
+            result ≡ cut_of (place.Command ((tap_state self.now).commands + 1)) front) }
+        ensures unread { (tap_state self.now).is_read ≡ false → result ≡ None }
+    {
+        if !self.is_read {
+            return None;
+        }
+        cut_at(
+            Place::Command(self.commands.saturating_add(1)),
+            self.requests.taken(),
+        )
+    }
+
+    /// Returns the reply or value of which the server has sent a part, if the connection is still
+    /// read.
+    pub fn incomplete_reply(&self) -> Option<Cut>
+        ensures read { (tap_state self.now).is_read ≡ true → WhereAnswered self.now (λ front.
+            result ≡ cut_of (place_of_value (tap_state self.now)) front) }
+        ensures unread { (tap_state self.now).is_read ≡ false → result ≡ None }
+    {
+        if !self.is_read {
+            return None;
+        }
+        match self.pairing {
+            Pairing::Unpaired => cut_at(Place::Value, self.values.taken()),
+            Pairing::Paired | Pairing::Ending => cut_at(
+                Place::Reply(self.replies.answered().saturating_add(1)),
+                self.replies.taken(),
+            ),
+        }
+    }
+}
+
+/// Returns the words about the side that has ended.
+fn ended_words(side: Side) -> &'static [u8]
+    ensures { result.now ≡ ended_words side }
+{
+    match side {
+        Side::Client => b" closed",
+        Side::Server => b": the server closed the connection",
+    }
+}
+
+/// Writes the line about the side of a client's connection that has ended, and the incomplete
+/// command or reply of that side, if there is one.
+///
+/// # Errors
+///
+/// `DeviceFault` if a write fails. The first part of the line was written.
+pub fn write_end<W: Sink>(
+    client: u64,
+    side: Side,
+    cut: Option<Cut>,
+    stamp: Option<Stamp>,
+    writer: &mut W,
+) -> Result<(), DeviceFault>
+    ensures { WritesText (W.written writer.old) (W.written writer.new) (W.failures writer.old)
+        (W.failures writer.new) result (end_text client side cut stamp) }
+{
+    match cut {
+        None => write_client_line(client, ended_words(side), stamp, writer),
+        Some(cut) => write_cut_end(client, ended_words(side), cut, stamp, writer),
+    }
+}
+
+/// Writes the line with these words about a side that has ended inside a command or a reply.
+fn write_cut_end<W: Sink>(
+    client: u64,
+    words: &[u8],
+    cut: Cut,
+    stamp: Option<Stamp>,
+    writer: &mut W,
+) -> Result<(), DeviceFault>
+    ensures { WritesText (W.written writer.old) (W.written writer.new) (W.failures writer.old)
+        (W.failures writer.new) result
+        ((codes "client " ++ decimal client ++ words.now) ++ cut_end cut stamp) }
+{
+    write_number(writer, b"client ", client, words)?;
+    write_cut(cut, stamp, writer)
+}
+
+/// Writes the incomplete command or reply, and the end of the line.
+fn write_cut<W: Sink>(cut: Cut, stamp: Option<Stamp>, writer: &mut W) -> Result<(), DeviceFault>
+    ensures { WritesText (W.written writer.old) (W.written writer.new) (W.failures writer.old)
+        (W.failures writer.new) result (cut_end cut stamp) }
+{
+    write_part_words(cut.place, writer)?;
+    write_bytes_end(cut.bytes, stamp, writer)
+}
+
+/// Writes which command, reply or value is incomplete.
+fn write_part_words<W: Sink>(place: Place, writer: &mut W) -> Result<(), DeviceFault>
+    ensures { WritesText (W.written writer.old) (W.written writer.new) (W.failures writer.old)
+        (W.failures writer.new) result (part_words place) }
+{
+    match place {
+        Place::Command(number) => write_number(writer, b" in command ", number, b", after "),
+        Place::Reply(number) => write_number(writer, b" in reply ", number, b", after "),
+        Place::Value => write_text(writer, b" in a value, after "),
+    }
+}
+
+/// Writes a number of bytes, and the end of the line.
+fn write_bytes_end<W: Sink>(
+    bytes: u64,
+    stamp: Option<Stamp>,
+    writer: &mut W,
+) -> Result<(), DeviceFault>
+    ensures { WritesText (W.written writer.old) (W.written writer.new) (W.failures writer.old)
+        (W.failures writer.new) result (bytes_end bytes stamp) }
+{
+    write_number(writer, b"", bytes, b" bytes")?;
+    write_ending(stamp, writer)
+}
