@@ -88,7 +88,9 @@ enum resp_cause {
     /* Another HELLO that asks for a version waits for its reply. */
     RESP_CAUSE_HELLO_WAITS = 67,
     /* The command doesn't have exactly one reply, or changes the version in another way than HELLO. */
-    RESP_CAUSE_UNPAIRED = 68
+    RESP_CAUSE_UNPAIRED = 68,
+    /* Another command that pushes answer waits. */
+    RESP_CAUSE_PUSHES_WAIT = 69
 };
 
 /* Returns the name of an error, such as "Syntax", or "" if no error has this number. */
@@ -116,6 +118,7 @@ static inline const char *resp_cause_name(uint32_t cause) {
     case RESP_CAUSE_BAD_KIND: return "BadKind";
     case RESP_CAUSE_HELLO_WAITS: return "HelloWaits";
     case RESP_CAUSE_UNPAIRED: return "Unpaired";
+    case RESP_CAUSE_PUSHES_WAIT: return "PushesWait";
     default: return "";
     }
 }
@@ -385,6 +388,10 @@ struct resp_pairing {
     uint64_t nested;
     uint32_t refuses;
     uint32_t first;
+    /* The number of pushes that are left of the waiting command that pushes answer, or 0; and the
+     * number of commands that wait before it. */
+    uint64_t pushes;
+    uint64_t before_pushes;
 };
 
 /* Initialises a pairing: no command waits, and the version is 2. The scanner has to be between two
@@ -421,16 +428,33 @@ uint32_t resp_command_kind(size_t count, const uint8_t *name, size_t name_length
  * RESP_CAUSE_TOO_MANY after 2^63 commands. An error changes nothing. */
 uint32_t resp_pairing_queue(struct resp_pairing *pairing, uint32_t kind, uint64_t *number);
 
-/* Counts a command of `argc` words that is sent, `argvlen` bytes at each `argv`. The errors are those
- * of resp_pairing_queue.
+/* Counts a command that `pushes` pushes answer in version 3, or one error: SUBSCRIBE, PSUBSCRIBE,
+ * SSUBSCRIBE and their UN- forms, with one push for each channel. Sets `*number` to its number. Its
+ * wait ends after so many pushes that arrive while it waits first, or at a reply, which has its
+ * number. Each push has the number 0.
  *
- * This function calls resp_command_kind and resp_pairing_queue. It is tested, and they are proved. */
+ * Other pushes count too. If messages of channels that were subscribed before arrive meanwhile, the
+ * wait ends early: later replies still have the right numbers, unless the server rejects the command.
+ *
+ * Errors: RESP_CAUSE_UNPAIRED if `pushes` is 0, while the version is 2, and while a HELLO with a
+ * version waits; RESP_CAUSE_PUSHES_WAIT while another such command waits; RESP_CAUSE_TOO_MANY. An
+ * error changes nothing. */
+uint32_t resp_pairing_queue_pushes(struct resp_pairing *pairing, uint64_t pushes, uint64_t *number);
+
+/* Counts a command of `argc` words that is sent, `argvlen` bytes at each `argv`. A command that
+ * subscribes or unsubscribes is counted by resp_pairing_queue_pushes, with a push for each word after
+ * its name. The errors are those of the calls that count.
+ *
+ * This function calls resp_command_kind, resp_pairing_queue and resp_pairing_queue_pushes. It is
+ * tested, and they are proved. */
 static inline uint32_t resp_pairing_queue_command(struct resp_pairing *pairing, size_t argc, const char *const *argv,
                                                   const size_t *argvlen, uint64_t *number) {
     static const uint8_t none[1] = {0};
     const uint8_t *name = argc > 0 ? (const uint8_t *)argv[0] : none;
     const uint8_t *argument = argc > 1 ? (const uint8_t *)argv[1] : none;
     uint32_t kind = resp_command_kind(argc, name, argc > 0 ? argvlen[0] : 0, argument, argc > 1 ? argvlen[1] : 0);
+    if (kind == RESP_COMMAND_SUBSCRIBING)
+        return resp_pairing_queue_pushes(pairing, argc - 1, number);
     return resp_pairing_queue(pairing, kind, number);
 }
 
@@ -442,8 +466,8 @@ static inline uint32_t resp_pairing_queue_command(struct resp_pairing *pairing, 
 uint32_t resp_pairing_first(struct resp_pairing *pairing, uint8_t byte, uint32_t *version);
 
 /* Call this with each event of the value, in order; RESP_WHOLE is accepted. Sets `*number` to the
- * number of the reply that the event belongs to, or to 0 for a push. At RESP_DONE the first command
- * that waits has its reply. If that command was a HELLO with a version, the pairing's version is
+ * number of the reply that the event belongs to, or to 0 for a push. At RESP_DONE of a reply the first
+ * command that waits has its reply. If that command was a HELLO with a version, the pairing's version is
  * now that one, unless the reply is an error (after attributes, if any). */
 void resp_pairing_take(struct resp_pairing *pairing, const struct resp_event *event, uint64_t *number);
 

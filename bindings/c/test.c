@@ -609,6 +609,88 @@ static void pairs(void) {
     check(resp_pairing_queue(&pairing, 0, &number) == RESP_CAUSE_TOO_MANY && number == 2, "queue", "too many");
 }
 
+/* The commands of a connection in version 3, the text received, and the wanted numbers: of each command `#`, or `!` and
+ * the error, and then of each value. */
+struct subscribed {
+    const char *commands[6];
+    const char *text;
+    const char *wanted;
+};
+
+#define SUBSCRIBED(name) ">3\r\n$9\r\nsubscribe\r\n$1\r\n" name "\r\n:1\r\n"
+#define MESSAGE ">3\r\n+message\r\n+a\r\n+hello\r\n"
+
+static const struct subscribed SUBSCRIPTIONS[] = {
+    {{"GET a", "SUBSCRIBE a b", "GET b"}, "+1\r\n" SUBSCRIBED("a") SUBSCRIBED("b") "+3\r\n", "#2#3#4=2=0=0=4."},
+    {{"GET a", "SUBSCRIBE a b", "GET b"}, MESSAGE "+1\r\n" SUBSCRIBED("a") SUBSCRIBED("b") MESSAGE "+3\r\n",
+     "#2#3#4=0=2=0=0=0=4."},
+    {{"SUBSCRIBE a", "GET b"}, "-NOPERM no\r\n+3\r\n", "#2#3=2=3."},
+    {{"GET a", "SUBSCRIBE a b", "GET b"}, "+1\r\n!4\r\nE no\r\n" MESSAGE "+3\r\n", "#2#3#4=2=3=0=4."},
+    {{"SUBSCRIBE a b", "GET b"}, SUBSCRIBED("a") SUBSCRIBED("b") "_\r\n" MESSAGE, "#2#3=0=0=3=0."},
+    {{"SUBSCRIBE a", "GET b"}, SUBSCRIBED("a") "_\r\n+a\r\n", "#2#3=0=3!20"},
+    {{"SUBSCRIBE a", "UNSUBSCRIBE b", "GET b"}, SUBSCRIBED("a") "_\r\n", "#2!69#3=0=3."},
+    {{"UNSUBSCRIBE", "HELLO 2", "SUBSCRIBE a", "GET a"}, "*0\r\n_\r\n", "!68#2!68#3=2!3"},
+    {{"SSUBSCRIBE a", "HELLO 3", "GET a"}, SUBSCRIBED("a") "%0\r\n_\r\n", "#2#3#4=0=3=4."},
+};
+
+static uint32_t queue_words(struct resp_pairing *pairing, const char *words, uint64_t *number) {
+    const char *argv[8];
+    size_t argvlen[8], argc = 0;
+    while (*words) {
+        argv[argc] = words;
+        words += argvlen[argc++] = strcspn(words, " ");
+        words += *words == ' ';
+    }
+    return resp_pairing_queue_command(pairing, argc, argv, argvlen, number);
+}
+
+/* Reads the text of a row in pieces of this many bytes. */
+static void subscribe(const struct subscribed *row, size_t size) {
+    union resp_scanner_memory memory;
+    struct resp_scanner scanner;
+    struct resp_limits limits;
+    struct resp_pairing pairing;
+    struct story story = {"", 0};
+    uint64_t number;
+    size_t length = strlen(row->text);
+    resp_limits_standard(&limits);
+    resp_scanner_init_in(&scanner, &memory, 3, &limits);
+    resp_pairing_init(&pairing);
+    resp_pairing_queue(&pairing, RESP_COMMAND_HELLO_3, &number);
+    pair_piece(&(struct story){"", 0}, &pairing, &scanner, "%0\r\n", 4);
+    for (const char *const *words = row->commands; *words; words++) {
+        uint32_t cause = queue_words(&pairing, *words, &number);
+        cause == RESP_OK ? say(&story, "#%" PRIu64, number) : say(&story, "!%" PRIu32, cause);
+    }
+    uint32_t cause = RESP_OK;
+    for (size_t at = 0; cause == RESP_OK && at < length; at += size) {
+        size_t left = size < length - at ? size : length - at;
+        const uint8_t *piece = (const uint8_t *)row->text + at;
+        struct resp_event event;
+        while ((cause = resp_pairing_step(&pairing, &scanner, piece, left, &event, &number)) == RESP_OK && event.kind) {
+            if (event.kind == RESP_DONE)
+                say(&story, "=%" PRIu64, number);
+            piece += event.used;
+            left -= event.used;
+        }
+    }
+    cause == RESP_OK ? say(&story, ".") : say(&story, "!%" PRIu32, cause);
+    check(!strcmp(story.said, row->wanted), row->text, story.said);
+}
+
+static void subscriptions(void) {
+    for (size_t row = 0; row < sizeof SUBSCRIPTIONS / sizeof *SUBSCRIPTIONS; row++)
+        for (size_t size = 1; size <= strlen(SUBSCRIPTIONS[row].text); size++)
+            subscribe(&SUBSCRIPTIONS[row], size);
+    struct resp_pairing pairing, before;
+    uint64_t number = 99;
+    resp_pairing_init(&pairing);
+    before = pairing;
+    check(resp_pairing_queue_pushes(&pairing, 1, &number) == RESP_CAUSE_UNPAIRED && number == 99 &&
+          !memcmp(&before, &pairing, sizeof pairing), "pushes", "queued in version 2");
+    check(!strcmp(resp_cause_name(RESP_CAUSE_PUSHES_WAIT), "PushesWait"), "pushes", "another name");
+}
+
 /* The words of a command, separated by spaces, and its kind. */
 struct kind {
     const char *words;
@@ -718,7 +800,7 @@ static void on_the_stack(void) {
 int main(void) {
     check(resp_version() == RESP_VERSION_NUMBER && RESP_VERSION_NUMBER == 0x000200 && !strcmp(RESP_VERSION, "0.2.0"), "version",
           "another one");
-    check(sizeof(void *) != 8 || (sizeof(struct resp_event) == 48 && sizeof(struct resp_pairing) == 48 &&
+    check(sizeof(void *) != 8 || (sizeof(struct resp_event) == 48 && sizeof(struct resp_pairing) == 64 &&
           sizeof(struct resp_limits) == 40 && sizeof(struct resp_scanned) == 16), "structs", "have other sizes");
     appends();
     on_the_stack();
@@ -727,6 +809,7 @@ int main(void) {
     great_commands();
     pairs();
     kinds();
+    subscriptions();
     for (size_t row = 0; row < sizeof ROWS / sizeof *ROWS; row++)
         for (size_t cut = 0; cut <= strlen(ROWS[row].text) + 1; cut++)
             for (size_t room = 0; room <= 5; room++)

@@ -411,9 +411,14 @@ static PyObject *pairing_queue(struct reader *reader, PyObject *args) {
     uint64_t number;
     if (!kind_of_queued(args, &kind) || !is_ready(reader))
         return NULL;
-    switch (resp_pairing_queue(&reader->pairing, kind, &number)) {
+    switch (kind == RESP_COMMAND_SUBSCRIBING
+                ? resp_pairing_queue_pushes(&reader->pairing, (uint64_t)PyTuple_Size(args) - 1, &number)
+                : resp_pairing_queue(&reader->pairing, kind, &number)) {
     case RESP_OK:
         return PyLong_FromUnsignedLongLong(number);
+    case RESP_CAUSE_PUSHES_WAIT:
+        PyErr_SetString(PyExc_ValueError, "a command that pushes answer waits");
+        return NULL;
     case RESP_CAUSE_UNPAIRED:
         PyErr_SetString(PyExc_ValueError, "a command that does not have exactly one reply, or that changes the protocol");
         return NULL;
@@ -748,8 +753,9 @@ static PyMethodDef PAIRING_METHODS[] = {
      "has_data()\n--\n\nReturns whether bytes wait to be read, or a reply was begun."},
     {"queue", (PyCFunction)pairing_queue, METH_VARARGS,
      "queue(*words)\n--\n\nCounts a command of these words that is sent. Returns the number of its reply, from 1. Raises\n"
-     "ValueError for a command that does not have exactly one reply or that changes the protocol (SUBSCRIBE, PSUBSCRIBE, SSUBSCRIBE\n"
-     "and their UN- forms, MONITOR, SYNC, PSYNC, RESET, CLIENT REPLY), and for a HELLO with a protocol while another one waits.\n\n"
+     "ValueError for a command that does not have exactly one reply or that changes the protocol (MONITOR, SYNC, PSYNC, RESET,\n"
+     "CLIENT REPLY, and in protocol 2 SUBSCRIBE, PSUBSCRIBE, SSUBSCRIBE and their UN- forms), and for a HELLO with a protocol or\n"
+     "a command that pushes answer while another one waits.\n\n"
      "queue() counts a command that has exactly one reply, and queue(2) or queue(3) a HELLO that asks for this protocol."},
     {"protocol", (PyCFunction)pairing_protocol, METH_NOARGS,
      "protocol()\n--\n\nReturns the protocol: 2, or the one of the last HELLO that was answered without an error."},

@@ -1,6 +1,7 @@
 """Talks to redis-server on a port with redis-py, which reads with the package resp in place of hiredis for Python, and
 with the parsers of resp.redis_parser: redis_py.py PORT"""
 import asyncio
+import socket
 import sys
 import types
 
@@ -118,6 +119,42 @@ async def talk_by_asyncio(port):
     await pool.disconnect()
 
 
+def paired(port, commands):
+    """Sends HELLO, and then the other commands in one write. Returns the number of each command and the replies with
+    theirs, until the last command has its reply."""
+    pairing = resp.Pairing(replyError=str)
+    with socket.create_connection(("127.0.0.1", port)) as connection:
+        given = []
+
+        def read_to(number):
+            while not given or given[-1][0] != number:
+                if (pair := pairing.gets()) is False:
+                    pairing.feed(connection.recv(4096))
+                else:
+                    given.append(pair)
+
+        numbers = [pairing.queue(*commands[0])]
+        connection.sendall(resp.pack(*commands[0]))
+        read_to(1)
+        given.clear()
+        numbers += [pairing.queue(*words) for words in commands[1:]]
+        connection.sendall(b"".join(resp.pack(*words) for words in commands[1:]))
+        read_to(numbers[-1])
+        return numbers, given
+
+
+def pair_subscriptions(port):
+    """Commands that pushes answer, and that the server rejects, have the numbers of their commands."""
+    numbers, given = paired(port, [("HELLO", 3), ("ECHO", "a"), ("SUBSCRIBE", "x", "y", "z"), ("ECHO", "b")])
+    check(numbers, [1, 2, 3, 4])
+    check([number for number, _ in given], [2, None, None, None, 4])
+    check([given[0][1], given[-1][1]], [b"a", b"b"])
+    client(port).execute_command("ACL", "SETUSER", "no_channels", "on", "nopass", "~*", "+@all", "resetchannels")
+    hello = ("HELLO", 3, "AUTH", "no_channels", "any")
+    numbers, given = paired(port, [hello, ("ECHO", "a"), ("PSUBSCRIBE", "x*", "y*"), ("ECHO", "b")])
+    check([(number, reply[:6]) for number, reply in given], [(2, b"a"), (3, "NOPERM"), (4, b"b")])
+
+
 def main(port):
     server = redis.Redis(port=port)
     check(server.connection_pool.connection_class().__dict__["_parser"].__class__, HiredisParser)
@@ -126,6 +163,7 @@ def main(port):
     talk(client(port), client(port, decode_responses=True))
     talk_in_protocol_3(port)
     asyncio.run(talk_by_asyncio(port))
+    pair_subscriptions(port)
     print("redis-py reads by resp")
 
 

@@ -599,6 +599,22 @@ class Rows(unittest.TestCase):
         self.assertEqual([pairing.gets() for _ in range(7)][-1], (7, {}))
         self.assertEqual(pairing.protocol(), 3)
 
+    def test_subscriptions(self):
+        subscribed = b">3\r\n+subscribe\r\n+a\r\n:1\r\n"
+        pairing = resp.Pairing(notEnoughData=reader_waits, replyError=str)
+        self.assertEqual(pairing.queue("HELLO", 3), 1)
+        pairing.feed(b"%0\r\n")
+        self.assertEqual(pairing.gets(), (1, {}))
+        self.assertEqual([pairing.queue("GET", "a"), pairing.queue("SUBSCRIBE", "a", "b"), pairing.queue("GET", "b")], [2, 3, 4])
+        with self.assertRaisesRegex(ValueError, "pushes answer waits"):
+            pairing.queue("PSUBSCRIBE", "c")
+        given = replies(pairing, [b":1\r\n" + subscribed, subscribed + b":2\r\n"])
+        self.assertEqual([number for number, _ in given], [2, None, None, 4])
+        self.assertEqual([pairing.queue("SUBSCRIBE", "c"), pairing.queue("GET", "b")], [5, 6])
+        self.assertEqual(replies(pairing, [b"-NOPERM\r\n", b"_\r\n"]), [(5, "NOPERM"), (6, None)])
+        with self.assertRaisesRegex(ValueError, "exactly one reply"):
+            pairing.queue("UNSUBSCRIBE")
+
     def test_an_interpreter_of_its_own(self):
         if not _testcapi:
             self.skipTest("this Python has no _testcapi")

@@ -9,10 +9,12 @@ use std::fmt;
 #[non_exhaustive]
 pub enum QueueError {
     /// The command does not have exactly one reply, or it changes the version in another way than HELLO:
-    /// SUBSCRIBE, PSUBSCRIBE, SSUBSCRIBE, UNSUBSCRIBE, PUNSUBSCRIBE, SUNSUBSCRIBE, MONITOR, SYNC, PSYNC,
-    /// RESET, CLIENT REPLY, and a command without a word. Later replies would be paired with the wrong
-    /// commands.
+    /// MONITOR, SYNC, PSYNC, RESET, CLIENT REPLY, and a command without a word; and SUBSCRIBE, PSUBSCRIBE,
+    /// SSUBSCRIBE, UNSUBSCRIBE, PUNSUBSCRIBE, SUNSUBSCRIBE in version 2, while a HELLO that asks for a
+    /// version waits, or without a channel. Later replies would be paired with the wrong commands.
     Unpaired,
+    /// Another command that pushes answer waits.
+    PushesWait,
     /// Another HELLO that asks for a version waits for its reply.
     HelloWaits,
     /// 2^63 commands were queued.
@@ -34,6 +36,7 @@ impl fmt::Display for QueueError {
     fn fmt(&self, f: &mut fmt::Formatter<'_>) -> fmt::Result {
         f.write_str(match self {
             QueueError::Unpaired => "the command does not have exactly one reply, or changes the version",
+            QueueError::PushesWait => "a command that pushes answer waits",
             QueueError::HelloWaits => "a HELLO with a version waits",
             QueueError::TooMany => "the numbers of commands are used up",
         })
@@ -51,6 +54,17 @@ impl fmt::Display for PairError {
 
 impl Error for QueueError {}
 impl Error for PairError {}
+
+/// Returns the number of a command that was counted, or the error.
+fn queued(cause: u32, number: u64) -> Result<u64, QueueError> {
+    match cause {
+        raw::OK => Ok(number),
+        raw::UNPAIRED => Err(QueueError::Unpaired),
+        raw::PUSHES_WAIT => Err(QueueError::PushesWait),
+        raw::HELLO_WAITS => Err(QueueError::HelloWaits),
+        _ => Err(QueueError::TooMany),
+    }
+}
 
 /// The result of [`Pairing::step`].
 #[derive(Clone, Copy, Debug, PartialEq, Eq)]
@@ -106,10 +120,16 @@ impl Pairing {
     /// Counts a command of these words that is sent, and returns the number of its reply. After the reply
     /// to a HELLO that asks for a version, unless it is an error, values are read in that version.
     ///
+    /// In version 3 SUBSCRIBE, PSUBSCRIBE, SSUBSCRIBE and their UN- forms are answered by a push for each
+    /// channel, or by one error. Such a command waits until so many pushes arrived while it waited first,
+    /// or until a reply. Other pushes count too: if messages arrive meanwhile, its wait ends early, and
+    /// later replies still have the right numbers unless the server rejects the command.
+    ///
     /// # Errors
     ///
     /// [`QueueError::Unpaired`] for a command that is not paired, [`QueueError::HelloWaits`] for a HELLO
-    /// that asks for a version while another one waits, and [`QueueError::TooMany`] after 2^63 commands.
+    /// that asks for a version while another one waits, [`QueueError::PushesWait`] for a command that
+    /// pushes answer while another one waits, and [`QueueError::TooMany`] after 2^63 commands.
     pub fn queue_command<W: AsRef<[u8]>>(&mut self, words: &[W]) -> Result<u64, QueueError> {
         let name = words.first().map_or(&[][..], AsRef::as_ref);
         let argument = words.get(1).map_or(&[][..], AsRef::as_ref);
@@ -117,7 +137,12 @@ impl Pairing {
         let kind = unsafe {
             raw::resp_command_kind(words.len(), name.as_ptr(), name.len(), argument.as_ptr(), argument.len())
         };
-        self.queue_kind(kind)
+        if kind != raw::SUBSCRIBING {
+            return self.queue_kind(kind);
+        }
+        let mut number = 0;
+        // SAFETY: `new` has initialised the pairing, and the other pointer is to our own number.
+        queued(unsafe { raw::resp_pairing_queue_pushes(&mut self.pairing, words.len() as u64 - 1, &mut number) }, number)
     }
 
     /// Counts a command that is sent, without its words, and returns the number of its reply.
@@ -146,12 +171,7 @@ impl Pairing {
     fn queue_kind(&mut self, kind: u32) -> Result<u64, QueueError> {
         let mut number = 0;
         // SAFETY: `new` has initialised the pairing, and the other pointer is to our own number.
-        match unsafe { raw::resp_pairing_queue(&mut self.pairing, kind, &mut number) } {
-            raw::OK => Ok(number),
-            raw::UNPAIRED => Err(QueueError::Unpaired),
-            raw::HELLO_WAITS => Err(QueueError::HelloWaits),
-            _ => Err(QueueError::TooMany),
-        }
+        queued(unsafe { raw::resp_pairing_queue(&mut self.pairing, kind, &mut number) }, number)
     }
 
     /// Returns the version: 2, or that of the last HELLO whose reply was not an error.

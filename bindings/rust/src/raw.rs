@@ -7,11 +7,29 @@ pub const OK: u32 = 0;
 pub const LENGTH: u32 = 7;
 pub const TOTAL: u32 = 8;
 pub const ITEMS: u32 = 13;
+pub const BAD_LINE: u32 = 60;
+pub const NO_ROOM: u32 = 65;
 pub const HELLO_WAITS: u32 = 67;
 pub const UNPAIRED: u32 = 68;
+pub const PUSHES_WAIT: u32 = 69;
+
+/// `RESP_COMMAND_SUBSCRIBING`.
+pub const SUBSCRIBING: u32 = 16;
 
 /// `RESP_ARRAY`.
 pub const ARRAY: u32 = 0;
+
+/// `RESP_SET`.
+pub const SET: u32 = 1;
+
+/// `RESP_MAP`.
+pub const MAP: u32 = 2;
+
+/// `RESP_ATTRIBUTE`.
+pub const ATTRIBUTE: u32 = 3;
+
+/// `RESP_PUSH`.
+pub const PUSH: u32 = 4;
 
 #[repr(C)]
 pub struct Scanner {
@@ -60,6 +78,8 @@ pub struct Pairing {
     pub nested: u64,
     pub refuses: u32,
     pub first: u32,
+    pub pushes: u64,
+    pub before_pushes: u64,
 }
 
 extern "C" {
@@ -90,10 +110,58 @@ extern "C" {
         argument_length: usize,
     ) -> u32;
     pub fn resp_pairing_queue(pairing: *mut Pairing, kind: u32, number: *mut u64) -> u32;
+    pub fn resp_pairing_queue_pushes(pairing: *mut Pairing, pushes: u64, number: *mut u64) -> u32;
     pub fn resp_pairing_first(pairing: *mut Pairing, byte: u8, version: *mut u32) -> u32;
     pub fn resp_pairing_take(pairing: *mut Pairing, event: *const Event, number: *mut u64);
     pub fn resp_command_size(limits: *const Limits, lengths: *const usize, count: usize, size: *mut usize) -> u32;
     pub fn resp_write_head(room: *mut u8, length: usize, kind: u32, members: u64, size: *mut usize) -> u32;
+    pub fn resp_write_null(room: *mut u8, length: usize, version: u32, size: *mut usize) -> u32;
+    pub fn resp_write_bool(room: *mut u8, length: usize, truth: bool, size: *mut usize) -> u32;
+    pub fn resp_write_int(room: *mut u8, length: usize, number: i64, size: *mut usize) -> u32;
+    pub fn resp_write_simple(
+        room: *mut u8,
+        length: usize,
+        text: *const u8,
+        count: usize,
+        size: *mut usize,
+    ) -> u32;
+    pub fn resp_write_error(
+        room: *mut u8,
+        length: usize,
+        text: *const u8,
+        count: usize,
+        size: *mut usize,
+    ) -> u32;
+    pub fn resp_write_double(
+        room: *mut u8,
+        length: usize,
+        text: *const u8,
+        count: usize,
+        size: *mut usize,
+    ) -> u32;
+    pub fn resp_write_bulk_error(
+        room: *mut u8,
+        length: usize,
+        bytes: *const u8,
+        count: usize,
+        size: *mut usize,
+    ) -> u32;
+    pub fn resp_write_verbatim(
+        room: *mut u8,
+        length: usize,
+        format: *const [u8; 3],
+        text: *const u8,
+        count: usize,
+        size: *mut usize,
+    ) -> u32;
+    pub fn resp_write_big(
+        room: *mut u8,
+        length: usize,
+        negative: bool,
+        digits: *const u8,
+        count: usize,
+        size: *mut usize,
+    ) -> u32;
     pub fn resp_write_bulk(
         room: *mut u8,
         length: usize,

@@ -103,3 +103,19 @@ fn commands() {
     assert_eq!(said(&mut pairing, &[b":1\r\n:2\r\n:3\r\n:4\r\n:5\r\n%0\r\n"]), "1.2.3.4.5.6.");
     assert_eq!(pairing.version(), Version::Three);
 }
+
+#[test]
+fn subscriptions() {
+    let subscribed = b">3\r\n+subscribe\r\n+a\r\n:1\r\n";
+    let mut pairing = Pairing::new(&Limits::default()).expect("limits");
+    assert_eq!(pairing.hello(Version::Three), Ok(1));
+    assert_eq!(pairing.queue_command(&["SUBSCRIBE", "a"]), Err(QueueError::Unpaired));
+    assert_eq!(said(&mut pairing, &[b"%0\r\n"]), "1.");
+    assert_eq!(pairing.queue_command(&["SUBSCRIBE", "a", "b"]), Ok(2));
+    assert_eq!(pairing.queue_command(&["SUBSCRIBE", "c"]), Err(QueueError::PushesWait));
+    assert_eq!(pairing.queue_command(&["GET", "a"]), Ok(3));
+    assert_eq!(said(&mut pairing, &[subscribed, subscribed, b":1\r\n"]), "push.push.3.");
+    assert_eq!(pairing.queue_command(&["SUBSCRIBE", "c"]), Ok(4));
+    assert_eq!(pairing.queue(), Ok(5));
+    assert_eq!(said(&mut pairing, &[b"-NOPERM no\r\n:1\r\n"]), "4.5.");
+}

@@ -20,3 +20,7 @@ hello_waits = 67
 -- the command does not have exactly one reply, or changes the version in another way than HELLO
 abbrev pub unpaired : ℕ
 unpaired = 68
+
+-- a command that pushes answer waits
+abbrev pub pushes_wait : ℕ
+pushes_wait = 69

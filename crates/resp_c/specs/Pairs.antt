@@ -1,5 +1,5 @@
 -- The reply that an event belongs to, whether the reply is an error, and the waiting commands, as C stores them.
-use Rattle.std.specs.Prelude.{◌≡◌, ◌⊎◌, ℕ, zero, suc, ◌+◌, ◌-◌, Bool, true, false, List, [], ◌∷◌, ◌++◌, Option, None, Some, cond, eqb}
+use Rattle.std.specs.Prelude.{◌≡◌, ◌⊎◌, ◌&&◌, ℕ, zero, suc, ◌+◌, ◌-◌, Bool, true, false, List, [], ◌∷◌, ◌++◌, Option, None, Some, cond, eqb}
 use Rattle.resp_value.specs.Data.{Kind, Attr, Push}
 use Rattle.resp_value.specs.Trees.{Tree, IsTree, kind_byte}
 use Rattle.resp_value.specs.TreeValues.{value}
@@ -114,6 +114,19 @@ with_ask_queued ask w = record { version = w.version; asks = w.asks ++ ask ∷ [
 -- whether the value is a push
 abbrev pub reads_push : RespPairing → Bool
 reads_push p = eqb p.first (kind_byte Push)
+
+-- whether the value is the last push that answers the command which waits first
+abbrev pub is_last_push : RespPairing → Bool
+is_last_push p = reads_push p && (eqb p.pushes 1 && eqb p.before_pushes 0)
+
+-- the pushes that are left, after a value, of the command that pushes answer: a push counts if the command waits first,
+-- and a reply to it, which is an error, ends its wait
+abbrev pub pushes_after : RespPairing → ℕ
+pushes_after p = cond (eqb p.before_pushes 0) (cond (reads_push p) (p.pushes - 1) 0) p.pushes
+
+-- the commands that wait before it, after a value
+abbrev pub before_pushes_after : RespPairing → ℕ
+before_pushes_after p = cond (reads_push p) p.before_pushes (p.before_pushes - 1)
 
 -- the number of the reply, or 0 for a push
 abbrev pub number_of_reply : RespPairing → ℕ

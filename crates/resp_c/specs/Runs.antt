@@ -1,6 +1,6 @@
 -- Runs of the calls that pair values: resp_pairing_first with the first byte of a value, and resp_pairing_take with each
 -- event that a scanner gives in the version that was set.
-use Rattle.std.specs.Prelude.{◌≡◌, ◌⊎◌, ℕ, ◌+◌, ◌<◌, ◌^◌, List, [], ◌∷◌, ◌++◌, length, map, cond, eqb, Some}
+use Rattle.std.specs.Prelude.{◌≡◌, ◌⊎◌, ℕ, ◌+◌, ◌<◌, ◌^◌, false, List, [], ◌∷◌, ◌++◌, length, map, cond, eqb, Some}
 use Rattle.resp_value.specs.Bounds.{Bounds}
 use Rattle.resp_value.specs.Data.{Datum}
 use Rattle.resp_value.specs.Rules.{rules_under}
@@ -46,6 +46,13 @@ pub record Ends (old new : RespPairing) : Type 0 where
   pub waiting : (x : Datum) → is_push x ≡ reads_push old → is_refusal x ≡ (look_of old).refuses →
       waiting_of new ≡ waiting_after (waiting_of old) x
   pub counted : old.answered < 2 ^ 63 → new.answered ≡ old.answered + count_of_reply old
+  pub same_look : look_of new ≡ look_of old
+
+-- The end of the last push that answers the command which waits first: the command has its answer.
+pub record EndsByPush (old new : RespPairing) : Type 0 where
+  pub waiting : (x : Datum) → is_push x ≡ false → is_refusal x ≡ (look_of old).refuses →
+      waiting_of new ≡ waiting_after (waiting_of old) x
+  pub counted : old.answered < 2 ^ 63 → new.answered ≡ old.answered + 1
   pub same_look : look_of new ≡ look_of old
 
 -- an event, or a text with its end, as C receives it

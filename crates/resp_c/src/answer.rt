@@ -16,3 +16,6 @@ pub(crate) const HELLO_WAITS: u32 = 67;
 /// The error number of a command that does not have exactly one reply, or that changes the version
 /// in another way than HELLO.
 pub(crate) const UNPAIRED: u32 = 68;
+
+/// The error number of a command that pushes answer, while another such command waits.
+pub(crate) const PUSHES_WAIT: u32 = 69;

@@ -5,7 +5,7 @@
 //! HELLO with a version, that version, and the number of commands that wait after the HELLO. At
 //! most one such HELLO waits.
 
-ghost use Rattle.std.specs.Prelude.{◌≡◌, ◌↔◌, ◌⊎◌, ℕ, ◌+◌, ◌-◌, ◌<◌, ◌≤◌, ◌^◌, false, List, [], ◌∷◌, length, min, eqb, Some};
+ghost use Rattle.std.specs.Prelude.{◌≡◌, ◌↔◌, ◌⊎◌, ℕ, ◌+◌, ◌-◌, ◌<◌, ◌≤◌, ◌^◌, true, false, List, [], ◌∷◌, length, min, eqb, None, Some};
 ghost use Rattle.resp_value.specs.Data.{Datum};
 ghost use Rattle.resp_value.specs.Causes.{number_of};
 ghost use Rattle.resp_value.specs.declared.cause.Cause.TheVariants as cause;
@@ -16,15 +16,15 @@ ghost use Rattle.resp_scan.specs.declared.event.Event.{Event};
 ghost use Rattle.resp_scan.specs.declared.event.TextKind.{TextKind};
 ghost use Rattle.resp_session.specs.Heard.{is_push};
 ghost use Rattle.resp_session.specs.Reading.{IsUnasked, is_refusal, reading_version, waiting_after};
-ghost use Rattle.resp_c.specs.Answers.{bad_version, hello_waits, unpaired};
+ghost use Rattle.resp_c.specs.Answers.{bad_version, hello_waits, pushes_wait, unpaired};
 ghost use Rattle.resp_c.specs.CommandKinds.{IsUnpaired};
 ghost use Rattle.resp_c.specs.EventNumbers.{done_number};
 ghost use Rattle.resp_c.specs.Told.{Tells, TellsWhole};
 ghost use Rattle.resp_c.specs.Versions.{IsVersion, version_of};
-ghost use Rattle.resp_c.specs.Runs.{Begins, Ends, Shows};
-ghost use Rattle.resp_c.specs.Pairs.{HasVersions, IsAsk, after_events, ask_of, count_of_reply, hello_asks, look_of, nested_by, new_look, number_of_reply, reads_push, refuses_by, waiting_of, with_ask_queued};
+ghost use Rattle.resp_c.specs.Runs.{Begins, Ends, EndsByPush, Shows};
+ghost use Rattle.resp_c.specs.Pairs.{HasVersions, IsAsk, after_events, ask_of, before_pushes_after, count_of_reply, hello_asks, is_last_push, look_of, nested_by, new_look, number_of_reply, pushes_after, reads_push, refuses_by, waiting_of, with_ask_queued};
 
-use crate::answer::{BAD_VERSION, HELLO_WAITS, UNPAIRED};
+use crate::answer::{BAD_VERSION, HELLO_WAITS, PUSHES_WAIT, UNPAIRED};
 use crate::event::RespEvent;
 use crate::number;
 use resp_value::cause::Cause;
@@ -54,6 +54,11 @@ pub struct RespPairing {
     pub refuses: u32,
     /// The first byte of the value.
     pub first: u32,
+    /// The number of pushes that are left of the waiting command that pushes answer, or 0 if there is
+    /// no such command.
+    pub pushes: u64,
+    /// The number of commands that wait before that command.
+    pub before_pushes: u64,
 }
 
 /// Starts a pairing: no command waits, and the version is 2.
@@ -61,6 +66,7 @@ pub struct RespPairing {
 pub extern "C" fn resp_pairing_init(pairing: &mut RespPairing)
     ensures waiting { waiting_of pairing.new ≡ record { version = Two; asks = [] } }
     ensures none_answered { pairing.new.answered ≡ 0 }
+    ensures no_pushes { pairing.new.pushes ≡ 0 }
     ensures versions { HasVersions pairing.new }
 {
     *pairing = RespPairing {
@@ -72,6 +78,8 @@ pub extern "C" fn resp_pairing_init(pairing: &mut RespPairing)
         nested: 0,
         refuses: 0,
         first: 0,
+        pushes: 0,
+        before_pushes: 0,
     };
 }
 
@@ -121,6 +129,8 @@ pub extern "C" fn resp_pairing_queue(pairing: &mut RespPairing, kind: u32, numbe
     ensures causes { (result ≡ 0) ⊎ (result ≡ unpaired) ⊎ (result ≡ bad_version) ⊎
         (result ≡ hello_waits) ⊎ (result ≡ number_of cause.TooMany) }
     ensures versions { HasVersions pairing.old → HasVersions pairing.new }
+    ensures same_pushes { (pairing.new.pushes ≡ pairing.old.pushes) ×
+        (pairing.new.before_pushes ≡ pairing.old.before_pushes) }
     ensures unchanged { (result ≡ 0 → ⊥) → (pairing.new ≡ pairing.old) ×
         (number.new ≡ number.old) }
 {
@@ -149,6 +159,58 @@ pub extern "C" fn resp_pairing_queue(pairing: &mut RespPairing, kind: u32, numbe
     0
 }
 
+/// Queues a command that `pushes` pushes answer in version 3, or one error: SUBSCRIBE, PSUBSCRIBE,
+/// SSUBSCRIBE and their UN- forms, with one push for each channel. Sets `number` to its number,
+/// counted from 1. Its wait ends after so many pushes that arrive while it waits first, or at a
+/// reply.
+///
+/// Returns 0, or the number of an error, and then changes nothing: 68 for no push, in version 2 and
+/// while a HELLO with a version waits, 69 while another such command waits, 24 if all numbers have
+/// been used.
+#[unsafe(no_mangle)]
+pub extern "C" fn resp_pairing_queue_pushes(
+    pairing: &mut RespPairing,
+    pushes: u64,
+    number: &mut u64,
+) -> u32
+    ensures queued { result ≡ 0 → waiting_of pairing.new ≡
+        with_ask_queued None (waiting_of pairing.old) }
+    ensures pushes { result ≡ 0 → (pairing.new.pushes ≡ pushes) ×
+        (pairing.new.before_pushes ≡ pairing.old.before) }
+    ensures number { result ≡ 0 →
+        number.new ≡ pairing.old.answered + length (waiting_of pairing.old).asks + 1 }
+    ensures same_value { (look_of pairing.new ≡ look_of pairing.old) ×
+        (number_of_reply pairing.new ≡ number_of_reply pairing.old) }
+    ensures unpaired { ((pushes ≡ 0) ⊎ (pairing.old.version ≡ 3 → ⊥) ⊎
+        (pairing.old.hello ≡ 0 → ⊥)) → result ≡ unpaired }
+    ensures pushes_wait { (pushes ≡ 0 → ⊥) → pairing.old.version ≡ 3 → pairing.old.hello ≡ 0 →
+        (pairing.old.pushes ≡ 0 → ⊥) → result ≡ pushes_wait }
+    ensures too_many { result ≡ number_of cause.TooMany →
+        2 ^ 63 ≤ pairing.old.answered + length (waiting_of pairing.old).asks }
+    ensures ok { (pushes ≡ 0 → ⊥) → pairing.old.version ≡ 3 → pairing.old.hello ≡ 0 →
+        pairing.old.pushes ≡ 0 →
+        pairing.old.answered + length (waiting_of pairing.old).asks < 2 ^ 63 → result ≡ 0 }
+    ensures causes { (result ≡ 0) ⊎ (result ≡ unpaired) ⊎ (result ≡ pushes_wait) ⊎
+        (result ≡ number_of cause.TooMany) }
+    ensures versions { HasVersions pairing.old → HasVersions pairing.new }
+    ensures unchanged { (result ≡ 0 → ⊥) → (pairing.new ≡ pairing.old) ×
+        (number.new ≡ number.old) }
+{
+    if pushes == 0 || pairing.version != 3 || pairing.hello != 0 {
+        return UNPAIRED;
+    }
+    if pairing.pushes != 0 {
+        return PUSHES_WAIT;
+    }
+    let before = pairing.before;
+    if resp_pairing_queue(pairing, number::ONE_REPLY, number) != 0 {
+        return Cause::TooMany.number();
+    }
+    pairing.pushes = pushes;
+    pairing.before_pushes = before;
+    0
+}
+
 /// Receives the first byte of a value before it is read, and sets `version` to the version in which
 /// the value is read.
 ///
@@ -161,6 +223,8 @@ pub extern "C" fn resp_pairing_first(pairing: &mut RespPairing, byte: u8, versio
     ensures cause { (result ≡ 0 → ⊥) → result ≡ number_of cause.Unasked }
     ensures begins { result ≡ 0 → Begins pairing.old pairing.new byte version.new }
     ensures is_version { result ≡ 0 → HasVersions pairing.old → IsVersion version.new }
+    ensures same_pushes { (pairing.new.pushes ≡ pairing.old.pushes) ×
+        (pairing.new.before_pushes ≡ pairing.old.before_pushes) }
     ensures versions { HasVersions pairing.old → HasVersions pairing.new }
     ensures unchanged { (result ≡ 0 → ⊥) → (pairing.new ≡ pairing.old) ×
         (version.new ≡ version.old) }
@@ -233,6 +297,8 @@ fn answer(pairing: &mut RespPairing)
         pairing.new.answered ≡ pairing.old.answered + 1 }
     ensures same_value { (look_of pairing.new ≡ look_of pairing.old) ×
         (pairing.new.first ≡ pairing.old.first) }
+    ensures same_pushes { (pairing.new.pushes ≡ pairing.old.pushes) ×
+        (pairing.new.before_pushes ≡ pairing.old.before_pushes) }
     ensures versions { HasVersions pairing.old → HasVersions pairing.new }
 {
     pairing.answered = pairing.answered.saturating_add(1);
@@ -249,17 +315,56 @@ fn answer(pairing: &mut RespPairing)
     }
 }
 
+/// Returns whether the value is the last push that answers the command which waits first.
+fn is_last_push(pairing: &RespPairing) -> bool
+    ensures { result ≡ is_last_push pairing.now }
+{
+    pairing.first == u32::from(PUSH_BYTE) && (pairing.pushes == 1 && pairing.before_pushes == 0)
+}
+
+/// Counts the value that ends for the command that pushes answer.
+fn count_for_pushes(pairing: &mut RespPairing)
+    ensures pushes { (pairing.new.pushes ≡ pushes_after pairing.old) ×
+        (pairing.new.before_pushes ≡ before_pushes_after pairing.old) }
+    ensures same_waiting { waiting_of pairing.new ≡ waiting_of pairing.old }
+    ensures same_value { (look_of pairing.new ≡ look_of pairing.old) ×
+        (pairing.new.first ≡ pairing.old.first) × (pairing.new.answered ≡ pairing.old.answered) ×
+        (pairing.new.refuses ≡ pairing.old.refuses) }
+    ensures versions { HasVersions pairing.old → HasVersions pairing.new }
+{
+    let is_push = pairing.first == u32::from(PUSH_BYTE);
+    if pairing.before_pushes == 0 {
+        pairing.pushes = if is_push {
+            pairing.pushes.saturating_sub(1)
+        } else {
+            0
+        };
+    }
+    if !is_push {
+        pairing.before_pushes = pairing.before_pushes.saturating_sub(1);
+    }
+}
+
 /// Receives an event of the value whose first byte was received, and sets `number` to the number of
 /// the reply that it belongs to, or to 0 for a push. At `RESP_DONE` the reply belongs to the first
 /// command that waits. If that command is a HELLO with a version, this becomes the version, unless
-/// the reply is an error.
+/// the reply is an error. The last push of a command that pushes answer, if that command waits
+/// first, ends its wait.
 #[unsafe(no_mangle)]
 pub extern "C" fn resp_pairing_take(pairing: &mut RespPairing, event: &RespEvent, number: &mut u64)
     ensures number { pairing.old.answered < 2 ^ 63 →
         number.new ≡ number_of_reply pairing.old }
     ensures shows { (event.now.kind ≡ done_number → ⊥) →
         Shows pairing.old pairing.new event.now }
-    ensures ends { event.now.kind ≡ done_number → Ends pairing.old pairing.new }
+    ensures ends { event.now.kind ≡ done_number → is_last_push pairing.old ≡ false →
+        Ends pairing.old pairing.new }
+    ensures last_push { event.now.kind ≡ done_number → is_last_push pairing.old ≡ true →
+        EndsByPush pairing.old pairing.new }
+    ensures pushes { event.now.kind ≡ done_number → (pairing.new.pushes ≡ pushes_after pairing.old) ×
+        (pairing.new.before_pushes ≡ before_pushes_after pairing.old) }
+    ensures same_pushes { (event.now.kind ≡ done_number → ⊥) →
+        (pairing.new.pushes ≡ pairing.old.pushes) ×
+        (pairing.new.before_pushes ≡ pairing.old.before_pushes) }
     ensures same_byte { pairing.new.first ≡ pairing.old.first }
     ensures versions { HasVersions pairing.old → HasVersions pairing.new }
 {
@@ -270,7 +375,9 @@ pub extern "C" fn resp_pairing_take(pairing: &mut RespPairing, event: &RespEvent
         pairing.answered.saturating_add(1)
     };
     if event.kind == number::DONE {
-        if !is_push {
+        let is_last = is_last_push(pairing);
+        count_for_pushes(pairing);
+        if !is_push || is_last {
             answer(pairing);
         }
         return;
