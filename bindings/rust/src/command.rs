@@ -4,7 +4,7 @@ use crate::{raw, Limits};
 use std::error::Error;
 use std::fmt;
 
-/// The error of [`command`].
+/// The error of [`command`] and [`command_into`].
 #[derive(Clone, Copy, Debug, PartialEq, Eq)]
 #[non_exhaustive]
 pub enum CommandError {
@@ -49,10 +49,35 @@ impl Error for CommandError {}
 /// # Ok::<(), resp::CommandError>(())
 /// ```
 pub fn command<W: AsRef<[u8]>>(limits: &Limits, words: &[W]) -> Result<Vec<u8>, CommandError> {
+    let mut text = Vec::new();
+    command_into(limits, words, &mut text)?;
+    Ok(text)
+}
+
+/// Appends the bytes of a command, which [`command`] returns.
+///
+/// # Errors
+///
+/// Those of [`command`]. `to` is then unchanged.
+///
+/// # Examples
+///
+/// ```
+/// use resp::{command_into, Limits};
+///
+/// let mut text = Vec::new();
+/// for key in ["a", "b"] {
+///     command_into(&Limits::default(), &["GET", key], &mut text)?;
+/// }
+/// assert_eq!(text, b"*2\r\n$3\r\nGET\r\n$1\r\na\r\n*2\r\n$3\r\nGET\r\n$1\r\nb\r\n");
+/// # Ok::<(), resp::CommandError>(())
+/// ```
+pub fn command_into<W: AsRef<[u8]>>(limits: &Limits, words: &[W], to: &mut Vec<u8>) -> Result<(), CommandError> {
     let words: Vec<&[u8]> = words.iter().map(AsRef::as_ref).collect();
     let lengths: Vec<usize> = words.iter().map(|word| word.len()).collect();
-    let mut text = vec![0; size(limits, &lengths)?];
-    let mut rest: &mut [u8] = &mut text;
+    let begin = to.len();
+    to.resize(begin + size(limits, &lengths)?, 0);
+    let mut rest: &mut [u8] = &mut to[begin..];
     let mut used = 0;
     // SAFETY: we own the buffer, which has this length.
     let cause =
@@ -65,7 +90,7 @@ pub fn command<W: AsRef<[u8]>>(limits: &Limits, words: &[W]) -> Result<Vec<u8>, 
             unsafe { raw::resp_write_bulk(rest.as_mut_ptr(), rest.len(), word.as_ptr(), word.len(), &mut used) };
         assert_eq!(cause, raw::OK);
     }
-    Ok(text)
+    Ok(())
 }
 
 /// Returns the number of bytes of a command, from the lengths of its words.

@@ -1,5 +1,5 @@
-//! Reads RESP2 and RESP3, the wire protocol of Redis, from pieces of any size, and returns values as
-//! events. Writes commands, and pairs replies with them.
+//! Reads RESP2 and RESP3, the wire protocol of Redis, from pieces of any size, and returns events or
+//! values. Writes commands and values, and pairs replies with commands.
 //!
 //! This crate wraps the C library `libresp`. Its scanner is proved: the events are those of the
 //! grammar, and the first byte that no valid value can contain there is an error. The crate itself is
@@ -22,13 +22,17 @@
 //! ```
 
 mod command;
+mod decoder;
 mod pairing;
 mod raw;
 mod scan;
+mod value;
 
-pub use command::{command, CommandError};
+pub use command::{command, command_into, CommandError};
+pub use decoder::Decoder;
 pub use pairing::{PairError, Paired, Pairing, QueueError};
 pub use scan::Scan;
+pub use value::{AppendError, Value};
 
 use std::error::Error;
 use std::fmt;
