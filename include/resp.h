@@ -7,7 +7,7 @@
  * - The memory of a scanner is not moved.
  * - resp_scanner_init has returned RESP_OK before any other call with the scanner.
  * - One call with a scanner runs at a time.
- * - Each pointer is to what its type says and is never NULL, even if the length is 0.
+ * - Each pointer is to what its type says. It may be NULL only if a length of 0 is given with it.
  * - What a call writes to doesn't overlap with its other arguments.
  *
  *     struct resp_limits limits;
@@ -349,16 +349,16 @@ uint32_t resp_scanner_finish(struct resp_scanner *scanner);
 uint32_t resp_scanner_set_version(struct resp_scanner *scanner, uint32_t version);
 
 /* Returns the number of open aggregates: RESP_OPEN was returned, and RESP_CLOSE not yet. */
-size_t resp_scanner_depth(struct resp_scanner *scanner);
+size_t resp_scanner_depth(const struct resp_scanner *scanner);
 
 /* Returns the number of bytes read of the current value, 0 between values. A wrong byte isn't
  * counted. */
-uint64_t resp_scanner_taken(struct resp_scanner *scanner);
+uint64_t resp_scanner_taken(const struct resp_scanner *scanner);
 
 /* Returns the smallest number of bytes that can complete the value, whatever the limit of total: 3
  * between values, and 0 if all bytes have been read and only events remain. After an error the
  * result has no meaning. */
-uint64_t resp_scanner_needed(struct resp_scanner *scanner);
+uint64_t resp_scanner_needed(const struct resp_scanner *scanner);
 
 /* Returns the `event->part` bytes of a RESP_PART. `piece` is the piece of the step. */
 static inline const uint8_t *resp_event_part(const struct resp_event *event, const uint8_t *piece) {
@@ -449,9 +449,8 @@ uint32_t resp_pairing_queue_pushes(struct resp_pairing *pairing, uint64_t pushes
  * tested, and they are proved. */
 static inline uint32_t resp_pairing_queue_command(struct resp_pairing *pairing, size_t argc, const char *const *argv,
                                                   const size_t *argvlen, uint64_t *number) {
-    static const uint8_t none[1] = {0};
-    const uint8_t *name = argc > 0 ? (const uint8_t *)argv[0] : none;
-    const uint8_t *argument = argc > 1 ? (const uint8_t *)argv[1] : none;
+    const uint8_t *name = argc > 0 ? (const uint8_t *)argv[0] : NULL;
+    const uint8_t *argument = argc > 1 ? (const uint8_t *)argv[1] : NULL;
     uint32_t kind = resp_command_kind(argc, name, argc > 0 ? argvlen[0] : 0, argument, argc > 1 ? argvlen[1] : 0);
     if (kind == RESP_COMMAND_SUBSCRIBING)
         return resp_pairing_queue_pushes(pairing, argc - 1, number);

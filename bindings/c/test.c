@@ -775,6 +775,41 @@ static void appends(void) {
     free(growing.start);
 }
 
+/* NULL with a length of 0: as a piece, at every byte of a text, and as a room and a text to write. */
+static void nulls(void) {
+    static const char text[] = "*2\r\n$5\r\nhello\r\n(0012\r\n+a\r\n=5\r\ntxt:a\r\n$?\r\n;1\r\na\r\n;0\r\n";
+    union resp_scanner_memory memory, other_memory;
+    struct resp_scanner scanner, other;
+    struct resp_limits limits;
+    struct resp_event event;
+    struct resp_scanned scanned;
+    size_t size;
+    resp_limits_standard(&limits);
+    resp_scanner_init_in(&scanner, &memory, 3, &limits);
+    resp_scanner_init_in(&other, &other_memory, 3, &limits);
+    for (size_t at = 0; at < sizeof text - 1; at++) {
+        struct story with = {"", 0}, without = {"", 0};
+        check(say_steps(&with, &scanner, (const uint8_t *)text + at, 1) == RESP_OK, "NULL", "refused");
+        check(say_steps(&with, &scanner, NULL, 0) == RESP_OK, "NULL", "a step is refused");
+        check(say_steps(&without, &other, (const uint8_t *)text + at, 1) == RESP_OK, "NULL", "refused");
+        check(!strcmp(with.said, without.said), "NULL", with.said);
+        check(resp_scanner_scan(&scanner, NULL, 0, &event, 1, &scanned) == RESP_OK && !scanned.count, "NULL", "a scan");
+        check(resp_scanner_scan(&scanner, NULL, 0, NULL, 0, &scanned) == RESP_OK && !scanned.count, "NULL", "no array");
+    }
+    uint8_t room[16] = {0};
+    check(resp_write_bulk(room, 16, NULL, 0, &size) == RESP_OK && size == 6 && !memcmp(room, "$0\r\n\r\n", 6), "NULL", "a bulk");
+    check(resp_write_simple(room, 16, NULL, 0, &size) == RESP_OK && size == 3, "NULL", "a simple string");
+    check(resp_write_verbatim(room, 16, (const uint8_t *)"txt", NULL, 0, &size) == RESP_OK && size == 10, "NULL", "a verbatim");
+    check(resp_write_big(room, 16, false, NULL, 0, &size) == RESP_CAUSE_BAD_DIGITS, "NULL", "a big number");
+    check(resp_write_bulk(NULL, 0, NULL, 0, &size) == RESP_CAUSE_NO_ROOM && size == 6, "NULL", "a bulk without room");
+    check(resp_write_int(NULL, 0, 7, &size) == RESP_CAUSE_NO_ROOM && size == 4, "NULL", "an integer without room");
+    check(resp_write_head(NULL, 0, RESP_ARRAY, 7, &size) == RESP_CAUSE_NO_ROOM && size == 4, "NULL", "a head without room");
+    check(resp_command_size(&limits, NULL, 0, &size) == RESP_OK && size == 4, "NULL", "no words");
+    check(resp_write_command(room, 16, &limits, 0, NULL, NULL, &size) == RESP_OK && size == 4, "NULL", "a command");
+    check(resp_command_kind(0, NULL, 0, NULL, 0) == RESP_COMMAND_NOT_PAIRED, "NULL", "a kind");
+    check(resp_command_kind(2, NULL, 0, NULL, 0) == RESP_COMMAND_ONE_REPLY, "NULL", "another kind");
+}
+
 /* A scanner on the stack, and the names of what it returns. */
 static void on_the_stack(void) {
     union resp_scanner_memory memory;
@@ -804,6 +839,7 @@ int main(void) {
           sizeof(struct resp_limits) == 40 && sizeof(struct resp_scanned) == 16), "structs", "have other sizes");
     appends();
     on_the_stack();
+    nulls();
     writes();
     great_writes();
     great_commands();
