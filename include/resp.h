@@ -465,9 +465,9 @@ static inline uint32_t resp_pairing_queue_command(struct resp_pairing *pairing, 
 uint32_t resp_pairing_first(struct resp_pairing *pairing, uint8_t byte, uint32_t *version);
 
 /* Call this with each event of the value, in order; RESP_WHOLE is accepted. Sets `*number` to the
- * number of the reply that the event belongs to, or to 0 for a push. At RESP_DONE of a reply the first
- * command that waits has its reply. If that command was a HELLO with a version, the pairing's version is
- * now that one, unless the reply is an error (after attributes, if any). */
+ * number of the reply that the event belongs to, or to 0 for a push. At RESP_DONE of a reply the
+ * first command that waits has its reply. If that command was a HELLO with a version, the pairing's
+ * version is now that one, unless the reply is an error (after attributes, if any). */
 void resp_pairing_take(struct resp_pairing *pairing, const struct resp_event *event, uint64_t *number);
 
 /* Steps like resp_scanner_step, and pairs the event. Use only this call to step the scanner, which
@@ -498,14 +498,94 @@ static inline uint32_t resp_pairing_step(struct resp_pairing *pairing, struct re
     return cause;
 }
 
+/* Passes events of resp_scanner_scan to the pairing, and sets `scanned` to those before a value that no
+ * command asked for. `length` bytes at `at` belong to the events or to a value that was begun after
+ * them. resp_pairing_scan uses this. */
+static inline uint32_t resp_pairing_take_all(struct resp_pairing *pairing, bool is_begun, const uint8_t *at,
+                                             size_t length, const struct resp_event *events, uint64_t *numbers,
+                                             struct resp_scanned *scanned) {
+    size_t count = 0, used = 0;
+    uint32_t version = 0, cause = RESP_OK;
+    while (cause == RESP_OK) {
+        if (!is_begun && used < length)
+            cause = resp_pairing_first(pairing, at[used], &version);
+        if (cause != RESP_OK || count == scanned->count)
+            break;
+        resp_pairing_take(pairing, &events[count], &numbers[count]);
+        is_begun = events[count].kind != RESP_DONE;
+        used += events[count++].used;
+    }
+    if (cause != RESP_OK) {
+        scanned->count = count;
+        scanned->used = used;
+    }
+    return cause;
+}
+
+/* Writes the events of values that are read in the pairing's version. resp_pairing_scan uses this. */
+static inline uint32_t resp_pairing_scan_values(struct resp_pairing *pairing, struct resp_scanner *scanner,
+                                                const struct resp_limits *limits, const uint8_t *piece, size_t length,
+                                                struct resp_event *events, uint64_t *numbers, size_t room,
+                                                struct resp_scanned *scanned) {
+    bool is_begun = resp_scanner_taken(scanner) != 0;
+    bool is_right = is_begun || resp_scanner_set_version(scanner, pairing->version) == RESP_OK;
+    uint32_t cause = resp_scanner_scan(scanner, piece, length, events, room, scanned);
+    /* a full array: the bytes after the last event haven't been read */
+    size_t known = scanned->count == room ? scanned->used : length;
+    uint32_t paired = is_right ? resp_pairing_take_all(pairing, is_begun, piece, known, events, numbers, scanned)
+                               : (uint32_t)RESP_OK;
+    if (paired == RESP_OK)
+        return cause;
+    /* The scanner has read the value that no command asked for. It begins before that value again. */
+    resp_scanner_init(scanner, pairing->version, limits);
+    return paired;
+}
+
+/* Writes the events of the piece, as resp_scanner_scan does, and the number of each event, as
+ * resp_pairing_step sets it, to arrays of `room` events and numbers. Use only this call and
+ * resp_pairing_step to read with the scanner, which was initialised with these limits. While a HELLO
+ * with a version waits, this call steps; otherwise it reads many events at once.
+ *
+ * Errors: as resp_pairing_step. `scanned` is set, and counts the events before the error.
+ *
+ * This function calls proved functions, and is tested. */
+static inline uint32_t resp_pairing_scan(struct resp_pairing *pairing, struct resp_scanner *scanner,
+                                         const struct resp_limits *limits, const uint8_t *piece, size_t length,
+                                         struct resp_event *events, uint64_t *numbers, size_t room,
+                                         struct resp_scanned *scanned) {
+    uint32_t cause = RESP_OK;
+    bool goes_on = true;
+    scanned->count = scanned->used = 0;
+    while (cause == RESP_OK && goes_on && scanned->count < room) {
+        struct resp_event *event = events + scanned->count;
+        uint64_t *number = numbers + scanned->count;
+        size_t left = length - scanned->used, most = room - scanned->count;
+        const uint8_t *at = left ? piece + scanned->used : piece;
+        struct resp_scanned more = {0, 0};
+        if (pairing->hello == 0) {
+            cause = resp_pairing_scan_values(pairing, scanner, limits, at, left, event, number, most, &more);
+            goes_on = more.count == most;
+        } else {
+            cause = resp_pairing_step(pairing, scanner, at, left, event, number);
+            goes_on = cause == RESP_OK && event->kind != RESP_MORE;
+            more.count = goes_on;
+            more.used = goes_on ? event->used : cause == RESP_OK ? left : 0;
+        }
+        scanned->count += more.count;
+        scanned->used += more.used;
+    }
+    return cause;
+}
+
 /* The calls that write put the canonical text at the front of the caller's buffer of `length` bytes
  * at `room`: numbers without plus sign and leading zeros, strings and aggregates with their length
  * or number, never streamed. Each call sets `*size` to the number of bytes of that text. Bytes of
  * the buffer after the text are unchanged.
  *
  * Errors: RESP_CAUSE_NO_ROOM if the buffer is shorter than the text; nothing is written, and
- * `*size` is set, to SIZE_MAX if the text has a length that no memory has. The other errors, which are named at each call, change neither the buffer nor
- * `*size`.
+ * `*size` is set, to at most SIZE_MAX. A `count` that no memory has, such as SIZE_MAX, is such an
+ * error and reads nothing. The other errors, which are named at each call, change neither the buffer
+ * nor `*size`.
  *
  * Only resp_command_size checks limits. The other calls don't know what value they write a part of.
  */

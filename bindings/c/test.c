@@ -515,6 +515,11 @@ static const struct paired PAIRED[] = {
     {"30", "|1\r\n+a\r\n:1\r\n*1\r\n-no\r\n_\r\n", "|1+\"a\":1*1-\"no\"]]=1v3._=2v3."},
     {"20", "*2\r\n+a\r\n:1\r\n+b\r\n", "*2+\"a\":1]=1v2.+\"b\"=2v2."},
     {"0", "*1\r\n-no\r\n", "*1-\"no\"]=1v2."},
+    {"00", ":1\r\n$2\r\nab\r\n+c\r\n:2\r\n", ":1=1v2.$\"ab\"=2v2.!20"},
+    {"3000", "%0\r\n>1\r\n:1\r\n#t\r\n>0\r\n_\r\n,1.5\r\n:5\r\n",
+     "%0]=1v3.>1:1]=0v3.#1=2v3.>0]=0v3._=3v3.,\"1.5\"=4v3.!20"},
+    {"00", ":1\r\n:x", ":1=1v2.!1"},
+    {"0", ":1\r\nx", ":1=1v2.!20"},
 };
 
 static bool pair_piece(struct story *story, struct resp_pairing *pairing, struct resp_scanner *scanner, const char *text,
@@ -567,6 +572,81 @@ static void pair(const struct paired *row, size_t cut) {
     free(scanner.memory);
 }
 
+/* Adds the events of a piece with their numbers by calls for up to `room` events. Returns whether it goes on. */
+static bool scan_piece(struct story *story, struct resp_pairing *pairing, struct resp_scanner *scanner,
+                       const struct resp_limits *limits, const char *text, size_t length, size_t room) {
+    uint8_t *piece = malloc(length ? length : 1);
+    struct resp_event *events = malloc(room * sizeof *events);
+    uint64_t *numbers = malloc(room * sizeof *numbers);
+    struct resp_scanned scanned;
+    uint32_t cause = RESP_OK;
+    size_t at = 0;
+    memcpy(piece, text, length);
+    do {
+        size_t from = at;
+        cause = resp_pairing_scan(pairing, scanner, limits, piece + at, length - at, events, numbers, room, &scanned);
+        check(scanned.count <= room && scanned.used <= length - at, text, "a scan tells too much");
+        for (size_t number = 0; number < scanned.count; number++) {
+            if (events[number].kind == RESP_DONE)
+                say(story, "=%" PRIu64, numbers[number]);
+            say_event(story, &events[number], piece + at);
+            at += events[number].used;
+        }
+        bool is_used_up = cause == RESP_OK && scanned.count < room;
+        check(from + scanned.used == (is_used_up ? length : at), text, "a scan uses other bytes");
+    } while (cause == RESP_OK && scanned.count == room);
+    if (cause != RESP_OK)
+        say(story, "!%" PRIu32, cause);
+    /* A value that no command asked for can be read once a command is queued. */
+    if (cause == RESP_CAUSE_UNASKED) {
+        struct resp_pairing asked = *pairing;
+        struct resp_event event;
+        uint64_t number = 0;
+        check(resp_scanner_taken(scanner) == 0, text, "the scanner has read an unasked value");
+        resp_pairing_queue(&asked, 0, &number);
+        check(resp_pairing_step(&asked, scanner, piece + at, length - at, &event, &number) != RESP_CAUSE_UNASKED, text,
+              "a value is unasked again");
+    }
+    free(numbers);
+    free(events);
+    free(piece);
+    return cause == RESP_OK;
+}
+
+/* Runs a row by calls for up to `room` events. The versions of the row are left out. */
+static void pair_many(const struct paired *row, size_t cut, size_t room) {
+    size_t length = strlen(row->text), wanted_length = 0;
+    char wanted[512];
+    struct story story = {"", 0};
+    struct resp_pairing pairing;
+    struct resp_limits limits;
+    union resp_scanner_memory memory;
+    struct resp_scanner scanner;
+    uint64_t number;
+    resp_limits_standard(&limits);
+    resp_scanner_init_in(&scanner, &memory, 3, &limits);
+    resp_pairing_init(&pairing);
+    for (const char *command = row->commands; *command; command++)
+        resp_pairing_queue(&pairing, (uint32_t)(*command - '0'), &number);
+    for (const char *at = row->wanted; *at; at++) {
+        if (*at == 'v' && (at[1] == '2' || at[1] == '3'))
+            at++;
+        else
+            wanted[wanted_length++] = *at;
+    }
+    wanted[wanted_length] = '\0';
+    bool goes_on = true;
+    if (cut <= length) {
+        goes_on = scan_piece(&story, &pairing, &scanner, &limits, row->text, cut, room) &&
+                  scan_piece(&story, &pairing, &scanner, &limits, row->text + cut, length - cut, room);
+    } else {
+        for (size_t at = 0; goes_on && at < length; at++)
+            goes_on = scan_piece(&story, &pairing, &scanner, &limits, row->text + at, 1, room) &&
+                      scan_piece(&story, &pairing, &scanner, &limits, "", 0, room);
+    }
+    check(strcmp(story.said, wanted) == 0, row->text, story.said);
+}
+
 /* Tests the version after a reply to HELLO that is a whole text. */
 static void pair_whole(uint32_t form, uint32_t wanted) {
     struct resp_pairing pairing;
@@ -591,6 +671,10 @@ static void pairs(void) {
     for (size_t row = 0; row < sizeof PAIRED / sizeof *PAIRED; row++)
         for (size_t cut = 0; cut <= strlen(PAIRED[row].text) + 1; cut++)
             pair(&PAIRED[row], cut);
+    for (size_t row = 0; row < sizeof PAIRED / sizeof *PAIRED; row++)
+        for (size_t cut = 0; cut <= strlen(PAIRED[row].text) + 1; cut++)
+            for (size_t room = 1; room <= 40; room += room < 5 ? 1 : 9)
+                pair_many(&PAIRED[row], cut, room);
     resp_pairing_init(&pairing);
     check(resp_pairing_queue(&pairing, 4, &number) == RESP_CAUSE_BAD_VERSION && number == 99, "queue", "version 4");
     check(resp_pairing_queue(&pairing, 3, &number) == RESP_OK && number == 1, "queue", "no HELLO");
