@@ -718,7 +718,8 @@ static PyMethodDef READER_METHODS[] = {
     {"set_protocol", (PyCFunction)reader_set_protocol, METH_VARARGS,
      "set_protocol(protocol)\n--\n\nReads the next replies in protocol 2 or 3. Raises ValueError inside a reply."},
     {"set_encoding", (PyCFunction)(void (*)(void))reader_set_encoding, METH_VARARGS | METH_KEYWORDS,
-     "set_encoding(encoding=None, errors=None)\n--\n\nSets how strings are decoded. Raises LookupError if Python knows no such encoding or error handler."},
+     "set_encoding(encoding=None, errors=None)\n--\n\nSets how strings are decoded. Raises LookupError if Python knows no such\n"
+     "encoding or error handler."},
     {"len", (PyCFunction)reader_len, METH_NOARGS, "len()\n--\n\nReturns the number of bytes that were fed and not read yet."},
     {"getmaxbuf", (PyCFunction)reader_getmaxbuf, METH_NOARGS,
      "getmaxbuf()\n--\n\nReturns the most bytes of memory that the reader keeps for the next pieces, or 0 for any number."},

@@ -494,8 +494,8 @@ class Rows(unittest.TestCase):
                              (b"inf", math.inf), (b"-inf", -math.inf), (b"1e400", math.inf)]:
             for pieces in cuts(b"," + text + b"\r\n:1\r\n"):
                 self.assertEqual(replies(reader(protocol=3), pieces), [wanted, 1], text)
-        for text in [b"abc", b"1_0", b" 12", b"12 ", b"1,5", b"", b".", b"-", b"1e", b"1e+", b"e1", b"0x1p3", b"infinity", b"1.5.2",
-                     b"\xc2\xb2", b"1\0"]:
+        for text in [b"abc", b"1_0", b" 12", b"12 ", b"1,5", b"", b".", b"-", b"1e", b"1e+", b"e1", b"0x1p3", b"infinity",
+                     b"1.5.2", b"\xc2\xb2", b"1\0"]:
             for given in (b":1\r\n," + text + b"\r\n:2\r\n", b":1\r\n*2\r\n," + text + b"\r\n:3\r\n:2\r\n"):
                 for pieces in cuts(given):
                     broken, said = reader(protocol=3), []
@@ -508,8 +508,7 @@ class Rows(unittest.TestCase):
                     for _ in range(2):
                         with self.assertRaises(resp.ProtocolError) as raised:
                             broken.gets()
-                        self.assertEqual((raised.exception.cause, raised.exception.at), ("Syntax", None) if text else
-                                         (raised.exception.cause, raised.exception.at))
+                        self.assertEqual((raised.exception.cause, raised.exception.at), ("Syntax", None))
 
     def test_a_small_reader(self):
         """Until the first bytes arrive a reader needs little memory."""
@@ -546,7 +545,8 @@ class Rows(unittest.TestCase):
 
     def test_set_encoding(self):
         given = resp.Reader()
-        for words, wanted in [({}, b"\xe4"), ({"encoding": "latin-1"}, "\xe4"), ({"encoding": "utf-8", "errors": "replace"}, "\ufffd"),
+        for words, wanted in [({}, b"\xe4"), ({"encoding": "latin-1"}, "\xe4"),
+                              ({"encoding": "utf-8", "errors": "replace"}, "\ufffd"),
                               ({"encoding": "ascii", "errors": "ignore"}, ""), ({}, b"\xe4")]:
             given.set_encoding(**words)
             given.feed(b"+\xe4\r\n")
@@ -580,7 +580,8 @@ class Rows(unittest.TestCase):
 
     def test_queue_by_words(self):
         pairing = resp.Pairing()
-        for number, words in enumerate([("GET", "a"), (b"get",), ("HELLO",), ("CLIENT", "ID"), ("SET", "a", 1.5), ("GET", memoryview(b"a"))]):
+        paired = [("GET", "a"), (b"get",), ("HELLO",), ("CLIENT", "ID"), ("SET", "a", 1.5), ("GET", memoryview(b"a"))]
+        for number, words in enumerate(paired):
             self.assertEqual(pairing.queue(*words), number + 1)
         for words in [("SUBSCRIBE", "a"), ("unsubscribe",), ("PSUBSCRIBE", "a"), ("PUNSUBSCRIBE",), (b"SSUBSCRIBE", b"a"),
                       ("SUNSUBSCRIBE",), ("MONITOR",), ("SYNC",), ("PSYNC", "?", -1), ("RESET",), ("CLIENT", "REPLY", "OFF"),
