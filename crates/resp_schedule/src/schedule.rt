@@ -226,9 +226,9 @@ impl Schedule {
         Ok(place)
     }
 
-    /// Returns the next place that is visited in this round. It is idle now. If there is none, the
-    /// round is over: what is queued now is visited in the next round, and the places that were
-    /// closed may be opened again.
+    /// Returns the next place that is visited in this round. It is idle now. If no place is
+    /// left, the round is over: the places that are queued now are visited in the next round, and the
+    /// places that were closed may be opened again.
     pub fn next_due(&mut self) -> Option<usize>
         ensures next { IfSome result (λ place. VisitsNext self.old self.new place) }
         ensures over { IfNone result (due_of self.old ≡ []) }

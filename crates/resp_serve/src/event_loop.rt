@@ -31,7 +31,7 @@ const PAUSE: u64 = 100;
 /// The reply to a connection beyond the maximum.
 const TOO_MANY: &[u8] = b"-ERR max number of clients reached\r\n";
 
-/// A listener and its connections, of which each has a place of the schedule.
+/// A listener and its connections. Each connection has a place of the schedule.
 ///
 /// A place is opened before its connection is made, and closed when the connection is dropped. So
 /// each connection is in an open place of its own.

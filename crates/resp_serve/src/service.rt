@@ -1,4 +1,4 @@
-//! What a loop does with its connections.
+//! Services: how connections of a loop are made, visited and closed.
 
 use mio::net::TcpStream;
 use mio::{Registry, Token};
@@ -23,7 +23,7 @@ pub(crate) struct Tokens {
     pub(crate) server: Token,
 }
 
-/// A service for the clients of a loop. `C` is what it keeps of a connection.
+/// A service for the clients of a loop. `C` is its state for each connection.
 pub(crate) trait Service<C> {
     /// Returns the connection of an accepted client, after registering its sockets under these
     /// tokens.
