@@ -498,12 +498,12 @@ static inline uint32_t resp_pairing_step(struct resp_pairing *pairing, struct re
     return cause;
 }
 
-/* Passes events of resp_scanner_scan to the pairing, and sets `scanned` to those before a value that no
+/* Internal: passes events of resp_scanner_scan to the pairing, and sets `scanned` to those before a value that no
  * command asked for. `length` bytes at `at` belong to the events or to a value that was begun after
  * them. resp_pairing_scan uses this. */
-static inline uint32_t resp_pairing_take_all(struct resp_pairing *pairing, bool is_begun, const uint8_t *at,
-                                             size_t length, const struct resp_event *events, uint64_t *numbers,
-                                             struct resp_scanned *scanned) {
+static inline uint32_t resp_internal_take_all(struct resp_pairing *pairing, bool is_begun, const uint8_t *at,
+                                              size_t length, const struct resp_event *events, uint64_t *numbers,
+                                              struct resp_scanned *scanned) {
     size_t count = 0, used = 0;
     uint32_t version = 0, cause = RESP_OK;
     while (cause == RESP_OK) {
@@ -522,17 +522,17 @@ static inline uint32_t resp_pairing_take_all(struct resp_pairing *pairing, bool 
     return cause;
 }
 
-/* Writes the events of values that are read in the pairing's version. resp_pairing_scan uses this. */
-static inline uint32_t resp_pairing_scan_values(struct resp_pairing *pairing, struct resp_scanner *scanner,
-                                                const struct resp_limits *limits, const uint8_t *piece, size_t length,
-                                                struct resp_event *events, uint64_t *numbers, size_t room,
-                                                struct resp_scanned *scanned) {
+/* Internal: writes the events of values that are read in the pairing's version. resp_pairing_scan uses this. */
+static inline uint32_t resp_internal_scan_values(struct resp_pairing *pairing, struct resp_scanner *scanner,
+                                                 const struct resp_limits *limits, const uint8_t *piece, size_t length,
+                                                 struct resp_event *events, uint64_t *numbers, size_t room,
+                                                 struct resp_scanned *scanned) {
     bool is_begun = resp_scanner_taken(scanner) != 0;
     bool is_right = is_begun || resp_scanner_set_version(scanner, pairing->version) == RESP_OK;
     uint32_t cause = resp_scanner_scan(scanner, piece, length, events, room, scanned);
     /* a full array: the bytes after the last event haven't been read */
     size_t known = scanned->count == room ? scanned->used : length;
-    uint32_t paired = is_right ? resp_pairing_take_all(pairing, is_begun, piece, known, events, numbers, scanned)
+    uint32_t paired = is_right ? resp_internal_take_all(pairing, is_begun, piece, known, events, numbers, scanned)
                                : (uint32_t)RESP_OK;
     if (paired == RESP_OK)
         return cause;
@@ -563,7 +563,7 @@ static inline uint32_t resp_pairing_scan(struct resp_pairing *pairing, struct re
         const uint8_t *at = left ? piece + scanned->used : piece;
         struct resp_scanned more = {0, 0};
         if (pairing->hello == 0) {
-            cause = resp_pairing_scan_values(pairing, scanner, limits, at, left, event, number, most, &more);
+            cause = resp_internal_scan_values(pairing, scanner, limits, at, left, event, number, most, &more);
             goes_on = more.count == most;
         } else {
             cause = resp_pairing_step(pairing, scanner, at, left, event, number);
