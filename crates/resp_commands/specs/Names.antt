@@ -1,0 +1,23 @@
+-- The names of commands.
+use Rattle.std.specs.Prelude.{◌≡◌, ◌≢◌, ℕ, List, map, min, take, All, AllPairs}
+use Rattle.std.specs.Char.{to_ascii_lowercase}
+use Rattle.resp_commands.specs.declared.command.Command.{Command}
+use Rattle.resp_commands.specs.declared.table.TheConstants.{COMMANDS}
+
+-- the name of a command, without the spaces after it
+abbrev pub name_of : Command → List ℕ
+name_of command = take (min command.length 20) command.padded
+
+-- the word is the command's name in upper, lower or mixed case
+abbrev pub HasName : Command → List ℕ → Type 0
+HasName command word = map to_ascii_lowercase word ≡ map to_ascii_lowercase (name_of command)
+
+-- no command of the table has this name
+abbrev pub IsUnknown : List ℕ → Type 0
+IsUnknown word = All (λ command. ¬ HasName command word) COMMANDS
+
+abbrev pub NamesAreDistinct : Type 0
+NamesAreDistinct = AllPairs (λ first second. name_of first ≢ name_of second) COMMANDS
+
+abbrev pub NamesAreInLowerCase : Type 0
+NamesAreInLowerCase = All (λ command. map to_ascii_lowercase (name_of command) ≡ name_of command) COMMANDS

@@ -1,0 +1,19 @@
+//! The table of the commands of Redis, and the slots of keys in a Redis Cluster.
+//!
+//! [`entry`] finds a command by its name in any case. Its [`Command`] says whether clients that send
+//! it can share a connection to the server, and where its keys are. The table is that of
+//! redis-server 7.0.15. [`slot`] returns the slot of a key. No function allocates.
+#![tactic(auto)]
+
+mod checksum;
+mod command;
+mod key;
+pub mod laws;
+mod lookup;
+mod table;
+
+pub use checksum::crc16;
+pub use command::{Class, Command, Keys};
+pub use key::{hashed_part, slot};
+pub use lookup::entry;
+pub use table::COMMANDS;
