@@ -24,7 +24,7 @@ def loaded(path):
     return module
 
 
-def answers(lines):
+def printed(lines):
     """Returns the lines that check_commands prints for these lines."""
     run = subprocess.run(
         [f"{HERE}/tests/try"], cwd=f"{HERE}/crates/check_commands", input=b"".join(line + b"\n" for line in lines),
@@ -48,7 +48,7 @@ def main():
     """Compares the table and the slots, and prints each difference."""
     commands = loaded(f"{HERE}/tools/commands")
     wanted = keys()
-    ours = answers([b"all"] + [b"slot " + key for key in wanted])
+    ours = printed([b"all"] + [b"slot " + key for key in wanted])
     ours, slots = ours[:-KEYS], [int(line) for line in ours[-KEYS:]]
     ours = {line.split()[0]: line for line in ours}
     wrong = 0

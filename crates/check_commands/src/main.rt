@@ -1,6 +1,6 @@
 //! Prints rows of the table of commands, and slots of keys.
 //!
-//! Each line of standard input is a question. `entry WORD` prints the command of this name: name,
+//! Each line of standard input asks for something. `entry WORD` prints the command of this name: name,
 //! class, arity, first key, last key, step, and whether its keys are movable. `slot KEY` prints the
 //! slot of the key. `all` prints each command, as `entry` finds it by its name.
 #![tactic(auto)]
@@ -24,8 +24,8 @@ fn print_command(rt: &impl Print, found: Option<Command>) -> Result<()> {
     Ok(())
 }
 
-/// Answers one line.
-fn answer(rt: &impl Print, line: &[u8]) -> Result<()> {
+/// Prints the result of one line.
+fn print_result(rt: &impl Print, line: &[u8]) -> Result<()> {
     if let Some(word) = line.strip_prefix(b"entry ".as_slice()) {
         return print_command(rt, entry(word));
     }
@@ -45,7 +45,7 @@ fn main(rt: HostRuntime) -> Result<()> {
     let mut input = Vec::new(rt.alloc());
     rt.stdin().read_to_end(&mut input)?;
     for line in input.split(|byte| *byte == b'\n') {
-        answer(&rt, line)?;
+        print_result(&rt, line)?;
     }
     Ok(())
 }
