@@ -31,12 +31,20 @@ class Numbers {
 
 /** Where the rows of the picture begin: after each LF, and after `width` bytes. */
 export function rowsOf(bytes, width) {
-  const starts = new Numbers();
-  for (let at = 0, start = 0; at < bytes.length; at++) {
-    if (at === start) starts.push(at);
-    if (bytes[at] === 10 || at - start + 1 === width) start = at + 1;
+  const { length } = bytes;
+  let starts = new Float64Array(4096);
+  let count = 0;
+  for (let start = 0, at = 0; start < length; start = at) {
+    if (count === starts.length) {
+      const larger = new Float64Array(2 * count);
+      larger.set(starts);
+      starts = larger;
+    }
+    starts[count++] = start;
+    const end = Math.min(start + width, length);
+    for (at = start; at < end && bytes[at++] !== 10; );
   }
-  return starts.whole();
+  return starts.slice(0, count);
 }
 
 /**
