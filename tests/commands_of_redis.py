@@ -1,9 +1,13 @@
 """Compares resp_commands with redis-server: commands_of_redis.py FOLDER
 
-The script runs two servers of its own, one as a node of a cluster. It asks check_commands for each command of the table
-and for the slots of 10,000 keys. A command that only the server has is a warning, since a newer server has more
-commands. Any other difference is a failure. The table is also made anew, and has the same bytes if the server has the
-version of the table.
+The script runs two servers of its own, one as a node of a cluster. It asks check_commands for each command and each
+subcommand of the table, for the places of the keys of commands that are drawn at random, and for the slots of 10,000
+keys. A command that only the server has is a warning, since a newer server has more commands. Any other difference is a
+failure. The table is also made anew, and has the same bytes if the server has the version of the table.
+
+COMMAND GETKEYS refuses many of the drawn commands, for example for too few words. These are not compared, and neither
+are the commands for which the table does not say where the keys are. No word is a number with other letters, as `2x`:
+COMMAND GETKEYS reads it as 2, though the commands refuse it.
 """
 import importlib.machinery
 import importlib.util
@@ -14,6 +18,12 @@ import sys
 sys.dont_write_bytecode = True
 HERE = sys.argv[1]
 KEYS = 10_000
+# The commands that are drawn for each row of the table, and the words of which they are made.
+DRAWN = 25
+WORDS = "a b c d 0 1 2 3 4 STREAMS streams Store STOREDIST count block -1".split()
+# The commands for which the table does not say where the keys are, and those whose words are no keys but channels.
+UNKNOWN = {"migrate", "sort"}
+CHANNELS = {"spublish", "ssubscribe", "sunsubscribe"}
 
 
 def loaded(path):
@@ -44,37 +54,90 @@ def keys():
     return made
 
 
-def main():
-    """Compares the table and the slots, and prints each difference."""
-    commands = loaded(f"{HERE}/tools/commands")
-    wanted = keys()
-    ours = printed([b"all"] + [b"slot " + key for key in wanted])
-    ours, slots = ours[:-KEYS], [int(line) for line in ours[-KEYS:]]
-    ours = {line.split()[0]: line for line in ours}
+def drawn(names):
+    """Returns commands with these names and words that are drawn from a seed."""
+    draw = random.Random(2)
+    made = []
+    for name in names:
+        for _ in range(DRAWN):
+            made.append([*name.split("|"), *(draw.choice(WORDS) for _ in range(draw.randrange(1, 9)))])
+    return made
+
+
+def lines_of(commands, rows, inner):
+    """Returns the lines that check_commands would print for the rows of the server, by name."""
+    containers = {row[1]: row[0] for row in rows if row[1]}
+    lines = {}
+    for row in [*rows, *inner]:
+        name, container, kind, _, arity, first, last, step, movable, search, start, split, merge = row
+        name = name if len(lines) < len(rows) else f"{containers[container]}|{name}"
+        places = f"{first} {last} {step} {str(movable).lower()} {search} {start}"
+        lines[name] = f"{name} {kind} {arity} {places} {split} {merge}"
+    return lines
+
+
+def compare_rows(ours, theirs, version):
+    """Prints each row that differs, and returns their number."""
     wrong = 0
-    with commands.server() as port:
-        theirs = {
-            row[0]: " ".join(map(str, row[:-1])) + " " + str(row[-1]).lower() for row in commands.rows_of(port)
-        }
-        version = commands.version_of(port)
-        text = commands.text_of(version, commands.rows_of(port))
-    with open(commands.TABLE, encoding="utf-8") as file:
-        table = file.read()
-    if f"redis-server {version}." in table.splitlines()[0] and text != table:
-        print("tools/commands makes another table")
-        wrong += 1
     for name in sorted(ours.keys() | theirs.keys()):
         if name not in ours:
             print(f"warning: the table has no {name}: {theirs[name]}")
         elif ours[name] != theirs.get(name):
             print(f"the table has {ours[name]!r}, and redis-server {version} {theirs.get(name)!r}")
             wrong += 1
+    return wrong
+
+
+def compare_keys(commands, port, asked, lines):
+    """Prints each command whose keys differ from those that the server finds; returns the numbers compared and wrong."""
+    replies = commands.ask_all(port, [[b"COMMAND", b"GETKEYS", *map(str.encode, words)] for words in asked])
+    compared = wrong = 0
+    for words, reply, line in zip(asked, replies, lines):
+        kind, *places = line.split()
+        found = sorted(words[int(place)] for place in places)
+        if isinstance(reply, commands.Refusal):
+            has_none = "no key arguments" in reply and words[0] not in CHANNELS
+            wanted, skipped = [], not has_none
+        else:
+            wanted, skipped = sorted(reply), words[0] in UNKNOWN
+        if skipped:
+            continue
+        compared += 1
+        if found != wanted or (kind == "none" and wanted):
+            print(f"the keys of {words} are {wanted}, not {line!r}")
+            wrong += 1
+    return compared, wrong
+
+
+def main():
+    """Compares the table, the keys and the slots, and prints each difference."""
+    commands = loaded(f"{HERE}/tools/commands")
+    wanted = keys()
+    with commands.server() as port:
+        rows, inner = commands.rows_of(port)
+        theirs = lines_of(commands, rows, inner)
+        asked = drawn(sorted(theirs))
+        every = [b"all", b"all subcommands"]
+        every += [b"keys " + " ".join(words).encode() for words in asked] + [b"slot " + key for key in wanted]
+        lines = printed(every)
+        places, slots = lines[-KEYS - len(asked) : -KEYS], [int(line) for line in lines[-KEYS:]]
+        ours = {line.split()[0]: line for line in lines[: -KEYS - len(asked)]}
+        version = commands.version_of(port)
+        text = commands.text_of(version, rows, inner)
+        compared, wrong = compare_keys(commands, port, asked, places)
+    with open(commands.TABLE, encoding="utf-8") as file:
+        table = file.read()
+    if f"redis-server {version}." in table.splitlines()[0] and text != table:
+        print("tools/commands makes another table")
+        wrong += 1
+    wrong += compare_rows(ours, theirs, version)
     with commands.server("--cluster-enabled", "yes") as port:
-        for key, slot, right in zip(wanted, slots, commands.slots_of(port, wanted)):
+        found = commands.ask_all(port, [[b"CLUSTER", b"KEYSLOT", key] for key in wanted])
+        for key, slot, right in zip(wanted, slots, found):
             if slot != right:
                 print(f"the slot of {key!r} is {right}, not {slot}")
                 wrong += 1
-    print(f"{len(ours)} commands and {KEYS} slots compared, {wrong} differences")
+    print(f"{len(ours)} rows, the keys of {compared} commands and {KEYS} slots compared, {wrong} differences")
     sys.exit(wrong != 0)
 
 

@@ -6,6 +6,9 @@ to which the two taps print. It tests that
 - redis-cli prints the same with and without the tap, in both versions, and the tap prints its commands and replies;
 - a HELLO 3 in the middle of a pipeline changes the version of the later replies;
 - values after SUBSCRIBE are not paired;
+- an error of the client leaves the replies that are due paired;
+- each command of the server's table but those that end the pairing has one reply;
+- passwords are printed as redis-server prints them for MONITOR and SLOWLOG;
 - printed times ascend, and the delay of a reply is at least as long as its command blocked;
 - redis-benchmark in pipelines of 16 reaches at least a tenth of its speed without the tap."""
 import re
@@ -78,9 +81,9 @@ waits_for('client 7 reply 4\n  null\nclient 7 reply 5\n  double "1.5" 3\nclient 
 talk(tap, command("PING") + command("SUBSCRIBE", "channel"), b":1\r\n")
 waits_for('client 8 reply 1\n  simple "PONG" 4\nclient 8 value\n  array\n    bulk "subscribe" 9\n')
 
-# An inline command is forwarded, and the tap reads nothing more of the connection.
+# An inline command is forwarded, and the tap prints its reply as a value.
 assert talk(tap, b"PING\r\n", b"\r\n") == b"+PONG\r\n"
-waits_for("client 9 refused Syntax at byte 0 of command 1\n")
+waits_for('client 9 refused Syntax at byte 0 of command 1\nclient 9 value\n  simple "PONG" 4\n')
 
 # A reply of 16 MiB, in many pieces, is forwarded unchanged.
 cli(server, "SETRANGE", "large", str((1 << 24) - 1), "x")
@@ -116,6 +119,85 @@ assert [delay is not None for _, delay in moments] == [False, False, True, True,
 # The server's timer may be a tick early.
 assert all(delay >= 180000 for _, delay in moments if delay is not None), lines
 assert not re.search(r" at \d\d:\d\d:", printed()), "a time that wasn't asked for"
+
+# After a wrong byte the reply that is due is paired, and the error of the server is a value.
+talk(tap, command("PING") + b"*1\r\n:1\r\n", b"got ':'\r\n")
+waits_for("refused NotCommand at byte 0 of command 2\n")
+number = re.findall(r"client (\d+) refused NotCommand at byte 0 of command 2\n", printed())[-1]
+waits_for(f'client {number} reply 1\n  simple "PONG" 4\nclient {number} value\n  error "ERR Protocol error: expected')
+
+# After RESET the version is 2. A version of a null shows it.
+assert talk(tap, command("HELLO", "3") + command("RESET") + command("GET", "no such key"), b"$-1\r\n")
+waits_for('reply 2\n  simple "RESET" 5\n')
+number = re.findall(r"client (\d+) reply 2\n  simple \"RESET\" 5\n", printed())[-1]
+waits_for(f"client {number} reply 3\n  null\n")
+
+# These commands have no reply in each of these forms, and values after them are not paired.
+for words in (["REPLCONF", "ACK", "1"], ["REPLCONF", "GETACK", "*"], ["REPLCONF", "listening-port", "1", "ACK", "5"]):
+    assert talk(tap, command(*words) + command("ECHO", "mark"), b"mark\r\n") == b"$4\r\nmark\r\n", words
+    asked = "\n  " + " ".join(f'"{word}"' for word in words) + "\n"
+    waits_for(asked)
+    number = re.findall(r"client (\d+) command 1" + re.escape(asked), printed())[-1]
+    waits_for(f'client {number} value\n  bulk "mark" 4\n')
+
+# Each other command has one reply: that to an ECHO after it is paired with the ECHO.
+unpaired = {"subscribe", "unsubscribe", "psubscribe", "punsubscribe", "ssubscribe", "sunsubscribe", "monitor", "sync",
+            "psync", "replconf"}
+ends = {"quit", "shutdown", "replicaof", "slaveof", "failover", "reset", "multi", "debug", "save", "flushall", "flushdb"}
+with socket.create_connection(("127.0.0.1", server), 10) as peer:
+    lines = peer.makefile("rb")
+
+    def read():
+        """Returns a value of version 2."""
+        line = lines.readline()
+        if line[:1] == b"$":
+            return lines.read(int(line[1:]) + 2)[:-2]
+        return [read() for _ in range(int(line[1:]))] if line[:1] in b"*~" else line[1:-2]
+
+    peer.sendall(command("COMMAND"))
+    table = {it[0].decode(): int(it[1]) for it in read()}
+assert len(table) > 200, table
+with socket.create_connection(("127.0.0.1", tap), 10) as peer:
+    names = sorted(table.keys() - unpaired - ends)
+    for name in names:
+        peer.sendall(command(name, *["1"] * (abs(table[name]) - 1)) + command("ECHO", f"mark {name}"))
+        heard = b""
+        while not heard.endswith(f"mark {name}\r\n".encode()):
+            heard += peer.recv(65536)
+for number, name in enumerate(names):
+    waits_for(f'reply {2 * number + 2}\n  bulk "mark {name}" {len(name) + 5}\n')
+
+# Secret words are printed as MONITOR of redis-server prints them.
+secret = [["AUTH", "sesame"], ["AUTH", "ann", "sesame"], ["HELLO", "3", "AUTH", "ann", "sesame", "SETNAME", "me"],
+          ["HELLO", "3", "SETNAME", "AUTH"], ["HELLO", "2", "AUTH", "ann", "sesame"],
+          ["MIGRATE", "127.0.0.1", "1", "", "0", "10", "COPY", "AUTH", "sesame", "KEYS", "a"],
+          ["MIGRATE", "127.0.0.1", "1", "", "0", "10", "AUTH2", "ann", "sesame", "KEYS", "a"], ["GET", "auth"]]
+with socket.create_connection(("127.0.0.1", server), 10) as monitor:
+    monitor.sendall(command("MONITOR"))
+    shown = b""
+    with socket.create_connection(("127.0.0.1", tap), 10) as peer:
+        for words in secret:
+            peer.sendall(command(*words))
+            assert peer.recv(65536)
+    while shown.count(b"\r\n") < len(secret) + 1:
+        shown += monitor.recv(65536)
+lines = [line.partition("] ")[2] for line in shown.decode().split("\r\n")[1:-1]]
+assert len(lines) == len(secret) and lines[-1] == '"GET" "auth"', lines
+for line in lines:
+    waits_for(f"\n  {line}\n")
+
+# SLOWLOG hides the same words of commands that MONITOR leaves out.
+cli(server, "CONFIG", "SET", "slowlog-log-slower-than", "0")
+for words, wanted in ((["CONFIG", "SET", "masterauth", "sesame", "maxclients", "9000", "masteruser", "ann"],
+                       ["CONFIG", "SET", "masterauth", "(redacted)", "maxclients", "9000", "masteruser", "(redacted)"]),
+                      (["ACL", "SETUSER", "ann", "on", ">sesame"],
+                       ["ACL", "SETUSER", "(redacted)", "(redacted)", "(redacted)"])):
+    cli(tap, *words)
+    assert "\n".join(wanted) in cli(server, "SLOWLOG", "GET", "1").decode(), words
+    waits_for("\n  " + " ".join(f'"{word}"' for word in wanted) + "\n")
+cli(server, "CONFIG", "SET", "slowlog-log-slower-than", "10000", "masterauth", "", "masteruser", "")
+cli(server, "ACL", "DELUSER", "ann")
+assert "sesame" not in printed()
 
 
 def rate(port):

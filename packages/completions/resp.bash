@@ -16,7 +16,7 @@ _resp() {
     show | check | canon) options="--proto $limits --doubles --piece --explain -h --help" ;;
     loop) options="--explain -h --help" ;;
     serve) options="$limits --clients -h --help" ;;
-    tap) options="$limits --clients --time --exit-with-output --keep-going -h --help" ;;
+    tap) options="$limits --clients --time --exit-with-output --keep-going --show-passwords -h --help" ;;
     help) [ "$COMP_CWORD" -ne 2 ] || COMPREPLY=($(compgen -W "$commands" -- "$word")) ;;
     esac
     case $word in

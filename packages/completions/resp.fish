@@ -29,3 +29,4 @@ complete -c resp -n '__fish_seen_subcommand_from serve tap' -l clients -x -d 'Ma
 complete -c resp -n '__fish_seen_subcommand_from tap' -l time -d 'Prints the time in UTC, and how long each reply took'
 complete -c resp -n '__fish_seen_subcommand_from tap' -l exit-with-output -d 'Ends at once if the output fails'
 complete -c resp -n '__fish_seen_subcommand_from tap' -l keep-going -d 'Accepts clients after the output has failed'
+complete -c resp -n '__fish_seen_subcommand_from tap' -l show-passwords -d 'Prints the passwords in commands'

@@ -91,10 +91,10 @@ fn command_text(frames: &mut Frames, begun: &mut Begun, text: &[u8]) -> Result<u
             if rest.is_empty() {
                 break;
             }
-            let Some(frame) = frames.next_command(begun, rest)? else {
+            let Some(found) = frames.next_command(begun, rest)? else {
                 break;
             };
-            rest = rest.get(frame.used()..).unwrap_or_default();
+            rest = rest.get(found.frame.used()..).unwrap_or_default();
             values = values.wrapping_add(1);
         }
     }

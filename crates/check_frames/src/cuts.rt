@@ -147,7 +147,9 @@ fn is_no_command(alloc: Global, other: &[u8], cut: usize) -> Result<bool> {
     let mut begun = Begun::new();
     let command = b"*1\r\n$4\r\nPING\r\n";
     let is_command = match frames.next_command(&mut begun, command)? {
-        Some(frame) => frame.text() == command.as_slice() && frame.used() == command.len(),
+        Some(found) => {
+            found.frame.text() == command.as_slice() && found.frame.used() == command.len()
+        }
         None => false,
     };
     let first = frames.next_command(&mut begun, &other[..cut])?;

@@ -6,6 +6,7 @@
 
 mod conversation;
 mod cuts;
+mod words;
 
 use anyhow::Result;
 
@@ -20,6 +21,8 @@ fn main(rt: HostRuntime) -> Result<()> {
     )?;
     let others = cuts::others(alloc)?;
     println!(rt; "no commands: {} cuts, {} wrong", others.cuts, others.wrong)?;
+    let words = words::all(alloc)?;
+    println!(rt; "words: {} cuts, {} wrong", words.cuts, words.wrong)?;
     let shared = conversation::all(alloc)?;
     println!(rt; "two clients: {} cuts, {} wrong", shared.cuts, shared.wrong)?;
     Ok(())

@@ -9,7 +9,7 @@ use resp_tap::end::write_end;
 use resp_tap::screen::Screen;
 use resp_tap::stamp::Stamp;
 use resp_tap::watch::{Side, watch};
-use resp_tap::{Moment, TimedTap};
+use resp_tap::{Moment, Printing, TimedTap};
 use resp_value::Limits;
 use std::alloc::Global;
 use std::str;
@@ -24,6 +24,7 @@ pub(crate) struct Tapping {
     tap: TimedTap,
     /// The time at which the next bytes pass, if the row sets a time.
     now: Option<Moment>,
+    printing: Printing,
 }
 
 impl Subject for Tapping {
@@ -32,6 +33,10 @@ impl Subject for Tapping {
             alloc,
             tap: TimedTap::new(alloc, &Limits::standard().with_doubles(true)),
             now: None,
+            printing: Printing {
+                client: 1,
+                shows_passwords: false,
+            },
         })
     }
 
@@ -43,6 +48,10 @@ impl Subject for Tapping {
         match name {
             "tap" => self.renew(given),
             "now" => self.set_clock(given),
+            "passwords" => {
+                self.printing.shows_passwords = true;
+                Ok(())
+            }
             "client" => self.pass(Side::Client, given, cut, said),
             "server" => self.pass(Side::Server, given, cut, said),
             "end" => self.end(given, said),
@@ -94,7 +103,14 @@ impl Tapping {
         let text = bytes(alloc, given)?;
         let mut screen = Screen::new(alloc, MOST);
         for piece in pieces(alloc, text.as_slice(), cut)? {
-            watch(&mut self.tap, 1, side, piece, self.now, &mut screen)?;
+            watch(
+                &mut self.tap,
+                self.printing,
+                side,
+                piece,
+                self.now,
+                &mut screen,
+            )?;
         }
         said.push_str(str::from_utf8(screen.text())?)?;
         Ok(())

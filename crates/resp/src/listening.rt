@@ -38,6 +38,9 @@ impl From<ToolError> for ListenError {
     }
 }
 
+/// The most bytes that wait to be written to a client of the server before its next command is run.
+const HELD: usize = 1_048_576;
+
 /// Serves clients at the address in the words. Returns the status if that fails.
 pub fn run_serve<W: LiveSink, F: Sink>(
     rt: &HostRuntime,
@@ -62,7 +65,15 @@ fn serve<W: LiveSink>(
         return Err(ToolError::Read.into());
     };
     let most = serving.clients;
-    let mut server = Server::listen(rt, alloc, serving.address, serving.limits, most, hasher)?;
+    let mut server = Server::listen(
+        rt,
+        alloc,
+        serving.address,
+        serving.limits,
+        most,
+        HELD,
+        hasher,
+    )?;
     write_listening(alloc, server.address()?, writer)?;
     if writer.flush().is_err() {
         return Err(ToolError::Write.into());
@@ -108,6 +119,7 @@ fn tap<W: LiveSink>(
         most: tapping.clients,
         tells_time: tapping.tells_time,
         after_failure: after_failure(tapping),
+        shows_passwords: tapping.shows_passwords,
     };
     let mut window = Window::listen(rt, alloc, tapping.address, tapping.server, settings)?;
     write_listening(alloc, window.address()?, writer)?;

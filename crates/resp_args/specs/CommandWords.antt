@@ -87,6 +87,7 @@ pub record HasTapOptions (given : List Row) (options : TapOptions) : Type 0 wher
   pub tells : HasFlag given (codes "time") options.tells_time
   pub exits : HasFlag given (codes "exit-with-output") options.exits_with_output
   pub keeps : HasFlag given (codes "keep-going") options.keeps_going
+  pub shows : HasFlag given (codes "show-passwords") options.shows_passwords
 
 -- the options of `tap`, with the texts of its addresses
 pub record HasTapWords (given : List Row) (address server : Text) (options : TapOptions) : Type 0 where
@@ -101,6 +102,7 @@ tap_options_of tapping = record {
   tells_time = tapping.tells_time;
   exits_with_output = tapping.exits_with_output;
   keeps_going = tapping.keeps_going;
+  shows_passwords = tapping.shows_passwords;
 }
 
 -- the options of `tap`, with its addresses

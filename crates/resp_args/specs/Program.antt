@@ -1,6 +1,6 @@
 -- The program as its parser knows it: its subcommands with their options, the range of each number, and the default of
 -- each option.
-use Rattle.std.specs.Prelude.{◌≡◌, ◌++◌, ℕ, ℤ, false, true, List, [], ◌∷◌, Some, codes}
+use Rattle.std.specs.Prelude.{◌≡◌, ◌++◌, ℕ, ℤ, false, true, List, [], ◌∷◌, Some, Result, IfErr, IfOk, codes}
 use Rattle.std.specs.Int.{saturate_unsigned, w64}
 use Rattle.std.specs.List.{list_any}
 use Rattle.std.specs.Ordering.{nat_cmp, ord_max}
@@ -8,10 +8,12 @@ use Rattle.std.specs.Str.{bytes_eq}
 use Rattle.clap.specs.Simple.{on_top}
 use Rattle.clap.specs.Values.{unsigned_up_to}
 use Rattle.clap.specs.ValueTests.{accepts}
-use Rattle.clap.specs.Words.{App, Rule, Shape, Text, app_of, new_app, new_rule, reading_of, with_rule, with_subcommand}
+use Rattle.clap.specs.Words.{App, Rule, Shape, Text, app_of, kind_of, new_app, new_rule, reading_of, with_rule, with_subcommand}
 use Rattle.clap.specs.declared.builder.ArgAction.TheVariants.{SetTrue}
 use Rattle.clap.specs.declared.builder.command.Command.{Command}
 use Rattle.clap.specs.declared.builder.command.Command.TheViews.{out-Command}
+use Rattle.clap.specs.declared.error.Error.{Error}
+use Rattle.clap.specs.declared.error.kind.ErrorKind.TheVariants.{OutOfMemory}
 use Rattle.clap.specs.declared.builder.value_parser.Reading.TheVariants.{AsWritten}
 use Rattle.clap.specs.declared.builder.value_parser.ValueParser.{ValueParser}
 use Rattle.clap.specs.declared.builder.value_parser.ValueParser.TheVariants as vp
@@ -77,7 +79,7 @@ serve_options = listening_options (address_word (codes "address") ∷ [])
 abbrev pub tap_options : List Rule
 tap_options = listening_options
     (flag_option (codes "time") ∷ flag_option (codes "exit-with-output") ∷ flag_option (codes "keep-going") ∷
-    address_word (codes "listen") ∷ address_word (codes "server") ∷ [])
+    flag_option (codes "show-passwords") ∷ address_word (codes "listen") ∷ address_word (codes "server") ∷ [])
 
 -- ---- subcommands
 
@@ -120,7 +122,6 @@ IsProgram program = (versions : ValueParser) × TakesVersions versions × (progr
 abbrev pub IsTask : Command → App → Type 0
 IsTask command task = (app_of command ≡ task) × ((out-Command command).has_globals ≡ false)
 
--- the new command has the options of the old one followed by these, none of which applies to other commands
-abbrev pub GainsOptions : Command → List Rule → Command → Type 0
-GainsOptions old options new = (app_of new ≡ with_options (app_of old) options) ×
-    ((out-Command new).has_globals ≡ (out-Command old).has_globals)
+-- the result is a command with these options, and none that applies to other commands, or memory is out
+abbrev pub MakesTask : App → Result Command Error → Type 0
+MakesTask task result = IfOk result (λ command. IsTask command task) × IfErr result (λ error. kind_of error ≡ OutOfMemory)

@@ -1,14 +1,13 @@
 //! The parser of the command line: the subcommands of the program with their options and their
 //! help.
 
-ghost use Rattle.std.specs.Prelude.{◌≡◌, false, [], ◌∷◌, IfErr, IfOk, codes, map};
-ghost use Rattle.clap.specs.Words.{App, app_of, kind_of, new_app, rule_of};
+ghost use Rattle.std.specs.Prelude.{◌≡◌, false, [], ◌∷◌, codes, map};
+ghost use Rattle.clap.specs.Words.{App, Rule, new_app, rule_of, with_rule, with_subcommand};
 ghost use Rattle.clap.specs.declared.builder.value_parser.ValueParser.TheVariants as vp;
 ghost use Rattle.resp_args.specs.CommandWords.{FindsWords};
-ghost use Rattle.resp_args.specs.Program.{GainsOptions, IsProgram, IsTask, address_word, bare_app, file_word, flag_option, limit_options, numbers_between, resp_app, serve_options, stream_options, tap_options, value_option, with_options};
+ghost use Rattle.resp_args.specs.Program.{IsProgram, MakesTask, address_word, bare_app, file_word, flag_option, limit_options, numbers_between, resp_app, serve_options, stream_options, tap_options, value_option, with_options};
 
 use crate::options::STANDARD_INPUT;
-use clap::error::ErrorKind;
 use clap::{Arg, ArgAction, ArgMatches, Command};
 use std::alloc::Global;
 use std::convert::AsStr;
@@ -69,9 +68,10 @@ const TAP_HELP: &str = r"Examples:
   resp tap 127.0.0.1:6380 127.0.0.1:6379
   resp tap --time 127.0.0.1:6380 127.0.0.1:6379 >traffic.txt
 
-Clients connect to LISTEN instead of SERVER. Everything is printed, including
-passwords. The program runs until it is stopped. If a write fails, it prints
-nothing more, accepts no client, and ends when the last connection closes.
+Clients connect to LISTEN instead of SERVER. All commands and replies are
+printed. In a command, (redacted) is printed in place of a password. The program
+runs until it is stopped. If a write fails, it prints nothing more, accepts no
+client, and ends when the last connection closes.
 
 Exit status:
   2  Usage error
@@ -193,28 +193,46 @@ fn matches_among<'a, S: AsStr>(
 
 /// Returns the parser: the program with its subcommands and their options.
 fn program<'a>(alloc: Global, versions: &'a [&'a str]) -> Result<Command<'a>, clap::Error>
-    ensures program { IfOk result (λ command.
-        app_of command ≡ resp_app (vp.Names versions.entry)) }
-    ensures memory { IfErr result (λ error. kind_of error ≡ ErrorKind.OutOfMemory) }
+    ensures { MakesTask (resp_app (vp.Names versions.entry)) result }
 {
     let show = "Prints each value of a stream as lines of text";
     let check = "Reads a stream and prints the number of its values and bytes";
     let canon = "Writes the canonical text of each value of a stream";
-    Ok(
-        resp(alloc)?
-            .subcommand(stream_task(alloc, "show", show, versions)?)?
-            .subcommand(stream_task(alloc, "check", check, versions)?)?
-            .subcommand(stream_task(alloc, "canon", canon, versions)?)?
-            .subcommand(loop_task(alloc)?)?
-            .subcommand(serve_task(alloc)?)?
-            .subcommand(tap_task(alloc)?)?,
-    )
+    let program = resp(alloc);
+    let program = with_subcommand(program, stream_task(alloc, "show", show, versions));
+    let program = with_subcommand(program, stream_task(alloc, "check", check, versions));
+    let program = with_subcommand(program, stream_task(alloc, "canon", canon, versions));
+    let program = with_subcommand(program, loop_task(alloc));
+    let program = with_subcommand(program, serve_task(alloc));
+    with_subcommand(program, tap_task(alloc))
+}
+
+/// Adds a subcommand to the program. Returns the first error if one of them is an error.
+fn with_subcommand<'a>(
+    program: Result<Command<'a>, clap::Error>,
+    subcommand: Result<Command<'a>, clap::Error>,
+) -> Result<Command<'a>, clap::Error>
+    ensures { (app task : App) → MakesTask app program.entry → MakesTask task subcommand.entry →
+        MakesTask (with_subcommand app task.top) result }
+{
+    Ok(program?.subcommand(subcommand?)?)
+}
+
+/// Adds an option to a subcommand. Returns the error if the subcommand is an error.
+fn with_arg<'a>(
+    subcommand: Result<Command<'a>, clap::Error>,
+    arg: Arg<'a>,
+) -> Result<Command<'a>, clap::Error>
+    ensures { (task : App) (option : Rule) → rule_of arg.entry ≡ option →
+        arg.entry.global ≡ false → MakesTask task subcommand.entry →
+        MakesTask (with_rule task option) result }
+{
+    Ok(subcommand?.arg(arg)?)
 }
 
 /// Returns the program without its subcommands.
 fn resp<'a>(alloc: Global) -> Result<Command<'a>, clap::Error>
-    ensures reads { IfOk result (λ command. IsTask command bare_app) }
-    ensures memory { IfErr result (λ error. kind_of error ≡ ErrorKind.OutOfMemory) }
+    ensures { MakesTask bare_app result }
 {
     Ok(
         Command::new(alloc, "resp")
@@ -226,25 +244,20 @@ fn resp<'a>(alloc: Global) -> Result<Command<'a>, clap::Error>
     )
 }
 
-/// Returns a subcommand without options.
-fn bare_task<'a>(alloc: Global, name: &'a str, about: &'a str) -> Command<'a>
-    ensures { IsTask result (new_app name.entry.now) }
-{
-    Command::new(alloc, name).about(about)
-}
-
 /// Returns a subcommand without options, with a text at the end of its help.
-fn bare_task_with_help<'a>(
+fn bare_task<'a>(
     alloc: Global,
     name: &'a str,
     about: &'a str,
     after_help: &'a str,
-) -> Command<'a>
-    ensures { IsTask result (new_app name.entry.now) }
+) -> Result<Command<'a>, clap::Error>
+    ensures { MakesTask (new_app name.entry.now) result }
 {
-    Command::new(alloc, name)
-        .about(about)
-        .after_help(after_help)
+    Ok(
+        Command::new(alloc, name)
+            .about(about)
+            .after_help(after_help),
+    )
 }
 
 /// Returns a subcommand that reads a stream, whose version is one of `versions`.
@@ -254,102 +267,62 @@ fn stream_task<'a>(
     about: &'a str,
     versions: &'a [&'a str],
 ) -> Result<Command<'a>, clap::Error>
-    ensures reads { IfOk result (λ command. IsTask command
-        (with_options (new_app name.entry.now) (stream_options (vp.Names versions.entry)))) }
-    ensures memory { IfErr result (λ error. kind_of error ≡ ErrorKind.OutOfMemory) }
+    ensures { MakesTask (with_options (new_app name.entry.now)
+        (stream_options (vp.Names versions.entry))) result }
 {
-    with_options(alloc, bare_task(alloc, name, about), versions)
+    let why = "Says where in the input an error is, and why";
+    let task = bare_task(alloc, name, about, STREAM_HELP);
+    let task = with_arg(task, proto(alloc, versions));
+    let task = with_limits(alloc, task);
+    let task = with_arg(task, flag(alloc, "doubles", "Accepts RESP3 doubles"));
+    let task = with_arg(task, PIECE.option(alloc));
+    let task = with_arg(task, flag(alloc, "explain", why));
+    with_arg(task, file(alloc))
 }
 
 /// Returns the subcommand `loop`.
 fn loop_task<'a>(alloc: Global) -> Result<Command<'a>, clap::Error>
-    ensures reads { IfOk result (λ command. IsTask command
-        (with_options (new_app (codes "loop")) (flag_option (codes "explain") ∷ []))) }
-    ensures memory { IfErr result (λ error. kind_of error ≡ ErrorKind.OutOfMemory) }
+    ensures { MakesTask
+        (with_options (new_app (codes "loop")) (flag_option (codes "explain") ∷ [])) result }
 {
     let about = "Plays a script of clients of one server from standard input";
-    let played = bare_task_with_help(alloc, "loop", about, LOOP_HELP);
     let why = "Says why a line of the script is wrong";
-    Ok(played.arg(flag(alloc, "explain", why))?)
+    let task = bare_task(alloc, "loop", about, LOOP_HELP);
+    with_arg(task, flag(alloc, "explain", why))
 }
 
 /// Returns the subcommand `serve`.
 fn serve_task<'a>(alloc: Global) -> Result<Command<'a>, clap::Error>
-    ensures reads { IfOk result (λ command. IsTask command
-        (with_options (new_app (codes "serve")) serve_options)) }
-    ensures memory { IfErr result (λ error. kind_of error ≡ ErrorKind.OutOfMemory) }
+    ensures { MakesTask (with_options (new_app (codes "serve")) serve_options) result }
 {
     let about = "Serves PING, ECHO, GET, SET, DEL and HELLO to many clients at once";
-    let serve = bare_task(alloc, "serve", about);
-    with_serve_options(alloc, serve)
-}
-
-/// Adds the options of `serve` to a subcommand.
-fn with_serve_options<'a>(alloc: Global, command: Command<'a>) -> Result<Command<'a>, clap::Error>
-    ensures gains { IfOk result (GainsOptions command.entry serve_options) }
-    ensures memory { IfErr result (λ error. kind_of error ≡ ErrorKind.OutOfMemory) }
-{
-    Ok(
-        with_limits(alloc, command)?
-            .arg(CLIENTS.option(alloc))?
-            .arg(address(
-                alloc,
-                "address",
-                "ADDRESS",
-                "Address to listen on, such as 127.0.0.1:6380",
-            ))?
-            .after_help(SERVE_HELP),
-    )
+    let listen = "Address to listen on, such as 127.0.0.1:6380";
+    let task = bare_task(alloc, "serve", about, SERVE_HELP);
+    let task = with_limits(alloc, task);
+    let task = with_arg(task, CLIENTS.option(alloc));
+    with_arg(task, address(alloc, "address", "ADDRESS", listen))
 }
 
 /// Returns the subcommand `tap`.
 fn tap_task<'a>(alloc: Global) -> Result<Command<'a>, clap::Error>
-    ensures reads { IfOk result (λ command. IsTask command
-        (with_options (new_app (codes "tap")) tap_options)) }
-    ensures memory { IfErr result (λ error. kind_of error ≡ ErrorKind.OutOfMemory) }
+    ensures { MakesTask (with_options (new_app (codes "tap")) tap_options) result }
 {
     let about = "Forwards connections to a server and prints the traffic";
-    let tap = bare_task(alloc, "tap", about);
-    with_tap_options(alloc, tap)
-}
-
-/// Adds the options of `tap` to a subcommand.
-fn with_tap_options<'a>(alloc: Global, command: Command<'a>) -> Result<Command<'a>, clap::Error>
-    ensures gains { IfOk result (GainsOptions command.entry tap_options) }
-    ensures memory { IfErr result (λ error. kind_of error ≡ ErrorKind.OutOfMemory) }
-{
-    Ok(
-        with_limits(alloc, command)?
-            .arg(CLIENTS.option(alloc))?
-            .arg(flag(
-                alloc,
-                "time",
-                "Prints the time in UTC, and how long each reply took",
-            ))?
-            .arg(flag(
-                alloc,
-                "exit-with-output",
-                "Ends at once if the output fails",
-            ))?
-            .arg(flag(
-                alloc,
-                "keep-going",
-                "Accepts clients after the output has failed",
-            ))?
-            .arg(address(
-                alloc,
-                "listen",
-                "LISTEN",
-                "Address to listen on, such as 127.0.0.1:6380",
-            ))?
-            .arg(address(
-                alloc,
-                "server",
-                "SERVER",
-                "Address of the server, such as 127.0.0.1:6379",
-            ))?
-            .after_help(TAP_HELP),
-    )
+    let time = "Prints the time in UTC, and how long each reply took";
+    let exit = "Ends at once if the output fails";
+    let keep_going = "Accepts clients after the output has failed";
+    let passwords = "Prints the passwords in commands";
+    let listen = "Address to listen on, such as 127.0.0.1:6380";
+    let server = "Address of the server, such as 127.0.0.1:6379";
+    let task = bare_task(alloc, "tap", about, TAP_HELP);
+    let task = with_limits(alloc, task);
+    let task = with_arg(task, CLIENTS.option(alloc));
+    let task = with_arg(task, flag(alloc, "time", time));
+    let task = with_arg(task, flag(alloc, "exit-with-output", exit));
+    let task = with_arg(task, flag(alloc, "keep-going", keep_going));
+    let task = with_arg(task, flag(alloc, "show-passwords", passwords));
+    let task = with_arg(task, address(alloc, "listen", "LISTEN", listen));
+    with_arg(task, address(alloc, "server", "SERVER", server))
 }
 
 /// Returns a required argument that is an address.
@@ -404,47 +377,18 @@ fn file<'a>(alloc: Global) -> Arg<'a>
         .default_value(STANDARD_INPUT)
 }
 
-/// Adds the options of `show`, `check` and `canon` to a subcommand.
-fn with_options<'a>(
-    alloc: Global,
-    command: Command<'a>,
-    versions: &'a [&'a str],
-) -> Result<Command<'a>, clap::Error>
-    ensures gains { IfOk result
-        (GainsOptions command.entry (stream_options (vp.Names versions.entry))) }
-    ensures memory { IfErr result (λ error. kind_of error ≡ ErrorKind.OutOfMemory) }
-{
-    let doubles = flag(alloc, "doubles", "Accepts RESP3 doubles");
-    let explain = flag(
-        alloc,
-        "explain",
-        "Says where in the input an error is, and why",
-    );
-    Ok(
-        with_limits(alloc, command.arg(proto(alloc, versions))?)?
-            .arg(doubles)?
-            .arg(PIECE.option(alloc))?
-            .arg(explain)?
-            .arg(file(alloc))?
-            .after_help(STREAM_HELP),
-    )
-}
-
 /// Adds the options that limit values to a subcommand.
-fn with_limits<'a>(alloc: Global, command: Command<'a>) -> Result<Command<'a>, clap::Error>
-    ensures gains { IfOk result (GainsOptions command.entry limit_options) }
-    ensures memory { IfErr result (λ error. kind_of error ≡ ErrorKind.OutOfMemory) }
+fn with_limits<'a>(
+    alloc: Global,
+    subcommand: Result<Command<'a>, clap::Error>,
+) -> Result<Command<'a>, clap::Error>
+    ensures { (task : App) → MakesTask task subcommand.entry →
+        MakesTask (with_options task limit_options) result }
 {
-    Ok(
-        command
-            .arg(DEPTH.option(alloc))?
-            .arg(LENGTH.option(alloc))?
-            .arg(TOTAL.option(alloc))?
-            .arg(ITEMS.option(alloc))?
-            .arg(flag(
-                alloc,
-                "no-streamed",
-                "Rejects streamed strings and aggregates",
-            ))?,
-    )
+    let streamed = "Rejects streamed strings and aggregates";
+    let task = with_arg(subcommand, DEPTH.option(alloc));
+    let task = with_arg(task, LENGTH.option(alloc));
+    let task = with_arg(task, TOTAL.option(alloc));
+    let task = with_arg(task, ITEMS.option(alloc));
+    with_arg(task, flag(alloc, "no-streamed", streamed))
 }

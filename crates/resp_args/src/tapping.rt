@@ -29,6 +29,8 @@ pub struct Tapping<'a> {
     pub exits_with_output: bool,
     /// Whether clients are accepted after its output has failed.
     pub keeps_going: bool,
+    /// Whether passwords in commands are printed.
+    pub shows_passwords: bool,
 }
 
 /// The options that are no address.
@@ -39,6 +41,7 @@ struct TapOptions {
     tells_time: bool,
     exits_with_output: bool,
     keeps_going: bool,
+    shows_passwords: bool,
 }
 
 /// The options before the addresses are parsed.
@@ -67,6 +70,7 @@ pub(crate) fn tapping_of<'a>(matches: &ArgMatches<'a>) -> Result<Tapping<'a>, No
         tells_time: words.options.tells_time,
         exits_with_output: words.options.exits_with_output,
         keeps_going: words.options.keeps_going,
+        shows_passwords: words.options.shows_passwords,
     })
 }
 
@@ -97,5 +101,6 @@ fn options_of(matches: &ArgMatches<'_>) -> Option<TapOptions>
         tells_time: flag_of(matches, "time")?,
         exits_with_output: flag_of(matches, "exit-with-output")?,
         keeps_going: flag_of(matches, "keep-going")?,
+        shows_passwords: flag_of(matches, "show-passwords")?,
     })
 }

@@ -98,6 +98,10 @@ waiting_of p = record { version = version_of p.version; asks = nones p.before ++
 abbrev pub look_of : RespPairing → ValueLook
 look_of p = record { nested = p.nested; refuses = eqb p.refuses 1 }
 
+-- no command can be queued that so many pushes answer: there is no push, the version is not 3, or a HELLO waits
+abbrev pub HasNoPushes : RespPairing → ℕ → Type 0
+HasNoPushes p pushes = (pushes ≡ 0) ⊎ (p.version ≡ 3 → ⊥) ⊎ (p.hello ≡ 0 → ⊥)
+
 -- a number that requests no version, or a version
 abbrev pub IsAsk : ℕ → Type 0
 IsAsk hello = (hello ≡ 0) ⊎ IsVersion hello

@@ -22,7 +22,7 @@ ghost use Rattle.resp_c.specs.EventNumbers.{done_number};
 ghost use Rattle.resp_c.specs.Told.{Tells, TellsWhole};
 ghost use Rattle.resp_c.specs.Versions.{IsVersion, version_of};
 ghost use Rattle.resp_c.specs.Runs.{Begins, Ends, EndsByPush, Shows};
-ghost use Rattle.resp_c.specs.Pairs.{HasVersions, IsAsk, after_events, ask_of, before_pushes_after, count_of_reply, hello_asks, is_last_push, look_of, nested_by, new_look, number_of_reply, pushes_after, reads_push, refuses_by, waiting_of, with_ask_queued};
+ghost use Rattle.resp_c.specs.Pairs.{HasNoPushes, HasVersions, IsAsk, after_events, ask_of, before_pushes_after, count_of_reply, hello_asks, is_last_push, look_of, nested_by, new_look, number_of_reply, pushes_after, reads_push, refuses_by, waiting_of, with_ask_queued};
 
 use crate::answer::{BAD_VERSION, HELLO_WAITS, PUSHES_WAIT, UNPAIRED};
 use crate::event::RespEvent;
@@ -181,17 +181,14 @@ pub extern "C" fn resp_pairing_queue_pushes(
         number.new ≡ pairing.old.answered + length (waiting_of pairing.old).asks + 1 }
     ensures same_value { (look_of pairing.new ≡ look_of pairing.old) ×
         (number_of_reply pairing.new ≡ number_of_reply pairing.old) }
-    ensures unpaired { ((pushes ≡ 0) ⊎ (pairing.old.version ≡ 3 → ⊥) ⊎
-        (pairing.old.hello ≡ 0 → ⊥)) → result ≡ unpaired }
-    ensures pushes_wait { (pushes ≡ 0 → ⊥) → pairing.old.version ≡ 3 → pairing.old.hello ≡ 0 →
-        (pairing.old.pushes ≡ 0 → ⊥) → result ≡ pushes_wait }
-    ensures too_many { result ≡ number_of cause.TooMany →
-        2 ^ 63 ≤ pairing.old.answered + length (waiting_of pairing.old).asks }
-    ensures ok { (pushes ≡ 0 → ⊥) → pairing.old.version ≡ 3 → pairing.old.hello ≡ 0 →
-        pairing.old.pushes ≡ 0 →
+    ensures unpaired { (result ≡ unpaired) ↔ HasNoPushes pairing.old pushes }
+    ensures pushes_wait { (result ≡ pushes_wait) ↔
+        ((HasNoPushes pairing.old pushes → ⊥) × (pairing.old.pushes ≡ 0 → ⊥)) }
+    ensures too_many { (result ≡ number_of cause.TooMany) ↔
+        ((HasNoPushes pairing.old pushes → ⊥) × (pairing.old.pushes ≡ 0) ×
+        (2 ^ 63 ≤ pairing.old.answered + length (waiting_of pairing.old).asks)) }
+    ensures ok { (HasNoPushes pairing.old pushes → ⊥) → pairing.old.pushes ≡ 0 →
         pairing.old.answered + length (waiting_of pairing.old).asks < 2 ^ 63 → result ≡ 0 }
-    ensures causes { (result ≡ 0) ⊎ (result ≡ unpaired) ⊎ (result ≡ pushes_wait) ⊎
-        (result ≡ number_of cause.TooMany) }
     ensures versions { HasVersions pairing.old → HasVersions pairing.new }
     ensures unchanged { (result ≡ 0 → ⊥) → (pairing.new ≡ pairing.old) ×
         (number.new ≡ number.old) }

@@ -1,2 +1,4 @@
+pub mod Blocking
 pub mod Found
+pub mod KeyLemmas
 pub mod Remainders

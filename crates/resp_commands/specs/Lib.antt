@@ -1,4 +1,9 @@
 pub mod Names
 pub mod Places
+pub mod Rows
+pub mod Merges
+pub mod Options
+pub mod Classes
+pub mod Keys
 pub mod Checksums
 pub mod Slots

@@ -2,11 +2,11 @@
 use Rattle.std.specs.Prelude.{◌≡◌, ◌≢◌, ℕ, List, map, min, take, All, AllPairs}
 use Rattle.std.specs.Char.{to_ascii_lowercase}
 use Rattle.resp_commands.specs.declared.command.Command.{Command}
-use Rattle.resp_commands.specs.declared.table.TheConstants.{COMMANDS}
+use Rattle.resp_commands.specs.declared.table.TheConstants.{COMMANDS, SUBCOMMANDS}
 
 -- the name of a command, without the spaces after it
 abbrev pub name_of : Command → List ℕ
-name_of command = take (min command.length 20) command.padded
+name_of command = take (min command.length 24) command.padded
 
 -- the word is the command's name in upper, lower or mixed case
 abbrev pub HasName : Command → List ℕ → Type 0
@@ -16,8 +16,22 @@ HasName command word = map to_ascii_lowercase word ≡ map to_ascii_lowercase (n
 abbrev pub IsUnknown : List ℕ → Type 0
 IsUnknown word = All (λ command. ¬ HasName command word) COMMANDS
 
+-- this is the subcommand of the command with this name
+abbrev pub IsSubcommand : Command → List ℕ → Command → Type 0
+IsSubcommand command word subcommand = (subcommand.container ≡ command.container) × HasName subcommand word
+
+-- the command has no subcommand with this name
+abbrev pub LacksSubcommand : Command → List ℕ → Type 0
+LacksSubcommand command word = All (λ subcommand. ¬ IsSubcommand command word subcommand) SUBCOMMANDS
+
 abbrev pub NamesAreDistinct : Type 0
 NamesAreDistinct = AllPairs (λ first second. name_of first ≢ name_of second) COMMANDS
 
+-- no two subcommands of a command have the same name
+abbrev pub SubcommandsAreDistinct : Type 0
+SubcommandsAreDistinct = AllPairs (λ first second. first.container ≡ second.container → name_of first ≢ name_of second) SUBCOMMANDS
+
 abbrev pub NamesAreInLowerCase : Type 0
-NamesAreInLowerCase = All (λ command. map to_ascii_lowercase (name_of command) ≡ name_of command) COMMANDS
+NamesAreInLowerCase =
+    All (λ command. map to_ascii_lowercase (name_of command) ≡ name_of command) COMMANDS ×
+    All (λ command. map to_ascii_lowercase (name_of command) ≡ name_of command) SUBCOMMANDS

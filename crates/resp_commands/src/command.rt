@@ -1,6 +1,8 @@
 //! What the table says about a command.
 
 /// How a proxy treats a command whose client shares its connection to the server.
+///
+/// [`class_of`](crate::class_of) returns the class of a whole command.
 #[derive(Clone, Copy, Debug, PartialEq, Eq)]
 pub enum Class {
     /// The server answers the command once and at once, and the connection keeps no trace of it. So
@@ -24,27 +26,93 @@ pub enum Class {
 pub struct Keys {
     /// The place of the first key, or 0 if the command has no keys at fixed places.
     pub first: u8,
-    /// The place of the last key. A negative number counts from the end: -1 is the last word.
-    pub last: i8,
+    /// The place of the last key.
+    pub last: u8,
+    /// Whether the place of the last key is counted from the end. Then 1 is the last word.
+    pub from_end: bool,
     /// The distance between two keys.
     pub step: u8,
     /// Whether further keys are at places that depend on the other words.
     pub movable: bool,
+    /// How the further keys are found.
+    pub search: Search,
+    /// The place from which on they are searched.
+    pub start: u8,
 }
 
-/// A command of the table.
+/// How keys are found whose places depend on the other words.
+#[derive(Clone, Copy, Debug, PartialEq, Eq)]
+pub enum Search {
+    /// There are no further keys.
+    Nothing,
+    /// The word at the place is the number of the keys, which follow it, as in EVAL and ZUNION.
+    Counted,
+    /// The keys are the first half of the words after the word `STREAMS`, as in XREAD.
+    Streams,
+    /// A key follows the word `STORE`, and another the word `STOREDIST`, as in GEORADIUS.
+    Stores,
+    /// The table does not say where the keys are, as in MIGRATE and SORT.
+    Unknown,
+}
+
+/// Which nodes of a Redis Cluster get a part of a command.
+#[derive(Clone, Copy, Debug, PartialEq, Eq)]
+pub enum Split {
+    /// The command goes to one node as it is.
+    Never,
+    /// Each node gets the keys of its slots, with the words that belong to them.
+    ByKeys,
+    /// Each node that is no replica gets the command.
+    AllShards,
+    /// Each node gets the command, a replica too.
+    AllNodes,
+    /// The command has a rule of its own, as SCAN.
+    Special,
+}
+
+/// How the replies to the parts of a command are merged.
+#[derive(Clone, Copy, Debug, PartialEq, Eq)]
+pub enum Merge {
+    /// The reply has the items of all replies: in the order of the keys, or in any order if the
+    /// command has no keys.
+    InOrder,
+    /// If a part fails, the reply is its error. Otherwise it is the reply to any part.
+    AllSucceeded,
+    /// If all parts fail, the reply is an error. Otherwise it is the reply to a part that does not.
+    OneSucceeded,
+    /// The reply is the sum of the replies.
+    Sum,
+    /// The reply is the least of the replies.
+    Minimum,
+    /// The replies are arrays of 0 and 1. At each place the reply has 1 if all replies have 1 there.
+    LogicalAnd,
+    /// The command has a rule of its own.
+    Special,
+}
+
+/// A command or a subcommand of the table.
 #[derive(Clone, Copy)]
 pub struct Command {
     /// The name in lower case, and spaces.
-    pub(crate) padded: [u8; 20],
+    pub(crate) padded: [u8; 24],
     /// The length of the name.
     pub(crate) length: u8,
-    /// How a proxy treats the command.
+    /// The number of a command that has subcommands, or of the command whose subcommand this is.
+    /// Otherwise 0.
+    pub(crate) container: u8,
+    /// How a proxy treats the command. If its subcommand or an option decides that, this is the class
+    /// without a subcommand and with the option.
     pub class: Class,
+    /// Whether the command needs a connection of its own only with the option BLOCK.
+    pub may_block: bool,
     /// The number of words with the name. If it is negative, it is the least number, negated.
     pub arity: i8,
     /// The places of the keys.
     pub keys: Keys,
+    /// Which nodes of a cluster get a part of the command.
+    pub split: Split,
+    /// How the replies to the parts are merged.
+    pub merge: Merge,
 }
 
 impl Command {
@@ -55,6 +123,6 @@ impl Command {
     pub fn name(&self) -> &[u8]
         ensures { result.now ≡ name_of self.now }
     {
-        &self.padded[..usize::from(self.length).min(20)]
+        &self.padded[..usize::from(self.length).min(24)]
     }
 }

@@ -6,14 +6,19 @@
 #![tactic(auto)]
 
 mod checksum;
+mod class;
 mod command;
 mod key;
+mod keys;
 pub mod laws;
 mod lookup;
+mod options;
 mod table;
 
 pub use checksum::crc16;
-pub use command::{Class, Command, Keys};
+pub use class::class_of;
+pub use command::{Class, Command, Keys, Merge, Search, Split};
 pub use key::{hashed_part, slot};
-pub use lookup::entry;
-pub use table::COMMANDS;
+pub use keys::{KeyPlaces, Places, key_places};
+pub use lookup::{entry, row_of, subcommand};
+pub use table::{COMMANDS, SUBCOMMANDS};

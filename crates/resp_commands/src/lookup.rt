@@ -1,12 +1,13 @@
-//! Finding a command by its name.
+//! Finding a command or a subcommand by its name.
 
-ghost use Rattle.std.specs.Prelude.{◌≡◌, ◌<◌, map, IfSome, IfNone, Contains};
+ghost use Rattle.std.specs.Prelude.{◌≡◌, ◌<◌, ℕ, map, slice_index, IfSome, IfNone, Contains};
 ghost use Rattle.std.specs.Char.{to_ascii_lowercase};
-ghost use Rattle.resp_commands.specs.Names.{HasName, IsUnknown};
-ghost use Rattle.resp_commands.specs.Places.{place_of};
+ghost use Rattle.resp_commands.specs.Names.{HasName, IsSubcommand, IsUnknown, LacksSubcommand};
+ghost use Rattle.resp_commands.specs.Rows.{HasNoRow, HasRow, IsRowOf, LacksRow};
+ghost use Rattle.resp_commands.specs.Places.{hash_from, inner_place_of, place_of};
 
 use crate::command::Command;
-use crate::table::{COMMANDS, FACTOR, PLACES, STEPS};
+use crate::table::{COMMANDS, FACTOR, INNER_PLACES, INNER_STEPS, PLACES, STEPS, SUBCOMMANDS};
 
 /// Returns the command of this name in upper, lower or mixed case, or `None` if the table has no
 /// such command. The time does not depend on the number of commands.
@@ -27,15 +28,77 @@ pub fn entry(name: &[u8]) -> Option<Command>
     Some(command)
 }
 
+/// Returns the subcommand of this name of a command, or `None` if the table has no such subcommand.
+#[tactic(auto, using(crate::proofs::Found::no_subcommand_past, crate::proofs::Found::no_subcommand_container))]
+pub fn subcommand(command: &Command, name: &[u8]) -> Option<Command>
+    ensures found { IfSome result (λ subcommand. Contains SUBCOMMANDS subcommand) }
+    ensures named { IfSome result (λ subcommand. IsSubcommand command.now name.now subcommand) }
+    ensures unknown { IfNone result (LacksSubcommand command.now name.now) }
+{
+    let place = inner_place_of(command.container, name);
+    if place >= SUBCOMMANDS.len() {
+        return None;
+    }
+    let subcommand = SUBCOMMANDS[place];
+    if subcommand.container != command.container {
+        return None;
+    }
+    if !name.eq_ignore_ascii_case(subcommand.name()) {
+        return None;
+    }
+    Some(subcommand)
+}
+
+/// Returns the row of a command, by its name and the word after it: the row of its subcommand if it
+/// has subcommands. Returns `None` if the table has no such command, or no such subcommand of it.
+pub fn row_of(name: &[u8], first: Option<&[u8]>) -> Option<Command>
+    ensures known { IfSome result (λ row. HasRow name.now first.entry row) }
+    ensures unknown { IfNone result (HasNoRow name.now first.entry) }
+{
+    let command = entry(name)?;
+    row_by(command, first)
+}
+
+/// Returns the row of a command, or of its subcommand of this name.
+fn row_by(command: Command, first: Option<&[u8]>) -> Option<Command>
+    ensures known { IfSome result (λ row. IsRowOf command first.entry row) }
+    ensures unknown { IfNone result (LacksRow command first.entry) }
+{
+    if command.container == 0 {
+        return Some(command);
+    }
+    match first {
+        Some(word) => subcommand(&command, word),
+        None => Some(command),
+    }
+}
+
 /// Returns the place of the only command that may have this name, or a number past the table.
 fn place_of(name: &[u8]) -> usize
     ensures { result ≡ place_of (map to_ascii_lowercase name.now) }
 {
-    let mut hash: u32 = 0;
+    let hash = hash_of(0, name);
+    let step = usize::from(STEPS[hash % 128]);
+    usize::from(PLACES[(hash / 128 + step) % 512])
+}
+
+/// Returns the place of the only subcommand that may have this name, or a number past the table.
+fn inner_place_of(container: u8, name: &[u8]) -> usize
+    ensures { result ≡ inner_place_of container (map to_ascii_lowercase name.now) }
+{
+    let hash = hash_of(container, name);
+    let step = usize::from(INNER_STEPS[hash % 128]);
+    usize::from(INNER_PLACES[(hash / 128 + step) % 512])
+}
+
+/// Returns the hash of a name in lower case, which begins with this number.
+fn hash_of(first: u8, name: &[u8]) -> usize
+    ensures hash { result ≡ hash_from first (map to_ascii_lowercase name.now) }
+    ensures below { result < 65_536 }
+{
+    let mut hash = u32::from(first);
     for byte in name {
         hash = (hash * FACTOR + u32::from(byte.to_ascii_lowercase())) % 65_536;
     }
-    let hash = hash as usize;
-    let step = usize::from(STEPS[hash % 128]);
-    usize::from(PLACES[(hash / 128 + step) % 512])
+    hash as usize
 }

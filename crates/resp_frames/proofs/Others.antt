@@ -1,5 +1,6 @@
 -- Values that are no commands.
-use Rattle.std.proofs.Common.{◌≡◌, ◌∙◌, List, ℕ, [], ◌∷◌, sym}
+use Rattle.std.specs.Prelude.{IfNone}
+use Rattle.std.proofs.Common.{Option, None, Some, ◌≡◌, ◌∙◌, List, ℕ, [], ◌∷◌, sym}
 use Rattle.std.proofs.lemmas.List.{append-nil}
 use Rattle.resp_value.specs.Bounds.{Bounds}
 use Rattle.resp_value.specs.Laws.{NoSpellingBeginsAnother}
@@ -20,3 +21,8 @@ pub no_rest : NoSpellingBeginsAnother → (limits : Bounds) (text name : List �
 no_rest law limits text name arguments rest b c =
     (law (rules_under Two limits) (rules_under Two limits) (command_of (name ∷ arguments)) (command_of (c.name ∷ c.arguments)) b.written text rest [] b.spelled
     c.spelled (sym b.whole ∙ sym (append-nil text))).2
+
+-- a fact that holds, if there is no value
+pub on_none : {X : Type 0} (found : Option X) (P : Type 0) → P → IfNone found P
+on_none None P holds = holds
+on_none (Some x) P holds = tt

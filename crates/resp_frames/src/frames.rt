@@ -1,9 +1,11 @@
 //! Where values end.
 
-ghost use Rattle.std.specs.Prelude.{◌≡◌, ◌++◌, ℕ, List, None, false, true, [], IfErr, IfNone, IfOk, IfSome, IsErrOf, OnErr, ◌≢◌};
+ghost use Rattle.std.specs.Prelude.{◌≡◌, ◌++◌, ◌≤◌, length, take, ℕ, List, None, false, true, [], IfErr, IfNone, IfOk, IfSome, IsErrOf, OnErr, OnOk, ◌≢◌};
 ghost use Rattle.resp_value.specs.Rules.{Rules, rules_under};
 ghost use Rattle.resp_frames.specs.Framing.{EndsWithin, HasBegun, IsFrame, IsHeld, OnFault, RejectsByte};
-ghost use Rattle.resp_scan.specs.Reading.{HasNoValue};
+ghost use Rattle.resp_scan.specs.Kinds.{rules_of};
+ghost use Rattle.resp_scan.specs.Listening.{HearsPiece, HearsRefusal, HearsValue, IfRefused, IfUsedUp, IfWhole};
+ghost use Rattle.resp_scan.specs.Reading.{Events, HasNoValue, HasRead};
 
 use crate::begun::{Begun, Held};
 use crate::error::FrameError;
@@ -55,6 +57,7 @@ impl Frames {
     ///   memory.
     ///
     /// The connection is between two values afterwards, and the bytes that it had begun are lost.
+    #[inline(always)]
     pub fn next<'a>(
         &mut self,
         begun: &mut Begun,
@@ -85,6 +88,7 @@ impl Frames {
     }
 
     /// Does what [`Frames::next`] does if no value has begun.
+    #[inline(always)]
     fn begin<'a>(
         &mut self,
         begun: &mut Begun,
@@ -102,26 +106,68 @@ impl Frames {
         ensures ready { IsReady self.old → IsReady self.new }
         ensures same_rules { frame_rules self.new ≡ frame_rules self.old }
     {
-        let scanned = match self.scanner.scan(piece, &mut Nobody) {
+        let scanned = match scan(&mut self.scanner, piece) {
             Ok(scanned) => scanned,
             Err(error) => {
-                self.scanner = Scanner::new(self.version, &self.limits);
+                self.restart();
                 return Err(frame_error(error));
             }
         };
         if scanned.is_whole {
             return Ok(Some(Frame::InPiece(&piece[..scanned.used])));
         }
+        match self.keep(begun, piece) {
+            Ok(()) => Ok(None),
+            Err(AllocError) => Err(FrameError::OutOfMemory),
+        }
+    }
+
+    /// Begins anew between two values.
+    #[inline(never)]
+    fn restart(&mut self)
+        ensures ready { IsReady self.new }
+        ensures same_rules { frame_rules self.new ≡ frame_rules self.old }
+    {
+        self.scanner = Scanner::new(self.version, &self.limits);
+    }
+
+    /// Keeps the scanner and the bytes of the piece that it has read, if there are any.
+    #[inline(never)]
+    fn keep(&mut self, begun: &mut Begun, piece: &[u8]) -> Result<(), AllocError>
+        ensures held { (given : Events) → HasRead self.old.scanner piece.now given →
+            rules_of self.old.scanner ≡ frame_rules self.old → begun.old.held ≡ None →
+            OnOk result (HasBegun (frame_rules self.old) begun.new piece.now) }
+        ensures nothing_begun { OnErr result (begun.new ≡ begun.old) }
+        ensures ready { IsReady self.new }
+        ensures same_rules { frame_rules self.new ≡ frame_rules self.old }
+    {
         let scanner = mem::replace(&mut self.scanner, Scanner::new(self.version, &self.limits));
         if piece.is_empty() {
-            return Ok(None);
+            return Ok(());
         }
-        let Ok(held) = hold(self.alloc, scanner, piece) else {
-            return Err(FrameError::OutOfMemory);
-        };
-        begun.held = Some(held);
-        Ok(None)
+        begun.held = Some(hold(self.alloc, scanner, piece)?);
+        Ok(())
     }
+}
+
+/// Reads the piece up to the end of a value.
+///
+/// It is not inlined: both of its callers use the same loop, which is faster as a function of its own.
+#[inline(never)]
+fn scan(scanner: &mut Scanner, piece: &[u8]) -> Result<Scanned, ScanError>
+    ensures value_whole { (front : List ℕ) (given : Events) → HasRead scanner.old front given →
+        IfWhole result (λ used. HearsValue (rules_of scanner.old) scanner.new (λ _. Unit {0})
+        (front ++ take used piece.now)) }
+    ensures used_up { (front : List ℕ) (given : Events) → HasRead scanner.old front given →
+        IfUsedUp result (HearsPiece scanner.new (λ _. Unit {0}) (front ++ piece.now)) }
+    ensures refusal { (front : List ℕ) (given : Events) → HasRead scanner.old front given →
+        IfRefused result (HearsRefusal (rules_of scanner.old) (λ _. Unit {0}) front piece.now) }
+    ensures within_piece { IfOk result (λ scanned. scanned.used ≤ length piece.now) }
+    ensures whole_piece { IfOk result (λ scanned.
+        scanned.is_whole ≡ false → scanned.used ≡ length piece.now) }
+    ensures same_rules { rules_of scanner.new ≡ rules_of scanner.old }
+{
+    scanner.scan(piece, &mut Nobody)
 }
 
 /// Returns the error of a scan by a listener that never stops.
@@ -145,6 +191,7 @@ fn hold(alloc: Global, scanner: Scanner, piece: &[u8]) -> Result<Box<Held>, Allo
 }
 
 /// Does what [`Frames::next`] does with the bytes that are held. The connection has begun no value.
+#[inline(never)]
 fn resume<'a>(
     begun: &mut Begun,
     held: Box<Held>,
@@ -188,7 +235,7 @@ fn extend(held: &mut Held, piece: &[u8]) -> Result<Scanned, FrameError>
         IfErr result (λ error. OnFault error (RejectsByte rules front piece.now)) }
     ensures any_value { IsErrOf result FrameError.NotACommand → ⊥ }
 {
-    let scanned = match held.scanner.scan(piece, &mut Nobody) {
+    let scanned = match scan(&mut held.scanner, piece) {
         Ok(scanned) => scanned,
         Err(error) => return Err(frame_error(error)),
     };

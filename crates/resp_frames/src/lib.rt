@@ -11,8 +11,10 @@ mod frame;
 mod frames;
 pub mod laws;
 mod nobody;
+mod words;
 
 pub use begun::Begun;
 pub use error::FrameError;
 pub use frame::Frame;
 pub use frames::Frames;
+pub use words::{CommandFrame, CommandWords};

@@ -48,10 +48,10 @@ pub fn take_command(
         Ok(found) => found,
         Err(error) => return Err(CommandError::Frame(error)),
     };
-    let Some(frame) = found else {
+    let Some(command) = found else {
         return Ok(None);
     };
-    queue(mux, who, &frame)
+    queue(mux, who, &command.frame)
 }
 
 /// Queues a whole value for the server.

@@ -193,7 +193,7 @@ impl Mux {
     /// # Errors
     ///
     /// `Unasked` if no command waits, and otherwise `OutOfMemory` if an allocation fails. Nothing
-    /// changes. After `OutOfMemory` close the client that [`Mux::next`] returns, and try again.
+    /// changes. After `OutOfMemory` close the client that [`Mux::next_client`] returns, and try again.
     pub fn answer(&mut self, reply: &[u8]) -> Result<ClientId, AnswerError>
         ensures owner { IfOk result (λ who.
             waiting_clients self.old ≡ who ∷ waiting_clients self.new) }
@@ -218,7 +218,7 @@ impl Mux {
     /// # Errors
     ///
     /// `AllocError` if an allocation fails. The first commands that waited may be answered, and the
-    /// others still wait, so close the client that [`Mux::next`] returns, and try again.
+    /// others still wait, so close the client that [`Mux::next_client`] returns, and try again.
     pub fn lose(&mut self, text: &[u8]) -> Result<(), AllocError>
         ensures passed { OnOk result (WherePassed self.old (λ p.
             HasPassed self.new (with_loss text.now p))) }

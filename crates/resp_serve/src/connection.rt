@@ -10,8 +10,10 @@ use resp_server::Hub;
 use resp_value::device::Device;
 use resp_wire::ServeError;
 use resp_wire::serve::serve_with;
+use std::alloc::{AllocError, Global};
 use std::hash::BuildHasher;
 use std::io::{Read, Write};
+use std::mem;
 use std::net::Shutdown;
 
 /// The most reads and writes of a connection before the other connections are served.
@@ -23,6 +25,52 @@ pub const PIECE: usize = 16_384;
 /// The most reads of received bytes before a connection is closed.
 const LAST_READS: usize = 4;
 
+/// The memory that the visits of all connections use in turn.
+#[derive(Drop)]
+pub struct Room {
+    alloc: Global,
+    /// The bytes of one read.
+    buffer: [u8; PIECE],
+    /// The most bytes that wait to be written to a client before its next command is run.
+    held: usize,
+}
+
+impl Room {
+    /// Makes the memory of the visits. A command is run while at most `held` bytes wait to be written
+    /// to its client.
+    pub fn new(alloc: Global, held: usize) -> Self {
+        Room {
+            alloc,
+            buffer: [0; PIECE],
+            held,
+        }
+    }
+}
+
+/// The bytes that were read from a client and not given to its session, because too many bytes wait
+/// to be written.
+#[derive(Drop)]
+pub struct Rest {
+    bytes: Vec<u8>,
+}
+
+impl Rest {
+    /// Makes a rest without a byte. Does not allocate.
+    pub fn new(alloc: Global) -> Self {
+        Rest {
+            bytes: Vec::new(alloc),
+        }
+    }
+
+    /// Returns a copy of these bytes, joined. Does not allocate if there is no byte.
+    fn copy(alloc: Global, bytes: &[u8], more: &[u8]) -> Result<Self, AllocError> {
+        let mut rest = Rest::new(alloc);
+        rest.bytes.extend_from_slice(bytes)?;
+        rest.bytes.extend_from_slice(more)?;
+        Ok(rest)
+    }
+}
+
 /// A connection of a client.
 #[derive(Drop)]
 pub(crate) struct Connection {
@@ -30,22 +78,36 @@ pub(crate) struct Connection {
     stream: TcpStream,
     /// The id of its session in the hub.
     pub(crate) id: u64,
+    rest: Rest,
 }
 
 impl Connection {
     /// Returns a connection of which nothing was read.
-    pub(crate) fn new(stream: TcpStream, id: u64) -> Self {
-        Connection { stream, id }
+    pub(crate) fn new(alloc: Global, stream: TcpStream, id: u64) -> Self {
+        Connection {
+            stream,
+            id,
+            rest: Rest::new(alloc),
+        }
     }
 
     /// Answers the commands received, as [`answer`] does.
     pub(crate) fn serve<S: BuildHasher>(
-        &self,
+        &mut self,
         hub: &mut Hub<S>,
-        buffer: &mut [u8; PIECE],
+        room: &mut Room,
         is_at_end: bool,
     ) -> Next {
-        answer(&self.stream, &self.stream, hub, self.id, buffer, is_at_end)
+        let stream = &self.stream;
+        answer(
+            stream,
+            stream,
+            hub,
+            self.id,
+            room,
+            &mut self.rest,
+            is_at_end,
+        )
     }
 
     /// Closes the connection.
@@ -56,32 +118,56 @@ impl Connection {
 }
 
 /// Answers the commands that a client has sent, until a read or write would block, or 16 of them
-/// were made. The commands of the session `id` are read into `buffer`. `is_at_end` says whether the
-/// input may have ended: only then is it read again after a read that did not fill the buffer.
+/// were made. The commands of the session `id` are read into the buffer of `room`, after those in
+/// `rest`. `is_at_end` says whether the input may have ended: only then is it read again after a read
+/// that did not fill the buffer.
 ///
 /// The replies to what was read are written before more is read. If they cannot be written yet,
-/// they wait in the hub.
+/// they wait in the hub. At most as many bytes wait as `room` allows, and one reply. The commands
+/// that were read and not run are in `rest`.
+///
+/// If the memory for the rest cannot be allocated, the connection is closed.
 pub fn answer<R: Read + Drop, W: Write + Drop, S: BuildHasher>(
     reader: R,
     writer: W,
     hub: &mut Hub<S>,
     id: u64,
-    buffer: &mut [u8; PIECE],
+    room: &mut Room,
+    rest: &mut Rest,
     is_at_end: bool,
 ) -> Next
     ensures no_session { seat_at hub.old id ≡ None → (result ≡ Next.Close) ×
         (hub.new ≡ hub.old) }
 {
-    let mut reader = Device::new(Input::new(reader, is_at_end));
+    let first = mem::replace(rest, Rest::new(room.alloc));
+    let mut reader = Device::new(Input::after(first.bytes.as_slice(), reader, is_at_end));
     let mut writer = Device::new(Output::new(writer));
-    let waits = match serve_with(&mut reader, &mut writer, hub, id, TURNS, buffer) {
-        Ok(_) | Err(ServeError::NoSession) => false,
+    let visit = serve_with(
+        &mut reader,
+        &mut writer,
+        hub,
+        id,
+        TURNS,
+        &mut room.buffer,
+        room.held,
+    );
+    let reader = reader.into_inner();
+    let waits = match visit.end {
+        Ok(_) | Err(ServeError::NoSession) => return Next::Close,
         // The session is closing. The bytes that wait still have to be written.
-        Err(ServeError::TooManyTurns | ServeError::OutOfMemory) => return Next::Again,
-        Err(ServeError::Read) => reader.into_inner().would_wait(),
-        Err(ServeError::Write) => writer.into_inner().would_wait(),
+        Err(ServeError::TooManyTurns | ServeError::OutOfMemory) => None,
+        Err(ServeError::Read) => Some(reader.would_wait()),
+        Err(ServeError::Write) => Some(writer.into_inner().would_wait()),
     };
-    if waits { Next::Wait } else { Next::Close }
+    match Rest::copy(room.alloc, &room.buffer[visit.rest], reader.first()) {
+        Ok(left) => *rest = left,
+        Err(_) => return Next::Close,
+    }
+    match waits {
+        None => Next::Again,
+        Some(true) => Next::Wait,
+        Some(false) => Next::Close,
+    }
 }
 
 /// Sends a line to a client that is not served, and closes the connection.

@@ -15,7 +15,7 @@ mod connection;
 mod event_loop;
 mod non_blocking;
 mod own_address;
-mod paper;
+mod printer;
 mod server;
 mod service;
 mod tapped;
@@ -23,7 +23,7 @@ mod terminal;
 mod timing;
 mod window;
 
-pub use connection::{PIECE, answer};
+pub use connection::{PIECE, Rest, Room, answer};
 pub use server::Server;
 pub use service::Next;
 pub use window::{AfterFailure, Settings, Window};

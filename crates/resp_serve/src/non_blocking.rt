@@ -9,21 +9,34 @@ use std::io::{ErrorKind, Read, Write};
 /// block and is not made. The exception is a connection that may have ended: it is read again,
 /// because the socket does not report its end a second time.
 #[derive(Drop)]
-pub(crate) struct Input<R> {
+pub(crate) struct Input<'a, R> {
+    /// The bytes that are returned first.
+    first: &'a [u8],
     inner: R,
     is_at_end: bool,
     is_dry: bool,
 }
 
-impl<R> Input<R> {
+impl<'a, R> Input<'a, R> {
     /// Returns a reader over `inner`, of which nothing was read. `is_at_end` says whether the input
     /// may have ended.
     pub(crate) fn new(inner: R, is_at_end: bool) -> Self {
+        Input::after(&[], inner, is_at_end)
+    }
+
+    /// Returns a reader that returns `first` and then the bytes of `inner`.
+    pub(crate) fn after(first: &'a [u8], inner: R, is_at_end: bool) -> Self {
         Input {
+            first,
             inner,
             is_at_end,
             is_dry: false,
         }
+    }
+
+    /// Returns the bytes that come before those of the inner reader and were not read.
+    pub(crate) fn first(&self) -> &'a [u8] {
+        self.first
     }
 
     /// Returns whether the next read would block.
@@ -32,8 +45,14 @@ impl<R> Input<R> {
     }
 }
 
-impl<R: Read> Read for Input<R> {
+impl<R: Read> Read for Input<'_, R> {
     fn read(&mut self, into: &mut [u8]) -> io::Result<usize> {
+        if !self.first.is_empty() {
+            let (now, later) = self.first.split_at(self.first.len().min(into.len()));
+            into[..now.len()].copy_from_slice(now);
+            self.first = later;
+            return Ok(now.len());
+        }
         if self.is_dry {
             return Err(ErrorKind::WouldBlock.into());
         }

@@ -1,6 +1,6 @@
 //! The server: its loop, its store, and what it does with a connection.
 
-use crate::connection::{Connection, PIECE};
+use crate::connection::{Connection, Room};
 use crate::event_loop::Loop;
 use crate::service::{Next, Service, Tokens};
 use mio::net::TcpStream;
@@ -16,8 +16,9 @@ use std::time::Duration;
 
 /// A server of PING, ECHO, GET, SET, DEL and HELLO for many clients at once, over one store.
 ///
-/// A connection is not read while a reply to it waits to be written, so the waiting bytes are at
-/// most the replies to one piece of 16,384 bytes. Connections with much to do are served in turns.
+/// A connection is not read while a reply to it waits to be written, and none of its commands is run
+/// while more than `held` bytes wait. So at most `held` bytes and one reply wait for a client.
+/// Connections with much to do are served in turns.
 #[derive(Drop)]
 pub struct Server<S: BuildHasher> {
     connections: Loop<Connection>,
@@ -28,13 +29,13 @@ pub struct Server<S: BuildHasher> {
 #[derive(Drop)]
 struct Replies<S: BuildHasher> {
     hub: Hub<S>,
-    /// The bytes of one read.
-    buffer: [u8; PIECE],
+    alloc: Global,
+    room: Room,
 }
 
 impl<S: BuildHasher + Drop> Server<S> {
     /// Listens on an address, for at most `most` clients at once. Their commands are read within
-    /// these limits.
+    /// these limits, and run while at most `held` bytes wait to be written to their client.
     ///
     /// # Errors
     ///
@@ -45,13 +46,15 @@ impl<S: BuildHasher + Drop> Server<S> {
         address: SocketAddr,
         limits: Limits,
         most: usize,
+        held: usize,
         hasher: S,
     ) -> io::Result<Self> {
         Ok(Server {
             connections: Loop::listen(net, alloc, address, most)?,
             replies: Replies {
                 hub: Hub::new(alloc, limits, hasher),
-                buffer: [0; PIECE],
+                alloc,
+                room: Room::new(alloc, held),
             },
         })
     }
@@ -91,7 +94,7 @@ impl<S: BuildHasher + Drop> Service<Connection> for Replies<S> {
             Interest::READABLE | Interest::WRITABLE,
         )?;
         match self.hub.open() {
-            Ok(id) => Ok(Connection::new(client, id)),
+            Ok(id) => Ok(Connection::new(self.alloc, client, id)),
             Err(_) => Err(ErrorKind::OutOfMemory.into()),
         }
     }
@@ -99,7 +102,7 @@ impl<S: BuildHasher + Drop> Service<Connection> for Replies<S> {
     fn lose(&mut self) {}
 
     fn visit(&mut self, connection: &mut Connection, is_at_end: bool) -> Next {
-        connection.serve(&mut self.hub, &mut self.buffer, is_at_end)
+        connection.serve(&mut self.hub, &mut self.room, is_at_end)
     }
 
     fn close(&mut self, connection: Connection) {

@@ -1,12 +1,12 @@
 //! One forwarded connection.
 
 use crate::non_blocking::{Input, Output};
-use crate::paper::Paper;
+use crate::printer::Printer;
 use crate::service::Next;
 use mio::net::TcpStream;
-use resp_tap::TimedTap;
 use resp_tap::watch::Side;
 use resp_tap::way::{Visited, Way};
+use resp_tap::{Printing, TimedTap};
 use resp_value::device::{Device, Sink};
 use resp_value::limits::Limits;
 use std::alloc::{AllocError, Global};
@@ -58,8 +58,8 @@ pub(crate) struct Tapped {
     to_server: Lane,
     to_client: Lane,
     tap: TimedTap,
-    /// The client's number, from 1.
-    pub(crate) number: u64,
+    /// The client's number, and how its traffic is printed.
+    printing: Printing,
 }
 
 impl Lane {
@@ -117,25 +117,27 @@ fn after_write<W>(writer: &Output<W>) -> Lately {
 #[derive(Drop)]
 struct Seeing<'a, 'b, W, C> {
     tap: &'a mut TimedTap,
-    client: u64,
+    printing: Printing,
     side: Side,
     /// Whether the other side has not ended.
     is_first: bool,
-    paper: &'a mut Paper<'b, W, C>,
+    printer: &'a mut Printer<'b, W, C>,
 }
 
 impl<W: Sink, C: Clock> Seeing<'_, '_, W, C> {
     /// Receives a piece.
     fn piece(&mut self, piece: &[u8]) {
         if !piece.is_empty() {
-            self.paper.print(self.tap, self.client, self.side, piece);
+            self.printer
+                .print(self.tap, self.printing, self.side, piece);
         }
     }
 
     /// Receives the end of the side. It is printed if the other side has not ended before.
     fn end(&mut self) {
         if self.is_first {
-            self.paper.tell_end(self.tap, self.client, self.side);
+            self.printer
+                .print_end(self.tap, self.printing.client, self.side);
         }
     }
 }
@@ -163,7 +165,7 @@ impl Tapped {
         client: TcpStream,
         server: TcpStream,
         limits: &Limits,
-        number: u64,
+        printing: Printing,
     ) -> Result<Self, AllocError> {
         Ok(Tapped {
             client,
@@ -172,7 +174,7 @@ impl Tapped {
             to_server: Lane::new(alloc)?,
             to_client: Lane::new(alloc)?,
             tap: TimedTap::new(alloc, limits),
-            number,
+            printing,
         })
     }
 
@@ -191,6 +193,11 @@ impl Tapped {
         }
     }
 
+    /// Returns the client's number, from 1.
+    pub(crate) fn number(&self) -> u64 {
+        self.printing.client
+    }
+
     /// Returns whether the connection to the server was ever open.
     pub(crate) fn is_connected(&self) -> bool {
         self.is_connected
@@ -201,11 +208,11 @@ impl Tapped {
     pub(crate) fn hand_on<W: Sink, C: Clock>(
         &mut self,
         is_at_end: bool,
-        paper: &mut Paper<'_, W, C>,
+        printer: &mut Printer<'_, W, C>,
     ) -> Next {
         for _ in 0..TURNS {
-            let to_server = self.visit(Side::Client, is_at_end, paper);
-            let to_client = self.visit(Side::Server, is_at_end, paper);
+            let to_server = self.visit(Side::Client, is_at_end, printer);
+            let to_client = self.visit(Side::Server, is_at_end, printer);
             match (to_server, to_client) {
                 (Lately::Failed, _) | (_, Lately::Failed) => return Next::Close,
                 (Lately::Waits, Lately::Waits) if self.has_ended() => return Next::Close,
@@ -221,14 +228,14 @@ impl Tapped {
         &mut self,
         side: Side,
         is_at_end: bool,
-        paper: &mut Paper<'_, W, C>,
+        printer: &mut Printer<'_, W, C>,
     ) -> Lately {
         let mut see = Seeing {
             tap: &mut self.tap,
-            client: self.number,
+            printing: self.printing,
             side,
             is_first: !self.to_server.has_ended && !self.to_client.has_ended,
-            paper,
+            printer,
         };
         match side {
             Side::Client => {

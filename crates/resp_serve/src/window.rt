@@ -2,14 +2,15 @@
 
 use crate::event_loop::Loop;
 use crate::own_address::{comes_back, is_own};
-use crate::paper::Paper;
+use crate::printer::Printer;
 use crate::service::{Next, Service, Tokens};
 use crate::tapped::{Opening, Tapped};
 use crate::terminal::Terminal;
 use crate::timing::Timing;
 use mio::net::TcpStream;
-use mio::{Interest, Registry};
+use mio::{Interest, Poll, Registry};
 use resp_print::live::LiveSink;
+use resp_tap::Printing;
 use resp_tap::screen::Screen;
 use resp_value::device::Sink;
 use resp_value::limits::Limits;
@@ -79,6 +80,8 @@ pub struct Settings {
     pub tells_time: bool,
     /// What happens after a write to standard output has failed.
     pub after_failure: AfterFailure,
+    /// Whether passwords and other secret words of commands are printed.
+    pub shows_passwords: bool,
 }
 
 /// The server to which connections are forwarded, and what is printed of them.
@@ -91,6 +94,9 @@ struct View {
     settings: Settings,
     /// The number of connections that were accepted.
     count: u64,
+    /// A descriptor that is closed if no other is left for a connection to the server. So a client
+    /// is accepted only if a descriptor is left for its connection to the server too.
+    spare: Option<Poll>,
     screen: Screen,
     terminal: Terminal,
     /// Whether a write to a file has failed.
@@ -124,24 +130,9 @@ impl Window {
         settings: Settings,
     ) -> io::Result<Self> {
         let connections = Loop::listen(rt, alloc, address, settings.most)?;
-        if comes_back(server, connections.address()?, is_own(rt, server.ip())) {
-            return Err(io::Error::new(ErrorKind::InvalidInput, COMES_BACK));
-        }
-        Ok(Window {
-            connections,
-            view: View {
-                alloc,
-                server,
-                server_text: format!(in alloc; "{server}")?,
-                settings,
-                count: 0,
-                screen: Screen::new(alloc, SCREEN),
-                terminal: Terminal::new(rt, alloc)?,
-                has_failed: false,
-                is_silent: false,
-                timing: Timing::new(rt, settings.tells_time)?,
-            },
-        })
+        check_server(rt, server, connections.address())?;
+        let view = View::new(rt, alloc, server, settings)?;
+        Ok(Window { connections, view })
     }
 
     /// Returns the address that the window listens on.
@@ -181,7 +172,44 @@ impl Window {
     }
 }
 
+/// Fails if connections to the server would come back to the address that the window listens on.
+fn check_server(
+    net: &impl Net,
+    server: SocketAddr,
+    address: io::Result<SocketAddr>,
+) -> io::Result<()> {
+    if comes_back(server, address?, is_own(net, server.ip())) {
+        return Err(io::Error::new(ErrorKind::InvalidInput, COMES_BACK));
+    }
+    Ok(())
+}
+
 impl View {
+    /// Returns a view of a server, before any client is accepted.
+    fn new<R: Net + Clock + Files<File = File>>(
+        rt: &R,
+        alloc: Global,
+        server: SocketAddr,
+        settings: Settings,
+    ) -> io::Result<View> {
+        let server_text = format!(in alloc; "{server}")?;
+        let terminal = Terminal::new(rt, alloc)?;
+        let timing = Timing::new(rt, settings.tells_time)?;
+        Ok(View {
+            alloc,
+            server,
+            server_text,
+            settings,
+            count: 0,
+            spare: Poll::new(rt).ok(),
+            screen: Screen::new(alloc, SCREEN),
+            terminal,
+            has_failed: false,
+            is_silent: false,
+            timing,
+        })
+    }
+
     /// Prints waiting text, as far as standard output accepts it without blocking. A file accepts
     /// all text.
     fn show<W: LiveSink>(&mut self, out: &mut W) -> io::Result<()> {
@@ -230,20 +258,20 @@ impl View {
     }
 
     /// Prints a line about a client.
-    fn tell<W: Sink, C: Clock>(&mut self, client: u64, what: &[u8], clock: &C, out: &mut W) {
+    fn print_line<W: Sink, C: Clock>(&mut self, client: u64, what: &[u8], clock: &C, out: &mut W) {
         if self.terminal.may_wait() {
             let screen = as_long(!self.is_silent, &mut self.screen);
-            Paper::new(clock, &mut self.timing, screen).tell(client, what);
+            Printer::new(clock, &mut self.timing, screen).print_line(client, what);
             return;
         }
         let out = as_long(!self.is_silent, out);
-        let mut paper = Paper::new(clock, &mut self.timing, out);
-        paper.tell(client, what);
-        self.has_failed = self.has_failed || paper.has_failed();
+        let mut printer = Printer::new(clock, &mut self.timing, out);
+        printer.print_line(client, what);
+        self.has_failed = self.has_failed || printer.has_failed();
     }
 
     /// Prints that no connection to the server could be opened for a client, and why.
-    fn tell_failure<W: Sink, C: Clock>(
+    fn print_failure<W: Sink, C: Clock>(
         &mut self,
         client: u64,
         error: &io::Error,
@@ -252,8 +280,8 @@ impl View {
     ) {
         let server = self.server_text.as_str();
         match format!(in self.alloc; ": cannot connect to {server}: {error}") {
-            Ok(line) => self.tell(client, line.as_str().as_bytes(), clock, out),
-            Err(_) => self.tell(client, NOT_CONNECTED, clock, out),
+            Ok(line) => self.print_line(client, line.as_str().as_bytes(), clock, out),
+            Err(_) => self.print_line(client, NOT_CONNECTED, clock, out),
         }
     }
 
@@ -272,7 +300,7 @@ impl View {
                 self.hand_on(connection, is_at_end || is_new, clock, out)
             }
             Opening::Failed(error) => {
-                self.tell_failure(connection.number, &error, clock, out);
+                self.print_failure(connection.number(), &error, clock, out);
                 Next::Close
             }
         }
@@ -288,19 +316,39 @@ impl View {
     ) -> Next {
         if self.terminal.may_wait() {
             let screen = as_long(!self.is_silent, &mut self.screen);
-            let mut paper = Paper::new(clock, &mut self.timing, screen);
-            return connection.hand_on(is_at_end, &mut paper);
+            let mut printer = Printer::new(clock, &mut self.timing, screen);
+            return connection.hand_on(is_at_end, &mut printer);
         }
         let out = as_long(!self.is_silent, out);
-        let mut paper = Paper::new(clock, &mut self.timing, out);
-        let next = connection.hand_on(is_at_end, &mut paper);
-        self.has_failed = self.has_failed || paper.has_failed();
+        let mut printer = Printer::new(clock, &mut self.timing, out);
+        let next = connection.hand_on(is_at_end, &mut printer);
+        self.has_failed = self.has_failed || printer.has_failed();
         next
+    }
+
+    /// Begins to connect to the server. If that fails, it is tried once more after the spare
+    /// descriptor is closed.
+    fn connect_server(&mut self, net: &impl Net) -> io::Result<TcpStream> {
+        let connected = TcpStream::connect(net, self.server);
+        if connected.is_ok() || self.spare.is_none() {
+            return connected;
+        }
+        self.spare = None;
+        let connected = TcpStream::connect(net, self.server);
+        self.keep_spare(net);
+        connected
+    }
+
+    /// Opens the spare descriptor, if it is closed and a descriptor is left.
+    fn keep_spare(&mut self, net: &impl Net) {
+        if self.spare.is_none() {
+            self.spare = Poll::new(net).ok();
+        }
     }
 
     /// Begins to connect to the server for a client, and returns both connections.
     fn connect(
-        &self,
+        &mut self,
         net: &impl Net,
         client: TcpStream,
         number: u64,
@@ -308,9 +356,13 @@ impl View {
         tokens: Tokens,
     ) -> io::Result<Tapped> {
         let mut client = client;
-        let mut server = TcpStream::connect(net, self.server)?;
+        let mut server = self.connect_server(net)?;
         register(&mut client, &mut server, registry, tokens)?;
-        match Tapped::new(self.alloc, client, server, &self.settings.limits, number) {
+        let printing = Printing {
+            client: number,
+            shows_passwords: self.settings.shows_passwords,
+        };
+        match Tapped::new(self.alloc, client, server, &self.settings.limits, printing) {
             Ok(tapped) => Ok(tapped),
             Err(_) => Err(ErrorKind::OutOfMemory.into()),
         }
@@ -346,14 +398,15 @@ impl<R: Net + Clock + Eprint, W: LiveSink> Service<Tapped> for Watching<'_, R, W
         let number = self.view.next_number();
         let admitted = self.view.connect(self.rt, client, number, registry, tokens);
         if let Err(error) = &admitted {
-            self.view.tell_failure(number, error, self.rt, self.out);
+            self.view.print_failure(number, error, self.rt, self.out);
         }
         admitted
     }
 
     fn lose(&mut self) {
         let number = self.view.next_number();
-        self.view.tell(number, NOT_CONNECTED, self.rt, self.out);
+        self.view
+            .print_line(number, NOT_CONNECTED, self.rt, self.out);
     }
 
     fn visit(&mut self, connection: &mut Tapped, is_at_end: bool) -> Next {
@@ -362,9 +415,12 @@ impl<R: Net + Clock + Eprint, W: LiveSink> Service<Tapped> for Watching<'_, R, W
 
     fn close(&mut self, connection: Tapped) {
         if connection.is_connected() {
-            let number = connection.number;
-            self.view.tell(number, b" gone", self.rt, self.out);
+            let number = connection.number();
+            self.view.print_line(number, b" gone", self.rt, self.out);
         }
+        // Its descriptors are closed first.
+        drop(connection);
+        self.view.keep_spare(self.rt);
     }
 
     fn accepts(&self) -> bool {

@@ -1,20 +1,20 @@
 -- What a hub does with a piece, in words of its state.
-use Rattle.std.proofs.Common.{◌≡◌, ℕ, ◌==◌, true, false, Bool, cond, Option, None, Some, List, [], ◌∷◌, ◌++◌, IfSome, append-nil, refl, sym, ap, subst, ◌∙◌}
+use Rattle.std.proofs.Common.{◌≡◌, ℕ, ◌==◌, ◌-◌, ◌^◌, arith, length, take, take_all, inl, inr, true, false, Bool, cond, Option, None, Some, List, [], ◌∷◌, ◌++◌, IfSome, append-nil, refl, sym, ap, subst, ◌∙◌}
 use Rattle.std.specs.Map.{lookup, set_value}
 use Rattle.std.specs.Option.{option_map}
-use Rattle.std.proofs.lemmas.Bool.{false≢true}
+use Rattle.std.proofs.lemmas.Bool.{cases_lt, false≢true}
 use Rattle.resp_value.specs.Bounds.{Bounds}
 use Rattle.resp_value.specs.Rules.{WithinTotal}
 use Rattle.resp_value.specs.Spellings.{IsViable}
 use Rattle.resp_session.specs.Answers.{Answers, BeginsNoValue, server_rules}
 use Rattle.resp_session.specs.Fitting.{FitsStore}
 use Rattle.resp_session.specs.Stores.{Store}
-use Rattle.resp_server.specs.Answering.{IsAnswered, IsCutShort, state_with}
+use Rattle.resp_server.specs.Answering.{IsAnswered, IsCutShort, TakesWithin, state_with}
 use Rattle.resp_server.specs.Handling.{WhereOpen, HasAnswered, HasCutShort}
 use Rattle.resp_server.specs.Hubs.{HubState, Seat, AreSound, HubIsSound, seat_of, seats_of, seat_at, with_seat}
 use Rattle.resp_server.specs.Reading.{HasReadFront, HoldsNoIdleDecoder, ReadsBy}
 use Rattle.resp_server.specs.declared.session.Session.{Session}
-use Rattle.resp_server.proofs.Seats.{is_id, state_of, seats-lookup, seats-set, sound_set, with_same}
+use Rattle.resp_server.proofs.Seats.{is_id, put_there, state_of, seats-lookup, seats-set, sound_set, with_same}
 use Rattle.resp_server.proofs.Turns.{waits_on}
 
 -- what holds of the session that was found, and of the hub as its fields are
@@ -165,3 +165,31 @@ idle_seat limits last (e ∷ es) id sound =
 pub holds_no_idle : (limits : Bounds) (es : List (ℕ × Session)) (store : Store) (last id : ℕ) → HubIsSound limits es store last →
     IfSome (seat_at (state_of limits es store last) id) (λ s. HoldsNoIdleDecoder s.closing s.decoder)
 holds_no_idle limits es store last id sound = idle_seat limits last es id sound.sound
+
+-- all of a piece is used if more can wait than memory has
+used_up : (before after : ℕ) (closing : Bool) (size used : ℕ) → TakesWithin (2 ^ 64 - 1) before after closing size used → used ≡ size
+used_up before after closing size used t = elim (cases_lt used size) as (λ _. used ≡ size) [
+  | inl less ↦ let (_, over, in_memory) = t.stops less in absurd (omega (arith, over, in_memory))
+  | inr most ↦ let within = t.within in omega (arith, most, within)
+]
+
+answered_whole : (seat : Option Seat) (old new : HubState) (id : ℕ) (piece : List ℕ) (used k : ℕ) → seat_at old id ≡ seat →
+    IfSome seat (λ s. s.closing ≡ false → (front : List ℕ) → HasReadFront s.decoder front → HasAnswered old new id s (front ++ take used piece) k) →
+    IfSome seat (λ s. IfSome (seat_at new id) (λ t. TakesWithin (2 ^ 64 - 1) (length s.out) (length t.out) t.closing (length piece) used)) →
+    IfSome seat (λ s. s.closing ≡ false → (front : List ℕ) → HasReadFront s.decoder front → HasAnswered old new id s (front ++ piece) k)
+answered_whole None old new id piece used k here answered within = tt
+answered_whole (Some s) old new id piece used k here answered within = λ is_open front taken.
+    let a = answered is_open front taken in
+    let seat : Seat = record { version = a.version; out = s.out ++ a.reply; closing = a.closing; decoder = a.decoder } in
+    let there : seat_at new id ≡ Some seat = ap (λ (h : HubState). seat_at h id) a.state ∙ put_there old.sessions id s seat here in
+    let takes : TakesWithin (2 ^ 64 - 1) (length s.out) (length seat.out) seat.closing (length piece) used =
+    subst (λ o. IfSome o (λ t. TakesWithin (2 ^ 64 - 1) (length s.out) (length t.out) t.closing (length piece) used)) there within in
+    let all = used_up (length s.out) (length seat.out) seat.closing (length piece) used takes in
+    subst (λ t. HasAnswered old new id s (front ++ t) k) (ap (λ n. take n piece) all ∙ take_all (length piece) piece (omega arith)) a
+
+-- so all of it is answered
+pub answers_all : (old new : HubState) (id : ℕ) (piece : List ℕ) (used k : ℕ) →
+    WhereOpen old id (λ s front. HasAnswered old new id s (front ++ take used piece) k) →
+    IfSome (seat_at old id) (λ s. IfSome (seat_at new id) (λ t. TakesWithin (2 ^ 64 - 1) (length s.out) (length t.out) t.closing (length piece) used)) →
+    WhereOpen old id (λ s front. HasAnswered old new id s (front ++ piece) k)
+answers_all old new id piece used k = answered_whole (seat_at old id) old new id piece used k refl

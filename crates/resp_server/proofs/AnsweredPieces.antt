@@ -1,5 +1,5 @@
 -- What a session answers, turn by turn.
-use Rattle.std.proofs.Common.{◌≡◌, ℕ, ◌+◌, ◌-◌, ◌<◌, true, false, List, [], ◌++◌, length, take, drop, refl, sym, ap, subst, ◌∙◌, arith, append_assoc, append-nil, length-drop, take-add}
+use Rattle.std.proofs.Common.{◌≡◌, ℕ, ◌+◌, ◌-◌, ◌<◌, ◌≤◌, zero, suc, true, false, List, [], ◌++◌, length, take, drop, refl, sym, ap, subst, ◌∙◌, arith, append_assoc, append-nil, length-drop, take-add}
 use Rattle.std.proofs.lemmas.Bool.{false≢true}
 use Rattle.std.proofs.lemmas.List.{take-append-drop, take_rest}
 use Rattle.resp_value.specs.Bounds.{Bounds}
@@ -13,6 +13,11 @@ use Rattle.resp_server.specs.Running.{IsAsBefore}
 use Rattle.resp_server.specs.Reading.{HasReadFront}
 use Rattle.resp_server.specs.declared.session.Session.{Session}
 use Rattle.resp_server.proofs.Turns.{waits_on}
+
+-- a byte was used if more wait than before
+pub some_used : (used before after held : ℕ) → (used ≡ 0 → after ≤ before) → held < after → before ≤ held → 0 < used
+some_used zero before after held first over few = let same = first refl in absurd (omega (arith, same, over, few))
+some_used (suc used) before after held first over few = omega arith
 
 -- before a piece nothing is answered
 pub none_answered : (limits : Bounds) (store : Store) (session : Session) (front : List ℕ) →

@@ -1,5 +1,5 @@
 -- A hub's sessions, apart from memory.
-use Rattle.std.proofs.Common.{◌≡◌, ℕ, ◌+◌, ◌<◌, ◌==◌, ◌++◌, arith, Bool, true, false, cond, Option, None, Some, List, [], ◌∷◌, IfSome, refl, sym, ap, subst, ◌∙◌, Greater, is_eq, nat_cmp}
+use Rattle.std.proofs.Common.{◌≡◌, ℕ, ◌+◌, ◌<◌, ◌≤◌, ◌==◌, ◌++◌, arith, length, Bool, true, false, cond, Option, None, Some, List, [], ◌∷◌, IfSome, refl, sym, ap, subst, ◌∙◌, Greater, is_eq, nat_cmp}
 use Rattle.std.specs.Map.{lookup, set_value, remove_entry}
 use Rattle.std.specs.Option.{option_map}
 use Rattle.std.proofs.lemmas.Bool.{eq-eqb, eqb-true, ne_eqb, cond_both}
@@ -14,7 +14,7 @@ use Rattle.resp_session.specs.Stores.{Store}
 use Rattle.resp_server.specs.declared.session.Session.{Session}
 use Rattle.resp_server.specs.Reading.{HasReadFront, HoldsNoIdleDecoder, ReadsBy}
 use Rattle.resp_server.specs.Running.{HasSameRest}
-use Rattle.resp_server.specs.Hubs.{HubState, Seat, SessionIsSound, AreSound, HubIsSound, seat_of, seats_of, seat_at, with_seat, without_seat, seated}
+use Rattle.resp_server.specs.Hubs.{HubState, Seat, SessionIsSound, WaitsAtMost, AreSound, HubIsSound, seat_of, seats_of, seat_at, with_seat, without_seat, seated}
 
 -- whether a session's id is this one, as the map compares them
 abbrev pub is_id : ℕ → ℕ → Bool
@@ -64,6 +64,44 @@ seated_is limits es store last hub view ns id old new written found change chang
     let after : with (seats_of ns) ≡ seated hub id (change (seat_of old)) = ap (λ xs. with (seats_of xs)) written ∙ ap with (seats-set es id new) ∙
     ap (λ s. with (with_seat (seats_of es) id s)) changed ∙ ap (λ (h : HubState). seated h id (change (seat_of old))) view in
     subst (λ o. IfSome o (λ s. with (seats_of ns) ≡ seated hub id (change s))) (sym (seat_is limits es store last hub view id (Some old) found)) after
+
+-- a session that was changed is found as it is then
+found_changed : (here : Bool) (e : ℕ × Session) (es : List (ℕ × Session)) (id : ℕ) (old new : Session) → is_id id e.0 ≡ here →
+    Some old ≡ cond here (Some e.1) (lookup (is_id id) es) →
+    (Some old ≡ lookup (is_id id) es → lookup (is_id id) (set_value (is_id id) es new) ≡ Some new) →
+    lookup (is_id id) (cond here ((e.0, new) ∷ es) (e ∷ set_value (is_id id) es new)) ≡ Some new
+found_changed true e es id old new is found later = ap (λ b. cond b (Some new) (lookup (is_id id) es)) is
+found_changed false e es id old new is found later =
+    ap (λ b. cond b (Some e.1) (lookup (is_id id) (set_value (is_id id) es new))) is ∙ later found
+
+changed_there : (es : List (ℕ × Session)) (id : ℕ) (old new : Session) → Some old ≡ lookup (is_id id) es →
+    lookup (is_id id) (set_value (is_id id) es new) ≡ Some new
+changed_there [] id old new found = absurd (cc)
+changed_there (e ∷ es) id old new found = found_changed (is_id id e.0) e es id old new refl found (changed_there es id old new)
+
+pub seat_changed : (limits : Bounds) (es ns : List (ℕ × Session)) (store : Store) (last id : ℕ) (old new : Session) → ns ≡ set_value (is_id id) es new →
+    Some old ≡ lookup (is_id id) es → seat_at (state_of limits ns store last) id ≡ Some (seat_of new)
+seat_changed limits es ns store last id old new written found =
+    sym (seats-lookup ns id) ∙ ap (λ xs. option_map seat_of (lookup (is_id id) xs)) written ∙ ap (option_map seat_of) (changed_there es id old new found)
+
+-- what holds of a session before and after a change holds of its seats
+pub if_changed : (limits : Bounds) (es : List (ℕ × Session)) (store : Store) (last : ℕ) (hub : HubState) → state_of limits es store last ≡ hub →
+    (limits' : Bounds) (store' : Store) (ns : List (ℕ × Session)) (id : ℕ) (old new : Session) → ns ≡ set_value (is_id id) es new →
+    Some old ≡ lookup (is_id id) es → (P : Seat → Seat → Type 0) → P (seat_of old) (seat_of new) →
+    IfSome (seat_at hub id) (λ s. IfSome (seat_at (state_of limits' ns store' last) id) (P s))
+if_changed limits es store last hub view limits' store' ns id old new written found P p =
+    subst (λ o. IfSome o (λ s. IfSome (seat_at (state_of limits' ns store' last) id) (P s)))
+    (sym (seat_is limits es store last hub view id (Some old) found))
+    (subst (λ o. IfSome o (P (seat_of old))) (sym (seat_changed limits' es ns store' last id old new written found)) p)
+
+-- at most this many bytes wait after a change if at most so many waited before
+pub still_few : (limits : Bounds) (es : List (ℕ × Session)) (store : Store) (last : ℕ) (hub : HubState) → state_of limits es store last ≡ hub →
+    (limits' : Bounds) (store' : Store) (ns : List (ℕ × Session)) (id : ℕ) (old new : Session) → ns ≡ set_value (is_id id) es new →
+    Some old ≡ lookup (is_id id) es → (most : ℕ) → (length old.out.items ≤ most → length new.out.items ≤ most) → WaitsAtMost most hub id →
+    WaitsAtMost most (state_of limits' ns store' last) id
+still_few limits es store last hub view limits' store' ns id old new written found most keeps few =
+    subst (λ o. IfSome o (λ s. length s.out ≤ most)) (sym (seat_changed limits' es ns store' last id old new written found))
+    (keeps (subst (λ o. IfSome o (λ s. length s.out ≤ most)) (seat_is limits es store last hub view id (Some old) found) few))
 
 -- what holds of the seat holds of the session that was found
 pub if_seated : (limits : Bounds) (es : List (ℕ × Session)) (store : Store) (last : ℕ) (hub : HubState) → state_of limits es store last ≡ hub →
@@ -138,6 +176,20 @@ put_same false id e es seat found later = ap (λ l. e ∷ l) (later found)
 pub with_same : (es : List (ℕ × Seat)) (id : ℕ) (seat : Seat) → lookup (λ other. id == other) es ≡ Some seat → with_seat es id seat ≡ es
 with_same [] id seat found = refl
 with_same (e ∷ es) id seat found = put_same (id == e.0) id e es seat found (with_same es id seat)
+
+-- a session that is put is there
+found_put : (here : Bool) (e : ℕ × Seat) (es : List (ℕ × Seat)) (id : ℕ) (s seat : Seat) → (id == e.0) ≡ here →
+    cond here (Some e.1) (lookup (λ other. id == other) es) ≡ Some s →
+    (lookup (λ other. id == other) es ≡ Some s → lookup (λ other. id == other) (with_seat es id seat) ≡ Some seat) →
+    lookup (λ other. id == other) (cond here ((e.0, seat) ∷ es) (e ∷ with_seat es id seat)) ≡ Some seat
+found_put true e es id s seat is found later = ap (λ b. cond b (Some seat) (lookup (λ other. id == other) es)) is
+found_put false e es id s seat is found later =
+    ap (λ b. cond b (Some e.1) (lookup (λ other. id == other) (with_seat es id seat))) is ∙ later found
+
+pub put_there : (es : List (ℕ × Seat)) (id : ℕ) (s seat : Seat) → lookup (λ other. id == other) es ≡ Some s →
+    lookup (λ other. id == other) (with_seat es id seat) ≡ Some seat
+put_there [] id s seat found = absurd (cc)
+put_there (e ∷ es) id s seat found = found_put (id == e.0) e es id s seat refl found (put_there es id s seat)
 
 -- where the session's seat is as before, so is the hub
 pub same_state : (limits : Bounds) (es : List (ℕ × Session)) (store : Store) (last : ℕ) (hub : HubState) → state_of limits es store last ≡ hub →

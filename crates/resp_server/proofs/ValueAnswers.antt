@@ -1,5 +1,5 @@
 -- What is answered to a value, by what it means.
-use Rattle.std.proofs.Common.{◌≡◌, ℕ, ◌+◌, ◌<◌, true, false, List, [], ◌∷◌, ◌++◌, length, drop, get_or, Some, Result, Ok, Err, OnOk, OnErr, codes, sym, ap, ◌∙◌, arith, append-nil}
+use Rattle.std.proofs.Common.{◌≡◌, ℕ, ◌+◌, ◌<◌, ◌≤◌, true, false, List, [], ◌∷◌, ◌++◌, length, drop, get_or, Some, Result, Ok, Err, OnOk, OnErr, codes, sym, ap, ◌∙◌, arith, append-nil, length-append}
 use Rattle.resp_value.specs.Canonical.{canonical_text}
 use Rattle.resp_value.specs.Data.{Datum}
 use Rattle.resp_value.specs.Numbers.{decimal}
@@ -13,6 +13,12 @@ use Rattle.resp_session.specs.Stores.{Store, Effect, effect_of}
 use Rattle.resp_server.specs.Answering.{IsAnswerTo, state_with}
 use Rattle.resp_server.specs.Running.{HasEffect, HasSameRest}
 use Rattle.resp_server.specs.declared.session.Session.{Session}
+
+-- a text is longer by at most as many bytes as are appended
+pub grown : (before more after : List ℕ) (n : ℕ) → after ≡ before ++ more → length more ≤ n → length after ≤ length before + n
+grown before more after n is short =
+    let size = ap length is ∙ length-append before more in
+    omega (arith, size, short)
 
 -- words with a name are a command
 pub named_call : (words : List (List ℕ)) (meaning : Meaning) → 0 < length words → array_meaning (Some words) ≡ meaning →

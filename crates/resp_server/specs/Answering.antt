@@ -68,6 +68,13 @@ pub record IsCutShort (limits : Bounds) (store store' : Store) (before after : S
       (state_with store' after.version reply false commands) rest
   pub closes : after.closing ≡ true
 
+-- So many of the bytes of a piece are used. Some are left only if the session is not closing and, afterwards, more than
+-- `held` bytes wait. A byte is used if at most `held` bytes waited before.
+pub record TakesWithin (held before after : ℕ) (closing : Bool) (size used : ℕ) : Type 0 where
+  pub within : used ≤ size
+  pub stops : used < size → (closing ≡ false) × (held < after) × (after < 2 ^ 64)
+  pub onward : before ≤ held → 0 < size → 0 < used
+
 -- the fault has a short name, and its place is less than 2^63
 pub record IsNamedFault (fault : Fault) : Type 0 where
   pub short : length (name_of fault.cause) ≤ 16

@@ -1,5 +1,5 @@
 -- The state of a hub: its sessions and the store.
-use Rattle.std.specs.Prelude.{◌≡◌, ◌⊎◌, ℕ, ◌==◌, ◌+◌, ◌<◌, ◌≤◌, ◌^◌, Bool, false, List, [], ◌∷◌, ◌++◌, length, Option, None, Some, map, cond}
+use Rattle.std.specs.Prelude.{◌≡◌, ◌⊎◌, ℕ, ◌==◌, ◌+◌, ◌<◌, ◌≤◌, ◌^◌, Bool, false, List, [], ◌∷◌, ◌++◌, length, Option, None, Some, IfSome, map, cond}
 use Rattle.std.specs.List.{AllByRecursion}
 use Rattle.std.specs.Map.{lookup}
 use Rattle.resp_value.specs.Bounds.{Bounds}
@@ -35,6 +35,10 @@ seats_of entries = map (λ (e : ℕ × Session). (e.0, seat_of e.1)) entries
 -- the session of this id
 abbrev pub seat_at : HubState → ℕ → Option Seat
 seat_at hub id = lookup (λ other. id == other) hub.sessions
+
+-- at most this many bytes wait to be written to the session's client
+abbrev pub WaitsAtMost : ℕ → HubState → ℕ → Type 0
+WaitsAtMost most hub id = IfSome (seat_at hub id) (λ s. length s.out ≤ most)
 
 abbrev pub with_seat : List (ℕ × Seat) → ℕ → Seat → List (ℕ × Seat)
 with_seat [] id seat = []

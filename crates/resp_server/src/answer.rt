@@ -1,35 +1,41 @@
 //! The response of a session to a piece.
 
-ghost use Rattle.std.specs.Prelude.{◌≡◌, ◌++◌, List, ℕ, false, IfOk, IfErr};
+ghost use Rattle.std.specs.Prelude.{◌≡◌, ◌≤◌, ◌+◌, ◌++◌, List, ℕ, false, length, take, IfOk, IfErr};
 ghost use Rattle.resp_session.specs.Answers.{server_rules};
 ghost use Rattle.resp_session.specs.Fitting.{FitsStore};
-ghost use Rattle.resp_server.specs.Answering.{IsAnswered, IsCutShort};
+ghost use Rattle.resp_server.specs.Answering.{IsAnswered, IsCutShort, TakesWithin};
 ghost use Rattle.resp_server.specs.Reading.{HasReadFront, ReadsBy, WhereFrontRead};
 
+use crate::hub::Taken;
 use crate::session::Session;
 use crate::shared::Shared;
 use crate::turn::take_turn;
 use resp_session::laws;
 use std::hash::BuildHasher;
 
-/// Answers everything that is complete with a piece, and returns the number of commands that were
-/// run. When out of memory, the session is closing, and the error has the number of commands run
-/// before.
+/// Answers what is complete with a piece, value by value, while at most `held` bytes wait. The rest of
+/// the piece is not used. When out of memory, the session is closing, and the error has the number of
+/// commands run before.
 pub(crate) fn answer<S: BuildHasher>(
     shared: &mut Shared<S>,
     session: &mut Session,
     piece: &[u8],
-) -> Result<u64, u64>
+    held: usize,
+) -> Result<Taken, u64>
     requires is_open { session.old.closing ≡ false }
     requires stored { FitsStore shared.old.limits shared.old.store }
     requires reading { ReadsBy (server_rules shared.old.limits) session.old.decoder }
     requires taking { (front : List ℕ) × HasReadFront session.old.decoder front }
-    ensures answered { WhereFrontRead session.old.decoder (λ front. IfOk result (IsAnswered
-        shared.old.limits shared.old.store shared.new.store session.old session.new
-        (front ++ piece.now))) }
+    ensures answered { WhereFrontRead session.old.decoder (λ front. IfOk result (λ taken.
+        IsAnswered shared.old.limits shared.old.store shared.new.store session.old session.new
+        (front ++ take taken.used piece.now) taken.commands)) }
     ensures cut_short { WhereFrontRead session.old.decoder (λ front. IfErr result (IsCutShort
         shared.old.limits shared.old.store shared.new.store session.old session.new front
         piece.now)) }
+    ensures within { IfOk result (λ taken. TakesWithin held (length session.old.out.items)
+        (length session.new.out.items) session.new.closing (length piece.now) taken.used) }
+    ensures bounded { length session.old.out.items ≤ held + shared.old.limits.total →
+        length session.new.out.items ≤ held + shared.old.limits.total }
     ensures stored { FitsStore shared.old.limits shared.new.store }
     ensures same_limits { shared.new.limits ≡ shared.old.limits }
     ensures same_id { session.new.id ≡ session.old.id }
@@ -41,7 +47,7 @@ pub(crate) fn answer<S: BuildHasher>(
     let _taken = session.decoder.taken(&shared.limits);
     let mut used = 0;
     let mut commands = 0;
-    while used < piece.len() {
+    while used < piece.len() && session.out.len() <= held {
         let turn = match take_turn(shared, session, &piece[used..]) {
             Ok(turn) => turn,
             Err(_) => {
@@ -52,8 +58,9 @@ pub(crate) fn answer<S: BuildHasher>(
         used += turn.used;
         commands += turn.commands;
         if session.closing {
-            return Ok(commands);
+            let used = piece.len();
+            return Ok(Taken { used, commands });
         }
     }
-    Ok(commands)
+    Ok(Taken { used, commands })
 }

@@ -1,6 +1,6 @@
 //! The response to a complete value.
 
-ghost use Rattle.std.specs.Prelude.{◌≡◌, ◌≤◌, ◌∷◌, List, ℕ, false, IfOk, OnOk, OnErr};
+ghost use Rattle.std.specs.Prelude.{◌≡◌, ◌+◌, ◌≤◌, ◌∷◌, List, ℕ, false, length, IfOk, OnOk, OnErr};
 ghost use Rattle.resp_value.specs.Spellings.{IsSpelling};
 ghost use Rattle.resp_value.specs.Values.{datum_of};
 ghost use Rattle.resp_value.specs.Words.{command_of};
@@ -41,6 +41,8 @@ pub(crate) fn run_command<S: BuildHasher>(
         (operation_of name.now (words_left arguments.entry)))) }
     ensures unchanged { OnErr result (IsAsBefore shared.old.store shared.new.store session.old
         session.new) }
+    ensures short { length session.new.out.items ≤
+        length session.old.out.items + shared.old.limits.total }
     ensures stored { FitsStore shared.old.limits shared.new.store }
     ensures same_limits { shared.new.limits ≡ shared.old.limits }
     ensures rest { HasSameRest session.old session.new }
@@ -66,6 +68,8 @@ pub(crate) fn answer_value<S: BuildHasher>(
         session.old session.new) }
     ensures unchanged { OnErr result (IsAsBefore shared.old.store shared.new.store session.old
         session.new) }
+    ensures short { length session.new.out.items ≤
+        length session.old.out.items + shared.old.limits.total }
     ensures stored { FitsStore shared.old.limits shared.new.store }
     ensures same_limits { shared.new.limits ≡ shared.old.limits }
     ensures same_decoder { session.new.decoder ≡ session.old.decoder }
@@ -73,6 +77,7 @@ pub(crate) fn answer_value<S: BuildHasher>(
     ensures at_most_one { IfOk result (λ commands. commands ≤ 1) }
 {
     laws::a_command_is_its_words();
+    shared.limits.are_in_range();
     match asked_by(value) {
         Asked::Command(words) => {
             let arguments = Words::Read(&words, 1);

@@ -1,6 +1,6 @@
 //! The error reply after a protocol error.
 
-ghost use Rattle.std.specs.Prelude.{◌≡◌, ◌<◌, ◌≤◌, ◌^◌, ◌++◌, length, codes, OnOk, OnErr};
+ghost use Rattle.std.specs.Prelude.{◌≡◌, ◌+◌, ◌<◌, ◌≤◌, ◌^◌, ◌++◌, length, codes, OnOk, OnErr};
 ghost use Rattle.resp_value.specs.Canonical.{canonical_text};
 ghost use Rattle.resp_value.specs.Numbers.{decimal};
 ghost use Rattle.resp_session.specs.Replies.{error};
@@ -29,6 +29,7 @@ pub(crate) fn append_fault<S: BuildHasher>(
     ensures appended { OnOk result (session.new.out.items ≡ session.old.out.items ++
         canonical_text session.old.version
         (error (codes "ERR Protocol error: " ++ name.now ++ codes " at byte " ++ decimal at))) }
+    ensures short { length session.new.out.items ≤ length session.old.out.items + 68 }
     ensures unchanged { OnErr result (session.new.out.items ≡ session.old.out.items) }
     ensures same_version { session.new.version ≡ session.old.version }
     ensures rest { HasSameRest session.old session.new }

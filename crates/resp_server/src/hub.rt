@@ -1,11 +1,12 @@
 //! The hub: sessions over one store.
 
-ghost use Rattle.std.specs.Prelude.{◌≡◌, ◌≢◌, ◌+◌, ◌≤◌, ◌++◌, ◌↔◌, [], length, drop, true, false, ℕ, List, None, Some, Ok, Err, IfSome, IsOk, IsErr, IsErrOf, IfOk, IfErr, OnOk, OnErr};
+ghost use Rattle.std.specs.Prelude.{◌≡◌, ◌≢◌, ◌+◌, ◌≤◌, ◌++◌, ◌↔◌, [], length, drop, take, true, false, ℕ, List, None, Some, Ok, Err, IfSome, IsOk, IsErr, IsErrOf, IfOk, IfErr, OnOk, OnErr};
 ghost use Rattle.std.specs.Option.{option_map};
 ghost use Rattle.resp_value.specs.Canonical.{IsValue, canonical_text};
 ghost use Rattle.resp_value.specs.declared.version.Version.TheVariants.{Three};
 ghost use Rattle.resp_encode.specs.Pushes.{push_of};
 ghost use Rattle.resp_session.specs.Stores.{value_at};
+ghost use Rattle.resp_server.specs.Answering.{TakesWithin};
 ghost use Rattle.resp_server.specs.PushRefusals.{IsPushVerdict};
 ghost use Rattle.resp_server.specs.Reading.{HasReadFront, HoldsNoIdleDecoder};
 ghost use Rattle.resp_server.specs.Handling.{WhereOpen, HasAnswered, HasCutShort, IfOutOfMemory};
@@ -30,6 +31,15 @@ use std::marker::Model;
 /// The result of giving a session a piece.
 #[derive(Clone, Copy, Debug, PartialEq, Eq)]
 pub struct Handled {
+    /// The number of commands that were run, including those with an error reply.
+    pub commands: u64,
+}
+
+/// The result of giving a session a piece of which not all bytes need be used.
+#[derive(Clone, Copy, Debug, PartialEq, Eq)]
+pub struct Taken {
+    /// The number of bytes that were used, from the beginning of the piece.
+    pub used: usize,
     /// The number of commands that were run, including those with an error reply.
     pub commands: u64,
 }
@@ -81,7 +91,7 @@ impl<S: BuildHasher> Model for Hub<S> {
 }
 
 impl<S: BuildHasher> Hub<S> {
-    ghost use Rattle.resp_server.specs.Hubs.{HubState, Seat, seat_at, seated, without_seat};
+    ghost use Rattle.resp_server.specs.Hubs.{HubState, Seat, WaitsAtMost, seat_at, seated, without_seat};
     ghost use Rattle.resp_server.specs.Hubs.{IsOpened, HasNoSessionLeft};
 
     /// Makes a hub with an empty store and without a session. Its sessions read and write within
@@ -296,19 +306,67 @@ impl<S: BuildHasher> Hub<S> {
         ensures none { IsErrOf result HubError.NoSession → seat_at self.old id ≡ None }
         ensures unchanged { IsErrOf result HubError.NoSession → self.new ≡ self.old }
     {
+        let taken = self.bytes_within(id, piece, usize::MAX)?;
+        let commands = taken.commands;
+        Ok(Handled { commands })
+    }
+
+    /// Gives a session a piece as [`Hub::bytes`] does, but runs no further command when more than
+    /// `held` bytes wait to be written. Returns the number of bytes that were used. Give the others
+    /// again once bytes were written. So at most `held` bytes and one reply wait.
+    ///
+    /// # Errors
+    ///
+    /// The errors of [`Hub::bytes`].
+    ///
+    /// # Examples
+    ///
+    /// From [samples](../../samples/src/serving.rt):
+    ///
+    /// ```rust
+    /// let pings = b"*1\r\n$4\r\nPING\r\n*1\r\n$4\r\nPING\r\n";
+    /// let taken = hub.bytes_within(id, pings, 0)?;
+    /// println!(rt; "{} {}", taken.used, hub.out(id)?.escape_ascii())?;
+    /// ```
+    ///
+    /// This prints `14 +PONG\r\n`.
+    pub fn bytes_within(&mut self, id: u64, piece: &[u8], held: usize) -> Result<Taken, HubError>
+        // As `bytes`, for the bytes of the piece that are used.
+        ensures answered { WhereOpen self.old id (λ s front. IfOk result (λ taken.
+            HasAnswered self.old self.new id s (front ++ take taken.used piece.now)
+            taken.commands)) }
+        ensures cut_short { WhereOpen self.old id (λ s front. IfErr result (λ error.
+            IfOutOfMemory error (HasCutShort self.old self.new id s front piece.now))) }
+        // The call stops before the end of the piece only if more than `held` bytes wait.
+        ensures within { IfSome (seat_at self.old id) (λ (s : Seat). IfOk result (λ taken.
+            IfSome (seat_at self.new id) (λ (t : Seat). TakesWithin held (length s.out)
+            (length t.out) t.closing (length piece.now) taken.used))) }
+        // At most `held` bytes and one reply wait, and a reply is within the limits.
+        ensures bounded { WaitsAtMost (held + self.old.limits.total) self.old id →
+            WaitsAtMost (held + self.old.limits.total) self.new id }
+        ensures closing { IfSome (seat_at self.old id) (λ (s : Seat). s.closing ≡ true →
+            (result ≡ Ok (record { used = length piece.now; commands = 0 })) ×
+            (self.new ≡ self.old)) }
+        ensures idle { IfSome (seat_at self.new id) (λ (s : Seat).
+            HoldsNoIdleDecoder s.closing s.decoder) }
+        ensures no_session { seat_at self.old id ≡ None → result ≡ Err HubError.NoSession }
+        ensures none { IsErrOf result HubError.NoSession → seat_at self.old id ≡ None }
+        ensures unchanged { IsErrOf result HubError.NoSession → self.new ≡ self.old }
+    {
         let Some(session) = self.sessions.get_mut(&id) else {
             return Err(HubError::NoSession);
         };
         if session.closing {
-            return Ok(Handled { commands: 0 });
+            let used = piece.len();
+            return Ok(Taken { used, commands: 0 });
         }
-        let answered = answer(&mut self.shared, session, piece);
+        let answered = answer(&mut self.shared, session, piece, held);
         session.shrink();
-        let commands = match answered {
-            Ok(commands) => commands,
+        let taken = match answered {
+            Ok(taken) => taken,
             Err(commands) => return Err(HubError::OutOfMemory { commands }),
         };
-        Ok(Handled { commands })
+        Ok(taken)
     }
 
     /// Queues a push of the items in version 3 (Redis serialization protocol specification,

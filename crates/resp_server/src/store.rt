@@ -111,16 +111,18 @@ impl<S: BuildHasher> Store<S> {
             place: self.places.len(),
             value: Stored::new(value),
         };
-        let Ok(()) = self.places.push(Some(self.rows.len())) else {
+        if self.places.push(Some(self.rows.len())).is_err() {
+            drop((key, row));
             return Err(AllocError);
-        };
-        match self.rows.insert(key.into_vec(), row) {
-            Ok(_) => Ok(()),
-            Err(_) => {
-                self.places.pop();
-                Err(AllocError)
-            }
         }
+        let added = self.rows.insert(key.into_vec(), row);
+        let is_added = added.is_ok();
+        drop(added);
+        if !is_added {
+            self.places.pop();
+            return Err(AllocError);
+        }
+        Ok(())
     }
 
     /// Removes the keys, and returns the number of keys that existed.

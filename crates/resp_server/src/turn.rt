@@ -1,6 +1,6 @@
 //! One turn of a session: it reads up to the end of a value or of the piece.
 
-ghost use Rattle.std.specs.Prelude.{◌≡◌, ◌≤◌, ◌∷◌, List, [], ℕ, false, length, IfOk, OnOk, OnErr};
+ghost use Rattle.std.specs.Prelude.{◌≡◌, ◌+◌, ◌≤◌, ◌∷◌, List, [], ℕ, false, length, IfOk, OnOk, OnErr};
 ghost use Rattle.resp_value.specs.declared.cause.Cause.TheVariants.{OutOfMemory};
 ghost use Rattle.resp_session.specs.Answers.{server_rules};
 ghost use Rattle.resp_session.specs.Fitting.{FitsStore};
@@ -48,6 +48,8 @@ pub(crate) fn take_turn<S: BuildHasher>(
         front piece.now turn.used turn.commands)) }
     ensures unchanged { OnErr result (IsAsBefore shared.old.store shared.new.store session.old
         session.new) }
+    ensures short { length session.new.out.items ≤
+        length session.old.out.items + shared.old.limits.total }
     ensures stored { FitsStore shared.old.limits shared.new.store }
     ensures same_limits { shared.new.limits ≡ shared.old.limits }
     ensures same_id { session.new.id ≡ session.old.id }
@@ -78,6 +80,8 @@ fn run_whole<S: BuildHasher>(
         shared.new.store session.old session.new [] piece.now turn.used turn.commands) }
     ensures unchanged { OnErr result (IsAsBefore shared.old.store shared.new.store session.old
         session.new) }
+    ensures short { length session.new.out.items ≤
+        length session.old.out.items + shared.old.limits.total }
     ensures stored { FitsStore shared.old.limits shared.new.store }
     ensures same_limits { shared.new.limits ≡ shared.old.limits }
     ensures same_id { session.new.id ≡ session.old.id }
@@ -111,6 +115,8 @@ fn read_turn<S: BuildHasher>(
         front piece.now turn.used turn.commands)) }
     ensures unchanged { OnErr result (IsAsBefore shared.old.store shared.new.store session.old
         session.new) }
+    ensures short { length session.new.out.items ≤
+        length session.old.out.items + shared.old.limits.total }
     ensures stored { FitsStore shared.old.limits shared.new.store }
     ensures same_limits { shared.new.limits ≡ shared.old.limits }
     ensures same_id { session.new.id ≡ session.old.id }
@@ -147,6 +153,7 @@ fn refuse<S: BuildHasher>(
 ) -> Result<(), AllocError>
     requires { (fault.cause ≡ OutOfMemory → ⊥) → IsNamedFault fault }
     ensures refused { OnOk result (AnswersFault session.old session.new fault) }
+    ensures short { length session.new.out.items ≤ length session.old.out.items + 68 }
     ensures unchanged { OnErr result (session.new.out.items ≡ session.old.out.items) }
     ensures same_version { session.new.version ≡ session.old.version }
     ensures same_decoder { session.new.decoder ≡ session.old.decoder }

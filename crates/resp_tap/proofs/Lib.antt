@@ -1,4 +1,5 @@
 pub mod Pairings
 pub mod Replies
+pub mod SecretWords
 pub mod TimeLemmas
 pub mod Visits

@@ -22,7 +22,8 @@ pub record SameButClient (old new : Tap) : Type 0 where
   pub pairing : new.pairing ≡ old.pairing
   pub commands : new.commands ≡ old.commands
   pub limits : new.limits ≡ old.limits
-  pub is_read : new.is_read ≡ old.is_read
+  pub reads_commands : new.reads_commands ≡ old.reads_commands
+  pub reads_replies : new.reads_replies ≡ old.reads_replies
 
 takes_on : (old new : Tap) (front : List ℕ) → old.pairing ≢ Unpaired → new.pairing ≡ old.pairing → HasTaken new.replies front → HasTakenValue new front
 takes_on old new front paired e taken = is_paired _ _ new.pairing (λ u. paired (sym e ∙ u)) taken
@@ -36,7 +37,8 @@ after_client old new s same e = λ i. record {
   waiting = (e i).waiting;
   answered = (e i).answered;
   pairing = same.pairing i;
-  is_read = same.is_read i;
+  reads_commands = same.reads_commands i;
+  reads_replies = same.reads_replies i;
 }
 
 pub reply_seen : (old new : Tap) (front piece : List ℕ) (used : ℕ) (what : What) → old.pairing ≢ Unpaired → SameButClient old new →

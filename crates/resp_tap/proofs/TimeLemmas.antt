@@ -9,7 +9,7 @@ use Rattle.resp_value.specs.declared.version.Version.{Version}
 use Rattle.resp_session.specs.Heard.{is_push, numbered_from}
 use Rattle.resp_session.specs.Reading.{waiting_after_reply}
 use Rattle.resp_tap.specs.Kinds.{command_kind}
-use Rattle.resp_tap.specs.Taps.{TapState, asks_after, at_front, tap_state, version_of_kind, with_refusal}
+use Rattle.resp_tap.specs.Taps.{TapState, asks_after, at_front, tap_state, version_of_kind, with_refused_command}
 use Rattle.resp_tap.specs.Times.{HasTimes, KeepsTimes, is_reply}
 use Rattle.resp_tap.specs.Watching.{ByPairing, GivesReplyTo, SeesRequest, SeesValue}
 use Rattle.resp_tap.specs.declared.kind.CommandKind.{CommandKind}
@@ -105,7 +105,7 @@ times_go_on old new steady front piece used what sees =
     times_on old new steady (request_waits (tap_state old.tap) new.tap front piece used what sees)
 
 -- and where nothing more is read they stand
-pub times_refused : (old new : TimedTap) (steady : ℕ) → tap_state new.tap ≡ with_refusal (tap_state old.tap) → new.times.items ≡ old.times.items →
+pub times_refused : (old new : TimedTap) (steady : ℕ) → tap_state new.tap ≡ with_refused_command (tap_state old.tap) → new.times.items ≡ old.times.items →
     (times : List ℕ) → HasTimes old times → HasTimes new times ⊎ HasTimes new (times ++ steady ∷ [])
 times_refused old new steady after same times h = inl (record {
   kept = same ∙ h.kept ∙ ap (λ (z : TapState). drop z.answered times) (sym after);
@@ -159,10 +159,10 @@ value_answers s new front piece used (seen.NotCommand number) h = absurd h
 
 -- the same of what it is read as before its first byte
 pub answers_at_front : (s : TapState) (new : Tap) (front piece : List ℕ) (used : ℕ) (what : Seen) →
-    SeesValue (at_front front s) new front piece used what → AnswersOne (is_reply what) s (tap_state new)
-answers_at_front s new [] piece used what h = by_kind (is_reply what) (value_answers (at_front [] s) new [] piece used what h)
+    SeesValue (at_front front piece s) new front piece used what → AnswersOne (is_reply what) s (tap_state new)
+answers_at_front s new [] piece used what h = by_kind (is_reply what) (value_answers (at_front [] piece s) new [] piece used what h)
   where
-    by_kind : (b : Bool) → AnswersOne b (at_front [] s) (tap_state new) → AnswersOne b s (tap_state new)
+    by_kind : (b : Bool) → AnswersOne b (at_front [] piece s) (tap_state new) → AnswersOne b s (tap_state new)
     by_kind true answers = answers
     by_kind false answers = answers
 answers_at_front s new (byte ∷ front) piece used what h = value_answers s new (byte ∷ front) piece used what h

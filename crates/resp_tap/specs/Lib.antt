@@ -4,6 +4,8 @@ pub mod Watching
 pub mod Ways
 pub mod Digits
 pub mod Stamps
+pub mod Secrets
+pub mod SecretLaws
 pub mod Texts
 pub mod TimeLaws
 pub mod Times

@@ -1,5 +1,5 @@
 -- The state of a tap, and how commands, replies and errors change it.
-use Rattle.std.specs.Prelude.{ℕ, ◌+◌, Bool, true, false, List, [], ◌∷◌, ◌++◌, Option, None, Some}
+use Rattle.std.specs.Prelude.{ℕ, ◌+◌, ◌==◌, Bool, true, false, not, if◌then◌else◌, List, [], ◌∷◌, ◌++◌, Option, None, Some}
 use Rattle.resp_value.specs.Bounds.{Bounds}
 use Rattle.resp_value.specs.Data.{Datum}
 use Rattle.resp_value.specs.declared.version.Version.{Version}
@@ -23,8 +23,10 @@ pub record TapState : Type 0 where
   pub answered : ℕ
   -- whether replies are paired with commands
   pub pairing : Pairing
-  -- whether the connection is still read
-  pub is_read : Bool
+  -- whether the client's bytes are still read
+  pub reads_commands : Bool
+  -- whether the server's bytes are still read
+  pub reads_replies : Bool
 
 abbrev pub tap_state : Tap → TapState
 tap_state t = record {
@@ -33,7 +35,8 @@ tap_state t = record {
   waiting = (state_of t.replies).waiting;
   answered = (state_of t.replies).answered;
   pairing = t.pairing;
-  is_read = t.is_read;
+  reads_commands = t.reads_commands;
+  reads_replies = t.reads_replies;
 }
 
 -- a new connection: nothing was read, and the version is 2
@@ -44,7 +47,8 @@ new_tap limits = record {
   waiting = record { version = Two; asks = [] };
   answered = 0;
   pairing = Paired;
-  is_read = true;
+  reads_commands = true;
+  reads_replies = true;
 }
 
 -- the version that a command of this kind asks for
@@ -80,20 +84,37 @@ with_reply x s = record s {
   answered = s.answered + 1;
 }
 
--- the state after an error
-abbrev pub with_refusal : TapState → TapState
-with_refusal s = record s { is_read = false }
+-- The state after an error in the client's bytes. The replies to the commands before it are still paired.
+abbrev pub with_refused_command : TapState → TapState
+with_refused_command s = record s { reads_commands = false; pairing = pairing_after Unpairing s.pairing }
 
--- the pairing ends when no command waits that was sent before the end of the pairing
-abbrev pub settled_pairing : Pairing → List (Option Version) → Pairing
-settled_pairing Ending [] = Unpaired
-settled_pairing pairing asks = pairing
+-- the state after an error in the server's bytes
+abbrev pub with_refused_reply : TapState → TapState
+with_refused_reply s = record s { reads_replies = false; pairing = Unpaired }
 
--- the state before the first byte of a value of the server
-abbrev pub settled : TapState → TapState
-settled s = record s { pairing = settled_pairing s.pairing s.waiting.asks }
+-- whether these bytes begin a value that is not a push
+abbrev pub begins_reply : List ℕ → Bool
+begins_reply [] = false
+begins_reply (byte ∷ bytes) = not (byte == 62)
 
--- The state after these bytes of a value. How a value is read is decided before its first byte.
-abbrev pub at_front : List ℕ → TapState → TapState
-at_front [] s = settled s
-at_front (byte ∷ bytes) s = s
+-- whether the pairing ends before these bytes, if no command waits: after a command that ends it, or at a value that no
+-- command asked for
+abbrev pub is_over : Pairing → List ℕ → Bool
+is_over Paired piece = begins_reply piece
+is_over Ending piece = true
+is_over Unpaired piece = false
+
+-- the pairing before these bytes, which begin a value
+abbrev pub settled_pairing : Pairing → List (Option Version) → List ℕ → Pairing
+settled_pairing pairing [] piece = if is_over pairing piece then Unpaired else pairing
+settled_pairing pairing (ask ∷ asks) piece = pairing
+
+-- the state before the first byte of a value of the server, which begins with these bytes
+abbrev pub settled : List ℕ → TapState → TapState
+settled piece s = record s { pairing = settled_pairing s.pairing s.waiting.asks piece }
+
+-- The state after the first of these bytes of a value, before the others. How a value is read is decided before its
+-- first byte.
+abbrev pub at_front : List ℕ → List ℕ → TapState → TapState
+at_front [] piece s = settled piece s
+at_front (byte ∷ bytes) piece s = s

@@ -6,7 +6,9 @@ use Rattle.resp_value.specs.Data.{Datum, depth}
 use Rattle.resp_value.specs.Values.{datum_of}
 use Rattle.resp_value.specs.declared.value.Value.TheVariants as value
 use Rattle.resp_print.specs.Shown.{lines_on, quoted_text}
+use Rattle.resp_tap.specs.Secrets.{printed_words}
 use Rattle.resp_tap.specs.Stamps.{ending_text}
+use Rattle.resp_tap.specs.declared.print.Printing.{Printing}
 use Rattle.resp_tap.specs.declared.seen.Place.{Place}
 use Rattle.resp_tap.specs.declared.seen.Place.TheVariants as place
 use Rattle.resp_tap.specs.declared.seen.Seen.{Seen}
@@ -72,15 +74,15 @@ abbrev pub refusal_text : ℕ → List ℕ → ℕ → Place → Option Stamp �
 refusal_text client name at where' stamp = refusal_heading client name ++ byte_text at where' stamp
 
 -- the lines of a result, with or without a stamp
-abbrev pub seen_text : ℕ → Option Stamp → Seen → List ℕ
-seen_text client stamp Nothing = []
-seen_text client stamp Passed = []
-seen_text client stamp (Command number words) = command_text client number stamp words
-seen_text client stamp (Reply number x) = reply_text client number stamp (datum_of x)
-seen_text client stamp (Push items) = push_text client stamp (datum_of (value.Push items))
-seen_text client stamp (Value x) = value_text client stamp (datum_of x)
-seen_text client stamp (NotCommand number) = refusal_text client (codes "NotCommand") 0 (place.Command number) stamp
-seen_text client stamp (Refused cause at where') = refusal_text client (name_of cause) at where' stamp
+abbrev pub seen_text : Printing → Option Stamp → Seen → List ℕ
+seen_text p stamp Nothing = []
+seen_text p stamp Passed = []
+seen_text p stamp (Command number words) = command_text p.client number stamp (printed_words p.shows_passwords words)
+seen_text p stamp (Reply number x) = reply_text p.client number stamp (datum_of x)
+seen_text p stamp (Push items) = push_text p.client stamp (datum_of (value.Push items))
+seen_text p stamp (Value x) = value_text p.client stamp (datum_of x)
+seen_text p stamp (NotCommand number) = refusal_text p.client (codes "NotCommand") 0 (place.Command number) stamp
+seen_text p stamp (Refused cause at where') = refusal_text p.client (name_of cause) at where' stamp
 
 -- the number of levels of these lines
 abbrev pub levels_of : Seen → ℕ

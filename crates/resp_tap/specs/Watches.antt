@@ -1,5 +1,5 @@
 -- The results that a tap reports and prints for the pieces of either side.
-use Rattle.std.specs.Prelude.{◌≡◌, ℕ, true, false, List, [], ◌∷◌, length, drop, slice_get, Option, Result, Ok, Err}
+use Rattle.std.specs.Prelude.{◌≡◌, ℕ, Bool, true, false, List, [], ◌∷◌, length, drop, slice_get, Option, Result, Ok, Err}
 use Rattle.resp_print.specs.Printed.{Prints}
 use Rattle.resp_print.specs.declared.print_error.PrintError.{PrintError}
 use Rattle.resp_tap.specs.Taps.{TapState, at_front, tap_state}
@@ -7,6 +7,7 @@ use Rattle.resp_tap.specs.Texts.{levels_of, seen_text}
 use Rattle.resp_tap.specs.Times.{HasTimes, KeepsTimes, stamp_of}
 use Rattle.resp_tap.specs.Watching.{KeepsRequest, KeepsValue, SeesRequest, SeesValue, WhereAnswered, WhereRequested}
 use Rattle.resp_tap.specs.declared.moment.Moment.{Moment}
+use Rattle.resp_tap.specs.declared.print.Printing.{Printing}
 use Rattle.resp_tap.specs.declared.seen.Seen.{Seen}
 use Rattle.resp_tap.specs.declared.seen.Seen.TheVariants as seen
 use Rattle.resp_tap.specs.declared.tap.Tap.{Tap}
@@ -27,22 +28,27 @@ WhereSent Server t P = WhereAnswered t P
 -- the result for the bytes of this side
 abbrev pub SeesSent : Side → TapState → Tap → List ℕ → List ℕ → ℕ → Seen → Type 0
 SeesSent Client s new front piece used seen = SeesRequest s new front piece used seen
-SeesSent Server s new front piece used seen = SeesValue (at_front front s) new front piece used seen
+SeesSent Server s new front piece used seen = SeesValue (at_front front piece s) new front piece used seen
+
+-- whether the bytes of this side are still read
+abbrev pub is_read_of : Side → TapState → Bool
+is_read_of Client s = s.reads_commands
+is_read_of Server s = s.reads_replies
 
 -- The first result in a piece that arrived at this moment, and the number of bytes that were read for it.
 pub record SeesFirst (side : Side) (now : Option Moment) (old new : TimedTap) (piece : List ℕ) (used : ℕ)
     (what : Seen) : Type 0 where
-  pub read : (tap_state old.tap).is_read ≡ true → WhereSent side old.tap (λ front.
+  pub read : is_read_of side (tap_state old.tap) ≡ true → WhereSent side old.tap (λ front.
       SeesSent side (tap_state old.tap) new.tap front piece used what × KeepsTimes now old new)
-  pub unread : (tap_state old.tap).is_read ≡ false → (new ≡ old) × (used ≡ length piece) × (what ≡ seen.Nothing)
+  pub unread : is_read_of side (tap_state old.tap) ≡ false → (new ≡ old) × (used ≡ length piece) × (what ≡ seen.Nothing)
 
 -- The text of the result is printed, as far as writes succeed. If times are printed, the text of a reply has the time
 -- of the command that it answers.
-pub record PrintsSeen (client : ℕ) (now : Option Moment) (old : TimedTap) (what : Seen) (before after : Option (List ℕ))
+pub record PrintsSeen (printing : Printing) (now : Option Moment) (old : TimedTap) (what : Seen) (before after : Option (List ℕ))
     (failures failures' : ℕ) (printed : Result (Unit {0}) PrintError) : Type 0 where
   pub asked : Option ℕ
   pub of_command : (times : List ℕ) → HasTimes old times → asked ≡ slice_get times (tap_state old.tap).answered
-  pub text : Prints before after failures failures' printed (seen_text client (stamp_of now asked what) what) (levels_of what)
+  pub text : Prints before after failures failures' printed (seen_text printing (stamp_of now asked what) what) (levels_of what)
 
 -- the first of two results of printing that is an error
 abbrev pub first_error : Result (Unit {0}) PrintError → Result (Unit {0}) PrintError → Result (Unit {0}) PrintError
@@ -51,14 +57,14 @@ first_error (Err error) next = Err error
 
 -- These are all results in a piece, in order. Each result is printed before the next one is read. The first error of
 -- printing is told.
-abbrev pub WatchesAll : ℕ → Side → Option Moment → List Seen → TimedTap → TimedTap → List ℕ → Option (List ℕ) →
+abbrev pub WatchesAll : Printing → Side → Option Moment → List Seen → TimedTap → TimedTap → List ℕ → Option (List ℕ) →
     Option (List ℕ) → ℕ → ℕ → Result (Unit {0}) PrintError → Type 0
-WatchesAll client side now [] old new piece before after failures failures' told =
+WatchesAll printing side now [] old new piece before after failures failures' told =
     (piece ≡ []) × (new ≡ old) × (after ≡ before) × (failures' ≡ failures) × (told ≡ Ok tt)
-WatchesAll client side now (what ∷ more) old new piece before after failures failures' told =
+WatchesAll printing side now (what ∷ more) old new piece before after failures failures' told =
     (next : TimedTap) × (used : ℕ) × (written : Option (List ℕ)) × (failed : ℕ) ×
     (printed : Result (Unit {0}) PrintError) × (later : Result (Unit {0}) PrintError) ×
     SeesFirst side now old next piece used what ×
-    PrintsSeen client now old what before written failures failed printed ×
+    PrintsSeen printing now old what before written failures failed printed ×
     (told ≡ first_error printed later) ×
-    WatchesAll client side now more next new (drop used piece) written after failed failures' later
+    WatchesAll printing side now more next new (drop used piece) written after failed failures' later

@@ -19,7 +19,7 @@ use Rattle.resp_session.specs.Reading.{MayGoOn, ReadsAs}
 use Rattle.resp_client.specs.Clients.{ClientState}
 use Rattle.resp_client.specs.Hearing as client
 use Rattle.resp_tap.specs.Kinds.{command_kind}
-use Rattle.resp_tap.specs.Taps.{TapState, tap_state, with_command, with_refusal, with_reply}
+use Rattle.resp_tap.specs.Taps.{TapState, tap_state, with_command, with_refused_command, with_refused_reply, with_reply}
 use Rattle.resp_tap.specs.declared.seen.Place.{Place}
 use Rattle.resp_tap.specs.declared.seen.Place.TheVariants as place
 use Rattle.resp_tap.specs.declared.seen.Seen.{Seen}
@@ -91,7 +91,7 @@ pub record GivesNoCommand (s : TapState) (new : Tap) (written : List ℕ) (numbe
   pub spelled : IsSpelling (request_rules s.limits) value written
   pub means : meaning_of value ≡ NoCommand
   pub numbered : number ≡ s.commands + 1
-  pub after : tap_state new ≡ with_refusal s
+  pub after : tap_state new ≡ with_refused_command s
 
 -- the whole piece was read: the client's value is incomplete, and a valid value can begin with its bytes
 pub record AwaitsRequest (s : TapState) (new : Tap) (written piece : List ℕ) (used : ℕ) : Type 0 where
@@ -119,7 +119,7 @@ pub record RefusesRequestAt (s : TapState) (new : Tap) (front piece : List ℕ) 
     (where' : Place) : Type 0 where
   pub refused : RefusesOfRequest s front piece cause at
   pub place : where' ≡ place.Command (s.commands + 1)
-  pub after : tap_state new ≡ with_refusal s
+  pub after : tap_state new ≡ with_refused_command s
 
 -- the result for the bytes of the client
 abbrev pub SeesRequest : TapState → Tap → List ℕ → List ℕ → ℕ → Seen → Type 0
@@ -179,7 +179,7 @@ pub record RefusesValueAt (s : TapState) (new : Tap) (front piece : List ℕ) (c
     Type 0 where
   pub refused : RefusesOfValue s front piece (record { cause = cause; at = at })
   pub place : where' ≡ place_of_value s
-  pub after : tap_state new ≡ with_refusal s
+  pub after : tap_state new ≡ with_refused_reply s
 
 -- the result for the bytes of the server, if this state holds before the value's next byte
 abbrev pub SeesValue : TapState → Tap → List ℕ → List ℕ → ℕ → Seen → Type 0

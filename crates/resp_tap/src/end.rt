@@ -36,13 +36,14 @@ fn cut_at(place: Place, bytes: u64) -> Option<Cut>
 }
 
 impl Tap {
-    /// Returns the command of which the client has sent a part, if the connection is still read.
+    /// Returns the command of which the client has sent a part, if its bytes are still read.
     pub fn incomplete_command(&self) -> Option<Cut>
-        ensures read { (tap_state self.now).is_read ≡ true → WhereRequested self.now (λ front.
+        ensures read { (tap_state self.now).reads_commands ≡ true →
+            WhereRequested self.now (λ front.
             result ≡ cut_of (place.Command ((tap_state self.now).commands + 1)) front) }
-        ensures unread { (tap_state self.now).is_read ≡ false → result ≡ None }
+        ensures unread { (tap_state self.now).reads_commands ≡ false → result ≡ None }
     {
-        if !self.is_read {
+        if !self.reads_commands {
             return None;
         }
         cut_at(
@@ -51,14 +52,14 @@ impl Tap {
         )
     }
 
-    /// Returns the reply or value of which the server has sent a part, if the connection is still
-    /// read.
+    /// Returns the reply or value of which the server has sent a part, if its bytes are
+    /// still read.
     pub fn incomplete_reply(&self) -> Option<Cut>
-        ensures read { (tap_state self.now).is_read ≡ true → WhereAnswered self.now (λ front.
+        ensures read { (tap_state self.now).reads_replies ≡ true → WhereAnswered self.now (λ front.
             result ≡ cut_of (place_of_value (tap_state self.now)) front) }
-        ensures unread { (tap_state self.now).is_read ≡ false → result ≡ None }
+        ensures unread { (tap_state self.now).reads_replies ≡ false → result ≡ None }
     {
-        if !self.is_read {
+        if !self.reads_replies {
             return None;
         }
         match self.pairing {

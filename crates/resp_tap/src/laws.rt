@@ -1,5 +1,6 @@
 //! Facts about the definitions. Each function does nothing; its contract states the fact.
 
+ghost use Rattle.resp_tap.specs.SecretLaws.{SecretsAreRedactedSo};
 ghost use Rattle.resp_tap.specs.TimeLaws.{PrintsAsPlayed, TimesAreToldSo};
 ghost use Rattle.resp_tap.specs.Ways.{VisitsAddUp};
 
@@ -17,4 +18,9 @@ pub fn times_are_told_so()
 /// Without a time, replies and pushes are printed as `resp loop` prints those of its clients.
 pub fn without_times_lines_are_those_of_loop()
     ensures { PrintsAsPlayed }
+{}
+
+/// Worked examples of commands as they are printed without their secret words.
+pub fn secrets_are_redacted_so()
+    ensures { SecretsAreRedactedSo }
 {}

@@ -14,6 +14,7 @@ pub mod moment;
 pub mod pairing;
 pub mod print;
 pub mod screen;
+pub mod secrets;
 pub mod seen;
 mod shown;
 pub mod stamp;
@@ -24,6 +25,7 @@ pub mod way;
 
 pub use end::Cut;
 pub use moment::Moment;
+pub use print::Printing;
 pub use seen::{Place, Seen, Step};
 pub use tap::Tap;
 pub use timed::TimedTap;

@@ -1,14 +1,16 @@
 //! The lines of commands, replies and pushes, as `resp tap` prints them.
 
-ghost use Rattle.std.specs.Prelude.{◌+◌, ◌++◌, ℕ, List, Option, Some, codes, decimal};
+ghost use Rattle.std.specs.Prelude.{◌+◌, ◌++◌, ◌≡◌, [], ℕ, List, Option, Some, codes, decimal};
 ghost use Rattle.resp_print.specs.Printed.{Prints};
 ghost use Rattle.resp_print.specs.Written.{WritesText};
 ghost use Rattle.resp_value.specs.Data.{depth};
 ghost use Rattle.resp_value.specs.Values.{datum_of};
 ghost use Rattle.resp_value.specs.declared.value.Value.TheVariants as value;
+ghost use Rattle.resp_tap.specs.Secrets.{printed_words, redacted_after, shown_word};
 ghost use Rattle.resp_tap.specs.Stamps.{ending_text};
 ghost use Rattle.resp_tap.specs.Texts.{byte_text, client_line, command_text, levels_of, numbered_end, numbered_line, place_text, push_text, refusal_heading, refusal_text, reply_text, seen_text, value_text, word_text, words_line, words_text};
 
+use crate::secrets::Secrets;
 use crate::seen::{Place, Seen};
 use crate::stamp::{Stamp, write_ending, write_stamp};
 use resp_print::print_error::PrintError;
@@ -18,25 +20,36 @@ use resp_session::words::Words;
 use resp_value::device::{DeviceFault, Sink};
 use resp_value::value::{Members, Value};
 
-/// Writes the lines of `seen`, for the connection of the client with this number. Replies and
-/// pushes have the lines of `resp loop`. With a stamp, the first line ends with the time.
+/// How the traffic of a client is printed.
+#[derive(Clone, Copy, Debug, PartialEq, Eq)]
+pub struct Printing {
+    /// The number of the client, from 1.
+    pub client: u64,
+    /// Whether passwords and other secret words of commands are printed. If not, `(redacted)` is
+    /// printed in place of each.
+    pub shows_passwords: bool,
+}
+
+/// Writes the lines of `seen`. Replies and pushes have the lines of `resp loop`. With a stamp, the
+/// first line ends with the time.
 ///
 /// # Errors
 ///
 /// Fails as [`write_value`] does. The first part of the text was written.
 pub fn write_seen<W: Sink>(
-    client: u64,
+    printing: Printing,
     stamp: Option<Stamp>,
     seen: &Seen,
     writer: &mut W,
 ) -> Result<(), PrintError>
     ensures { Prints (W.written writer.old) (W.written writer.new) (W.failures writer.old)
-        (W.failures writer.new) result (seen_text client stamp seen.now) (levels_of seen.now) }
+        (W.failures writer.new) result (seen_text printing stamp seen.now) (levels_of seen.now) }
 {
+    let client = printing.client;
     match seen {
         Seen::Nothing | Seen::Passed => Ok(()),
         Seen::Command { number, words } => {
-            printed(write_command(client, *number, stamp, words, writer))
+            printed(write_command(printing, *number, stamp, words, writer))
         }
         Seen::Reply { number, value } => write_reply(client, *number, stamp, value, writer),
         Seen::Push(items) => write_push(client, stamp, items, writer),
@@ -119,17 +132,30 @@ fn write_unpaired<W: Sink>(
 
 /// Writes the number of a command, and its words on the next line.
 fn write_command<W: Sink>(
-    client: u64,
+    printing: Printing,
     number: u64,
     stamp: Option<Stamp>,
     words: &Words,
     writer: &mut W,
 ) -> Result<(), DeviceFault>
     ensures { WritesText (W.written writer.old) (W.written writer.new) (W.failures writer.old)
-        (W.failures writer.new) result (command_text client number stamp words.now) }
+        (W.failures writer.new) result (command_text printing.client number stamp
+        (printed_words printing.shows_passwords words.now)) }
 {
-    write_numbered_line(client, b" command ", number, stamp, writer)?;
-    write_words_line(words, writer)
+    write_numbered_line(printing.client, b" command ", number, stamp, writer)?;
+    write_words_line(words, secrets_for(printing, words), writer)
+}
+
+/// Returns the secret words of a command that are not printed.
+fn secrets_for(printing: Printing, words: &Words) -> Secrets
+    ensures { redacted_after result [] words.now ≡
+        printed_words printing.shows_passwords words.now }
+{
+    if printing.shows_passwords {
+        Secrets::Absent
+    } else {
+        Secrets::of(words)
+    }
 }
 
 /// Writes the heading of a command or a reply, with its number.
@@ -194,26 +220,41 @@ fn write_stamped_number<W: Sink>(
 }
 
 /// Writes the line with the words of a command.
-fn write_words_line<W: Sink>(words: &Words, writer: &mut W) -> Result<(), DeviceFault>
+fn write_words_line<W: Sink>(
+    words: &Words,
+    secrets: Secrets,
+    writer: &mut W,
+) -> Result<(), DeviceFault>
     ensures { WritesText (W.written writer.old) (W.written writer.new) (W.failures writer.old)
-        (W.failures writer.new) result (words_line words.now) }
+        (W.failures writer.new) result (words_line (redacted_after secrets [] words.now)) }
 {
     write_text(writer, b" ")?;
-    write_words(words, writer)?;
+    write_words(words, secrets, writer)?;
     write_text(writer, b"\n")
 }
 
-/// Writes words in quotes, each after a space.
-fn write_words<W: Sink>(words: &Words, writer: &mut W) -> Result<(), DeviceFault>
+/// Writes words in quotes, each after a space, without those that are secret.
+fn write_words<W: Sink>(words: &Words, secrets: Secrets, writer: &mut W) -> Result<(), DeviceFault>
     ensures { WritesText (W.written writer.old) (W.written writer.new) (W.failures writer.old)
-        (W.failures writer.new) result (words_text words.now) }
+        (W.failures writer.new) result (words_text (redacted_after secrets [] words.now)) }
 {
     let mut index = 0;
+    // How many words from this one on are secret because of a word before it.
+    let mut left = 0;
     while index < words.len() {
-        write_word(words.word(index), writer)?;
+        let word = words.word(index);
+        write_word(shown(word, secrets.hides(index, left)), writer)?;
+        left = secrets.left_after(left, word);
         index += 1;
     }
     Ok(())
+}
+
+/// Returns a word as it is printed.
+fn shown<'a>(word: &'a [u8], is_secret: bool) -> &'a [u8]
+    ensures { result.now ≡ shown_word is_secret word.now }
+{
+    if is_secret { b"(redacted)" } else { word }
 }
 
 /// Writes a word in quotes, after a space.

@@ -34,14 +34,15 @@ pub enum Seen {
     },
     /// The server sent a push, which is no reply to a command. These are its members.
     Push(Members),
-    /// The server sent a value after a command that does not have exactly one reply.
+    /// The server sent a value that is paired with no command: after a command that does not have
+    /// exactly one reply, after an error of the client, or after a value that no command asked for.
     Value(Value),
-    /// The client sent a value that is not a command. The rest of the connection is not read.
+    /// The client sent a value that is not a command. The rest of its bytes is not read.
     NotCommand {
         number: u64,
     },
-    /// A byte is not allowed at its place, or memory ran out. The rest of the connection is not
-    /// read.
+    /// A byte is not allowed at its place, or memory ran out. The rest of the bytes of this side is
+    /// not read.
     Refused {
         cause: Cause,
         /// The index of the byte, from 0 at the first byte of the command, reply or value that

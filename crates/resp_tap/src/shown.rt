@@ -6,11 +6,20 @@ ghost use Rattle.resp_tap.specs.Taps.{tap_state};
 use crate::tap::Tap;
 
 impl Tap {
-    /// Returns whether the connection is still read. It is read until the first error.
-    pub fn is_read(&self) -> bool
-        ensures { result ≡ (tap_state self.now).is_read }
+    /// Returns whether the bytes of the client are still read. They are read until the first error
+    /// in them.
+    pub fn reads_commands(&self) -> bool
+        ensures { result ≡ (tap_state self.now).reads_commands }
     {
-        self.is_read
+        self.reads_commands
+    }
+
+    /// Returns whether the bytes of the server are still read. They are read until the first error
+    /// in them.
+    pub fn reads_replies(&self) -> bool
+        ensures { result ≡ (tap_state self.now).reads_replies }
+    {
+        self.reads_replies
     }
 
     /// Returns the number of commands that wait for their replies.

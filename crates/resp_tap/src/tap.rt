@@ -1,14 +1,15 @@
 //! The tap: reads the traffic of one connection.
 
-ghost use Rattle.std.specs.Prelude.{◌≡◌, ◌≢◌, ◌<◌, ◌≤◌, ◌^◌, ◌++◌, ℕ, List, true, false, [], length, take, IfErr, OnOk, OnErr};
+ghost use Rattle.std.specs.Prelude.{◌≡◌, ◌+◌, ◌≢◌, ◌<◌, ◌≤◌, ◌^◌, ◌++◌, ℕ, List, true, false, [], length, take, IfErr, OnOk, OnErr};
 ghost use Rattle.resp_value.specs.Rules.{rules_under};
 ghost use Rattle.resp_value.specs.declared.version.Version.TheVariants.{Two, Three};
 ghost use Rattle.resp_decode.specs.Decoding.{rules_of};
 ghost use Rattle.resp_client.specs.Clients.{queued, state_of};
 ghost use Rattle.resp_tap.specs.declared.pairing.Pairing.TheVariants.{Paired, Unpaired};
+ghost use Rattle.resp_tap.specs.declared.seen.Place.TheVariants as place;
 
 use crate::kind::{CommandKind, command_kind};
-use crate::pairing::Pairing;
+use crate::pairing::{Pairing, is_over};
 use crate::seen::{Place, Seen, Step};
 use resp_client::{Client, What};
 use resp_decode::Decoder;
@@ -33,10 +34,13 @@ const MOST_COMMANDS: u64 = 9_223_372_036_854_775_808;
 /// are read as [`Client`] reads them: the version is 2 at first, and it changes when the reply to a
 /// HELLO that asks for another version arrives and is not an error. After a command that does not
 /// have exactly one reply, and after the replies to the commands before it, values are read in
-/// version 3, which contains version 2, and are paired with no command.
+/// version 3, which contains version 2, and are paired with no command. The same holds from a value
+/// on that no command asked for.
 ///
-/// After an error nothing more is read. A tap holds at most one incomplete value of each side, and
-/// one byte for each command that waits for its reply, at most 1,048,576 of them.
+/// After an error in the bytes of a side, nothing more of that side is read. After an error of the
+/// client, the replies to the commands before it are still paired, and the values after them are
+/// paired with no command. A tap holds at most one incomplete value of each side, and one byte for
+/// each command that waits for its reply, at most 1,048,576 of them.
 ///
 /// # Examples
 ///
@@ -68,7 +72,10 @@ pub struct Tap {
     /// Reads the bytes of the server after that.
     pub(crate) values: Decoder,
     pub(crate) pairing: Pairing,
-    pub(crate) is_read: bool,
+    /// Whether the bytes of the client are still read.
+    pub(crate) reads_commands: bool,
+    /// Whether the bytes of the server are still read.
+    pub(crate) reads_replies: bool,
     pub(crate) limits: Limits,
     ghost in_range: { commands ≤ 2 ^ 63 },
     ghost same_limits: { (state_of replies).limits ≡ limits },
@@ -117,7 +124,7 @@ fn unpaired_as(value: Value) -> Seen
 impl Tap {
     ghost use Rattle.resp_value.specs.Spellings.{IsSpelling};
     ghost use Rattle.resp_tap.specs.Kinds.{command_kind};
-    ghost use Rattle.resp_tap.specs.Taps.{at_front, new_tap, tap_state, with_command, with_refusal};
+    ghost use Rattle.resp_tap.specs.Taps.{at_front, new_tap, tap_state, with_command, with_refused_command, with_refused_reply};
     ghost use Rattle.resp_tap.specs.Watching.{HasTakenRequest, HasTakenValue, IsLeftOut, KeepsRequest, KeepsValue, SeesRequest, SeesValue, WhereAnswered, WhereRequested, request_rules};
 
     /// Returns a tap of a new connection, which is read within these limits. It allocates nothing.
@@ -133,7 +140,8 @@ impl Tap {
             replies: Client::new(alloc, limits),
             values: Decoder::new(alloc, Version::Three, limits),
             pairing: Pairing::Paired,
-            is_read: true,
+            reads_commands: true,
+            reads_replies: true,
             limits: *limits,
         }
     }
@@ -147,25 +155,23 @@ impl Tap {
     /// with the cause of a [`Decoder`] for a byte that no command can contain at its place, with
     /// `TooMany` for the command after 9,223,372,036,854,775,808 commands or while 1,048,576
     /// commands wait, and with `OutOfMemory` if an allocation fails. After an error the bytes of
-    /// both sides are skipped.
+    /// the client are skipped.
     pub fn from_client(&mut self, piece: &[u8]) -> Step
-        ensures seen { (tap_state self.old).is_read ≡ true → WhereRequested self.old (λ front.
+        ensures seen { (tap_state self.old).reads_commands ≡ true →
+            WhereRequested self.old (λ front.
             SeesRequest (tap_state self.old) self.new front piece.now result.used result.seen) }
         ensures same_value { KeepsValue self.old self.new }
         ensures within_piece { result.used ≤ length piece.now }
         ensures uses_bytes { 0 < length piece.now → 0 < result.used }
-        ensures unread { (tap_state self.old).is_read ≡ false → (self.new ≡ self.old) ×
+        ensures unread { (tap_state self.old).reads_commands ≡ false → (self.new ≡ self.old) ×
             (result ≡ record { used = length piece.now; seen = Seen.Nothing }) }
     {
-        if !self.is_read {
+        if !self.reads_commands {
             return Step::nothing(piece);
         }
         let fed = match self.requests.feed(piece) {
             Ok(fed) => fed,
-            Err(fault) => {
-                let place = Place::Command(self.commands.saturating_add(1));
-                return self.refuse(fault.cause, fault.at, place, piece);
-            }
+            Err(fault) => return self.refuse_command(fault.cause, fault.at, piece),
         };
         let used = fed.used;
         match fed.value {
@@ -186,21 +192,50 @@ impl Tap {
             result.used result.seen }
         ensures same_value { KeepsValue self.old self.new }
         ensures whole_piece { result.used ≡ length piece.now }
-        ensures refused { tap_state self.new ≡ with_refusal (tap_state self.old) }
+        ensures refused { tap_state self.new ≡ with_refused_command (tap_state self.old) }
     {
-        let place = Place::Command(self.commands.saturating_add(1));
-        self.refuse(Cause::OutOfMemory, 0, place, piece)
+        self.refuse_command(Cause::OutOfMemory, 0, piece)
     }
 
-    /// Stops reading, and reports an error.
-    fn refuse(&mut self, cause: Cause, at: u64, place: Place, piece: &[u8]) -> Step
-        ensures unread { self.new ≡ record self.old { is_read = false } }
+    /// Stops reading the client's bytes. The replies to the commands before are still paired.
+    fn stop_commands(&mut self)
+        ensures after { tap_state self.new ≡ with_refused_command (tap_state self.old) }
+        ensures same_value { KeepsValue self.old self.new }
+    {
+        self.reads_commands = false;
+        if self.pairing == Pairing::Paired {
+            self.pairing = Pairing::Ending;
+        }
+    }
+
+    /// Stops reading the client's bytes, and reports an error in the next command.
+    fn refuse_command(&mut self, cause: Cause, at: u64, piece: &[u8]) -> Step
+        ensures after { tap_state self.new ≡ with_refused_command (tap_state self.old) }
+        ensures step { result ≡ record {
+          used = length piece.now;
+          seen = Seen.Refused cause at (place.Command ((tap_state self.old).commands + 1));
+        } }
+        ensures same_value { KeepsValue self.old self.new }
+    {
+        let place = Place::Command(self.commands.saturating_add(1));
+        self.stop_commands();
+        Step {
+            used: piece.len(),
+            seen: Seen::Refused { cause, at, place },
+        }
+    }
+
+    /// Stops reading the server's bytes, and reports an error.
+    fn refuse_reply(&mut self, cause: Cause, at: u64, place: Place, piece: &[u8]) -> Step
+        ensures after { tap_state self.new ≡ with_refused_reply (tap_state self.old) }
+        ensures same_request { self.new.requests ≡ self.old.requests }
         ensures step { result ≡ record {
           used = length piece.now;
           seen = Seen.Refused cause at place;
         } }
     {
-        self.is_read = false;
+        self.reads_replies = false;
+        self.pairing = Pairing::Unpaired;
         Step {
             used: piece.len(),
             seen: Seen::Refused { cause, at, place },
@@ -221,7 +256,7 @@ impl Tap {
             Asked::Command(words) => match self.take_command(&words) {
                 Ok(()) => Seen::Command { number, words },
                 Err(cause) => {
-                    self.is_read = false;
+                    self.stop_commands();
                     Seen::Refused {
                         cause,
                         at: 0,
@@ -231,7 +266,7 @@ impl Tap {
             },
             Asked::Nothing => Seen::Passed,
             Asked::NoCommand => {
-                self.is_read = false;
+                self.stop_commands();
                 Seen::NotCommand { number }
             }
         }
@@ -275,36 +310,37 @@ impl Tap {
     ///
     /// Reports [`Seen::Refused`]: while replies are paired, with the error of [`Client::feed`];
     /// later, for a byte that no value of version 3 can contain at its place, or with `OutOfMemory`
-    /// if an allocation fails. After an error the bytes of both sides are skipped.
+    /// if an allocation fails. After an error the bytes of the server are skipped.
     pub fn from_server(&mut self, piece: &[u8]) -> Step
-        ensures seen { (tap_state self.old).is_read ≡ true → WhereAnswered self.old (λ front.
-            SeesValue (at_front front (tap_state self.old)) self.new front piece.now result.used
-            result.seen) }
+        ensures seen { (tap_state self.old).reads_replies ≡ true → WhereAnswered self.old (λ front.
+            SeesValue (at_front front piece.now (tap_state self.old)) self.new front piece.now
+            result.used result.seen) }
         ensures same_request { KeepsRequest self.old self.new }
         ensures within_piece { result.used ≤ length piece.now }
         ensures uses_bytes { 0 < length piece.now → 0 < result.used }
-        ensures unread { (tap_state self.old).is_read ≡ false → (self.new ≡ self.old) ×
+        ensures unread { (tap_state self.old).reads_replies ≡ false → (self.new ≡ self.old) ×
             (result ≡ record { used = length piece.now; seen = Seen.Nothing }) }
     {
-        if !self.is_read {
+        if !self.reads_replies {
             return Step::nothing(piece);
         }
-        self.settle();
+        self.settle(piece);
         match self.pairing {
             Pairing::Unpaired => self.unpaired_value(piece),
             Pairing::Paired | Pairing::Ending => self.reply(piece),
         }
     }
 
-    /// Ends the pairing between two values, if no command waits any more.
-    fn settle(&mut self)
+    /// Ends the pairing between two values, if no command waits any more, and a command has ended
+    /// it or a value comes that no command asked for.
+    fn settle(&mut self, piece: &[u8])
         ensures settled { WhereAnswered self.old (λ front.
             HasTakenValue self.new front ×
-            (tap_state self.new ≡ at_front front (tap_state self.old))) }
+            (tap_state self.new ≡ at_front front piece.now (tap_state self.old))) }
         ensures same_request { self.new.requests ≡ self.old.requests }
     {
         let is_between = self.replies.taken() == 0;
-        if self.pairing == Pairing::Ending && self.replies.waiting() == 0 && is_between {
+        if is_over(self.pairing, piece) && self.replies.waiting() == 0 && is_between {
             self.pairing = Pairing::Unpaired;
             self.values = Decoder::new(self.alloc, Version::Three, &self.limits);
         }
@@ -323,7 +359,7 @@ impl Tap {
             Ok(heard) => heard,
             Err(fault) => {
                 let place = Place::Reply(self.replies.answered().saturating_add(1));
-                return self.refuse(fault.cause, fault.at, place, piece);
+                return self.refuse_reply(fault.cause, fault.at, place, piece);
             }
         };
         Step {
@@ -343,7 +379,9 @@ impl Tap {
     {
         let fed = match self.values.feed(piece) {
             Ok(fed) => fed,
-            Err(fault) => return self.refuse(fault.cause, fault.at, Place::Value, piece),
+            Err(fault) => {
+                return self.refuse_reply(fault.cause, fault.at, Place::Value, piece);
+            }
         };
         let used = fed.used;
         match fed.value {

@@ -85,15 +85,15 @@ impl TimedTap {
     /// Reports the errors of [`Tap::from_client`]. Also reports `OutOfMemory` at the first byte of
     /// the next command if the allocation for its time fails.
     pub fn from_client(&mut self, piece: &[u8], now: Option<Moment>) -> Step
-        ensures seen { (tap_state self.old.tap).is_read ≡ true →
+        ensures seen { (tap_state self.old.tap).reads_commands ≡ true →
             WhereRequested self.old.tap (λ front. SeesRequest (tap_state self.old.tap) self.new.tap
             front piece.now result.used result.seen) }
-        ensures times { (tap_state self.old.tap).is_read ≡ true →
+        ensures times { (tap_state self.old.tap).reads_commands ≡ true →
             WhereRequested self.old.tap (λ front. KeepsTimes now self.old self.new) }
         ensures same_value { KeepsValue self.old.tap self.new.tap }
         ensures within_piece { result.used ≤ length piece.now }
         ensures uses_bytes { 0 < length piece.now → 0 < result.used }
-        ensures unread { (tap_state self.old.tap).is_read ≡ false → (self.new ≡ self.old) ×
+        ensures unread { (tap_state self.old.tap).reads_commands ≡ false → (self.new ≡ self.old) ×
             (result ≡ record { used = length piece.now; seen = Seen.Nothing }) }
     {
         match now {
@@ -104,18 +104,18 @@ impl TimedTap {
 
     /// Reads bytes that the client sent, if a moment is given.
     fn from_client_at(&mut self, piece: &[u8], now: Moment) -> Step
-        ensures seen { (tap_state self.old.tap).is_read ≡ true →
+        ensures seen { (tap_state self.old.tap).reads_commands ≡ true →
             WhereRequested self.old.tap (λ front. SeesRequest (tap_state self.old.tap) self.new.tap
             front piece.now result.used result.seen) }
-        ensures times { (tap_state self.old.tap).is_read ≡ true →
+        ensures times { (tap_state self.old.tap).reads_commands ≡ true →
             WhereRequested self.old.tap (λ front. KeepsTimes (Some now) self.old self.new) }
         ensures same_value { KeepsValue self.old.tap self.new.tap }
         ensures within_piece { result.used ≤ length piece.now }
         ensures uses_bytes { 0 < length piece.now → 0 < result.used }
-        ensures unread { (tap_state self.old.tap).is_read ≡ false → (self.new ≡ self.old) ×
+        ensures unread { (tap_state self.old.tap).reads_commands ≡ false → (self.new ≡ self.old) ×
             (result ≡ record { used = length piece.now; seen = Seen.Nothing }) }
     {
-        if !self.tap.is_read() {
+        if !self.tap.reads_commands() {
             return Step::nothing(piece);
         }
         if self.times.push_back(now.steady).is_err() {
@@ -137,16 +137,16 @@ impl TimedTap {
     ///
     /// Reports the errors of [`Tap::from_server`].
     pub fn from_server(&mut self, piece: &[u8], now: Option<Moment>) -> Step
-        ensures seen { (tap_state self.old.tap).is_read ≡ true →
+        ensures seen { (tap_state self.old.tap).reads_replies ≡ true →
             WhereAnswered self.old.tap (λ front. SeesValue
-            (at_front front (tap_state self.old.tap)) self.new.tap front piece.now result.used
-            result.seen) }
-        ensures times { (tap_state self.old.tap).is_read ≡ true →
+            (at_front front piece.now (tap_state self.old.tap)) self.new.tap front piece.now
+            result.used result.seen) }
+        ensures times { (tap_state self.old.tap).reads_replies ≡ true →
             WhereAnswered self.old.tap (λ front. KeepsTimes now self.old self.new) }
         ensures same_request { KeepsRequest self.old.tap self.new.tap }
         ensures within_piece { result.used ≤ length piece.now }
         ensures uses_bytes { 0 < length piece.now → 0 < result.used }
-        ensures unread { (tap_state self.old.tap).is_read ≡ false → (self.new ≡ self.old) ×
+        ensures unread { (tap_state self.old.tap).reads_replies ≡ false → (self.new ≡ self.old) ×
             (result ≡ record { used = length piece.now; seen = Seen.Nothing }) }
     {
         let step = self.tap.from_server(piece);

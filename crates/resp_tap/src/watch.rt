@@ -7,7 +7,7 @@ ghost use Rattle.resp_tap.specs.Watches.{KeepsOther, PrintsSeen, SeesFirst, Sees
 ghost use Rattle.resp_tap.specs.declared.seen.Seen.{Seen};
 
 use crate::moment::Moment;
-use crate::print::write_seen;
+use crate::print::{Printing, write_seen};
 use crate::seen::{Seen, Step};
 use crate::stamp::Stamp;
 use crate::timed::TimedTap;
@@ -67,9 +67,8 @@ fn stamp_of(now: Option<Moment>, asked: Option<u64>, seen: &Seen) -> Option<Stam
 }
 
 /// Reads bytes that one side sent, until there is a result or the piece ends, and prints the
-/// result. `client` is the number of the connection's client in the output. If a moment is given,
-/// the first line ends with the time of day, and that of a reply also with the seconds that its
-/// command waited.
+/// result. If a moment is given, the first line ends with the time of day, and that of a reply also
+/// with the seconds that its command waited.
 ///
 /// The call reads at least one byte of a piece that is not empty. Call it again with the rest of
 /// the piece.
@@ -79,7 +78,7 @@ fn stamp_of(now: Option<Moment>, asked: Option<u64>, seen: &Seen) -> Option<Stam
 /// [`Watched::printed`] has the error of printing. The tap has read the bytes in any case.
 pub fn watch_some<W: Sink>(
     tap: &mut TimedTap,
-    client: u64,
+    printing: Printing,
     side: Side,
     piece: &[u8],
     now: Option<Moment>,
@@ -87,7 +86,7 @@ pub fn watch_some<W: Sink>(
 ) -> Watched
     ensures watches { (what : Seen) ×
         SeesFirst side now tap.old tap.new piece.now result.used what ×
-        PrintsSeen client now tap.old what (W.written writer.old) (W.written writer.new)
+        PrintsSeen printing now tap.old what (W.written writer.old) (W.written writer.new)
         (W.failures writer.old) (W.failures writer.new) result.printed }
     ensures other_side { KeepsOther side tap.old.tap tap.new.tap }
     ensures within_piece { result.used ≤ length piece.now }
@@ -96,7 +95,7 @@ pub fn watch_some<W: Sink>(
     let asked = tap.asked();
     let step = step(tap, side, piece, now);
     let stamp = stamp_of(now, asked, &step.seen);
-    let printed = write_seen(client, stamp, &step.seen, writer);
+    let printed = write_seen(printing, stamp, &step.seen, writer);
     Watched {
         used: step.used,
         printed,
@@ -131,9 +130,13 @@ fn first_error(
 /// ```rust
 /// let mut tap = TimedTap::new(alloc, &Limits::standard());
 /// let mut text = MemorySink::new(alloc, 4_096, 4_096)?;
+/// let printing = Printing {
+///     client: 1,
+///     shows_passwords: false,
+/// };
 /// let get = b"*2\r\n$3\r\nGET\r\n$4\r\nhits\r\n";
-/// watch(&mut tap, 1, Side::Client, get, None, &mut text)?;
-/// watch(&mut tap, 1, Side::Server, b":7\r\n", None, &mut text)?;
+/// watch(&mut tap, printing, Side::Client, get, None, &mut text)?;
+/// watch(&mut tap, printing, Side::Server, b":7\r\n", None, &mut text)?;
 /// print!(rt; "{}", str::from_utf8(text.bytes())?)?;
 /// ```
 ///
@@ -147,13 +150,13 @@ fn first_error(
 /// ```
 pub fn watch<W: Sink>(
     tap: &mut TimedTap,
-    client: u64,
+    printing: Printing,
     side: Side,
     piece: &[u8],
     now: Option<Moment>,
     writer: &mut W,
 ) -> Result<(), PrintError>
-    ensures watches { (all : List Seen) × WatchesAll client side now all tap.old tap.new piece.now
+    ensures watches { (all : List Seen) × WatchesAll printing side now all tap.old tap.new piece.now
         (W.written writer.old) (W.written writer.new) (W.failures writer.old)
         (W.failures writer.new) result }
     ensures other_side { KeepsOther side tap.old.tap tap.new.tap }
@@ -161,7 +164,7 @@ pub fn watch<W: Sink>(
     let mut rest = piece;
     let mut printed = Ok(());
     while !rest.is_empty() {
-        let watched = watch_some(tap, client, side, rest, now, writer);
+        let watched = watch_some(tap, printing, side, rest, now, writer);
         printed = first_error(printed, watched.printed);
         // At least one byte was read.
         rest = &rest[watched.used..];

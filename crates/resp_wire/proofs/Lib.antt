@@ -7,6 +7,7 @@ pub mod Seated
 pub mod ServedTexts
 pub mod ServeStops
 pub mod AnsweredOn
+pub mod AnsweredParts
 pub mod LinkStops
 pub mod worlds
 pub mod Showing

@@ -2,10 +2,10 @@
 use Rattle.std.proofs.Common.{arith, length, take, drop, ◌≤◌, ◌≡◌, ℕ, ◌==◌, Bool, true, false, cond, Option, None, Some, List, [], ◌∷◌, IfSome, refl, sym, ap, subst, ◌∙◌}
 use Rattle.std.specs.Map.{lookup}
 use Rattle.std.specs.Option.{option_map}
-use Rattle.std.proofs.lemmas.List.{drop_all, take-append-drop}
+use Rattle.std.proofs.lemmas.List.{drop_all, length-append, take-append-drop}
 use Rattle.resp_value.specs.Devices.{Appends}
 use Rattle.resp_server.specs.Handling.{WhereOpen}
-use Rattle.resp_server.specs.Hubs.{HubState, Seat, seat_at, seated, with_seat}
+use Rattle.resp_server.specs.Hubs.{HubState, Seat, WaitsAtMost, seat_at, seated, with_seat}
 use Rattle.resp_server.specs.Reading.{HasReadFront}
 use Rattle.resp_wire.specs.Serving.{HasSent, IsClosing, IsOpen, IsThere}
 
@@ -141,3 +141,31 @@ not_open hub id P is = where_open hub id P (λ s here not_closing front taken.
 
 pub nowhere : (hub : HubState) (id : ℕ) (P : Seat → List ℕ → Type 0) → seat_at hub id ≡ None → WhereOpen hub id P
 nowhere hub id P none = where_open hub id P (λ s here not_closing front taken. absurd (not_there hub id (s, here) none))
+
+-- At most so many bytes wait in a session after some were written.
+
+few_by : (o : Option Seat) (seat : Seat) (most : ℕ) → o ≡ Some seat → length seat.out ≤ most → IfSome o (λ s. length s.out ≤ most)
+few_by o seat most is few = subst (λ z. IfSome z (λ s. length s.out ≤ most)) (sym is) few
+
+few_in : (o : Option Seat) (seat : Seat) (most : ℕ) → o ≡ Some seat → IfSome o (λ s. length s.out ≤ most) → length seat.out ≤ most
+few_in o seat most is few = subst (λ z. IfSome z (λ s. length s.out ≤ most)) is few
+
+pub sent_few : (old new : HubState) (id : ℕ) (held held' : Option (List ℕ)) (waits : List ℕ) (most : ℕ) → HasSent old new id held held' waits →
+    WaitsAtMost most old id → WaitsAtMost most new id
+sent_few old new id held held' waits most h few =
+    let seat : Seat = record { version = h.seat.version; out = waits; closing = h.seat.closing; decoder = h.seat.decoder } in
+    let before = few_in (seat_at old id) h.seat most h.here few in
+    let size = ap length h.parts ∙ length-append h.text waits in
+    few_by (seat_at new id) seat most (ap (λ (g : HubState). seat_at g id) h.state ∙ seat_here old id h.seat seat h.here) (omega (arith, before, size))
+
+pub sent_none : (old new : HubState) (id : ℕ) (held held' : Option (List ℕ)) → HasSent old new id held held' [] → WaitsAtMost 0 new id
+sent_none old new id held held' h =
+    let seat : Seat = record { version = h.seat.version; out = []; closing = h.seat.closing; decoder = h.seat.decoder } in
+    few_by (seat_at new id) seat 0 (ap (λ (g : HubState). seat_at g id) h.state ∙ seat_here old id h.seat seat h.here) (omega arith)
+
+few_at : (o : Option Seat) (most : ℕ) → IfSome o (λ s. length s.out ≤ 0) → IfSome o (λ s. length s.out ≤ most)
+few_at None most few = tt
+few_at (Some s) most few = omega (arith, few)
+
+pub none_is_few : (hub : HubState) (id most : ℕ) → WaitsAtMost 0 hub id → WaitsAtMost most hub id
+none_is_few hub id most few = few_at (seat_at hub id) most few

@@ -1,6 +1,6 @@
 -- Texts that are answered and written, one after another.
 use Rattle.std.specs.Prelude.{⊤}
-use Rattle.std.proofs.Common.{◌≡◌, ℕ, ◌+◌, Bool, true, false, Option, Some, List, [], ◌∷◌, ◌++◌, take, refl, sym, ap, subst, ◌∙◌, arith, append_assoc}
+use Rattle.std.proofs.Common.{◌≡◌, ℕ, ◌+◌, ◌<◌, IfSome, Result, Ok, Err, length, Bool, true, false, Option, Some, List, [], ◌∷◌, ◌++◌, take, refl, sym, ap, subst, ◌∙◌, arith, append_assoc}
 use Rattle.std.specs.List.{concat}
 use Rattle.std.proofs.lemmas.List.{append-nil}
 use Rattle.std.specs.Option.{option_map}
@@ -9,13 +9,15 @@ use Rattle.resp_value.specs.declared.version.Version.{Version}
 use Rattle.resp_session.specs.AnswerLaws.{AnswersAreAdded, AnswersGoOn}
 use Rattle.resp_session.specs.Answers.{Answers}
 use Rattle.resp_session.specs.Stores.{Store}
-use Rattle.resp_server.specs.Answering.{state_with}
+use Rattle.resp_server.specs.Answering.{TakesWithin, state_with}
 use Rattle.resp_server.specs.Handling.{HasAnswered, HasCutShort, WhereOpen}
 use Rattle.resp_server.specs.Hubs.{HubState, Seat, seat_at, seated, stocked}
 use Rattle.resp_server.specs.Reading.{HasReadFront, Reading}
-use Rattle.resp_wire.specs.Serving.{AnswersBefore, HadAnswered, HasSent, IsClosing, IsOpen, IsThere, Serves, ServesFirst, StopsServing}
+use Rattle.resp_wire.specs.Serving.{AnswersBefore, HadAnswered, HasSent, IsClosing, IsOpen, IsThere, MayLeave, Serves, ServesFirst, StopsServing}
 use Rattle.resp_wire.specs.declared.error.ServeError.{ServeError}
 use Rattle.resp_wire.specs.declared.error.ServeError.TheVariants.{NoSession, OutOfMemory, Read, Write, TooManyTurns}
+use Rattle.resp_wire.specs.declared.serve.Served.{Served}
+use Rattle.resp_wire.specs.declared.serve.Served.TheVariants.{Ended, Closed}
 use Rattle.resp_wire.proofs.Seated.{at_open, where_open, one_seat, seat_here, seated_twice}
 use Rattle.resp_wire.proofs.Pieces.{before_more, concat_more}
 use Rattle.resp_wire.proofs.Turning.{appends_more, appends_nothing}
@@ -395,3 +397,25 @@ sent_is_closing old new id held held' waits closing h is =
     let seat = seat_with h.seat.version waits h.seat.closing h.seat.decoder in
     ap (option_map (λ (s : Seat). s.closing)) (ap (λ g. seat_at g id) h.state ∙ seat_here old id h.seat seat h.here) ∙
     sym (ap (option_map (λ (s : Seat). s.closing)) h.here) ∙ is
+
+-- a session of which bytes of a piece are left goes on
+pub goes_on : (old given new : HubState) (id : ℕ) (s : Seat) (most size used : ℕ) (held held' : Option (List ℕ)) (waits : List ℕ) (closing : Bool) →
+    seat_at old id ≡ Some s → IsThere given id →
+    IfSome (seat_at old id) (λ s. IfSome (seat_at given id) (λ t. TakesWithin most (length s.out) (length t.out) t.closing size used)) →
+    HasSent given new id held held' waits → IsClosing new id closing → used < size → closing ≡ false
+goes_on old given new id s most size used held held' waits closing here (t, there) within sent is less =
+    let P : Seat → Seat → Type 0 = λ a b. TakesWithin most (length a.out) (length b.out) b.closing size used in
+    let takes : P s t = subst (λ o. IfSome o (P s)) there (subst (λ o. IfSome o (λ a. IfSome (seat_at given id) (P a))) here within) in
+    let given_open : IsClosing given id false = ap (option_map (λ (b : Seat). b.closing)) there ∙ ap Some (takes.stops less).0 in
+    let both : Some closing ≡ Some false = sym is ∙ sent_is_closing given new id held held' waits false sent given_open in
+    cc
+
+-- nothing may be left after each result
+pub leaves_none : (result : Result Served ServeError) → MayLeave result []
+leaves_none (Ok Ended) = refl
+leaves_none (Ok Closed) = refl
+leaves_none (Err NoSession) = refl
+leaves_none (Err OutOfMemory) = tt
+leaves_none (Err Read) = refl
+leaves_none (Err Write) = tt
+leaves_none (Err TooManyTurns) = tt

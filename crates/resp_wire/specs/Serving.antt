@@ -1,17 +1,19 @@
 -- The results of a server's end, in terms of its hub and of the bytes written.
-use Rattle.std.specs.Prelude.{◌≡◌, ◌⊎◌, ℕ, ◌<◌, Bool, true, false, List, [], ◌++◌, length, take, Option, Some, None, Result, Ok, Err, IfErr, OnOk}
+use Rattle.std.specs.Prelude.{◌≡◌, ◌⊎◌, ℕ, ◌+◌, ◌-◌, ◌<◌, Bool, true, false, List, [], ◌++◌, length, take, drop, Option, Some, None, Result, Ok, Err, IfOk, IfErr, OnOk}
 use Rattle.std.specs.List.{concat}
 use Rattle.std.specs.Option.{option_map}
-use Rattle.resp_value.specs.Devices.{Appends, HasRisen}
+use Rattle.resp_value.specs.Devices.{Appends, HasRisen, failures_after}
 use Rattle.resp_server.specs.Handling.{HasAnswered, HasCutShort, WhereOpen}
-use Rattle.resp_server.specs.Hubs.{HubState, Seat, seat_at, seated}
+use Rattle.resp_server.specs.Hubs.{HubState, Seat, WaitsAtMost, seat_at, seated}
 use Rattle.resp_server.specs.Reading.{HasReadFront}
 use Rattle.resp_wire.specs.Pieces.{ReadsPieces}
 use Rattle.resp_wire.specs.Turns.{TellsEnd}
 use Rattle.resp_wire.specs.declared.error.ServeError.{ServeError}
 use Rattle.resp_wire.specs.declared.error.ServeError.TheVariants.{NoSession, OutOfMemory, Read, Write, TooManyTurns}
+use Rattle.resp_wire.specs.declared.serve.Answered.{Answered}
 use Rattle.resp_wire.specs.declared.serve.Served.{Served}
 use Rattle.resp_wire.specs.declared.serve.Served.TheVariants.{Ended, Closed}
+use Rattle.resp_wire.specs.declared.serve.Visit.{Visit}
 
 -- there is a session with this id
 abbrev pub IsThere : HubState → ℕ → Type 0
@@ -126,18 +128,29 @@ ends_by_read (Ok Ended) = true
 ends_by_read (Ok Closed) = false
 ends_by_read (Err error) = is_of_reader error
 
--- The bytes received are pieces of at most `most` bytes, each from one read. Before each read, all replies to the bytes
--- received before were written. The bytes written and the bytes that still wait, joined, are the bytes that waited
--- before and the response to the bytes read before of a value together with the bytes received. The hub is in the state
--- after that response.
+-- the bytes of the buffer that were read and not given to the session
+abbrev pub rest_in : Visit → List ℕ → List ℕ
+rest_in visit bytes = take (visit.rest.end - visit.rest.start) (drop visit.rest.start bytes)
+
+-- bytes may be left only after a failed write, when out of memory, and where no turn is left
+abbrev pub MayLeave : Result Served ServeError → List ℕ → Type 0
+MayLeave (Err OutOfMemory) rest = Unit {0}
+MayLeave (Err Write) rest = Unit {0}
+MayLeave (Err TooManyTurns) rest = Unit {0}
+MayLeave _ rest = rest ≡ []
+
+-- The bytes received are pieces of at most `most` bytes, each from one read, and the session was given all of them but
+-- the rest. Before each read, all replies to the bytes received before were written. The bytes written and the bytes
+-- that still wait, joined, are the bytes that waited before and the response to the bytes read before of a value
+-- together with the bytes given. The hub is in the state after that response.
 abbrev pub ServesPieces : {W R : Type 0} → ℕ → (W → Option (List ℕ)) → (R → Option (List ℕ)) → (R → ℕ) → (R → ℕ) →
-    W → W → R → R → HubState → HubState → ℕ → Result Served ServeError → Type 0
-ServesPieces most written remaining calls failures writer writer' reader reader' old new id result =
-    (pieces : List (List ℕ)) ×
+    W → W → R → R → HubState → HubState → ℕ → Result Served ServeError → List ℕ → Type 0
+ServesPieces most written remaining calls failures writer writer' reader reader' old new id result rest =
+    (pieces : List (List ℕ)) × (given : List ℕ) × (concat pieces ≡ given ++ rest) × MayLeave result rest ×
     ReadsPieces most remaining calls failures reader reader' pieces (ends_by_read result) ×
     WhereOpen old id (λ s front.
-    OnOk result (Serves old new id s (front ++ concat pieces) (written writer) (written writer') []) ×
-    IfErr result (StopsServing old new id s front (concat pieces) (written writer) (written writer')) ×
+    OnOk result (Serves old new id s (front ++ given) (written writer) (written writer') []) ×
+    IfErr result (StopsServing old new id s front given (written writer) (written writer')) ×
     AnswersBefore old id s front pieces (written writer) (written writer'))
 
 -- whether a call stopped because a write failed
@@ -166,3 +179,23 @@ abbrev pub StopsReading : ℕ → ℕ → ℕ → ServeError → Type 0
 StopsReading failures failures' left Read = HasRisen failures failures'
 StopsReading failures failures' left TooManyTurns = left ≡ 0
 StopsReading failures failures' left _ = ⊥
+
+-- what a session was given of a piece is answered, and the replies are written
+abbrev pub AnswersGiven : HubState → HubState → ℕ → List ℕ → Option (List ℕ) → Option (List ℕ) → Answered → Type 0
+AnswersGiven old new id piece held held' answered = WhereOpen old id (λ s front.
+    OnOk answered.end (Serves old new id s (front ++ take answered.used piece) held held' []) ×
+    IfErr answered.end (StopsServing old new id s front (take answered.used piece) held held'))
+
+-- The state after an answer: whether the session is closing, that no reply waits, or why a write stopped. At most this
+-- many bytes wait if at most so many waited before.
+pub record EndsAnswering (most : ℕ) (old new : HubState) (id fails fails' left : ℕ) (answered : Answered) :
+    Type 0 where
+  pub closing : IfOk answered.end (IsClosing new id)
+  pub is_open : IfOk answered.end (λ closing. closing ≡ false → IsOpen new id)
+  pub sent : OnOk answered.end (WaitsAtMost 0 new id)
+  pub none_failed : OnOk answered.end (fails' ≡ fails)
+  pub failures : fails' ≡ failures_after (failed_to_write answered.end) fails
+  pub no_read : failed_to_read answered.end ≡ false
+  pub refusal : IfErr answered.end (StopsAnswering fails fails' left)
+  pub same_limits : new.limits ≡ old.limits
+  pub bounded : WaitsAtMost most old id → WaitsAtMost most new id

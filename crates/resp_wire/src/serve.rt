@@ -1,19 +1,20 @@
 //! The server's end of a connection.
 
-ghost use Rattle.std.specs.Prelude.{◌≡◌, ◌≢◌, ◌<◌, ◌≤◌, ◌++◌, ℕ, List, [], length, true, false, None, Err, IfSome, IfOk, IfErr, IsErrOf, OnOk, OnErr};
-ghost use Rattle.resp_server.specs.Hubs.{Seat, seat_at};
+ghost use Rattle.std.specs.Prelude.{◌≡◌, ◌≢◌, ◌+◌, ◌-◌, ◌<◌, ◌≤◌, ◌^◌, ◌++◌, ℕ, List, [], length, true, false, None, Err, IfSome, IfOk, IfErr, IsErrOf, OnOk, OnErr};
+ghost use Rattle.resp_server.specs.Hubs.{Seat, WaitsAtMost, seat_at};
 ghost use Rattle.resp_server.specs.Handling.{HasAnswered, WhereOpen};
 ghost use Rattle.resp_value.specs.Devices.{failures_after};
 ghost use Rattle.resp_wire.specs.Asking.{SpendsAtMost, SpendsTurns};
-ghost use Rattle.resp_wire.specs.Serving.{EndsBy, FailsServing, HasSent, HasSentPart, IsClosing, IsOpen, IsThere, Serves, ServesClosing, ServesPieces, StopsAnswering, StopsReading, StopsServing, StopsWriting, failed_to_read, failed_to_write, is_of_reader, is_of_writer};
+ghost use Rattle.resp_wire.specs.Serving.{AnswersGiven, EndsAnswering, EndsBy, FailsServing, HasSent, HasSentPart, IsClosing, IsOpen, IsThere, Serves, ServesClosing, ServesPieces, StopsAnswering, StopsReading, StopsServing, StopsWriting, failed_to_read, failed_to_write, rest_in, is_of_reader, is_of_writer};
 ghost use Rattle.resp_wire.specs.Turns.{Halts, Spends, has_failed};
 
 use crate::error::ServeError;
-use crate::turns::{Halt, PIECE, front, read_some, write_text};
+use crate::turns::{Halt, PIECE, beyond, front, read_some, write_text};
 use resp_server::{Hub, HubError};
 use resp_session::laws;
 use resp_value::device::{Sink, Source};
 use std::hash::BuildHasher;
+use std::ops::Range;
 
 /// How a connection ended.
 #[derive(Clone, Copy, Debug, PartialEq, Eq)]
@@ -85,7 +86,7 @@ pub fn serve<R: Source, W: Sink, S: BuildHasher>(
     // still wait, joined, are the bytes that waited before and the response to the bytes read before
     // of a value together with the bytes received. The hub is in the state after that response.
     ensures served { ServesPieces 4096 W.written R.remaining R.calls R.failures writer.old
-        writer.new reader.old reader.new hub.old hub.new id result }
+        writer.new reader.old reader.new hub.old hub.new id result [] }
     ensures end { IfOk result (EndsBy hub.new id (R.remaining reader.old)
         (R.remaining reader.new)) }
 
@@ -105,16 +106,30 @@ pub fn serve<R: Source, W: Sink, S: BuildHasher>(
     ensures turns { SpendsAtMost (W.calls writer.old) (W.calls writer.new) (R.calls reader.old)
         (R.calls reader.new) turns (IsErrOf result ServeError.TooManyTurns) }
 {
-    serve_with(reader, writer, hub, id, turns, &mut [0; PIECE])
+    serve_with(reader, writer, hub, id, turns, &mut [0; PIECE], usize::MAX).end
+}
+
+/// The result of [`serve_with`].
+#[derive(Clone, Debug, Drop, PartialEq, Eq)]
+pub struct Visit {
+    /// How the connection ended, or why the call stopped.
+    pub end: Result<Served, ServeError>,
+    /// The place in the buffer of the bytes that were read and not given to the session. It is empty
+    /// except after `OutOfMemory`, `Write` and `TooManyTurns`.
+    pub rest: Range<usize>,
 }
 
 /// Serves a session as [`serve`] does, and reads into `buffer`, which must not be empty. A piece has
 /// at most as many bytes as the buffer. Use it to serve many sessions with one buffer, or with larger
 /// pieces.
 ///
+/// If more than `held` bytes wait, they are written before the session is given more of the piece. So
+/// at most `held` bytes and one reply wait. If they cannot be written, the rest of the piece is in
+/// the buffer: let the reader return it first in the next call. With `usize::MAX` there is no rest.
+///
 /// # Errors
 ///
-/// The errors of [`serve`].
+/// `end` is an error as [`serve`] returns it.
 pub fn serve_with<R: Source, W: Sink, S: BuildHasher>(
     reader: &mut R,
     writer: &mut W,
@@ -122,41 +137,58 @@ pub fn serve_with<R: Source, W: Sink, S: BuildHasher>(
     id: u64,
     turns: u64,
     buffer: &mut [u8],
-) -> Result<Served, ServeError>
+    held: usize,
+) -> Visit
     requires { 0 < length buffer.now }
-    // As `serve`, except that the pieces have at most as many bytes as the buffer.
+    // As `serve`, except that the pieces have at most as many bytes as the buffer, and that the
+    // session was not given the rest.
     ensures served { ServesPieces (length buffer.old) W.written R.remaining R.calls R.failures
-        writer.old writer.new reader.old reader.new hub.old hub.new id result }
-    ensures end { IfOk result (EndsBy hub.new id (R.remaining reader.old)
+        writer.old writer.new reader.old reader.new hub.old hub.new id result.end
+        (rest_in result buffer.new) }
+    ensures end { IfOk result.end (EndsBy hub.new id (R.remaining reader.old)
         (R.remaining reader.new)) }
 
+    ensures whole { held ≡ 2 ^ 64 - 1 → rest_in result buffer.new ≡ [] }
+    ensures in_buffer { (result.rest.start ≤ result.rest.end) ×
+        (result.rest.end ≤ length buffer.new) }
+    ensures bounded { WaitsAtMost (held + hub.old.limits.total) hub.old id →
+        WaitsAtMost (held + hub.old.limits.total) hub.new id }
     // Nothing is read of a session that is closing, and its waiting bytes are written.
     ensures closing { IfSome (seat_at hub.old id) (λ (s : Seat). s.closing ≡ true →
         (reader.new ≡ reader.old) × ServesClosing hub.old hub.new id (W.written writer.old)
-        (W.written writer.new) result) }
-    ensures refusal { IfErr result (FailsServing hub.old id (W.failures writer.old)
+        (W.written writer.new) result.end) }
+    ensures refusal { IfErr result.end (FailsServing hub.old id (W.failures writer.old)
         (W.failures writer.new) (R.failures reader.old) (R.failures reader.new)) }
     // A device fails once if the error says so, and otherwise never.
     ensures write_failures { W.failures writer.new ≡
-        failures_after (failed_to_write result) (W.failures writer.old) }
+        failures_after (failed_to_write result.end) (W.failures writer.old) }
     ensures read_failures { R.failures reader.new ≡
-        failures_after (failed_to_read result) (R.failures reader.old) }
-    ensures no_session { seat_at hub.old id ≡ None → (result ≡ Err ServeError.NoSession) ×
+        failures_after (failed_to_read result.end) (R.failures reader.old) }
+    ensures no_session { seat_at hub.old id ≡ None → (result.end ≡ Err ServeError.NoSession) ×
         (hub.new ≡ hub.old) × (reader.new ≡ reader.old) × (writer.new ≡ writer.old) }
     ensures turns { SpendsAtMost (W.calls writer.old) (W.calls writer.new) (R.calls reader.old)
-        (R.calls reader.new) turns (IsErrOf result ServeError.TooManyTurns) }
+        (R.calls reader.new) turns (IsErrOf result.end ServeError.TooManyTurns) }
 {
     let Ok(closing) = hub.is_closing(id) else {
-        return Err(ServeError::NoSession);
+        return Visit {
+            end: Err(ServeError::NoSession),
+            rest: 0..0,
+        };
     };
     let mut left = turns;
     if !closing {
-        return serve_open(reader, writer, hub, id, &mut left, buffer);
+        return serve_open(reader, writer, hub, id, &mut left, buffer, held);
     }
-    if let Err(error) = write_out(writer, hub, id, &mut left) {
-        return Err(error);
+    match write_out(writer, hub, id, &mut left) {
+        Ok(()) => Visit {
+            end: Ok(Served::Closed),
+            rest: 0..0,
+        },
+        Err(error) => Visit {
+            end: Err(error),
+            rest: 0..0,
+        },
     }
-    Ok(Served::Closed)
 }
 
 /// Serves a session that is open.
@@ -167,80 +199,156 @@ fn serve_open<R: Source, W: Sink, S: BuildHasher>(
     id: u64,
     turns: &mut u64,
     buffer: &mut [u8],
-) -> Result<Served, ServeError>
+    held: usize,
+) -> Visit
     requires room { 0 < length buffer.now }
     requires is_open { IsOpen hub.old id }
     requires waiting { WhereOpen hub.old id (λ s front.
         HasAnswered hub.old hub.old id s front 0) }
     ensures served { ServesPieces (length buffer.old) W.written R.remaining R.calls R.failures
-        writer.old writer.new reader.old reader.new hub.old hub.new id result }
-    ensures end { IfOk result (EndsBy hub.new id (R.remaining reader.old)
+        writer.old writer.new reader.old reader.new hub.old hub.new id result.end
+        (rest_in result buffer.new) }
+    ensures end { IfOk result.end (EndsBy hub.new id (R.remaining reader.old)
         (R.remaining reader.new)) }
-    ensures refusal { IfErr result (FailsServing hub.old id (W.failures writer.old)
+    ensures whole { held ≡ 2 ^ 64 - 1 → rest_in result buffer.new ≡ [] }
+    ensures in_buffer { (result.rest.start ≤ result.rest.end) ×
+        (result.rest.end ≤ length buffer.new) }
+    ensures bounded { WaitsAtMost (held + hub.old.limits.total) hub.old id →
+        WaitsAtMost (held + hub.old.limits.total) hub.new id }
+    ensures refusal { IfErr result.end (FailsServing hub.old id (W.failures writer.old)
         (W.failures writer.new) (R.failures reader.old) (R.failures reader.new)) }
     ensures write_failures { W.failures writer.new ≡
-        failures_after (failed_to_write result) (W.failures writer.old) }
+        failures_after (failed_to_write result.end) (W.failures writer.old) }
     ensures read_failures { R.failures reader.new ≡
-        failures_after (failed_to_read result) (R.failures reader.old) }
+        failures_after (failed_to_read result.end) (R.failures reader.old) }
     ensures turns { SpendsTurns (W.calls writer.old) (W.calls writer.new)
         (R.calls reader.old) (R.calls reader.new) turns.old turns.new }
-    ensures no_turn_left { IsErrOf result ServeError.TooManyTurns → turns.new ≡ 0 }
+    ensures no_turn_left { IsErrOf result.end ServeError.TooManyTurns → turns.new ≡ 0 }
 {
     laws::answers_go_on();
     laws::answers_are_added();
     if let Err(error) = write_out(writer, hub, id, turns) {
-        return Err(error);
+        return Visit {
+            end: Err(error),
+            rest: 0..0,
+        };
     }
     loop {
         let count = match read_some(reader, buffer, turns) {
-            Ok(0) => return Ok(Served::Ended),
+            Ok(0) => return Visit {
+                end: Ok(Served::Ended),
+                rest: 0..0,
+            },
             Ok(count) => count,
-            Err(halt) => return Err(unread(halt)),
+            Err(halt) => return Visit {
+                end: Err(unread(halt)),
+                rest: 0..0,
+            },
         };
-        let closing = match answer(writer, hub, id, front(buffer, count), turns) {
-            Ok(closing) => closing,
-            Err(error) => return Err(error),
-        };
-        if closing {
-            return Ok(Served::Closed);
+        let answered = answer(writer, hub, id, front(buffer, count), turns, held);
+        match answered.end {
+            Ok(false) => {}
+            Ok(true) => return Visit {
+                end: Ok(Served::Closed),
+                rest: 0..0,
+            },
+            Err(error) => {
+                return Visit {
+                    end: Err(error),
+                    rest: answered.used..count,
+                };
+            }
         }
     }
 }
 
-/// Gives the session a piece, and writes all waiting bytes. Returns whether the session is closing.
+/// The result of giving a session a piece.
+#[derive(Clone, Copy)]
+struct Answered {
+    /// The number of bytes that the session was given, from the beginning of the piece.
+    used: usize,
+    /// Whether the session is closing.
+    end: Result<bool, ServeError>,
+}
+
+/// Gives the session a piece, and writes all replies to it.
 fn answer<W: Sink, S: BuildHasher>(
     writer: &mut W,
     hub: &mut Hub<S>,
     id: u64,
     piece: &[u8],
     turns: &mut u64,
-) -> Result<bool, ServeError>
+    held: usize,
+) -> Answered
     requires { IsOpen hub.old id }
-    ensures answered { WhereOpen hub.old id (λ s front.
-        OnOk result (Serves hub.old hub.new id s (front ++ piece.now) (W.written writer.old)
-        (W.written writer.new) []) ×
-        IfErr result (StopsServing hub.old hub.new id s front piece.now (W.written writer.old)
-        (W.written writer.new))) }
-    ensures closing { IfOk result (IsClosing hub.new id) }
-    ensures is_open { IfOk result (λ closing. closing ≡ false → IsOpen hub.new id) }
-    ensures none_failed { OnOk result (W.failures writer.new ≡ W.failures writer.old) }
-    ensures failures { W.failures writer.new ≡
-        failures_after (failed_to_write result) (W.failures writer.old) }
-    ensures no_read { failed_to_read result ≡ false }
-    ensures refusal { IfErr result (StopsAnswering (W.failures writer.old)
-        (W.failures writer.new) turns.new) }
+    ensures within { result.used ≤ length piece.now }
+    ensures answered { AnswersGiven hub.old hub.new id piece.now (W.written writer.old)
+        (W.written writer.new) result }
+    ensures none_left { OnOk result.end (result.used ≡ length piece.now) }
+    ensures whole { held ≡ 2 ^ 64 - 1 → result.used ≡ length piece.now }
+    ensures ends { EndsAnswering (held + hub.old.limits.total) hub.old hub.new id
+        (W.failures writer.old) (W.failures writer.new) turns.new result }
     ensures turns { Spends (W.calls writer.old) (W.calls writer.new) turns.old turns.new }
 {
-    if let Err(error) = hub.bytes(id, piece) {
-        return Err(unanswered(error));
+    laws::answers_go_on();
+    laws::answers_are_added();
+    let mut answered = answer_part(writer, hub, id, piece, turns, held);
+    while answered.used < piece.len() && answered.end.is_ok() {
+        let part = answer_part(writer, hub, id, beyond(piece, answered.used), turns, held);
+        answered = Answered {
+            used: answered.used + part.used,
+            end: part.end,
+        };
     }
+    answered
+}
+
+/// Gives the session bytes of a piece until more than `held` bytes wait, and writes all waiting bytes.
+fn answer_part<W: Sink, S: BuildHasher>(
+    writer: &mut W,
+    hub: &mut Hub<S>,
+    id: u64,
+    piece: &[u8],
+    turns: &mut u64,
+    held: usize,
+) -> Answered
+    requires { IsOpen hub.old id }
+    ensures within { result.used ≤ length piece.now }
+    ensures answered { AnswersGiven hub.old hub.new id piece.now (W.written writer.old)
+        (W.written writer.new) result }
+    ensures more { result.used < length piece.now → IfOk result.end (λ closing. closing ≡ false) }
+    ensures onward { WaitsAtMost held hub.old id → 0 < length piece.now → 0 < result.used }
+    ensures whole { held ≡ 2 ^ 64 - 1 → result.used ≡ length piece.now }
+    ensures ends { EndsAnswering (held + hub.old.limits.total) hub.old hub.new id
+        (W.failures writer.old) (W.failures writer.new) turns.new result }
+    ensures turns { Spends (W.calls writer.old) (W.calls writer.new) turns.old turns.new }
+{
+    let taken = match hub.bytes_within(id, piece, held) {
+        Ok(taken) => taken,
+        Err(error) => {
+            return Answered {
+                used: piece.len(),
+                end: Err(unanswered(error)),
+            };
+        }
+    };
+    let used = taken.used;
     if let Err(error) = write_out(writer, hub, id, turns) {
-        return Err(error);
+        return Answered {
+            used,
+            end: Err(error),
+        };
     }
     let Ok(closing) = hub.is_closing(id) else {
-        return Err(ServeError::NoSession);
+        return Answered {
+            used,
+            end: Err(ServeError::NoSession),
+        };
     };
-    Ok(closing)
+    Answered {
+        used,
+        end: Ok(closing),
+    }
 }
 
 /// Writes all bytes that wait in the session.

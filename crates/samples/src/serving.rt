@@ -10,6 +10,7 @@ pub(crate) fn run(rt: &impl Print, alloc: Global) -> Result<()> {
     let hasher: BuildHasherDefault<FoldHasher> = BuildHasherDefault::new();
     answer_command(rt, alloc, hasher)?;
     answer_pieces(rt, alloc)?;
+    answer_within(rt, alloc)?;
     push_in_three(rt, alloc)
 }
 
@@ -40,6 +41,16 @@ fn answer_pieces(rt: &impl Print, alloc: Global) -> Result<()> {
     hub.bytes(id, b"PING\r\n")?;
     println!(rt; "{}", hub.out(id)?.escape_ascii())?;
     println!(rt; "{}", hub.is_closing(id)?)?;
+    Ok(())
+}
+
+fn answer_within(rt: &impl Print, alloc: Global) -> Result<()> {
+    let hasher: BuildHasherDefault<FoldHasher> = BuildHasherDefault::new();
+    let mut hub = Hub::new(alloc, Limits::standard(), hasher);
+    let id = hub.open()?;
+    let pings = b"*1\r\n$4\r\nPING\r\n*1\r\n$4\r\nPING\r\n";
+    let taken = hub.bytes_within(id, pings, 0)?;
+    println!(rt; "{} {}", taken.used, hub.out(id)?.escape_ascii())?;
     Ok(())
 }
 

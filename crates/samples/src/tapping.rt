@@ -2,7 +2,7 @@
 
 use anyhow::Result;
 use resp_tap::watch::{Side, watch};
-use resp_tap::{Moment, Seen, Tap, TimedTap};
+use resp_tap::{Moment, Printing, Seen, Tap, TimedTap};
 use resp_value::{Limits, MemorySink};
 use std::alloc::Global;
 use std::str;
@@ -40,9 +40,13 @@ fn measure_reply(rt: &impl Print, alloc: Global) -> Result<()> {
 fn print_traffic(rt: &impl Print, alloc: Global) -> Result<()> {
     let mut tap = TimedTap::new(alloc, &Limits::standard());
     let mut text = MemorySink::new(alloc, 4_096, 4_096)?;
+    let printing = Printing {
+        client: 1,
+        shows_passwords: false,
+    };
     let get = b"*2\r\n$3\r\nGET\r\n$4\r\nhits\r\n";
-    watch(&mut tap, 1, Side::Client, get, None, &mut text)?;
-    watch(&mut tap, 1, Side::Server, b":7\r\n", None, &mut text)?;
+    watch(&mut tap, printing, Side::Client, get, None, &mut text)?;
+    watch(&mut tap, printing, Side::Server, b":7\r\n", None, &mut text)?;
     print!(rt; "{}", str::from_utf8(text.bytes())?)?;
     Ok(())
 }

@@ -1,7 +1,7 @@
 //! Visits of a connection of `resp serve`, over readers and writers that would block.
 
 use super::check_equal;
-use resp_serve::{Next, PIECE, answer};
+use resp_serve::{Next, Rest, Room, answer};
 use resp_server::Hub;
 use resp_value::limits::Limits;
 use std::cell::Cell;
@@ -13,6 +13,9 @@ use std::process::Abort;
 type TestHub = Hub<BuildHasherDefault<FoldHasher>>;
 
 const PING: &[u8] = b"*1\r\n$4\r\nPING\r\n";
+
+/// More bytes than the replies of these tests have.
+const HELD: usize = 1_048_576;
 
 /// The result of a read after all bytes were read.
 #[derive(Clone, Copy)]
@@ -89,9 +92,27 @@ struct Seen {
     written: usize,
 }
 
+/// The memory of the visits, and the rest of session 1.
+#[derive(Drop)]
+struct Memory {
+    room: Room,
+    rest: Rest,
+}
+
+impl Memory {
+    /// Makes the memory of visits that run a command while at most `held` bytes wait.
+    fn new<R: AllocGlobal>(rt: &R, held: usize) -> Self {
+        Memory {
+            room: Room::new(rt.alloc(), held),
+            rest: Rest::new(rt.alloc()),
+        }
+    }
+}
+
 /// Visits session 1 once.
 fn visit(
     hub: &mut TestHub,
+    memory: &mut Memory,
     bytes: &[u8],
     left: usize,
     then: Then,
@@ -111,7 +132,8 @@ fn visit(
         written: &written,
         writes: &writes,
     };
-    let next = answer(client, replies, hub, 1, &mut [0; PIECE], ends);
+    let Memory { room, rest } = memory;
+    let next = answer(client, replies, hub, 1, room, rest, ends);
     Seen {
         next,
         reads: reads.get(),
@@ -130,7 +152,9 @@ fn hub<R: Abort + AllocGlobal>(rt: &R) -> TestHub {
 /// Checks that a visit of a new session is like this.
 fn check_visit<R: Abort + AllocGlobal>(rt: &R, left: usize, then: Then, ends: bool, seen: Seen) {
     let mut hub = hub(rt);
-    check_equal(rt, visit(&mut hub, PING, left, then, ends, 1_000), seen);
+    let mut memory = Memory::new(rt, HELD);
+    let visited = visit(&mut hub, &mut memory, PING, left, then, ends, 1_000);
+    check_equal(rt, visited, seen);
 }
 
 fn seen(next: Next, reads: usize, writes: usize, written: usize) -> Seen {
@@ -166,18 +190,49 @@ fn a_client_that_sends_without_end_is_left_after_16_turns(rt: HostRuntime) {
 #[test]
 fn nothing_is_read_while_a_reply_waits(rt: HostRuntime) {
     let mut hub = hub(&rt);
-    let first = visit(&mut hub, PING, 1, Then::Repeats, true, 3);
+    let mut memory = Memory::new(&rt, HELD);
+    let first = visit(&mut hub, &mut memory, PING, 1, Then::Repeats, true, 3);
     check_equal(&rt, first, seen(Next::Wait, 1, 2, 3));
-    let second = visit(&mut hub, PING, 1, Then::Repeats, true, 0);
+    let second = visit(&mut hub, &mut memory, PING, 1, Then::Repeats, true, 0);
     check_equal(&rt, second, seen(Next::Wait, 0, 1, 0));
-    let third = visit(&mut hub, PING, 0, Then::WouldBlock, true, 1_000);
+    let third = visit(
+        &mut hub,
+        &mut memory,
+        PING,
+        0,
+        Then::WouldBlock,
+        true,
+        1_000,
+    );
     check_equal(&rt, third, seen(Next::Wait, 1, 1, 4));
+}
+
+#[test]
+fn a_command_is_run_only_while_few_bytes_wait(rt: HostRuntime) {
+    let pings = b"*1\r\n$4\r\nPING\r\n*1\r\n$4\r\nPING\r\n*1\r\n$4\r\nPING\r\n";
+    let mut hub = hub(&rt);
+    let mut memory = Memory::new(&rt, 6);
+    // The first reply waits, so the two commands after it are not run.
+    let first = visit(&mut hub, &mut memory, pings, 1, Then::WouldBlock, true, 0);
+    check_equal(&rt, first, seen(Next::Wait, 1, 1, 0));
+    check_equal(&rt, hub.out(1).expect(&rt, "session 1"), b"+PONG\r\n");
+    // Nothing more is run or read while it waits.
+    let second = visit(&mut hub, &mut memory, pings, 1, Then::WouldBlock, true, 3);
+    check_equal(&rt, second, seen(Next::Wait, 0, 2, 3));
+    // Then the second command is run, and its reply waits.
+    let third = visit(&mut hub, &mut memory, pings, 1, Then::WouldBlock, true, 4);
+    check_equal(&rt, third, seen(Next::Wait, 0, 2, 4));
+    check_equal(&rt, hub.out(1).expect(&rt, "session 1"), b"+PONG\r\n");
+    // The third command is run before the client is read again.
+    let last = visit(&mut hub, &mut memory, pings, 0, Then::Ends, true, 14);
+    check_equal(&rt, last, seen(Next::Close, 1, 2, 14));
 }
 
 #[test]
 fn a_session_with_an_error_is_closed_after_its_line(rt: HostRuntime) {
     let mut hub = hub(&rt);
-    let seen = visit(&mut hub, b"?", 1, Then::Repeats, false, 1_000);
+    let mut memory = Memory::new(&rt, HELD);
+    let seen = visit(&mut hub, &mut memory, b"?", 1, Then::Repeats, false, 1_000);
     check_equal(
         &rt,
         (seen.next, seen.reads, seen.writes),
@@ -201,6 +256,7 @@ fn a_writer_that_fails_closes_the_connection(rt: HostRuntime) {
         written: &written,
         writes: &writes,
     };
-    let next = answer(client, replies, &mut hub, 1, &mut [0; PIECE], false);
+    let Memory { room, rest } = &mut Memory::new(&rt, HELD);
+    let next = answer(client, replies, &mut hub, 1, room, rest, false);
     check_equal(&rt, next, Next::Close);
 }

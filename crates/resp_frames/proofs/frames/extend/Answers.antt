@@ -6,11 +6,11 @@ use Rattle.resp_frames.proofs.frames.extend.Goals as goal
 pub returns-in-Err-clause-refused : goal.returns-in-Err-clause-refused
 returns-in-Err-clause-refused c rules front h =
     rejected c.frame_error.result c.in-Err.error _ _ _ front c.args.piece.now h.same_rules c.frame_error.ensures.fault
-    (c.in-Err.ensures.refusal tt front h.given h.read tt)
+    (c.in-Err.ensures.refusal front h.given h.read)
 
 pub returns-clause-whole : goal.returns-clause-whole
 returns-clause-whole c rules front h whole =
-    let heard = c.in-Ok.ensures.value_whole tt front h.given h.read tt whole in
+    let heard = c.in-Ok.ensures.value_whole front h.given h.read whole in
     let text = take c.in-Ok.scanned.used c.args.piece.now in
     let added : c.extend_from_slice.new.self.items ≡ c.args.held.now.bytes.items ++ text = grind (arith, common_steps) in
     record {
@@ -21,7 +21,7 @@ returns-clause-whole c rules front h whole =
 
 pub returns-clause-more : goal.returns-clause-more
 returns-clause-more c rules front h more =
-    let heard = c.in-Ok.ensures.used_up tt front h.given h.read tt more in
+    let heard = c.in-Ok.ensures.used_up front h.given h.read more in
     let text = take c.in-Ok.scanned.used c.args.piece.now in
     let added : c.extend_from_slice.new.self.items ≡ c.args.held.now.bytes.items ++ text = grind (arith, common_steps) in (
       heard.no_value,

@@ -1,11 +1,12 @@
-use Rattle.std.proofs.Common.{◌≡◌, ◌+◌, ◌-◌, length, take, drop, refl, sym, ap, subst, ◌∙◌, arith, length-drop}
+use Rattle.std.proofs.Common.{◌≡◌, ◌+◌, ◌-◌, ◌++◌, length, take, drop, refl, sym, ap, subst, ◌∙◌, arith, length-drop, take_all}
 use Rattle.std.proofs.lemmas.List.{take_rest}
+use Rattle.resp_value.specs.Bounds.{Bounds}
 use Rattle.resp_session.specs.Answers.{server_rules}
 use Rattle.resp_session.specs.Fitting.{FitsStore}
-use Rattle.resp_server.specs.Answering.{AnswersBytes}
+use Rattle.resp_server.specs.Answering.{AnswersBytes, IsAnswered}
 use Rattle.resp_server.specs.Reading.{ReadsBy}
 use Rattle.resp_server.specs.declared.session.Session.{Session}
-use Rattle.resp_server.proofs.AnsweredPieces.{none_answered, turn_answered, closed_answered, cut_short}
+use Rattle.resp_server.proofs.AnsweredPieces.{none_answered, some_used, turn_answered, closed_answered, cut_short}
 use Rattle.resp_server.proofs.answer.answer.Goals as goal
 
 pub loop-used-init : goal.loop-used-init
@@ -20,6 +21,8 @@ loop-used-init g c = record {
   taking = c.requires.taking;
   within = omega arith;
   few = omega arith;
+  bounded = λ before. before;
+  first = λ none. omega arith;
 }
 
 pub take_turn-requires-clause-reading : goal.take_turn-requires-clause-reading
@@ -57,11 +60,14 @@ returns-then-session-clause-answered g c front taken =
     let turn = subst (λ limits. AnswersBytes limits c.loop-used.shared.store c.take_turn.new.shared.store c.loop-used.session c.take_turn.new.session
     before.rest (take (length c.args.piece.now - c.loop-used.used) (drop c.loop-used.used c.args.piece.now)) c.in-Ok.turn.used c.in-Ok.turn.commands)
     i.same_limits (c.in-Ok.ensures.answered before.rest (before.taking i.is_open)) in
-    closed_answered c.answers_end.ensures c.args.shared.now.limits c.args.shared.now.store c.take_turn.new.shared.store c.args.session.now
+    let all = length c.args.piece.now in
+    subst (λ t. IsAnswered c.args.shared.now.limits c.args.shared.now.store c.take_turn.new.shared.store c.args.session.now c.take_turn.new.session
+    (front ++ t) (c.loop-used.commands + c.in-Ok.turn.commands)) (sym (take_all all c.args.piece.now (omega arith)))
+    (closed_answered c.answers_end.ensures c.args.shared.now.limits c.args.shared.now.store c.take_turn.new.shared.store c.args.session.now
     c.take_turn.new.session front c.args.piece.now (c.loop-used.used + c.in-Ok.turn.used) (c.loop-used.commands + c.in-Ok.turn.commands) c.if-session.true
     (turn_answered c.answers_go_on.ensures c.args.shared.now.limits c.args.shared.now.store c.loop-used.shared.store c.take_turn.new.shared.store
     c.args.session.now c.loop-used.session c.take_turn.new.session front c.args.piece.now c.loop-used.used c.in-Ok.turn.used c.loop-used.commands
-    c.in-Ok.turn.commands i.same_id i.is_open before turn)
+    c.in-Ok.turn.commands i.same_id i.is_open before turn))
 
 pub loop-used-preserved : goal.loop-used-preserved
 loop-used-preserved g c =
@@ -76,6 +82,9 @@ loop-used-preserved g c =
     let most = c.in-Ok.ensures.at_most_one in
     let test = c.loop-used-test.true in
     let some = one.onward c.if-session.false (omega (arith, size, test)) in
+    let short = c.take_turn.ensures.short in
+    let room = c.if-len-held.true in
+    let same = ap (λ (l : Bounds). l.total) i.same_limits in
     record {
       answered = λ front taken.
           let a = i.answered front taken in
@@ -93,4 +102,18 @@ loop-used-preserved g c =
       taking = (one.rest, one.taking c.if-session.false);
       within = omega (arith, within, size, before);
       few = omega (arith, few, most, some);
+      bounded = λ start. omega (arith, room, short, same);
+      first = λ none. absurd (omega (arith, some, none));
+    }
+
+pub returns-else-len-held-clause-within : goal.returns-else-len-held-clause-within
+returns-else-len-held-clause-within g c =
+    let i = c.loop-used.invariant in
+    let within = i.within in
+    let over = c.if-len-held.false in
+    record {
+      within = within;
+      stops = λ left. (i.is_open, omega (arith, over), omega arith);
+      onward = λ few some. some_used c.loop-used.used (length c.args.session.now.out.items) (length c.loop-used.session.out.items) c.args.held i.first
+          (omega (arith, over)) few;
     }

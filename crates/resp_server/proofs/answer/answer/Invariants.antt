@@ -1,4 +1,4 @@
-use Rattle.std.proofs.Common.{◌≡◌, ◌++◌, ◌-◌, ◌≤◌, ℕ, List, false, length, take}
+use Rattle.std.proofs.Common.{◌≡◌, ◌++◌, ◌+◌, ◌-◌, ◌≤◌, ℕ, List, false, length, take}
 use Rattle.resp_session.specs.Answers.{server_rules}
 use Rattle.resp_session.specs.Fitting.{FitsStore}
 use Rattle.resp_server.specs.Answering.{IsAnswered}
@@ -17,6 +17,9 @@ invariant-loop-used g l = record {
   taking : (front : List ℕ) × HasReadFront l.session.decoder front;
   within : l.used ≤ length l.piece;
   few : l.commands ≤ l.used;
+  bounded : length l.fn.session.out.items ≤ l.held + l.fn.shared.limits.total →
+      length l.session.out.items ≤ l.held + l.fn.shared.limits.total;
+  first : l.used ≡ 0 → length l.session.out.items ≤ length l.fn.session.out.items;
 }
 
 abbrev pub decreases-loop-used : goal.decreases-loop-used

@@ -1,8 +1,8 @@
-use Rattle.std.proofs.Common.{◌∷◌, ap, sym, subst, ◌∙◌}
+use Rattle.std.proofs.Common.{◌∷◌, length, ap, sym, subst, ◌∙◌, arith}
 use Rattle.resp_session.specs.Fitting.{FitsEffect, FitsStore}
 use Rattle.resp_session.specs.Stores.{effect_of}
 use Rattle.resp_server.specs.Words.{words_left}
-use Rattle.resp_server.proofs.ValueAnswers.{either_way}
+use Rattle.resp_server.proofs.ValueAnswers.{either_way, grown}
 use Rattle.resp_server.proofs.answer_value.run_command.Goals as goal
 
 pub run-requires : goal.run-requires
@@ -25,3 +25,15 @@ returns-clause-stored g c =
     (λ done. subst (FitsStore c.args.shared.now.limits) (sym (done.store_of ∙
     ap (λ asked. (effect_of c.args.shared.now.store c.args.session.now.version c.args.session.now.id asked).store) c.operation_of-operation.ensures)) fits.store)
     (λ same. subst (FitsStore c.args.shared.now.limits) (sym same.same_store) c.requires.stored)
+
+pub returns-clause-short : goal.returns-clause-short
+returns-clause-short g c =
+    let (written, spelled) = c.requires.spelled in
+    let version = c.args.session.now.version in
+    let fits = subst (λ asked. FitsEffect c.args.shared.now.limits
+    (effect_of c.args.shared.now.store version c.args.session.now.id asked)) (sym c.operation_of-operation.ensures)
+    (c.effects_fit.ensures c.args.shared.now.limits c.args.shared.now.store version c.args.session.now.id
+    (c.args.name.now ∷ words_left c.args.arguments) written c.are_in_range.ensures c.requires.stored c.args.session.now.small spelled) in
+    either_way c.run.result c.run.ensures.done c.run.ensures.unchanged
+    (λ done. grown c.args.session.now.out.items _ c.run.new.session.out.items c.args.shared.now.limits.total done.replied fits.reply.within_total)
+    (λ same. let none = ap length same.same_out in omega (arith, none))

@@ -1,14 +1,19 @@
 use Rattle.std.proofs.Common.{codes}
+use Rattle.resp_tap.specs.Secrets.{printed_words}
 use Rattle.resp_tap.specs.Texts.{numbered_line, words_line}
 use Rattle.resp_print.proofs.WrittenLemmas.{writes_next, writes_part}
+use Rattle.resp_tap.proofs.SecretWords.{words_line_as}
 use Rattle.resp_tap.proofs.print.write_command.Goals as goal
 
 pub returns-in_err-write_numbered_line : goal.returns-in_err-write_numbered_line
 returns-in_err-write_numbered_line g c =
-    writes_part c.from_residual.result _ _ _ _ (numbered_line c.args.client (codes " command ") c.args.number c.args.stamp) (words_line c.args.words.now)
-    c.from_residual.ensures.0 c.in_err-write_numbered_line.ensures
+    let p = c.args.printing in
+    writes_part c.from_residual.result _ _ _ _ (numbered_line p.client (codes " command ") c.args.number c.args.stamp)
+    (words_line (printed_words p.shows_passwords c.args.words.now)) c.from_residual.ensures.0 c.in_err-write_numbered_line.ensures
 
 pub returns : goal.returns
 returns g c =
-    writes_next c.write_words_line.result _ _ _ _ _ _ (numbered_line c.args.client (codes " command ") c.args.number c.args.stamp) (words_line c.args.words.now)
-    c.in_ok-write_numbered_line.ensures c.write_words_line.ensures
+    let p = c.args.printing in
+    writes_next c.write_words_line.result _ _ _ _ _ _ (numbered_line p.client (codes " command ") c.args.number c.args.stamp)
+    (words_line (printed_words p.shows_passwords c.args.words.now)) c.in_ok-write_numbered_line.ensures
+    (words_line_as _ _ _ _ _ _ _ c.secrets_for.ensures c.write_words_line.ensures)

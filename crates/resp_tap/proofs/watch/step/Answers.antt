@@ -1,7 +1,7 @@
 use Rattle.std.proofs.Common.{◌≡◌, ℕ, List, Option, length, true, false, ap, sym, subst}
 use Rattle.resp_tap.specs.Taps.{tap_state}
 use Rattle.resp_tap.specs.Times.{KeepsTimes}
-use Rattle.resp_tap.specs.Watches.{SeesFirst, SeesSent, WhereSent}
+use Rattle.resp_tap.specs.Watches.{SeesFirst, is_read_of, SeesSent, WhereSent}
 use Rattle.resp_tap.specs.declared.moment.Moment.{Moment}
 use Rattle.resp_tap.specs.declared.seen.Seen.TheVariants as seen
 use Rattle.resp_tap.specs.declared.seen.Step.{Step}
@@ -12,9 +12,9 @@ use Rattle.resp_tap.proofs.watch.step.Goals as goal
 
 -- what a side's own call says of a piece is what is said of either side
 sees_first : (own side : Side) (now : Option Moment) (old new : TimedTap) (piece : List ℕ) (step : Step) → side ≡ own →
-    ((tap_state old.tap).is_read ≡ true → WhereSent own old.tap (λ front.
+    (is_read_of own (tap_state old.tap) ≡ true → WhereSent own old.tap (λ front.
     SeesSent own (tap_state old.tap) new.tap front piece step.used step.seen × KeepsTimes now old new)) →
-    ((tap_state old.tap).is_read ≡ false → (new ≡ old) × (step ≡ record { used = length piece; seen = seen.Nothing })) →
+    (is_read_of own (tap_state old.tap) ≡ false → (new ≡ old) × (step ≡ record { used = length piece; seen = seen.Nothing })) →
     SeesFirst side now old new piece step.used step.seen
 sees_first own side now old new piece step is read unread =
     subst (λ s. SeesFirst s now old new piece step.used step.seen) (sym is) (record {

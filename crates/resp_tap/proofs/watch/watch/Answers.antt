@@ -39,11 +39,11 @@ loop-rest-preserved g c =
             seen.1,
             seen.2,
             refl,
-            subst (λ rest. WatchesAll c.args.client c.args.side c.args.now more watched.new.tap new rest (g.W.Sink.written watched.new.writer) after
+            subst (λ rest. WatchesAll c.args.printing c.args.side c.args.now more watched.new.tap new rest (g.W.Sink.written watched.new.writer) after
                 (g.W.Sink.failures watched.new.writer) failures' later) (take_rest c.loop-rest.rest.now watched.result.used) beyond,
           ) in (
             all.0,
-            subst (λ told. WatchesAll c.args.client c.args.side c.args.now all.0 c.args.tap.now new c.args.piece.now
+            subst (λ told. WatchesAll c.args.printing c.args.side c.args.now all.0 c.args.tap.now new c.args.piece.now
                 (g.W.Sink.written c.args.writer.now) after (g.W.Sink.failures c.args.writer.now) failures' told)
                 (error_of_three c.loop-rest.printed watched.result.printed later ∙ ap (λ told. first_error told later) (sym c.first_error-printed.ensures)) all.1,
           );
@@ -55,7 +55,7 @@ returns-clause-watches g c =
     let all = c.loop-rest.invariant.so_far [] c.loop-rest.tap (g.W.Sink.written c.loop-rest.writer) (g.W.Sink.failures c.loop-rest.writer) (Ok tt)
     (empty, refl, refl, refl, refl) in (
       all.0,
-      subst (λ told. WatchesAll c.args.client c.args.side c.args.now all.0 c.args.tap.now c.loop-rest.tap c.args.piece.now
+      subst (λ told. WatchesAll c.args.printing c.args.side c.args.now all.0 c.args.tap.now c.loop-rest.tap c.args.piece.now
           (g.W.Sink.written c.args.writer.now) (g.W.Sink.written c.loop-rest.writer) (g.W.Sink.failures c.args.writer.now)
           (g.W.Sink.failures c.loop-rest.writer) told) (no_error_after c.loop-rest.printed) all.1,
     )

@@ -10,8 +10,8 @@ abbrev pub invariant-loop-rest : goal.invariant-loop-rest
 invariant-loop-rest g l = record {
   other : KeepsOther l.side l.initial.tap.tap l.tap.tap;
   so_far : (more : List Seen) (new : TimedTap) (after : Option (List ℕ)) (failures' : ℕ) (later : Result (Unit {0}) PrintError) →
-      WatchesAll l.client l.side l.now more l.tap new l.rest (g.W.Sink.written l.writer) after (g.W.Sink.failures l.writer) failures' later →
-      (all : List Seen) × WatchesAll l.client l.side l.now all l.initial.tap new l.piece (g.W.Sink.written l.initial.writer) after
+      WatchesAll l.printing l.side l.now more l.tap new l.rest (g.W.Sink.written l.writer) after (g.W.Sink.failures l.writer) failures' later →
+      (all : List Seen) × WatchesAll l.printing l.side l.now all l.initial.tap new l.piece (g.W.Sink.written l.initial.writer) after
       (g.W.Sink.failures l.initial.writer) failures' (first_error l.printed later);
 }
 

@@ -12,6 +12,6 @@ returns-clause-watches g c = (
     of_command = c.asked-asked.ensures;
     text = subst (λ stamp. Prints (g.W.Sink.written c.args.writer.now) (g.W.Sink.written c.write_seen-printed.new.writer)
         (g.W.Sink.failures c.args.writer.now) (g.W.Sink.failures c.write_seen-printed.new.writer) c.write_seen-printed.result
-        (seen_text c.args.client stamp c.step-step.result.seen) (levels_of c.step-step.result.seen)) c.stamp_of-stamp.ensures c.write_seen-printed.ensures;
+        (seen_text c.args.printing stamp c.step-step.result.seen) (levels_of c.step-step.result.seen)) c.stamp_of-stamp.ensures c.write_seen-printed.ensures;
   },
 )

@@ -1,61 +1,72 @@
-use Rattle.std.proofs.Common.{◌++◌, Err, ap, subst, sym}
-use Rattle.resp_server.specs.Handling.{HasCutShort}
-use Rattle.resp_wire.specs.Serving.{StopsServing}
-use Rattle.resp_wire.proofs.Seated.{at_open, is_open, not_there, open_is_there, where_open}
-use Rattle.resp_wire.proofs.ServedTexts.{answered_at, answered_is_there, first_waits, sent_is_there, serves_given}
-use Rattle.resp_wire.proofs.ServeStops.{memory_was_wanting, stops_writing}
+use Rattle.std.proofs.Common.{◌≡◌, ◌+◌, ◌-◌, ◌<◌, ◌≤◌, Ok, length, drop, refl, sym, ap, subst, ◌∙◌, arith, length-drop}
+use Rattle.resp_wire.specs.Serving.{AnswersGiven, EndsAnswering, IsOpen}
+use Rattle.resp_wire.proofs.AnsweredParts.{ends_more, if_ok, not_ok, ok_end, part_more}
+use Rattle.resp_wire.proofs.Seated.{none_is_few}
+use Rattle.resp_wire.proofs.Turning.{spends_more}
 use Rattle.resp_wire.proofs.serve.answer.Goals as goal
 
-pub returns-in-Err-clause-answered : goal.returns-in-Err-clause-answered
-returns-in-Err-clause-answered g c =
+pub loop-answered-init : goal.loop-answered-init
+loop-answered-init g c = record {
+  within = c.answer_part-answered.ensures.within;
+  answered = c.answer_part-answered.ensures.answered;
+  more = c.answer_part-answered.ensures.more;
+  whole = c.answer_part-answered.ensures.whole;
+  ends = c.answer_part-answered.ensures.ends;
+  turns = c.answer_part-answered.ensures.turns;
+}
+
+pub answer_part-part-requires : goal.answer_part-part-requires
+answer_part-part-requires g c =
+    let i = c.loop-answered.invariant in
+    let n = c.loop-answered.answered.used in
+    let (closing, is) = ok_end c.loop-answered.answered.end (sym c.is_ok.ensures.value ∙ c.if-is_ok.true) in
+    let ends = subst (λ e. EndsAnswering (c.args.held + c.args.hub.now.limits.total) c.args.hub.now c.loop-answered.hub c.args.id
+    (g.W.Sink.failures c.args.writer.now) (g.W.Sink.failures c.loop-answered.writer) c.loop-answered.turns (record { used = n; end = e })) is i.ends in
+    ends.is_open (if_ok c.loop-answered.answered.end closing is (i.more c.loop-answered-test.true))
+
+pub loop-answered-smaller : goal.loop-answered-smaller
+loop-answered-smaller g c =
+    let i = c.loop-answered.invariant in
+    let n = c.loop-answered.answered.used in
+    let (closing, is) = ok_end c.loop-answered.answered.end (sym c.is_ok.ensures.value ∙ c.if-is_ok.true) in
+    let ends = subst (λ e. EndsAnswering (c.args.held + c.args.hub.now.limits.total) c.args.hub.now c.loop-answered.hub c.args.id
+    (g.W.Sink.failures c.args.writer.now) (g.W.Sink.failures c.loop-answered.writer) c.loop-answered.turns (record { used = n; end = e })) is i.ends in
+    let left = ap length c.beyond.ensures ∙ length-drop n c.args.piece.now in
+    let test = c.loop-answered-test.true in
+    let some = c.answer_part-part.ensures.onward (none_is_few c.loop-answered.hub c.args.id c.args.held ends.sent) (omega (arith, left, test)) in
+    omega (arith, some, test)
+
+pub loop-answered-preserved : goal.loop-answered-preserved
+loop-answered-preserved g c =
+    let i = c.loop-answered.invariant in
     let old = c.args.hub.now in
-    let new = c.bytes.new.self in
+    let cur = c.loop-answered.hub in
+    let new = c.answer_part-part.new.hub in
     let id = c.args.id in
     let piece = c.args.piece.now in
+    let n = c.loop-answered.answered.used in
+    let part = c.answer_part-part.result in
     let held = g.W.Sink.written c.args.writer.now in
-    where_open old id _ (λ s here not_closing front taken.
-    let (commands, cut) = memory_was_wanting c.in-Err.error (λ e. not_there old id (open_is_there old id c.requires) (c.in-Err.ensures.none (ap Err e)))
-    (HasCutShort old new id s front piece) (at_open old id _ s front c.in-Err.ensures.cut_short here not_closing taken) in
-    (tt, subst (StopsServing old new id s front piece held held) (sym c.unanswered.ensures) (first_waits old new id s front piece held commands here cut)))
-
-pub write_out-requires : goal.write_out-requires
-write_out-requires g c =
-    let old = c.args.hub.now in
-    let id = c.args.id in
-    let o = c.requires in
-    answered_is_there old c.bytes.new.self id o.seat (o.front ++ c.args.piece.now) c.in_default.field-0.commands o.here
-    (answered_at old c.bytes.new.self id c.args.piece.now c.in_default.field-0.commands c.in_default.ensures.answered o.seat o.front o.here o.not_closing
-    o.taken)
-
-pub returns-in-Err-write_out-clause-answered : goal.returns-in-Err-write_out-clause-answered
-returns-in-Err-write_out-clause-answered g c =
-    let old = c.args.hub.now in
-    let given = c.bytes.new.self in
-    let new = c.write_out.new.hub in
-    let id = c.args.id in
-    let piece = c.args.piece.now in
-    let held = g.W.Sink.written c.args.writer.now in
-    let held' = g.W.Sink.written c.write_out.new.writer in
-    let (waits, some, sent) = c.in-Err-write_out.ensures.part in
-    where_open old id _ (λ s here not_closing front taken. (
-      tt,
-      stops_writing old given new id s front piece held held' waits (g.W.Sink.failures c.args.writer.now) (g.W.Sink.failures c.write_out.new.writer)
-          c.write_out.new.turns c.in-Err-write_out.error c.in-Err-write_out.ensures.refusal some
-          (serves_given old given new id s (front ++ piece) held held' waits c.in_default.field-0.commands
-          (answered_at old given id piece c.in_default.field-0.commands c.in_default.ensures.answered s front here not_closing taken) sent),
-    ))
-
-pub returns-in_default-is_closing-clause-answered :
-    goal.returns-in_default-is_closing-clause-answered
-returns-in_default-is_closing-clause-answered g c = absurd (not_there c.write_out.new.hub c.args.id
-    (sent_is_there c.bytes.new.self c.write_out.new.hub c.args.id (g.W.Sink.written c.args.writer.now) (g.W.Sink.written c.write_out.new.writer) _
-    c.in_default-write_out.ensures.sent) c.in_default-is_closing.ensures.none)
-
-pub returns-in_default-is_closing-clause-refusal :
-    goal.returns-in_default-is_closing-clause-refusal
-returns-in_default-is_closing-clause-refusal g c = absurd (not_there c.write_out.new.hub c.args.id
-    (sent_is_there c.bytes.new.self c.write_out.new.hub c.args.id (g.W.Sink.written c.args.writer.now) (g.W.Sink.written c.write_out.new.writer) _
-    c.in_default-write_out.ensures.sent) c.in_default-is_closing.ensures.none)
-
-pub returns-clause-is_open : goal.returns-clause-is_open
-returns-clause-is_open g c not = is_open c.write_out.new.hub c.args.id c.in-Ok.closing c.in-Ok.ensures.closing not c.is_closing.ensures.taking
+    let held' = g.W.Sink.written c.loop-answered.writer in
+    let held'' = g.W.Sink.written c.answer_part-part.new.writer in
+    let (closing, is) = ok_end c.loop-answered.answered.end (sym c.is_ok.ensures.value ∙ c.if-is_ok.true) in
+    let ends = subst (λ e. EndsAnswering (c.args.held + old.limits.total) old cur id (g.W.Sink.failures c.args.writer.now)
+    (g.W.Sink.failures c.loop-answered.writer) c.loop-answered.turns (record { used = n; end = e })) is i.ends in
+    let before = subst (λ e. AnswersGiven old cur id piece held held' (record { used = n; end = e })) is i.answered in
+    let after = subst (λ text. AnswersGiven cur new id text held' held'' part) c.beyond.ensures c.answer_part-part.ensures.answered in
+    let open_now = ends.is_open (if_ok c.loop-answered.answered.end closing is (i.more c.loop-answered-test.true)) in
+    let left = ap length c.beyond.ensures ∙ length-drop n piece in
+    let within = c.answer_part-part.ensures.within in
+    let test = c.loop-answered-test.true in
+    record {
+      within = omega (arith, within, left, test);
+      answered = part_more c.answers_go_on.ensures c.answers_are_added.ensures old cur new id piece n part.used closing part.end held held' held'' before
+          open_now after;
+      more = λ less. c.answer_part-part.ensures.more (omega (arith, less, left, test));
+      whole = λ all. absurd (let used = i.whole all in omega (arith, used, test));
+      ends = ends_more c.args.held old cur new id (g.W.Sink.failures c.args.writer.now) (g.W.Sink.failures c.loop-answered.writer)
+          (g.W.Sink.failures c.answer_part-part.new.writer) c.loop-answered.turns c.answer_part-part.new.turns n part.used closing part.end ends
+          c.answer_part-part.ensures.ends;
+      turns = spends_more (g.W.Sink.calls c.args.writer.now) (g.W.Sink.calls c.loop-answered.writer) (g.W.Sink.calls c.answer_part-part.new.writer)
+          c.args.turns.now c.loop-answered.turns c.answer_part-part.new.turns i.turns c.answer_part-part.ensures.turns;
+    }

@@ -1,13 +1,16 @@
 use Rattle.std.specs.Prelude.{⊤}
 use Rattle.std.specs.List.{concat}
-use Rattle.std.proofs.Common.{rules, refl, Err, false, [], ◌∷◌, ◌++◌, ◌≡◌, ap, subst, sym, take, ◌∙◌, length}
+use Rattle.std.proofs.lemmas.List.{append-nil, length-take-le}
+use Rattle.std.proofs.Common.{rules, arith, ◌+◌, ◌-◌, ◌≤◌, drop, refl, Err, false, [], ◌∷◌, ◌++◌, ◌≡◌, ap, subst, sym, take, ◌∙◌, length}
 use Rattle.resp_server.specs.Handling.{HasAnswered, WhereOpen}
-use Rattle.resp_wire.specs.Serving.{AnswersBefore, FailsServing, Serves, StopsServing, is_of_reader}
+use Rattle.resp_server.specs.Hubs.{HubState}
+use Rattle.resp_wire.specs.Serving.{AnswersBefore, AnswersGiven, EndsAnswering, FailsServing, Serves, StopsServing, is_of_reader}
 use Rattle.resp_wire.specs.Pieces.{ReadsNothing}
 use Rattle.resp_wire.specs.Turns.{WereRead}
+use Rattle.resp_wire.proofs.AnsweredParts.{given_whole, may_leave, part_stops, rest_of, still_few}
 use Rattle.resp_wire.proofs.Pieces.{all_read, gives, halted, only_pieces}
-use Rattle.resp_wire.proofs.Seated.{at_open, where_open}
-use Rattle.resp_wire.proofs.ServedTexts.{nothing_before, open_is, piece_serves, piece_stops, sent_is_open, serves_nothing}
+use Rattle.resp_wire.proofs.Seated.{at_open, sent_few, where_open}
+use Rattle.resp_wire.proofs.ServedTexts.{leaves_none, nothing_before, open_is, piece_serves, sent_is_open, serves_nothing}
 use Rattle.resp_wire.proofs.ServeStops.{fails_reading, no_turn_to_read, stops_reading, stops_writing}
 use Rattle.resp_wire.proofs.Exchanges.{spends_writes}
 use Rattle.resp_wire.proofs.Turning.{end_after, spends_both, spends_nothing}
@@ -22,6 +25,9 @@ returns-in-Err-clause-served g c =
     let held' = g.W.Sink.written c.write_out.new.writer in
     let (waits, some, sent) = c.in-Err.ensures.part in (
       [],
+      [],
+      refl,
+      leaves_none (Err c.in-Err.error),
       only_pieces (length c.args.buffer.now) g.R.Source.remaining g.R.Source.calls g.R.Source.failures c.args.reader.now c.args.reader.now [] (is_of_reader c.in-Err.error) refl
           c.in-Err.ensures.no_read,
       where_open old id _ (λ s here not_closing front taken. (
@@ -33,6 +39,12 @@ returns-in-Err-clause-served g c =
         nothing_before old id s front held held',
       )),
     )
+
+pub returns-in-Err-clause-bounded : goal.returns-in-Err-clause-bounded
+returns-in-Err-clause-bounded g c =
+    let (waits, some, sent) = c.in-Err.ensures.part in
+    sent_few c.args.hub.now c.write_out.new.hub c.args.id (g.W.Sink.written c.args.writer.now) (g.W.Sink.written c.write_out.new.writer) waits
+    (c.args.held + c.args.hub.now.limits.total) sent
 
 pub loop-count-init : goal.loop-count-init
 loop-count-init g c =
@@ -53,6 +65,8 @@ loop-count-init g c =
         )),
       );
       is_open = sent_is_open old new id held held' [] c.requires.is_open sent;
+      same_limits = ap (λ (h : HubState). h.limits) sent.state;
+      bounded = sent_few old new id held held' [] (c.args.held + old.limits.total) sent;
       spends = spends_writes (g.W.Sink.calls c.args.writer.now) (g.W.Sink.calls c.write_out.new.writer) (g.R.Source.calls c.args.reader.now) c.args.turns.now
           c.write_out.new.turns c.write_out.ensures.turns;
       writes = c.in_default.ensures.none_failed;
@@ -69,6 +83,9 @@ returns-in-Ok-eq0-clause-served g c =
     let none : c.in-Ok-eq0.field-0 ≡ 0 = search rules in
     let (pieces, given, served) = c.loop-count.invariant.served in (
       pieces,
+      concat pieces,
+      sym (append-nil (concat pieces)),
+      refl,
       record {
         between = c.loop-count.reader;
         given = given;
@@ -109,6 +126,9 @@ returns-in-Err-read_some-clause-served g c =
     let held' = g.W.Sink.written c.loop-count.writer in
     let (pieces, given, served) = c.loop-count.invariant.served in (
       pieces,
+      concat pieces,
+      sym (append-nil (concat pieces)),
+      leaves_none (Err c.unread.result),
       record {
         between = c.loop-count.reader;
         given = given;
@@ -148,60 +168,76 @@ returns-in-Err-read_some-clause-no_turn_left g c is =
     no_turn_to_read _ _ (g.R.Source.failures c.loop-count.reader) (g.R.Source.failures c.read_some.new.reader) c.read_some.new.turns c.unread.result refl
     (c.unread.ensures.stops _ _ _ c.in-Err-read_some.ensures.halted) is
 
-pub returns-in-Err-answer-clause-served : goal.returns-in-Err-answer-clause-served
-returns-in-Err-answer-clause-served g c =
+pub returns-in-Err-end-clause-served : goal.returns-in-Err-end-clause-served
+returns-in-Err-end-clause-served g c =
     let id = c.args.id in
     let (pieces, given, served) = c.loop-count.invariant.served in
     let into = c.read_some.new.into in
     let n = c.in-Ok.count in
-    let error = c.in-Err-answer.error in
+    let used = c.answer-answered.result.used in
+    let error = c.in-Err-end.error in
+    let held = g.W.Sink.written c.args.writer.now in
     let held' = g.W.Sink.written c.loop-count.writer in
-    let held'' = g.W.Sink.written c.answer.new.writer in
+    let held'' = g.W.Sink.written c.answer-answered.new.writer in
     let cur = c.loop-count.hub in
-    let new = c.answer.new.hub in
+    let new = c.answer-answered.new.hub in
+    let ends = subst (λ e. EndsAnswering (c.args.held + cur.limits.total) cur new id (g.W.Sink.failures c.loop-count.writer)
+    (g.W.Sink.failures c.answer-answered.new.writer) c.answer-answered.new.turns (record { used = used; end = e })) c.in-Err-end.is
+    c.answer-answered.ensures.ends in
+    let answered = subst (λ e. AnswersGiven cur new id c.front.result.now held' held'' (record { used = used; end = e })) c.in-Err-end.is
+    c.answer-answered.ensures.answered in
+    let within : used ≤ n =
+    omega (arith, c.answer-answered.ensures.within, ap length c.front.ensures, length-take-le n into c.in-Ok.ensures.within) in
     let given_all = gives (length c.args.buffer.now) g.R.Source.remaining g.R.Source.calls g.R.Source.failures c.args.reader.now c.loop-count.reader c.read_some.new.reader pieces into n
     given
     c.in-Ok.ensures.within (search rules) (search rules) c.in-Ok.ensures.read c.in-Ok.ensures.once c.in-Ok.ensures.none_failed in (
       pieces ++ take n into ∷ [],
+      concat pieces ++ take used (take n into),
+      rest_of pieces into n used within,
+      may_leave (g.W.Sink.failures c.loop-count.writer) (g.W.Sink.failures c.answer-answered.new.writer) c.answer-answered.new.turns error
+          (take (n - used) (drop used into)) ends.refusal,
       only_pieces (length c.args.buffer.now) g.R.Source.remaining g.R.Source.calls g.R.Source.failures c.args.reader.now c.read_some.new.reader (pieces ++ take n into ∷ [])
-          (is_of_reader error) given_all c.in-Err-answer.ensures.no_read,
-      piece_stops c.answers_go_on.ensures c.answers_are_added.ensures c.args.hub.now cur new id pieces (take n into)
-          (g.W.Sink.written c.args.writer.now) held' held'' error served c.loop-count.invariant.is_open
-          (subst (λ z. WhereOpen cur id (λ s front. ⊤ × StopsServing cur new id s front z held' held'' error)) c.front.ensures
-          c.in-Err-answer.ensures.answered),
+          (is_of_reader error) given_all ends.no_read,
+      part_stops c.answers_go_on.ensures c.answers_are_added.ensures c.args.hub.now cur new id pieces into n used held held' held'' error served
+          c.loop-count.invariant.is_open
+          (subst (λ z. WhereOpen cur id (λ s front. ⊤ × StopsServing cur new id s front (take used z) held' held'' error)) c.front.ensures answered),
     )
 
-pub returns-in-Err-answer-clause-turns : goal.returns-in-Err-answer-clause-turns
-returns-in-Err-answer-clause-turns g c = spends_both (g.W.Sink.calls c.args.writer.now) (g.W.Sink.calls c.loop-count.writer)
-    (g.W.Sink.calls c.answer.new.writer) (g.R.Source.calls c.args.reader.now) (g.R.Source.calls c.loop-count.reader) (g.R.Source.calls c.read_some.new.reader)
-    c.args.turns.now c.loop-count.turns c.read_some.new.turns c.answer.new.turns c.loop-count.invariant.spends c.read_some.ensures.turns c.answer.ensures.turns
+pub returns-in-Err-end-clause-turns : goal.returns-in-Err-end-clause-turns
+returns-in-Err-end-clause-turns g c = spends_both (g.W.Sink.calls c.args.writer.now) (g.W.Sink.calls c.loop-count.writer)
+    (g.W.Sink.calls c.answer-answered.new.writer) (g.R.Source.calls c.args.reader.now) (g.R.Source.calls c.loop-count.reader) (g.R.Source.calls c.read_some.new.reader)
+    c.args.turns.now c.loop-count.turns c.read_some.new.turns c.answer-answered.new.turns c.loop-count.invariant.spends c.read_some.ensures.turns c.answer-answered.ensures.turns
 
-pub returns-then-closing-clause-served : goal.returns-then-closing-clause-served
-returns-then-closing-clause-served g c =
+pub returns-in-Ok-true-clause-served : goal.returns-in-Ok-true-clause-served
+returns-in-Ok-true-clause-served g c =
     let id = c.args.id in
     let (pieces, given, served) = c.loop-count.invariant.served in
     let into = c.read_some.new.into in
     let n = c.in-Ok.count in
     let held' = g.W.Sink.written c.loop-count.writer in
-    let held'' = g.W.Sink.written c.answer.new.writer in
+    let held'' = g.W.Sink.written c.answer-answered.new.writer in
     let cur = c.loop-count.hub in
-    let new = c.answer.new.hub in
+    let new = c.answer-answered.new.hub in
     let given_all = gives (length c.args.buffer.now) g.R.Source.remaining g.R.Source.calls g.R.Source.failures c.args.reader.now c.loop-count.reader c.read_some.new.reader pieces into n
     given
     c.in-Ok.ensures.within (search rules) (search rules) c.in-Ok.ensures.read c.in-Ok.ensures.once c.in-Ok.ensures.none_failed in (
       pieces ++ take n into ∷ [],
+      concat (pieces ++ take n into ∷ []),
+      sym (append-nil (concat (pieces ++ take n into ∷ []))),
+      refl,
       only_pieces (length c.args.buffer.now) g.R.Source.remaining g.R.Source.calls g.R.Source.failures c.args.reader.now c.read_some.new.reader (pieces ++ take n into ∷ []) false
           given_all refl,
       piece_serves c.answers_go_on.ensures c.answers_are_added.ensures c.args.hub.now cur new id pieces (take n into)
           (g.W.Sink.written c.args.writer.now) held' held'' served c.loop-count.invariant.is_open
           (subst (λ z. WhereOpen cur id (λ s front. Serves cur new id s (front ++ z) held' held'' [] × ⊤)) c.front.ensures
-          c.in-Ok-answer.ensures.answered),
+          (given_whole cur new id c.front.result.now c.answer-answered.result.used c.answer-answered.result.end c.in-Ok-true.field-0 held' held''
+          c.in-Ok-true.is c.answer-answered.ensures.none_left c.answer-answered.ensures.answered)),
     )
 
-pub returns-then-closing-clause-turns : goal.returns-then-closing-clause-turns
-returns-then-closing-clause-turns g c = spends_both (g.W.Sink.calls c.args.writer.now) (g.W.Sink.calls c.loop-count.writer)
-    (g.W.Sink.calls c.answer.new.writer) (g.R.Source.calls c.args.reader.now) (g.R.Source.calls c.loop-count.reader) (g.R.Source.calls c.read_some.new.reader)
-    c.args.turns.now c.loop-count.turns c.read_some.new.turns c.answer.new.turns c.loop-count.invariant.spends c.read_some.ensures.turns c.answer.ensures.turns
+pub returns-in-Ok-true-clause-turns : goal.returns-in-Ok-true-clause-turns
+returns-in-Ok-true-clause-turns g c = spends_both (g.W.Sink.calls c.args.writer.now) (g.W.Sink.calls c.loop-count.writer)
+    (g.W.Sink.calls c.answer-answered.new.writer) (g.R.Source.calls c.args.reader.now) (g.R.Source.calls c.loop-count.reader) (g.R.Source.calls c.read_some.new.reader)
+    c.args.turns.now c.loop-count.turns c.read_some.new.turns c.answer-answered.new.turns c.loop-count.invariant.spends c.read_some.ensures.turns c.answer-answered.ensures.turns
 
 pub loop-count-preserved : goal.loop-count-preserved
 loop-count-preserved g c =
@@ -213,12 +249,17 @@ loop-count-preserved g c =
     let more = pieces ++ take n into ∷ [] in
     let held = g.W.Sink.written c.args.writer.now in
     let held' = g.W.Sink.written c.loop-count.writer in
-    let held'' = g.W.Sink.written c.answer.new.writer in
+    let held'' = g.W.Sink.written c.answer-answered.new.writer in
     let cur = c.loop-count.hub in
-    let new = c.answer.new.hub in
+    let new = c.answer-answered.new.hub in
     let all = piece_serves c.answers_go_on.ensures c.answers_are_added.ensures old cur new id pieces (take n into) held held' held'' served
     c.loop-count.invariant.is_open
-    (subst (λ z. WhereOpen cur id (λ s front. Serves cur new id s (front ++ z) held' held'' [] × ⊤)) c.front.ensures c.in-Ok-answer.ensures.answered) in
+    (subst (λ z. WhereOpen cur id (λ s front. Serves cur new id s (front ++ z) held' held'' [] × ⊤)) c.front.ensures
+    (given_whole cur new id c.front.result.now c.answer-answered.result.used c.answer-answered.result.end c.in-Ok-false.field-0 held' held''
+    c.in-Ok-false.is c.answer-answered.ensures.none_left c.answer-answered.ensures.answered)) in
+    let ends = subst (λ e. EndsAnswering (c.args.held + cur.limits.total) cur new id (g.W.Sink.failures c.loop-count.writer)
+    (g.W.Sink.failures c.answer-answered.new.writer) c.answer-answered.new.turns (record { used = c.answer-answered.result.used; end = e })) c.in-Ok-false.is
+    c.answer-answered.ensures.ends in
     record {
       served = (
         more,
@@ -229,10 +270,12 @@ loop-count-preserved g c =
             front all here not_closing taken in
             (v, each)),
       );
-      is_open = c.in-Ok-answer.ensures.is_open c.if-closing.false;
-      spends = spends_both (g.W.Sink.calls c.args.writer.now) (g.W.Sink.calls c.loop-count.writer) (g.W.Sink.calls c.answer.new.writer)
+      is_open = ends.is_open (search rules);
+      same_limits = ends.same_limits ∙ c.loop-count.invariant.same_limits;
+      bounded = still_few c.args.held old cur new id c.loop-count.invariant.same_limits c.loop-count.invariant.bounded ends.bounded;
+      spends = spends_both (g.W.Sink.calls c.args.writer.now) (g.W.Sink.calls c.loop-count.writer) (g.W.Sink.calls c.answer-answered.new.writer)
           (g.R.Source.calls c.args.reader.now) (g.R.Source.calls c.loop-count.reader) (g.R.Source.calls c.read_some.new.reader) c.args.turns.now
-          c.loop-count.turns c.read_some.new.turns c.answer.new.turns c.loop-count.invariant.spends c.read_some.ensures.turns c.answer.ensures.turns;
-      writes = c.in-Ok-answer.ensures.none_failed ∙ c.loop-count.invariant.writes;
+          c.loop-count.turns c.read_some.new.turns c.answer-answered.new.turns c.loop-count.invariant.spends c.read_some.ensures.turns c.answer-answered.ensures.turns;
+      writes = ends.none_failed ∙ c.loop-count.invariant.writes;
       reads = c.in-Ok.ensures.none_failed ∙ c.loop-count.invariant.reads;
     }

@@ -1,15 +1,15 @@
-use Rattle.std.proofs.Common.{rules, refl, [], subst, true, length}
+use Rattle.std.proofs.Common.{rules, ◌+◌, Err, refl, [], subst, true, length}
 use Rattle.resp_wire.specs.Serving.{IsClosing, is_of_reader}
 use Rattle.resp_wire.proofs.Exchanges.{spends_no_turns, spends_writes}
-use Rattle.resp_wire.proofs.Seated.{closing_is_there, is_open, not_open, nowhere}
-use Rattle.resp_wire.proofs.ServedTexts.{sent_is_closing}
+use Rattle.resp_wire.proofs.Seated.{closing_is_there, is_open, not_open, nowhere, sent_few}
+use Rattle.resp_wire.proofs.ServedTexts.{leaves_none, sent_is_closing}
 use Rattle.resp_wire.proofs.ServeStops.{answering, no_turn_to_answer}
 use Rattle.resp_wire.proofs.Pieces.{no_pieces, only_pieces}
 use Rattle.resp_wire.proofs.serve.serve_with.Goals as goal
 
 pub returns-in_default-clause-served : goal.returns-in_default-clause-served
 returns-in_default-clause-served g c =
-    ([], no_pieces (length c.args.buffer.now) g.R.Source.remaining g.R.Source.calls g.R.Source.failures c.args.reader.now, nowhere c.args.hub.now c.args.id _ c.in_default.ensures.none)
+    ([], [], refl, refl, no_pieces (length c.args.buffer.now) g.R.Source.remaining g.R.Source.calls g.R.Source.failures c.args.reader.now, nowhere c.args.hub.now c.args.id _ c.in_default.ensures.none)
 
 pub returns-in_default-clause-turns : goal.returns-in_default-clause-turns
 returns-in_default-clause-turns g c = (
@@ -28,6 +28,9 @@ write_out-requires g c = closing_is_there c.args.hub.now c.args.id c.in-Ok.closi
 pub returns-in-Err-clause-served : goal.returns-in-Err-clause-served
 returns-in-Err-clause-served g c = (
   [],
+  [],
+  refl,
+  leaves_none (Err c.in-Err.error),
   only_pieces (length c.args.buffer.now) g.R.Source.remaining g.R.Source.calls g.R.Source.failures c.args.reader.now c.args.reader.now [] (is_of_reader c.in-Err.error) refl
       c.in-Err.ensures.no_read,
   not_open c.args.hub.now c.args.id _ (subst (IsClosing c.args.hub.now c.args.id) {y = true} (search rules) c.in-Ok.ensures.closing),
@@ -43,22 +46,36 @@ returns-in-Err-clause-turns g c = (
       c.in-Err.ensures.refusal),
 )
 
-pub returns-clause-served : goal.returns-clause-served
-returns-clause-served g c = (
+pub returns-in-Ok-write_out-clause-served : goal.returns-in-Ok-write_out-clause-served
+returns-in-Ok-write_out-clause-served g c = (
   [],
+  [],
+  refl,
+  refl,
   no_pieces (length c.args.buffer.now) g.R.Source.remaining g.R.Source.calls g.R.Source.failures c.args.reader.now,
   not_open c.args.hub.now c.args.id _ (subst (IsClosing c.args.hub.now c.args.id) {y = true} (search rules) c.in-Ok.ensures.closing),
 )
 
-pub returns-clause-end : goal.returns-clause-end
-returns-clause-end g c = sent_is_closing c.args.hub.now c.write_out.new.hub c.args.id (g.W.Sink.written c.args.writer.now)
-    (g.W.Sink.written c.write_out.new.writer) [] true c.in_default-write_out.ensures.sent
+pub returns-in-Ok-write_out-clause-end : goal.returns-in-Ok-write_out-clause-end
+returns-in-Ok-write_out-clause-end g c = sent_is_closing c.args.hub.now c.write_out.new.hub c.args.id (g.W.Sink.written c.args.writer.now)
+    (g.W.Sink.written c.write_out.new.writer) [] true c.in-Ok-write_out.ensures.sent
     (subst (IsClosing c.args.hub.now c.args.id) {y = true} (search rules) c.in-Ok.ensures.closing)
 
-pub returns-clause-turns : goal.returns-clause-turns
-returns-clause-turns g c = (
+pub returns-in-Ok-write_out-clause-turns : goal.returns-in-Ok-write_out-clause-turns
+returns-in-Ok-write_out-clause-turns g c = (
   c.write_out.new.turns,
   spends_writes (g.W.Sink.calls c.args.writer.now) (g.W.Sink.calls c.write_out.new.writer) (g.R.Source.calls c.args.reader.now) c.args.turns
       c.write_out.new.turns c.write_out.ensures.turns,
   λ is. absurd (cc),
 )
+
+pub returns-in-Ok-write_out-clause-bounded : goal.returns-in-Ok-write_out-clause-bounded
+returns-in-Ok-write_out-clause-bounded g c =
+    sent_few c.args.hub.now c.write_out.new.hub c.args.id (g.W.Sink.written c.args.writer.now) (g.W.Sink.written c.write_out.new.writer) []
+    (c.args.held + c.args.hub.now.limits.total) c.in-Ok-write_out.ensures.sent
+
+pub returns-in-Err-clause-bounded : goal.returns-in-Err-clause-bounded
+returns-in-Err-clause-bounded g c =
+    let (waits, some, sent) = c.in-Err.ensures.part in
+    sent_few c.args.hub.now c.write_out.new.hub c.args.id (g.W.Sink.written c.args.writer.now) (g.W.Sink.written c.write_out.new.writer) waits
+    (c.args.held + c.args.hub.now.limits.total) sent

@@ -1,0 +1,15 @@
+use Rattle.std.proofs.Common.{ap, arith, length, length-drop}
+use Rattle.resp_commands.proofs.keys.counted_places.Goals as goal
+
+pub overflow_add-result : goal.overflow_add-result
+overflow_add-result c =
+    omega (
+      arith,
+      ap length c.in_ok-word.ensures.steps,
+      ap length c.skip.ensures,
+      length-drop c.saturating_sub-skipped.result c.args.arguments,
+      c.len-total.ensures,
+      c.len.ensures,
+      c.in_ok-count.ensures.within,
+      c.from-after.ensures,
+    )

@@ -1,0 +1,47 @@
+//! The class of a whole command.
+
+ghost use Rattle.std.specs.Prelude.{◌≡◌, if◌then◌else◌, IfNone, IfSome};
+ghost use Rattle.resp_commands.specs.Classes.{HasClass, HasNoClass, IsClassOf, LacksArgument};
+
+use crate::command::{Class, Command};
+use crate::lookup::{entry, subcommand};
+use crate::options::blocks;
+use resp_scan::whole::Words;
+
+/// Returns the class of a command by its name and its other words, or `None` if the table has no
+/// such command, or no such subcommand of it. Upper and lower case are the same.
+///
+/// A command with subcommands and without a word after its name has the class of its row. XREAD and
+/// XREADGROUP need a connection of their own only with BLOCK.
+pub fn class_of(name: &[u8], arguments: Words<'_>) -> Option<Class>
+    ensures known { IfSome result (λ class. HasClass name.now arguments.entry class) }
+    ensures unknown { IfNone result (HasNoClass name.now arguments.entry) }
+{
+    let command = entry(name)?;
+    class_by(&command, arguments)
+}
+
+/// Returns the class of a command by its row and the words after its name.
+fn class_by(command: &Command, mut arguments: Words<'_>) -> Option<Class>
+    ensures known { IfSome result (λ class. IsClassOf command.now arguments.entry class) }
+    ensures unknown { IfNone result (LacksArgument command.now arguments.entry) }
+{
+    if command.may_block {
+        return Some(class_by_block(command.class, blocks(arguments)));
+    }
+    if command.container == 0 {
+        return Some(command.class);
+    }
+    let Some(word) = arguments.next() else {
+        return Some(command.class);
+    };
+    let subcommand = subcommand(command, word)?;
+    Some(subcommand.class)
+}
+
+/// Returns the class of a command that waits only with BLOCK.
+fn class_by_block(waiting: Class, blocks: bool) -> Class
+    ensures { result ≡ (if blocks then waiting else Class.Shared) }
+{
+    if blocks { waiting } else { Class::Shared }
+}

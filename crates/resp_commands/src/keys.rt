@@ -1,0 +1,263 @@
+//! The places of the keys of a command.
+
+ghost use Rattle.std.specs.Prelude.{◌≡◌, ◌+◌, ◌-◌, ◌^◌, ◌<◌, ◌≤◌, ℕ, List, drop, length, codes, if◌then◌else◌, ◌&&◌, ◌==◌, IfNone, IfSome};
+ghost use Rattle.std.specs.Bool.{MatchBool};
+ghost use Rattle.resp_value.specs.Numbers.{IsNumber};
+ghost use Rattle.resp_commands.specs.Keys.{AreKeys, HasCount, IsAmong, IsAmongAny, IsCountedKey, IsFixedKey, IsStoreKey, IsStreamKey, TellsNoKeys, words_before};
+
+use crate::command::{Keys, Search};
+use crate::options::{is_word, skip};
+use resp_scan::whole::Words;
+
+/// Places at equal distances: the first is next to `after`, and the last is at most `last`.
+#[derive(Clone, Copy, Debug, PartialEq, Eq)]
+pub struct Places {
+    /// The place before the first.
+    pub after: usize,
+    /// The greatest place that is possible.
+    pub last: usize,
+    /// The distance between two places.
+    pub step: usize,
+}
+
+/// The places of the keys of a command among its words. The name has place 0.
+#[derive(Clone, Copy, Debug, PartialEq, Eq)]
+pub struct KeyPlaces {
+    /// The keys at fixed places.
+    pub fixed: Places,
+    /// The keys at places that depend on the words.
+    pub further: Places,
+    /// A second key of this kind, as after STOREDIST.
+    pub other: Places,
+}
+
+/// No places.
+const NOWHERE: Places = Places {
+    after: 0,
+    last: 0,
+    step: 1,
+};
+
+impl Places {
+    /// Returns whether this is one of the places.
+    #[inline]
+    pub fn contains(&self, place: usize) -> bool
+        ensures { MatchBool result (IsAmong self.now place) (¬ IsAmong self.now place) }
+    {
+        self.after < place
+            && place <= self.last
+            && self.step != 0
+            && (place - self.after - 1) % self.step == 0
+    }
+}
+
+impl KeyPlaces {
+    /// Returns whether the word at this place is a key.
+    pub fn contains(&self, place: usize) -> bool
+        ensures { MatchBool result (IsAmongAny self.now place) (¬ IsAmongAny self.now place) }
+    {
+        if self.fixed.contains(place) {
+            return true;
+        }
+        if self.further.contains(place) {
+            return true;
+        }
+        self.other.contains(place)
+    }
+}
+
+/// Returns the places of the keys of a command, by the row of the table and the words after the name.
+///
+/// Returns `None` if the row does not say where the keys are, or if the number of keys is no decimal
+/// number or greater than the number of words after it.
+pub fn key_places(keys: &Keys, arguments: Words<'_>) -> Option<KeyPlaces>
+    ensures keys { IfSome result (AreKeys keys.now arguments.entry) }
+    ensures none { IfNone result (TellsNoKeys keys.now arguments.entry) }
+{
+    let count = arguments.len() as usize;
+    let fixed = fixed_places(keys, count);
+    let start = keys.start.saturating_sub(1);
+    match keys.search {
+        Search::Nothing => Some(KeyPlaces {
+            fixed,
+            further: NOWHERE,
+            other: NOWHERE,
+        }),
+        Search::Unknown => None,
+        Search::Counted => {
+            let further = counted_places(arguments, keys.start)?;
+            Some(KeyPlaces {
+                fixed,
+                further,
+                other: NOWHERE,
+            })
+        }
+        Search::Streams => Some(KeyPlaces {
+            fixed,
+            further: stream_places(arguments, start, count),
+            other: NOWHERE,
+        }),
+        Search::Stores => {
+            let found = find_words(arguments, start, b"store", b"storedist");
+            Some(KeyPlaces {
+                fixed,
+                further: place_after(found.first, start, count),
+                other: place_after(found.second, start, count),
+            })
+        }
+    }
+}
+
+/// Returns the keys at fixed places of a command with this many words after its name.
+fn fixed_places(keys: &Keys, count: usize) -> Places
+    ensures { (place : ℕ) → (IsAmong result place → IsFixedKey keys.now count place) ×
+        (IsFixedKey keys.now count place → IsAmong result place) }
+{
+    if keys.first == 0 {
+        return NOWHERE;
+    }
+    let last = usize::from(keys.last);
+    let last = if keys.from_end {
+        count.saturating_sub(last.saturating_sub(1))
+    } else {
+        last.min(count)
+    };
+    Places {
+        after: usize::from(keys.first) - 1,
+        last,
+        step: usize::from(keys.step),
+    }
+}
+
+/// Returns the keys after their number, which is the word at this place.
+fn counted_places(mut arguments: Words<'_>, start: u8) -> Option<Places>
+    ensures keys { IfSome result (λ places. (place : ℕ) →
+        (IsAmong places place → IsCountedKey start arguments.entry place) ×
+        (IsCountedKey start arguments.entry place → IsAmong places place)) }
+    ensures none { IfNone result ((count : ℕ) → HasCount start arguments.entry count → ⊥) }
+{
+    let _total = arguments.len();
+    let skipped = start.saturating_sub(1);
+    skip(&mut arguments, skipped);
+    let word = arguments.next()?;
+    let count = number_of(word, arguments.len() as usize)?;
+    let after = usize::from(skipped) + 1;
+    Some(Places {
+        after,
+        last: after + count,
+        step: 1,
+    })
+}
+
+/// Returns the decimal number that a word is, if it is at most this one.
+fn number_of(word: &[u8], most: usize) -> Option<usize>
+    ensures number { IfSome result (λ n. IsNumber n word.now) }
+    ensures within { IfSome result (λ n. n ≤ most) }
+    ensures none { IfNone result ((n : ℕ) → IsNumber n word.now → n ≤ most → ⊥) }
+{
+    if word.is_empty() {
+        return None;
+    }
+    let mut number = 0;
+    for byte in word {
+        if *byte < b'0' || b'9' < *byte {
+            return None;
+        }
+        let digit = usize::from(*byte - b'0');
+        if digit > most || number > (most - digit) / 10 {
+            return None;
+        }
+        number = number * 10 + digit;
+    }
+    Some(number)
+}
+
+/// The numbers of words before two words.
+#[derive(Drop)]
+struct Found {
+    first: usize,
+    second: usize,
+}
+
+/// Returns the numbers of words before these two, after this many others.
+fn find_words(mut words: Words<'_>, skipped: u8, first: &[u8], second: &[u8]) -> Found
+    ensures first { result.first ≡ words_before first.now (drop skipped words.entry) }
+    ensures second { result.second ≡ words_before second.now (drop skipped words.entry) }
+    ensures first_within { result.first ≤ length words.entry - skipped }
+    ensures second_within { result.second ≤ length words.entry - skipped }
+{
+    skip(&mut words, skipped);
+    find_both(words, first, second)
+}
+
+/// Returns the numbers of words before these two.
+fn find_both(mut words: Words<'_>, first: &[u8], second: &[u8]) -> Found
+    ensures first { result.first ≡ words_before first.now words.entry }
+    ensures second { result.second ≡ words_before second.now words.entry }
+    ensures first_within { result.first ≤ length words.entry }
+    ensures second_within { result.second ≤ length words.entry }
+{
+    let mut found = Found {
+        first: 0,
+        second: 0,
+    };
+    for place in 0..words.len() as usize {
+        let Some(word) = words.next() else {
+            return found;
+        };
+        found.first = before(found.first, place, is_word(word, first));
+        found.second = before(found.second, place, is_word(word, second));
+    }
+    found
+}
+
+/// Returns the number of words before a word, if it was this number before the word at this place.
+fn before(number: usize, place: usize, is_found: bool) -> usize
+    requires before { number ≤ place }
+    requires fits { place + 1 < 2 ^ 64 }
+    ensures { result ≡ (if number == place then (if is_found then place else place + 1) else number) }
+{
+    if number == place && !is_found {
+        return place + 1;
+    }
+    number
+}
+
+/// Returns the keys after STREAMS among this many words.
+fn stream_places(arguments: Words<'_>, skipped: u8, count: usize) -> Places
+    requires { count ≡ length arguments }
+    ensures { (place : ℕ) →
+        (IsAmong result place → IsStreamKey (skipped + 1) arguments.entry place) ×
+        (IsStreamKey (skipped + 1) arguments.entry place → IsAmong result place) }
+{
+    let found = find_words(arguments, skipped, b"streams", b"streams");
+    let before = usize::from(skipped) + found.first;
+    if before >= count {
+        return NOWHERE;
+    }
+    let after = before + 1;
+    Places {
+        after,
+        last: after + (count - after) / 2,
+        step: 1,
+    }
+}
+
+/// Returns the place after a word with so many words before it, after so many others.
+fn place_after(number: usize, skipped: u8, count: usize) -> Places
+    requires { number ≤ count - skipped }
+    ensures { (place : ℕ) →
+        (IsAmong result place → (place ≡ skipped + number + 1 + 1) × (place ≤ count)) ×
+        (place ≡ skipped + number + 1 + 1 → place ≤ count → IsAmong result place) }
+{
+    let before = usize::from(skipped) + number;
+    if before >= count {
+        return NOWHERE;
+    }
+    let after = before + 1;
+    Places {
+        after,
+        last: after.saturating_add(1).min(count),
+        step: 1,
+    }
+}

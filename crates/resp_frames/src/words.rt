@@ -1,0 +1,63 @@
+//! The words of a command.
+
+ghost use Rattle.std.specs.Prelude.{[], IfNone, IfSome};
+ghost use Rattle.resp_frames.specs.Commands.{HasWords, IsCommand, IsFrameOfWords, TellsWords};
+
+use crate::frame::Frame;
+use resp_commands::{Class, class_of};
+use resp_scan::whole;
+use resp_value::laws::no_spelling_begins_another;
+use resp_value::limits::Limits;
+
+/// The number of words of a command, and its class.
+#[derive(Clone, Copy, Debug)]
+pub struct CommandWords {
+    /// The number of words after the name.
+    pub arguments: u64,
+    /// The class of the command, or `None` if the table has no such command or subcommand.
+    pub class: Option<Class>,
+}
+
+/// The bytes of a whole command, and the number and the class of its words.
+#[derive(Debug, Drop)]
+pub struct CommandFrame<'a> {
+    /// The bytes.
+    pub frame: Frame<'a>,
+    /// The words.
+    pub words: CommandWords,
+}
+
+/// Returns the number and the class of these words.
+fn words_by(name: &[u8], arguments: whole::Words<'_>) -> CommandWords
+    ensures { HasWords name.now arguments.entry result }
+{
+    CommandWords {
+        arguments: arguments.len(),
+        class: class_of(name, arguments),
+    }
+}
+
+/// Returns the command at the beginning of the piece, if it lies whole in it.
+pub(crate) fn command_of_piece<'a>(piece: &'a [u8], limits: &Limits) -> Option<CommandFrame<'a>>
+    ensures { IfSome result (λ found. IsFrameOfWords limits.now [] piece.now found) }
+{
+    let command = whole::command(piece, limits)?;
+    let used = piece.len() - command.rest.len();
+    Some(CommandFrame {
+        frame: Frame::InPiece(&piece[..used]),
+        words: words_by(command.name, command.arguments),
+    })
+}
+
+/// Returns the number and the class of the words of a command, or `None` if the bytes are no command.
+pub(crate) fn words_of(text: &[u8], limits: &Limits) -> Option<CommandWords>
+    ensures command { IfSome result (λ words. TellsWords limits.now text.now words) }
+    ensures other { IfNone result (IsCommand limits.now text.now → ⊥) }
+{
+    no_spelling_begins_another();
+    let command = whole::command(text, limits)?;
+    if !command.rest.is_empty() {
+        return None;
+    }
+    Some(words_by(command.name, command.arguments))
+}

@@ -1,0 +1,89 @@
+//! Prints what the taps report.
+
+use crate::timing::Timing;
+use resp_tap::end::write_end;
+use resp_tap::print::write_client_line;
+use resp_tap::stamp::Stamp;
+use resp_tap::watch::{Side, watch};
+use resp_tap::{Printing, TimedTap};
+use resp_value::device::Sink;
+use std::rt::Clock;
+
+/// Prints what the taps report, with times if they are printed. Without a writer nothing is printed,
+/// and no tap is read.
+#[derive(Drop)]
+pub(crate) struct Printer<'a, W, C> {
+    clock: &'a C,
+    timing: &'a mut Timing,
+    writer: Option<&'a mut W>,
+    has_failed: bool,
+}
+
+impl<'a, W: Sink, C: Clock> Printer<'a, W, C> {
+    /// Returns a printer over `writer`, to which nothing was printed.
+    pub(crate) fn new(clock: &'a C, timing: &'a mut Timing, writer: Option<&'a mut W>) -> Self {
+        Printer {
+            clock,
+            timing,
+            writer,
+            has_failed: false,
+        }
+    }
+
+    /// Returns whether printing has failed.
+    pub(crate) fn has_failed(&self) -> bool {
+        self.has_failed
+    }
+
+    /// Reads a piece that one side of a client's connection sent, and prints the results.
+    pub(crate) fn print(
+        &mut self,
+        tap: &mut TimedTap,
+        printing: Printing,
+        side: Side,
+        piece: &[u8],
+    ) {
+        let Some(writer) = &mut self.writer else {
+            return;
+        };
+        let now = self.timing.now(self.clock);
+        if watch(tap, printing, side, piece, now, *writer).is_err() {
+            self.has_failed = true;
+        }
+    }
+
+    /// Prints a line about a client.
+    pub(crate) fn print_line(&mut self, client: u64, what: &[u8]) {
+        let stamp = self.stamp();
+        let Some(writer) = &mut self.writer else {
+            return;
+        };
+        if write_client_line(client, what, stamp, *writer).is_err() {
+            self.has_failed = true;
+        }
+    }
+
+    /// Prints which side of a client's connection has ended, and the incomplete command or reply of
+    /// that side.
+    pub(crate) fn print_end(&mut self, tap: &TimedTap, client: u64, side: Side) {
+        let stamp = self.stamp();
+        let Some(writer) = &mut self.writer else {
+            return;
+        };
+        let cut = match side {
+            Side::Client => tap.tap().incomplete_command(),
+            Side::Server => tap.tap().incomplete_reply(),
+        };
+        if write_end(client, side, cut, stamp, *writer).is_err() {
+            self.has_failed = true;
+        }
+    }
+
+    /// Returns the stamp of a line that is printed now.
+    fn stamp(&mut self) -> Option<Stamp> {
+        match self.timing.now(self.clock) {
+            Some(now) => Some(Stamp::new(now)),
+            None => None,
+        }
+    }
+}

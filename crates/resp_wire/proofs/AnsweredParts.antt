@@ -1,0 +1,152 @@
+-- Parts of a piece, answered one after another.
+use Rattle.std.specs.Prelude.{⊤}
+use Rattle.std.specs.List.{concat}
+use Rattle.std.proofs.Common.{◌≡◌, ℕ, ◌+◌, ◌-◌, ◌<◌, ◌≤◌, Bool, true, false, List, [], ◌∷◌, ◌++◌, length, take, drop, arith, append_assoc, take_all, Option, Some, Result, Ok, Err, OnOk, IfOk, IfErr, refl, sym, ap, subst, ◌∙◌, take-add}
+use Rattle.std.specs.Result.{is_ok}
+use Rattle.std.proofs.lemmas.List.{drop-take, length-append, take-append-drop, take-append-le}
+use Rattle.resp_session.specs.AnswerLaws.{AnswersAreAdded, AnswersGoOn}
+use Rattle.resp_server.specs.Handling.{WhereOpen}
+use Rattle.resp_server.specs.Hubs.{HubState, Seat, WaitsAtMost, seat_at}
+use Rattle.resp_wire.specs.Serving.{AnswersBefore, AnswersGiven, EndsAnswering, HadAnswered, IsOpen, MayLeave, Serves, StopsAnswering, StopsServing}
+use Rattle.resp_wire.specs.declared.error.ServeError.{ServeError}
+use Rattle.resp_wire.specs.declared.error.ServeError.TheVariants.{NoSession, OutOfMemory, Read, Write, TooManyTurns}
+use Rattle.resp_wire.specs.declared.serve.Answered.{Answered}
+use Rattle.resp_wire.proofs.Seated.{at_open, where_open}
+use Rattle.resp_wire.proofs.Pieces.{concat_more}
+use Rattle.resp_wire.proofs.ServedTexts.{Stands, piece_stops, seat_given, seat_of, serves_piece, stands, stops_piece}
+
+-- the result of a part that was answered
+pub ok_end : (end : Result Bool ServeError) → is_ok end ≡ true → (closing : Bool) × (end ≡ Ok closing)
+ok_end (Ok closing) ok = (closing, refl)
+ok_end (Err error) ok = absurd (cc)
+
+-- what is said of one that was not
+pub not_ok : (end : Result Bool ServeError) → is_ok end ≡ false → (P : Type 0) → OnOk end P
+not_ok (Ok closing) ok P = absurd (cc)
+not_ok (Err error) ok P = tt
+
+-- what holds of a part that was answered
+pub if_ok : (end : Result Bool ServeError) (closing : Bool) → end ≡ Ok closing → IfOk end (λ closing. closing ≡ false) → closing ≡ false
+if_ok end closing is not = subst (λ e. IfOk e (λ closing. closing ≡ false)) is not
+
+more_by : AnswersGoOn → AnswersAreAdded → (old cur new : HubState) (id : ℕ) (s : Seat) (front piece : List ℕ) (n m : ℕ)
+    (held held' held'' : Option (List ℕ)) → seat_at old id ≡ Some s → (st : Stands old cur id s (front ++ take n piece) held held') →
+    (end : Result Bool ServeError) →
+    OnOk end (Serves cur new id (seat_of old cur id s (front ++ take n piece) held held' st) (st.rest ++ take m (drop n piece)) held' held'' []) →
+    IfErr end (StopsServing cur new id (seat_of old cur id s (front ++ take n piece) held held' st) st.rest (take m (drop n piece)) held' held'') →
+    OnOk end (Serves old new id s (front ++ take (n + m) piece) held held'' []) × IfErr end (StopsServing old new id s front (take (n + m) piece) held held'')
+more_by go_on added old cur new id s front piece n m held held' held'' here st (Ok closing) served stopped = (
+  subst (λ z. Serves old new id s (front ++ z) held held'' []) (sym (take-add n m piece))
+      (serves_piece go_on added old cur new id s front (take n piece) (take m (drop n piece)) held held' held'' [] here st served),
+  tt,
+)
+more_by go_on added old cur new id s front piece n m held held' held'' here st (Err error) served stopped = (
+  tt,
+  subst (λ z. StopsServing old new id s front z held held'' error) (sym (take-add n m piece))
+      (stops_piece go_on added old cur new id s front (take n piece) (take m (drop n piece)) held held' held'' error here st stopped),
+)
+
+-- a part more
+pub part_more : AnswersGoOn → AnswersAreAdded → (old cur new : HubState) (id : ℕ) (piece : List ℕ) (n m : ℕ) (closing : Bool)
+    (end : Result Bool ServeError) (held held' held'' : Option (List ℕ)) → AnswersGiven old cur id piece held held' (record { used = n; end = Ok closing }) →
+    IsOpen cur id → AnswersGiven cur new id (drop n piece) held' held'' (record { used = m; end = end }) →
+    AnswersGiven old new id piece held held'' (record { used = n + m; end = end })
+part_more go_on added old cur new id piece n m closing end held held' held'' before o after =
+    where_open old id _ (λ s here not_closing front taken.
+    let (served, _) = at_open old id (λ t f. Serves old cur id t (f ++ take n piece) held held' [] × Unit {0}) s front before here not_closing taken in
+    let st = stands old cur id s (front ++ take n piece) held held' here served o in
+    let now = seat_of old cur id s (front ++ take n piece) held held' st in
+    let (given, stopped) = at_open cur id (λ t f. OnOk end (Serves cur new id t (f ++ take m (drop n piece)) held' held'' []) ×
+    IfErr end (StopsServing cur new id t f (take m (drop n piece)) held' held'')) now st.rest after (seat_given old cur id s now st.store here st.state) refl
+    st.taken in
+    more_by go_on added old cur new id s front piece n m held held' held'' here st end given stopped)
+
+-- and the state after it
+pub ends_more : (total : ℕ) (old cur new : HubState) (id fails fails' fails'' left left' n m : ℕ) (closing : Bool) (end : Result Bool ServeError) →
+    EndsAnswering (total + old.limits.total) old cur id fails fails' left (record { used = n; end = Ok closing }) →
+    EndsAnswering (total + cur.limits.total) cur new id fails' fails'' left' (record { used = m; end = end }) →
+    EndsAnswering (total + old.limits.total) old new id fails fails'' left' (record { used = n + m; end = end })
+ends_more total old cur new id fails fails' fails'' left left' n m closing end a b =
+    let bound : total + cur.limits.total ≡ total + old.limits.total = ap (λ l. total + l.total) a.same_limits in
+    let part : EndsAnswering (total + old.limits.total) cur new id fails fails'' left' (record { used = m; end = end }) =
+    subst (λ z. EndsAnswering (total + old.limits.total) cur new id z fails'' left' (record { used = m; end = end })) a.none_failed
+    (subst (λ z. EndsAnswering z cur new id fails' fails'' left' (record { used = m; end = end })) bound b) in
+    record {
+      closing = part.closing;
+      is_open = part.is_open;
+      sent = part.sent;
+      none_failed = part.none_failed;
+      failures = part.failures;
+      no_read = part.no_read;
+      refusal = part.refusal;
+      same_limits = part.same_limits ∙ a.same_limits;
+      bounded = λ few. part.bounded (a.bounded few);
+    }
+
+-- a piece that was answered was given whole
+pub given_whole : (cur new : HubState) (id : ℕ) (piece : List ℕ) (used : ℕ) (end : Result Bool ServeError) (closing : Bool)
+    (held held' : Option (List ℕ)) → end ≡ Ok closing → OnOk end (used ≡ length piece) →
+    AnswersGiven cur new id piece held held' (record { used = used; end = end }) →
+    WhereOpen cur id (λ s front. Serves cur new id s (front ++ piece) held held' [] × ⊤)
+given_whole cur new id piece used end closing held held' is all given =
+    let size : used ≡ length piece = subst (λ e. OnOk e (used ≡ length piece)) is all in
+    subst (λ z. WhereOpen cur id (λ s front. Serves cur new id s (front ++ z) held held' [] × ⊤))
+    (ap (λ n. take n piece) size ∙ take_all (length piece) piece (omega arith))
+    (subst (λ e. AnswersGiven cur new id piece held held' (record { used = used; end = e })) is given)
+
+-- The rest of a piece that a session was not given.
+
+pub none_left : (count used : ℕ) (bytes : List ℕ) → used ≡ count → take (count - used) (drop used bytes) ≡ []
+none_left count used bytes all = let none : count - used ≡ 0 = omega (arith, all) in ap (λ n. take n (drop used bytes)) none
+
+pub rest_of : (pieces : List (List ℕ)) (bytes : List ℕ) (count used : ℕ) → used ≤ count →
+    concat (pieces ++ take count bytes ∷ []) ≡ (concat pieces ++ take used (take count bytes)) ++ take (count - used) (drop used bytes)
+rest_of pieces bytes count used within =
+    let piece = take count bytes in
+    let whole : used + (count - used) ≡ count = omega (arith, within) in
+    let rest : drop used piece ≡ take (count - used) (drop used bytes) =
+    ap (λ n. drop used (take n bytes)) (sym whole) ∙ drop-take used (count - used) bytes in
+    concat_more pieces piece ∙ ap (λ l. concat pieces ++ l) (sym (take-append-drop used piece) ∙ ap (λ l. take used piece ++ l) rest) ∙
+    sym (append_assoc (concat pieces) (take used piece) (take (count - used) (drop used bytes)))
+
+-- the pieces before the last one are the same, however long that is
+pub before_last : (old : HubState) (id : ℕ) (s : Seat) (front : List ℕ) (pieces : List (List ℕ)) (p q : List ℕ) (held held' : Option (List ℕ)) →
+    AnswersBefore old id s front (pieces ++ p ∷ []) held held' → AnswersBefore old id s front (pieces ++ q ∷ []) held held'
+before_last old id s front pieces p q held held' each k less =
+    let few : k ≤ length pieces = omega (arith, less, length-append pieces (q ∷ [])) in
+    subst (λ texts. HadAnswered old id s (front ++ concat texts) held held')
+    (take-append-le k pieces (p ∷ []) few ∙ sym (take-append-le k pieces (q ∷ []) few)) (each k (omega (arith, few, length-append pieces (p ∷ []))))
+
+pub may_leave : (fails fails' left : ℕ) (error : ServeError) (rest : List ℕ) → StopsAnswering fails fails' left error → MayLeave (Err error) rest
+may_leave fails fails' left NoSession rest why = absurd why
+may_leave fails fails' left OutOfMemory rest why = tt
+may_leave fails fails' left Read rest why = absurd why
+may_leave fails fails' left Write rest why = tt
+may_leave fails fails' left TooManyTurns rest why = tt
+
+-- the pieces that were read, of which the last one was given in part
+pub part_stops : AnswersGoOn → AnswersAreAdded → (old cur new : HubState) (id : ℕ) (pieces : List (List ℕ)) (bytes : List ℕ) (count used : ℕ)
+    (held held' held'' : Option (List ℕ)) (error : ServeError) →
+    WhereOpen old id (λ s front. Serves old cur id s (front ++ concat pieces) held held' [] × AnswersBefore old id s front pieces held held') →
+    IsOpen cur id → WhereOpen cur id (λ s front. ⊤ × StopsServing cur new id s front (take used (take count bytes)) held' held'' error) →
+    WhereOpen old id (λ s front. ⊤ × StopsServing old new id s front (concat pieces ++ take used (take count bytes)) held held'' error ×
+    AnswersBefore old id s front (pieces ++ take count bytes ∷ []) held held'')
+part_stops go_on added old cur new id pieces bytes count used held held' held'' error before o after =
+    let part = take used (take count bytes) in
+    let all = piece_stops go_on added old cur new id pieces part held held' held'' error before o after in
+    where_open old id _ (λ s here not_closing front taken.
+    let (_, stops, each) = at_open old id (λ t f. ⊤ × StopsServing old new id t f (concat (pieces ++ part ∷ [])) held held'' error ×
+    AnswersBefore old id t f (pieces ++ part ∷ []) held held'') s front all here not_closing taken in (
+      tt,
+      subst (λ z. StopsServing old new id s front z held held'' error) (concat_more pieces part) stops,
+      before_last old id s front pieces part (take count bytes) held held'' each,
+    ))
+
+-- at most so many bytes wait after one more answer
+pub still_few : (held : ℕ) (old cur new : HubState) (id : ℕ) → cur.limits ≡ old.limits →
+    (WaitsAtMost (held + old.limits.total) old id → WaitsAtMost (held + old.limits.total) cur id) →
+    (WaitsAtMost (held + cur.limits.total) cur id → WaitsAtMost (held + cur.limits.total) new id) →
+    WaitsAtMost (held + old.limits.total) old id → WaitsAtMost (held + old.limits.total) new id
+still_few held old cur new id same before after few =
+    let bound : held + cur.limits.total ≡ held + old.limits.total = ap (λ l. held + l.total) same in
+    subst (λ n. WaitsAtMost n cur id → WaitsAtMost n new id) bound after (before few)
