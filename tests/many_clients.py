@@ -141,16 +141,22 @@ def cut_in_mid_command(count):
 
 
 def nothing_is_kept(count, descriptors):
-    """After many connections were closed, the server holds as much as before."""
-    for _ in range(2):
-        cut_in_mid_command(count)
-        until(lambda: held()[1] == descriptors, "descriptors of connections that have gone are open")
-    before, _ = held()
-    for _ in range(8):
-        cut_in_mid_command(count)
-        until(lambda: held()[1] == descriptors, "descriptors of connections that have gone are open")
-    after, _ = held()
-    assert after - before < 1_000, f"{after - before} kB more after {8 * count} connections"
+    """The server keeps nothing of connections that were closed.
+
+    The memory of a process varies. A server that kept 128 bytes of each connection would grow by more than 100 kB in
+    each of these turns.
+    """
+    grown = []
+    for _ in range(12):
+        before, _ = held()
+        for _ in range(4):
+            cut_in_mid_command(count)
+            until(lambda: held()[1] == descriptors, "descriptors of connections that have gone are open")
+        after, _ = held()
+        grown.append(after - before)
+        if grown[-1] < 100:
+            return
+    raise AssertionError(f"{grown} kB more after {4 * count} connections each")
 
 
 def refused_byte():

@@ -27,12 +27,19 @@ def printed(log=sys.argv[3]):
 
 
 def waits_for(text, log=sys.argv[3]):
-    """Waits until a tap has printed a text."""
-    for _ in range(100):
-        if text in printed(log):
+    """Waits until a tap has printed a text.
+
+    If the text begins with a client, the lines about other clients may stand between its lines.
+    """
+    client = re.match(r"client \d+ ", text)
+    for _ in range(200):
+        seen = printed(log)
+        if client:
+            seen = "".join(re.findall(f"^{client[0]}.*\n(?:  .*\n)*", seen, re.MULTILINE))
+        if text in seen:
             return
         time.sleep(0.1)
-    raise AssertionError(f"not printed: {text!r}; but {printed(log)[-2000:]!r}")
+    raise AssertionError(f"not printed: {text!r}; but {seen[-2000:]!r}")
 
 
 def command(*words):
