@@ -1,11 +1,13 @@
 """The files of an installation: of the program, of the shared library, and for those who build with the library."""
 import contextlib
+import hashlib
 import os
 import re
 import shutil
 import subprocess
 import sys
 import tempfile
+import time
 
 from archives import Entry
 
@@ -70,6 +72,52 @@ def is_proved(tree, name):
     """Returns whether the program or library was proved and built from the sources as they are now."""
     crate = crates(tree)[name]
     return toolchain().text_of(f"{crate.folder}/out/{MADE[name]}.proved") == sum_of(crate)
+
+
+def is_made(name):
+    """Returns whether this tree has the program or library as `is_proved` says. If not, it takes the file that this
+    machine keeps."""
+    if is_proved(TOP, name):
+        return True
+    found = kept(name, PROCESSOR)
+    if found is None:
+        return False
+    os.makedirs(os.path.dirname(made(name)), exist_ok=True)
+    new = f"{made(name)}.{os.getpid()}"
+    with open(new, "wb") as file:
+        file.write(found)
+    os.chmod(new, 0o755)
+    os.replace(new, made(name))
+    mark(TOP, name)
+    return True
+
+
+def place_of(name, target):
+    """Returns the file in which this machine keeps the program or library that was proved and built for a target from
+    the sources as they are now."""
+    cache = os.environ.get("XDG_CACHE_HOME") or os.path.expanduser("~/.cache")
+    sources = hashlib.sha256(f"{name} {target} {crates()[name].stamp()}".encode())
+    return f"{cache}/resp/built/{sources.hexdigest()}"
+
+
+def kept(name, target):
+    """Returns the bytes that this machine keeps of a program or library, or None. The file begins with their sum."""
+    with contextlib.suppress(FileNotFoundError):
+        total, _, made = content(place_of(name, target)).partition(b"\n")
+        if hashlib.sha256(made).hexdigest().encode() == total:
+            return made
+    return None
+
+
+def keep(place, made):
+    """Keeps the bytes of a program or library in a file, and removes what was kept more than two weeks ago."""
+    os.makedirs(os.path.dirname(place), exist_ok=True)
+    for other in os.scandir(os.path.dirname(place)):
+        if time.time() - other.stat().st_mtime > 14 * 24 * 3600:
+            os.remove(other)
+    with open(f"{place}.{os.getpid()}", "wb") as file:
+        file.write(hashlib.sha256(made).hexdigest().encode() + b"\n" + made)
+    os.replace(f"{place}.{os.getpid()}", place)
 
 
 def stripped(path, *words, tool="strip"):
