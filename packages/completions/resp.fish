@@ -14,6 +14,8 @@ complete -c resp -n '__fish_seen_subcommand_from help' -a 'show check canon loop
 set -l reads '__fish_seen_subcommand_from show check canon'
 complete -c resp -n $reads -F
 complete -c resp -n $reads -l proto -x -a '2 3' -d 'Protocol version'
+complete -c resp -n $reads -s 2 -d 'Protocol version 2, also with -3'
+complete -c resp -n $reads -s 3 -d 'Protocol version 3 with doubles'
 complete -c resp -n $reads -l doubles -d 'Accepts RESP3 doubles'
 complete -c resp -n $reads -l piece -x -d 'Maximum bytes of a read, 1 to 65536'
 complete -c resp -n '__fish_seen_subcommand_from show check canon loop' -l explain -d 'Says where an error is, and why'
@@ -26,6 +28,7 @@ complete -c resp -n $limited -l items -x -d 'Maximum members or pairs of an aggr
 complete -c resp -n $limited -l no-streamed -d 'Rejects streamed strings and aggregates'
 
 complete -c resp -n '__fish_seen_subcommand_from serve tap' -l clients -x -d 'Maximum clients at once, 1 to 65536'
+complete -c resp -n '__fish_seen_subcommand_from serve' -l held -x -d 'Maximum bytes waiting for a client, 1 to 1099511627776'
 complete -c resp -n '__fish_seen_subcommand_from tap' -l time -d 'Prints the time in UTC, and how long each reply took'
 complete -c resp -n '__fish_seen_subcommand_from tap' -l exit-with-output -d 'Ends at once if the output fails'
 complete -c resp -n '__fish_seen_subcommand_from tap' -l keep-going -d 'Accepts clients after the output has failed'

@@ -38,9 +38,6 @@ impl From<ToolError> for ListenError {
     }
 }
 
-/// The most bytes that wait to be written to a client of the server before its next command is run.
-const HELD: usize = 1_048_576;
-
 /// Serves clients at the address in the words. Returns the status if that fails.
 pub fn run_serve<W: LiveSink, F: Sink>(
     rt: &HostRuntime,
@@ -71,7 +68,7 @@ fn serve<W: LiveSink>(
         serving.address,
         serving.limits,
         most,
-        HELD,
+        serving.held,
         hasher,
     )?;
     write_listening(alloc, server.address()?, writer)?;

@@ -10,7 +10,7 @@ use Rattle.clap.specs.declared.parser.matches.ArgMatches.{ArgMatches}
 use Rattle.clap.specs.declared.parser.matches.Found.{Found}
 use Rattle.clap.proofs.OnLiterals.{clap_on_literals}
 use Rattle.clap.proofs.WalkLemmas.{one_text-rows}
-use Rattle.resp_args.specs.CommandWords.{AnswersSort, AnswersStatus, AskFor, Enters, IsOfSort, FindsWords, HasFlag, HasNumber, HasTapping, IsAsked, task_word}
+use Rattle.resp_args.specs.CommandWords.{AnswersSort, AnswersStatus, AskFor, Enters, IsOfSort, FindsWords, HasFlag, HasNumber, HasReading, HasTapping, IsAsked, flag_text, task_word}
 use Rattle.resp_args.specs.Faults.{IsWordStatus}
 use Rattle.std.specs.Str.{bytes_eq}
 use Rattle.std.specs.Prelude.{if◌then◌else◌}
@@ -18,6 +18,7 @@ use Rattle.resp_args.specs.Program.{IsProgram, resp_app}
 use Rattle.resp_args.proofs.CommandLemmas.{names_take_versions}
 use Rattle.std.specs.Borrow.{Bor}
 use Rattle.clap.specs.declared.builder.value_parser.ValueParser.TheVariants as vp
+use Rattle.resp_value.specs.declared.version.Version.{Version}
 use Rattle.resp_args.specs.declared.asked.Asked.{Asked}
 use Rattle.resp_args.specs.declared.asked.Asked.TheVariants.{Stream, Play, Serve, Tap}
 use Rattle.resp_args.specs.declared.options.Task.{Task}
@@ -74,6 +75,21 @@ module _ (E : Type 0) (f : Found) (name : Text) where
 pub if_none : {X : Type 0} (r : Option X) (P : Type 0) → P → IfNone r P
 if_none (Some x) P p = tt
 if_none None P p = p
+
+-- words that say how a stream is read say whether `-2` is given, and without it whether `-3` is
+module _ (given : List Row) (version : Version) (doubles : Bool) where
+  pub reading_has_two : HasReading given version doubles → (on : Bool) × HasFlag given (codes "two") on
+  reading_has_two (inl reads) = (true, reads.0)
+  reading_has_two (inr (inl reads)) = (false, reads.0)
+  reading_has_two (inr (inr reads)) = (false, reads.0)
+
+  pub reading_has_three : HasFlag given (codes "two") false → HasReading given version doubles → (on : Bool) × HasFlag given (codes "three") on
+  reading_has_three off (inl reads) = absurd (true_is_not_false (sym reads.0 ∙ off))
+    where
+      true_is_not_false : Some (flag_text true) ≡ Some (flag_text false) → ⊥
+      true_is_not_false e = cc
+  reading_has_three off (inr (inl reads)) = (true, reads.1)
+  reading_has_three off (inr (inr reads)) = (false, reads.1)
 
 -- the program is one of which the matches are known
 program_is_free : (versions : ValueParser) → is_simple_and_free (resp_app versions) ≡ true

@@ -1,6 +1,6 @@
 -- What the parser makes of the words of the worked examples.
 use Rattle.std.specs.Str.{bytes_eq}
-use Rattle.std.proofs.Common.{true≢false, option_map, rules, ◌≢◌, Option, ◌≡◌, ◌∙◌, ap, Bool, true, false, List, [], ◌∷◌, None, Some, codes, refl, sym, inl, subst, arith}
+use Rattle.std.proofs.Common.{true≢false, option_map, rules, ◌≢◌, Option, ◌≡◌, ◌∙◌, ap, Bool, true, false, List, [], ◌∷◌, None, Some, codes, refl, sym, inl, inr, subst, arith}
 use Rattle.clap.specs.Words.{App, IsAmong, Row, Text, fault_of, first_of, subcommand_of}
 use Rattle.clap.specs.declared.error.kind.ErrorKind.{ErrorKind}
 use Rattle.clap.specs.declared.error.kind.ErrorKind.TheVariants.{ArgumentConflict, DisplayHelp, DisplayVersion, MissingSubcommand, ValueValidation}
@@ -69,10 +69,11 @@ alone_gives_limits versions = record {
 }
 
 alone_gives_rest : (versions : ValueParser) → (first_of (codes "proto") (given_alone versions) ≡ Some (codes "2"))
+    × HasFlag (given_alone versions) (codes "two") false × HasFlag (given_alone versions) (codes "three") false
     × HasFlag (given_alone versions) (codes "doubles") false × HasNumber (given_alone versions) (codes "piece") 4096
     × (first_of (codes "file") (given_alone versions) ≡ Some (codes "-")) × HasFlag (given_alone versions) (codes "explain") false
 unfolding clap_on_literals
-alone_gives_rest versions = (refl, refl, (codes "4096", refl, (omega arith, search rules), refl, omega arith), refl, refl)
+alone_gives_rest versions = (refl, refl, refl, refl, (codes "4096", refl, (omega arith, search rules), refl, omega arith), refl, refl)
 
 pub defaults_are_asked : (versions : ValueParser) → TakesVersions versions → (options : Options) →
     AreOptions Show Two default_limits 4096 (codes "-") false options → AskFor (resp_app versions) show_alone (Stream options)
@@ -81,12 +82,16 @@ defaults_are_asked versions takes options are =
     let enters : Enters (default_task versions Show) (Stream options) = (
       ap task_word (sym are.of_task),
       record {
-        version = rest.0 ∙ ap (λ v. Some (version_word v)) (sym are.of_version);
+        reading = inr (inr (
+          rest.1,
+          rest.2,
+          rest.0 ∙ ap (λ v. Some (version_word v)) (sym are.of_version),
+          rest.3 ∙ ap (λ (l : Bounds). Some (flag_text l.doubles)) (sym are.of_limits),
+        ));
         limits = subst (HasLimits (given_alone versions)) (sym are.of_limits) (alone_gives_limits versions);
-        doubles = rest.1 ∙ ap (λ (l : Bounds). Some (flag_text l.doubles)) (sym are.of_limits);
-        piece = rw are.of_piece (rest.2, omega arith, omega arith);
-        file = rest.3 ∙ ap (λ (t : Text). Some t) (sym are.of_file);
-        explains = rest.4 ∙ ap (λ b. Some (flag_text b)) (sym are.of_explains);
+        piece = rw are.of_piece (rest.4, omega arith, omega arith);
+        file = rest.5 ∙ ap (λ (t : Text). Some t) (sym are.of_file);
+        explains = rest.6 ∙ ap (λ b. Some (flag_text b)) (sym are.of_explains);
       },
     ) in (
       show_alone_is_taken versions takes,

@@ -48,6 +48,15 @@ version_word Three = codes "3"
 abbrev pub HasProto : List Row → Version → Type 0
 HasProto given version = first_of (codes "proto") given ≡ Some (version_word version)
 
+-- The version, and whether doubles are accepted: `-2` has precedence over `-3`, and `-3` over `--proto`. With `-3`
+-- doubles are accepted.
+abbrev pub HasReading : List Row → Version → Bool → Type 0
+HasReading given version doubles =
+    HasFlag given (codes "two") true × (version ≡ Two) × HasFlag given (codes "doubles") doubles
+    ⊎ HasFlag given (codes "two") false × HasFlag given (codes "three") true × (version ≡ Three) × (doubles ≡ true)
+    ⊎ HasFlag given (codes "two") false × HasFlag given (codes "three") false × HasProto given version
+    × HasFlag given (codes "doubles") doubles
+
 -- ---- all options of a subcommand
 
 pub record HasLimits (given : List Row) (limits : Bounds) : Type 0 where
@@ -60,23 +69,24 @@ pub record HasLimits (given : List Row) (limits : Bounds) : Type 0 where
 
 -- the options of `show`, `check` and `canon`
 pub record HasOptions (given : List Row) (options : Options) : Type 0 where
-  pub version : HasProto given options.version
+  pub reading : HasReading given options.version options.limits.doubles
   pub limits : HasLimits given options.limits
-  pub doubles : HasFlag given (codes "doubles") options.limits.doubles
   pub piece : HasSmallNumber given (codes "piece") options.piece
   pub file : first_of (codes "file") given ≡ Some options.file.now
   pub explains : HasFlag given (codes "explain") options.explains
 
 -- the options of `serve`, with the text of its address
-pub record HasServeWords (given : List Row) (address : Text) (limits : Bounds) (clients : ℕ) : Type 0 where
+pub record HasServeWords (given : List Row) (address : Text) (limits : Bounds) (clients held : ℕ) : Type 0 where
   pub in_limits : HasLimits given limits
   pub no_doubles : limits.doubles ≡ false
   pub at_once : HasSmallNumber given (codes "clients") clients
+  pub waiting : HasNumber given (codes "held") held
   pub text : first_of (codes "address") given ≡ Some address
 
 -- the options of `serve`, with its address
 abbrev pub HasServing : List Row → Serving → Type 0
-HasServing given serving = HasServeWords given serving.address_text.now serving.limits serving.clients ×
+HasServing given serving =
+    HasServeWords given serving.address_text.now serving.limits serving.clients serving.held ×
     IsSocketText serving.address_text.now serving.address
 
 -- the options of `tap` that are no address

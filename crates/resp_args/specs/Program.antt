@@ -42,6 +42,10 @@ numbers_between least most =
 abbrev pub flag_option : Text → Rule
 flag_option name = record (new_rule name) { long = Some name; action = Some SetTrue }
 
+-- `-c`, an option without a value and with one character
+abbrev pub short_flag_option : Text → ℕ → Rule
+short_flag_option name short = record (new_rule name) { short = Some short; action = Some SetTrue }
+
 -- the options that limit values
 abbrev pub limit_options : List Rule
 limit_options =
@@ -57,7 +61,8 @@ file_word = record (new_rule (codes "file")) { value_names = 1; defaults = codes
 
 -- the options of `show`, `check` and `canon`, with these versions for `--proto`
 abbrev pub stream_options : ValueParser → List Rule
-stream_options versions = value_option (codes "proto") versions (codes "2") ∷ (limit_options ++
+stream_options versions = value_option (codes "proto") versions (codes "2") ∷
+    short_flag_option (codes "two") 50 ∷ short_flag_option (codes "three") 51 ∷ (limit_options ++
     flag_option (codes "doubles") ∷
     number_option (codes "piece") 1 65536 (codes "4096") ∷
     flag_option (codes "explain") ∷
@@ -73,7 +78,8 @@ listening_options others = limit_options ++ number_option (codes "clients") 1 65
 
 -- the options of `serve`
 abbrev pub serve_options : List Rule
-serve_options = listening_options (address_word (codes "address") ∷ [])
+serve_options = listening_options
+    (number_option (codes "held") 1 1099511627776 (codes "1048576") ∷ address_word (codes "address") ∷ [])
 
 -- the options of `tap`
 abbrev pub tap_options : List Rule

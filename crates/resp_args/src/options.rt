@@ -3,7 +3,7 @@
 ghost use Rattle.std.specs.Prelude.{◌≡◌, ℕ, Bool, false, IfNone, IfOk, IfSome, OnErr, option_map};
 ghost use Rattle.std.specs.Net.Grammar.{IsSocketText};
 ghost use Rattle.clap.specs.Words.{first_of, found_of, rows_of};
-ghost use Rattle.resp_args.specs.CommandWords.{HasFlag, HasLimits, HasNumber, HasOptions, HasProto, HasSmallNumber};
+ghost use Rattle.resp_args.specs.CommandWords.{HasFlag, HasLimits, HasNumber, HasOptions, HasProto, HasReading, HasSmallNumber};
 ghost use Rattle.resp_value.specs.Bounds.{Bounds};
 
 use crate::asked::NothingAsked;
@@ -61,7 +61,7 @@ pub(crate) fn limits_of(matches: &ArgMatches<'_>) -> Option<Limits>
 }
 
 /// Returns the number of an option.
-fn number_of(matches: &ArgMatches<'_>, name: &str) -> Option<u64>
+pub(crate) fn number_of(matches: &ArgMatches<'_>, name: &str) -> Option<u64>
     ensures some { IfSome result (HasNumber (rows_of (found_of matches.now)) name.now) }
     ensures none { IfNone result ((number : ℕ)
         → HasNumber (rows_of (found_of matches.now)) name.now number → ⊥) }
@@ -123,6 +123,21 @@ fn version_of(matches: &ArgMatches<'_>) -> Option<Version>
     }
 }
 
+/// Returns the version of the protocol, and whether doubles are accepted.
+fn reading_of(matches: &ArgMatches<'_>) -> Option<(Version, bool)>
+    ensures some { IfSome result (λ reading. HasReading (rows_of (found_of matches.now)) reading.0 reading.1) }
+    ensures none { IfNone result ((version : Version) (doubles : Bool)
+        → HasReading (rows_of (found_of matches.now)) version doubles → ⊥) }
+{
+    if flag_of(matches, "two")? {
+        return Some((Version::Two, flag_of(matches, "doubles")?));
+    }
+    if flag_of(matches, "three")? {
+        return Some((Version::Three, true));
+    }
+    Some((version_of(matches)?, flag_of(matches, "doubles")?))
+}
+
 /// Returns the options of a subcommand; `None` if a number is outside its range, which the parser
 /// of the command line rejects before.
 pub(crate) fn options_of<'a>(task: Task, matches: &ArgMatches<'a>) -> Option<Options<'a>>
@@ -131,8 +146,8 @@ pub(crate) fn options_of<'a>(task: Task, matches: &ArgMatches<'a>) -> Option<Opt
     ensures none { IfNone result ((options : Options)
         → HasOptions (rows_of (found_of matches.now)) options → ⊥) }
 {
-    let version = version_of(matches)?;
-    let limits = limits_of(matches)?.with_doubles(flag_of(matches, "doubles")?);
+    let (version, doubles) = reading_of(matches)?;
+    let limits = limits_of(matches)?.with_doubles(doubles);
     let piece = small_number_of(matches, "piece")?;
     Some(Options {
         task,

@@ -5,14 +5,14 @@ ghost use Rattle.std.specs.Prelude.{◌≡◌, false, [], ◌∷◌, codes, map}
 ghost use Rattle.clap.specs.Words.{App, Rule, new_app, rule_of, with_rule, with_subcommand};
 ghost use Rattle.clap.specs.declared.builder.value_parser.ValueParser.TheVariants as vp;
 ghost use Rattle.resp_args.specs.CommandWords.{FindsWords};
-ghost use Rattle.resp_args.specs.Program.{IsProgram, MakesTask, address_word, bare_app, file_word, flag_option, limit_options, numbers_between, resp_app, serve_options, stream_options, tap_options, value_option, with_options};
+ghost use Rattle.resp_args.specs.Program.{IsProgram, MakesTask, address_word, bare_app, file_word, flag_option, limit_options, numbers_between, resp_app, serve_options, short_flag_option, stream_options, tap_options, value_option, with_options};
 
 use crate::options::STANDARD_INPUT;
 use clap::{Arg, ArgAction, ArgMatches, Command};
 use std::alloc::Global;
 use std::convert::AsStr;
 
-/// The greatest limit of total and of items.
+/// The greatest limit of total, of items and of held bytes.
 const MOST_TOTAL: i64 = 1_099_511_627_776;
 
 /// The values of `--proto`.
@@ -29,9 +29,9 @@ const EXAMPLES: &str = r"Examples:
 /// The end of the help of `show`, `check` and `canon`.
 const STREAM_HELP: &str = r"Examples:
   printf '*2\r\n:1\r\n+two\r\n' | resp show
-  resp show --proto 3 --doubles --explain replies.resp
+  resp show -3 --explain replies.resp
   resp check replies.resp
-  resp canon --proto 3 <replies.resp >canonical.resp
+  resp canon -3 <replies.resp >canonical.resp
 
 Exit status:
   0  All input was read
@@ -145,6 +145,16 @@ const CLIENTS: NumberOption = NumberOption {
     least: 1,
     most: 65_536,
     default: "1000",
+    hides_default: false,
+};
+
+/// `--held`: the most bytes that wait for a client of `serve` before its next command is run.
+const HELD: NumberOption = NumberOption {
+    name: "held",
+    help: "Maximum bytes waiting for a client when its\nnext command is run, 1 to 1099511627776",
+    least: 1,
+    most: MOST_TOTAL,
+    default: "1048576",
     hides_default: false,
 };
 
@@ -271,8 +281,12 @@ fn stream_task<'a>(
         (stream_options (vp.Names versions.entry))) result }
 {
     let why = "Says where in the input an error is, and why";
+    let two = "Protocol version 2, also with -3";
+    let three = "Protocol version 3 with doubles";
     let task = bare_task(alloc, name, about, STREAM_HELP);
     let task = with_arg(task, proto(alloc, versions));
+    let task = with_arg(task, short_flag(alloc, "two", '2', two));
+    let task = with_arg(task, short_flag(alloc, "three", '3', three));
     let task = with_limits(alloc, task);
     let task = with_arg(task, flag(alloc, "doubles", "Accepts RESP3 doubles"));
     let task = with_arg(task, PIECE.option(alloc));
@@ -300,6 +314,7 @@ fn serve_task<'a>(alloc: Global) -> Result<Command<'a>, clap::Error>
     let task = bare_task(alloc, "serve", about, SERVE_HELP);
     let task = with_limits(alloc, task);
     let task = with_arg(task, CLIENTS.option(alloc));
+    let task = with_arg(task, HELD.option(alloc));
     with_arg(task, address(alloc, "address", "ADDRESS", listen))
 }
 
@@ -348,6 +363,17 @@ fn flag<'a>(alloc: Global, name: &'a str, help: &'static str) -> Arg<'a>
 {
     Arg::new(alloc, name)
         .long(name)
+        .help(help)
+        .action(ArgAction::SetTrue)
+}
+
+/// Returns an option without a value and with one character.
+fn short_flag<'a>(alloc: Global, name: &'a str, short: char, help: &'static str) -> Arg<'a>
+    ensures rule { rule_of result ≡ short_flag_option name.entry.now short }
+    ensures here { result.global ≡ false }
+{
+    Arg::new(alloc, name)
+        .short(short)
         .help(help)
         .action(ArgAction::SetTrue)
 }

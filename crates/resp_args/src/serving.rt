@@ -6,7 +6,7 @@ ghost use Rattle.resp_args.specs.CommandWords.{HasServeWords, HasServing};
 ghost use Rattle.resp_value.specs.Bounds.{Bounds};
 
 use crate::asked::NothingAsked;
-use crate::options::{address_of, limits_of, small_number_of, text_of};
+use crate::options::{address_of, limits_of, number_of, small_number_of, text_of};
 use clap::ArgMatches;
 use resp_value::limits::Limits;
 use std::net::SocketAddr;
@@ -22,6 +22,8 @@ pub struct Serving<'a> {
     pub limits: Limits,
     /// The most clients at once, from 1 to 65,536.
     pub clients: usize,
+    /// The most bytes that wait to be written to a client before its next command is run.
+    pub held: usize,
 }
 
 /// The options before the address is parsed.
@@ -30,6 +32,7 @@ struct Words<'a> {
     address: &'a str,
     limits: Limits,
     clients: usize,
+    held: usize,
 }
 
 /// Returns the options of `serve`, or why there are none.
@@ -46,6 +49,7 @@ pub(crate) fn serving_of<'a>(matches: &ArgMatches<'a>) -> Result<Serving<'a>, No
         address_text: words.address,
         limits: words.limits,
         clients: words.clients,
+        held: words.held,
     })
 }
 
@@ -53,13 +57,14 @@ pub(crate) fn serving_of<'a>(matches: &ArgMatches<'a>) -> Result<Serving<'a>, No
 /// the parser of the command line rejects before.
 fn words_of<'a>(matches: &ArgMatches<'a>) -> Option<Words<'a>>
     ensures some { IfSome result (λ words. HasServeWords (rows_of (found_of matches.now))
-        words.address.now words.limits words.clients) }
-    ensures none { IfNone result ((address : List ℕ) (limits : Bounds) (clients : ℕ)
-        → HasServeWords (rows_of (found_of matches.now)) address limits clients → ⊥) }
+        words.address.now words.limits words.clients words.held) }
+    ensures none { IfNone result ((address : List ℕ) (limits : Bounds) (clients held : ℕ)
+        → HasServeWords (rows_of (found_of matches.now)) address limits clients held → ⊥) }
 {
     Some(Words {
         address: text_of(matches, "address")?,
         limits: limits_of(matches)?,
         clients: small_number_of(matches, "clients")?,
+        held: number_of(matches, "held")? as usize,
     })
 }

@@ -9,3 +9,9 @@ returns-in_err-piece-clause-none c =
     let none : (options : Options) → HasOptions (rows_of (found_of c.args.matches.now)) options → ⊥ =
     λ options has. c.in_err-piece.ensures.none _ has.piece in
     if_none _ _ none
+
+pub returns-in_err-version-clause-none : goal.returns-in_err-version-clause-none
+returns-in_err-version-clause-none c =
+    let none : (options : Options) → HasOptions (rows_of (found_of c.args.matches.now)) options → ⊥ =
+    λ options has. c.in_err-version.ensures.none _ _ has.reading in
+    if_none _ _ none
