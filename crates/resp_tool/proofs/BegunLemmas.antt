@@ -1,5 +1,6 @@
 -- Where the values of a stream begin, as more of its bytes come.
-use Rattle.std.proofs.Common.{◌≡◌, ◌≤◌, inl, inr, ℕ, ◌+◌, ◌-◌, List, [], ◌∷◌, ◌++◌, length, drop, refl, sym, ap, ◌∙◌, arith, append_assoc, append-nil, length-append}
+use Rattle.std.proofs.Common.{◌≡◌, ◌≤◌, inl, inr, ℕ, ◌+◌, ◌-◌, List, [], ◌∷◌, ◌++◌, length, drop, take, refl, sym, ap, ◌∙◌, arith, append_assoc, append-nil, length-append}
+use Rattle.std.proofs.lemmas.List.{take-append-drop}
 use Rattle.resp_value.specs.Devices.{last_count}
 use Rattle.resp_value.specs.Rules.{Rules}
 use Rattle.resp_value.specs.Spellings.{IsSpelling}
@@ -85,6 +86,13 @@ passed_value starts after bytes more H h same values start hears =
 pub came : (s : Place) (rest : List ℕ) → HasReadOrRefused s rest → ((fault : Fault) → IsFaulted s fault → ⊥) → (given : Events) × HasScanned s rest given
 came s rest (inl read) sound = read
 came s rest (inr (fault, faulted)) sound = absurd (sound fault faulted)
+
+-- the last bytes of a text that is gone through further
+pub last_kept : (bytes more gone held : List ℕ) (beyond : ℕ) → bytes ≡ gone ++ held →
+    bytes ++ more ≡ (gone ++ take beyond held) ++ (drop beyond held ++ more)
+last_kept bytes more gone held beyond is =
+    ap (λ z. z ++ more) (is ∙ ap (λ z. gone ++ z) (sym (take-append-drop beyond held)) ∙ sym (append_assoc gone (take beyond held) (drop beyond held)))
+    ∙ append_assoc (gone ++ take beyond held) (drop beyond held) more
 
 -- the last of two texts
 pub last_of : (xs ys all : List ℕ) → all ≡ xs ++ ys → drop (length all - length ys) all ≡ ys

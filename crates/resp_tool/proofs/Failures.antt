@@ -1,7 +1,6 @@
 -- Which device failed when the status is 3.
-use Rattle.std.proofs.Common.{◌≡◌, ℕ, Bool, false, List, Option, Result, Ok, Err, IsErrOf, inl, inr, refl, ap}
-use Rattle.resp_args.specs.Faults.{TellsFailure, fault_line, status_of}
-use Rattle.resp_args.specs.Tried.{TriesText}
+use Rattle.std.proofs.Common.{◌≡◌, ℕ, false, List, Option, Result, Err, IsErrOf, inl, inr, refl, ap}
+use Rattle.resp_args.specs.Faults.{TellsFailure, status_of}
 use Rattle.resp_args.specs.declared.tool_error.ToolError.{ToolError}
 use Rattle.resp_args.specs.declared.tool_error.ToolError.TheVariants.{Refused, OverLimits, TooManyValues, Read, Write, TooManyTurns, Memory}
 use Rattle.resp_tool.specs.Runs.{FailsAtThree}

@@ -3,6 +3,7 @@ pub mod ReadLemmas
 pub mod Rendered
 pub mod LiveLemmas
 pub mod Scanned
+pub mod ValidLemmas
 pub mod Counted
 pub mod Drafted
 pub mod Drafting

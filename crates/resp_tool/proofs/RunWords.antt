@@ -1,31 +1,15 @@
 -- Which command lines run a task over standard input.
-use Rattle.std.proofs.Common.{subst, ◌≤◌, ◌&&◌, zero, suc, arith, inl, inr, ◌⊎◌, ◌≢◌, ◌∙◌, ◌≡◌, ℕ, ap, Bool, true, false, List, [], ◌∷◌, map, refl, sym, Option, Some, None, Result, Ok, Err, IfOk, IfSome, IfNone, codes}
-use Rattle.std.specs.Str.Parse.{ParsesBool, ParsesUnsigned}
-use Rattle.clap.specs.Words.{App, FailsBy, HasKind, HasMatchesOf, IsAmong, kind_of, ReadsOne, Row, Text, fault_of, is_simple, is_simple_and_free, one_text, rows_of, subcommand_of, subcommand_rows_of}
-use Rattle.clap.specs.declared.error.Error.{Error}
-use Rattle.clap.specs.declared.error.kind.ErrorKind.{ErrorKind}
-use Rattle.clap.specs.declared.error.kind.ErrorKind.TheVariants.{DisplayHelp, DisplayVersion, OutOfMemory}
-use Rattle.clap.specs.declared.builder.value_parser.ValueParser.{ValueParser}
-use Rattle.clap.specs.declared.parser.matches.ArgMatches.{ArgMatches}
-use Rattle.clap.specs.declared.parser.matches.Found.{Found}
-use Rattle.clap.proofs.OnLiterals.{clap_on_literals}
-use Rattle.clap.proofs.WalkLemmas.{one_text-rows}
-use Rattle.resp_args.specs.CommandWords.{AnswersStatus, AreWrong, AskFor, Enters, FindsWords, HasFlag, HasNumber, HasTapping, IsAsked, flag_text, task_word}
+use Rattle.std.proofs.Common.{◌≤◌, zero, suc, arith, inl, inr, ◌⊎◌, ◌∙◌, ◌≡◌, ℕ, ap, Bool, true, false, List, [], refl, sym, Option, Some, None, Err, codes}
+use Rattle.clap.specs.Words.{App, Row, Text, subcommand_of}
+use Rattle.resp_args.specs.CommandWords.{AnswersStatus, AreWrong, AskFor, Enters, flag_text}
 use Rattle.resp_args.specs.Faults.{IsWordStatus}
 use Rattle.resp_args.proofs.AskingLemmas.{one_sort, sort_of}
 use Rattle.resp_tool.specs.Runs.{AskForRun, DoesWords}
 use Rattle.std.specs.Str.{bytes_eq}
-use Rattle.std.specs.Prelude.{not, unwrap_or, if◌then◌else◌}
-use Rattle.resp_args.specs.Program.{IsProgram, resp_app}
-use Rattle.resp_args.proofs.CommandLemmas.{names_take_versions}
-use Rattle.std.specs.Borrow.{Bor}
-use Rattle.clap.specs.declared.builder.value_parser.ValueParser.TheVariants as vp
+use Rattle.std.specs.Prelude.{not, unwrap_or}
 use Rattle.resp_args.specs.declared.asked.Asked.{Asked}
-use Rattle.resp_args.specs.declared.asked.Asked.TheVariants.{Stream, Play, Serve, Tap}
+use Rattle.resp_args.specs.declared.asked.Asked.TheVariants.{Stream}
 use Rattle.resp_args.specs.declared.options.Options.{Options}
-use Rattle.resp_args.specs.declared.options.Task.{Task}
-use Rattle.resp_args.specs.declared.options.Task.TheVariants.{Show, Check, Canon}
-use Rattle.resp_args.specs.declared.tapping.Tapping.{Tapping}
 
 two_or_three : (n : ℕ) → 2 ≤ n → n ≤ 3 → (n ≡ 2) ⊎ (n ≡ 3)
 two_or_three zero low high = absurd (omega arith)

@@ -1,5 +1,8 @@
 -- The lines that explain an error in a stream.
-use Rattle.std.specs.Prelude.{◌≡◌, ℕ, ◌+◌, ◌-◌, ◌≤◌, false, List, [], ◌++◌, length, drop, codes, decimal, replicate, Option}
+use Rattle.std.specs.Prelude.{◌≡◌, ◌⊎◌, ℕ, ◌+◌, ◌-◌, ◌≤◌, false, List, [], ◌++◌, length, drop, take, codes, decimal, replicate, Option}
+use Rattle.std.specs.Prelude.{Some, None}
+use Rattle.resp_tool.specs.Valid.{AreNext, NamesNext, next_text}
+use Rattle.resp_tool.specs.declared.valid.NextBytes.{NextBytes}
 use Rattle.resp_value.specs.Data.{Datum}
 use Rattle.resp_value.specs.Devices.{Appends, last_count}
 use Rattle.resp_value.specs.Rules.{Rules}
@@ -23,35 +26,50 @@ rules_watched w = rules_of w.starts.scanner
 abbrev pub held_bytes : {R : Type 0} → Watched R → ℕ
 held_bytes w = length w.held.items
 
+-- the last ones of these bytes are held, and they were counted
+pub record HoldsLast {R : Type 0} (w : Watched R) (bytes : List ℕ) : Type 0 where
+  pub gone : List ℕ
+  pub held_last : bytes ≡ gone ++ w.held.items
+  pub counted : length bytes ≤ last_count → w.read ≡ length bytes
+
 -- all of these bytes except the last ones were scanned, and the last ones are held
 pub record Watches {R : Type 0} (w : Watched R) (bytes : List ℕ) : Type 0 where
   pub done : List ℕ
   pub whole : bytes ≡ done ++ drop (length w.held.items - w.fresh) w.held.items
   pub passed : HavePassed w.starts done
+  pub holds : HoldsLast w bytes
 
 -- these bytes were read through this source; if an allocation failed, nothing is stated about them
 abbrev pub HasWatched : {R : Type 0} → Watched R → List ℕ → Type 0
 HasWatched w bytes = w.is_lost ≡ false → Watches w bytes
 
--- this many bytes are before this byte of the value with this number, if the number fits into 64 bits
-pub record IsPlace (r : Rules) (bytes : List ℕ) (value at place : ℕ) : Type 0 where
+-- The value with this number begins after `start` bytes, and `place` bytes are before this byte of it, if these numbers
+-- fit into 64 bits.
+pub record IsPlace (r : Rules) (bytes : List ℕ) (value at start place : ℕ) : Type 0 where
   pub values : List Datum
   pub front : List ℕ
   pub rest : List ℕ
   pub spelled : AreSpellings r values front
   pub whole : bytes ≡ front ++ rest
   pub counted : length values + 1 ≡ value
+  pub begins : length front ≤ last_count → start ≡ length front
   pub placed : length front + at ≤ last_count → place ≡ length front + at
+
+-- the bytes of a value before this byte of it are among the last ones that are in memory
+pub record IsHeld (held : ℕ) (bytes front : List ℕ) (at : ℕ) : Type 0 where
+  pub begins : length bytes ≤ length front + held
+  pub has_come : length front + at ≤ length bytes
+  pub counted : length bytes ≤ last_count
 
 -- which options accept a double
 abbrev pub double_text : Version → List ℕ
-double_text Two = codes "a double; accepted with --doubles and --proto 3"
-double_text Three = codes "a double; accepted with --doubles"
+double_text Two = codes "a double; use -3"
+double_text Three = codes "a double; use --doubles or -3"
 
 -- why a byte is not valid, and which option accepts it
 abbrev pub cause_text : Rules → ℕ → Cause → List ℕ
 cause_text r missing cause.Double = double_text r.version
-cause_text r missing cause.Version = codes "version 2 doesn't have this; try --proto 3"
+cause_text r missing cause.Version = codes "version 2 doesn't have this; use -3"
 cause_text r missing cause.NestedPush = codes "a push cannot be inside another value"
 cause_text r missing cause.Range = codes "the integer doesn't fit into 64 bits"
 cause_text r missing cause.Depth =
@@ -71,11 +89,35 @@ cause_text r missing _ = codes "a valid value cannot contain this byte here"
 abbrev pub margin_text : ℕ → List ℕ → List ℕ
 margin_text place before = codes "  at byte " ++ decimal place ++ codes " of the input: " ++ quoted_text before
 
+-- a byte was refused, since the grammar doesn't allow it
+abbrev pub IsSyntax : ToolError → Type 0
+IsSyntax (Refused value cause.Syntax at) = Unit {0}
+IsSyntax e = ⊥
+
+-- the bytes with which a valid value goes on were found if the grammar doesn't allow a byte after this front of a value
+abbrev pub IsNextOf : Rules → ToolError → Option (List ℕ) → Option NextBytes → Type 0
+IsNextOf r error (Some front) (Some next) = IsSyntax error × AreNext r front next.goes_on next.bytes.items
+IsNextOf r error None (Some next) = ⊥
+IsNextOf r error (Some front) None = IsSyntax error → ⊥
+IsNextOf r error None None = Unit {0}
+
 -- the sentence about an error in some value
 abbrev pub sentence_text : Rules → ℕ → ToolError → List ℕ
 sentence_text r missing (Refused value c at) = cause_text r missing c
 sentence_text r missing (OverLimits value) = codes "the canonical text of this value is over the limits"
 sentence_text r missing _ = codes "a run reads at most 1000000000 values"
+
+-- the sentence about an error, with the bytes that are valid there if they are known
+abbrev pub reason_text : Rules → ℕ → ToolError → Option NextBytes → List ℕ
+reason_text r missing error (Some next) = next_text next.goes_on next.bytes.items
+reason_text r missing error None = sentence_text r missing error
+
+-- The sentence about a byte of the value that begins after these bytes. For a byte that the grammar doesn't allow it
+-- names just the bytes that are valid there, if the bytes of the value before it are still in memory.
+pub record Says (r : Rules) (held : ℕ) (bytes front rest : List ℕ) (at missing : ℕ) (error : ToolError)
+    (sentence : List ℕ) : Type 0 where
+  pub either : (sentence ≡ sentence_text r missing error) ⊎ IsSyntax error × NamesNext r (take at rest) sentence
+  pub named : IsSyntax error → IsHeld held bytes front at → NamesNext r (take at rest) sentence
 
 -- a line that ends with the bytes from the place on, and a line with a caret and a sentence after blanks
 abbrev pub explanation_lines : List ℕ → List ℕ → List ℕ → List ℕ → List ℕ
@@ -83,23 +125,27 @@ explanation_lines margin after blank sentence =
     margin ++ (quoted_text after ++ (codes "\n" ++ (blank ++ (codes "^ " ++ (sentence ++ codes "\n")))))
 
 -- The place of a byte of a value was written, with some bytes before and after it, and below the place a caret and the
--- sentence.
-pub record ExplainsAt (r options : Rules) (bytes : List ℕ) (value at : ℕ) (said said' : Option (List ℕ))
+-- sentence. As many of the bytes as `held` says are in memory.
+pub record ExplainsAt (r options : Rules) (held : ℕ) (bytes : List ℕ) (value at : ℕ) (said said' : Option (List ℕ))
     (error : ToolError) : Type 0 where
+  pub start : ℕ
   pub place : ℕ
-  pub is_place : IsPlace r bytes value at place
+  pub is_place : IsPlace r bytes value at start place
   pub before : List ℕ
   pub after : List ℕ
   pub missing : ℕ
+  pub sentence : List ℕ
+  pub says : length bytes ≤ last_count →
+      Says options held bytes is_place.front is_place.rest at missing error sentence
   pub told : Appends said said' (explanation_lines (margin_text place before) after
-      (replicate (length (margin_text place before)) 32) (sentence_text options missing error))
+      (replicate (length (margin_text place before)) 32) sentence)
 
 -- an error in the input was explained at its place; nothing was written if a device or an allocation failed
-abbrev pub Explains : Rules → Rules → List ℕ → Option (List ℕ) → Option (List ℕ) → ToolError → Type 0
-Explains r options bytes said said' (Refused value c at) =
-    ExplainsAt r options bytes value at said said' (Refused value c at)
-Explains r options bytes said said' (OverLimits value) =
-    ExplainsAt r options bytes value 0 said said' (OverLimits value)
-Explains r options bytes said said' TooManyValues =
-    ExplainsAt r options bytes 1000000001 0 said said' TooManyValues
-Explains r options bytes said said' e = Appends said said' []
+abbrev pub Explains : Rules → Rules → ℕ → List ℕ → Option (List ℕ) → Option (List ℕ) → ToolError → Type 0
+Explains r options held bytes said said' (Refused value c at) =
+    ExplainsAt r options held bytes value at said said' (Refused value c at)
+Explains r options held bytes said said' (OverLimits value) =
+    ExplainsAt r options held bytes value 0 said said' (OverLimits value)
+Explains r options held bytes said said' TooManyValues =
+    ExplainsAt r options held bytes 1000000001 0 said said' TooManyValues
+Explains r options held bytes said said' e = Appends said said' []

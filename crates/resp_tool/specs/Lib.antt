@@ -12,5 +12,6 @@ pub mod Laws
 pub mod Runs
 pub mod Begun
 pub mod Explained
+pub mod Valid
 pub mod CanonicalFronts
 pub mod Drafts

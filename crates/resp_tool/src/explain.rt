@@ -1,11 +1,12 @@
 //! Explains an error in a stream: the lines of `--explain`.
 
-ghost use Rattle.std.specs.Prelude.{◌≡◌, ℕ, List, OnOk};
-ghost use Rattle.resp_tool.specs.Explained.{Explains, ExplainsAt, HasWatched, cause_text, double_text, explanation_lines, margin_text, rules_watched, sentence_text};
+ghost use Rattle.std.specs.Prelude.{◌≡◌, ℕ, List, IfOk, OnOk, option_map};
+ghost use Rattle.resp_tool.specs.Explained.{Explains, ExplainsAt, HasWatched, IsNextOf, cause_text, double_text, explanation_lines, held_bytes, margin_text, reason_text, rules_watched, sentence_text};
 ghost use Rattle.resp_print.specs.Written.{WritesText};
 ghost use Rattle.resp_value.specs.Devices.{Appends};
 ghost use Rattle.resp_value.specs.Rules.{rules_under};
 
+use crate::valid::NextBytes;
 use crate::watched::Watched;
 use resp_args::options::Options;
 use resp_args::tool_error::{MOST_VALUES, ToolError};
@@ -14,14 +15,28 @@ use resp_value::cause::Cause;
 use resp_value::device::{DeviceFault, MemorySink, Sink};
 use resp_value::limits::Limits;
 use resp_value::version::Version;
-use std::alloc::Global;
+use std::alloc::{AllocError, Global};
 
 /// A margin has fewer bytes than this.
 const MOST_IN_MARGIN: usize = 256;
 
+/// What is known of an error at a place.
+#[derive(Drop)]
+struct Reason<'a> {
+    error: &'a ToolError,
+    version: Version,
+    limits: &'a Limits,
+    /// The least number of bytes that complete the value.
+    missing: u64,
+    /// The bytes that are valid at the place, if they are known.
+    next: Option<NextBytes>,
+}
+
 /// Writes two lines that explain `error`: the place in the stream of `watched` with the bytes
-/// around it, and below the place a caret and a sentence. If a device or an allocation failed, it
-/// writes nothing.
+/// around it, and below the place a caret and a sentence. If the grammar does not allow the byte at
+/// the place, the sentence names the bytes that are valid there; it does not if the value begins
+/// before the bytes that `watched` keeps. If a device or an allocation failed, the call writes
+/// nothing.
 ///
 /// # Errors
 ///
@@ -36,8 +51,8 @@ pub fn explain<R, F: Sink>(
 ) -> Result<(), ToolError>
     ensures { (bytes : List ℕ) → HasWatched watched.old bytes →
         OnOk result (Explains (rules_watched watched.old)
-        (rules_under options.now.version options.now.limits) bytes (F.written faults.old)
-        (F.written faults.new) error.now) }
+        (rules_under options.now.version options.now.limits) (held_bytes watched.old) bytes
+        (F.written faults.old) (F.written faults.new) error.now) }
 {
     match error {
         ToolError::Refused { value, cause, at } => {
@@ -59,6 +74,7 @@ fn settle_at_end<R>(cause: Cause, watched: &mut Watched<R>)
     ensures watched { (bytes : List ℕ) → HasWatched watched.old bytes →
         HasWatched watched.new bytes }
     ensures same_rules { rules_watched watched.new ≡ rules_watched watched.old }
+    ensures same_size { held_bytes watched.new ≡ held_bytes watched.old }
 {
     if cause == Cause::Truncated {
         watched.settle();
@@ -77,27 +93,47 @@ fn explain_at<R, F: Sink>(
 ) -> Result<(), ToolError>
     ensures { (bytes : List ℕ) → HasWatched watched.old bytes →
         OnOk result (ExplainsAt (rules_watched watched.old)
-        (rules_under options.now.version options.now.limits) bytes value at
-        (F.written faults.old) (F.written faults.new) error.now) }
+        (rules_under options.now.version options.now.limits) (held_bytes watched.old) bytes value
+        at (F.written faults.old) (F.written faults.new) error.now) }
 {
     let Some(place) = watched.place_of(value, at) else {
         return Err(ToolError::Memory);
     };
     let missing = watched.missing();
+    let next = next_after(alloc, error, watched.front(at), options)?;
+    let reason = Reason {
+        error,
+        version: options.version,
+        limits: &options.limits,
+        missing,
+        next,
+    };
     let (before, after) = watched.around(place);
     let mut margin = MemorySink::new(alloc, MOST_IN_MARGIN, MOST_IN_MARGIN)?;
     write_margin(&mut margin, place, before)?;
     let blank = vec![in alloc; b' '; margin.bytes().len()]?;
-    write_lines(
-        faults,
-        margin.bytes(),
-        after,
-        blank.as_slice(),
-        error,
-        options,
-        missing,
-    )?;
+    write_lines(faults, margin.bytes(), after, blank.as_slice(), &reason)?;
     Ok(())
+}
+
+/// Finds the bytes that are valid after the front of a value, if the grammar does not allow the
+/// next one.
+fn next_after(
+    alloc: Global,
+    error: &ToolError,
+    front: Option<&[u8]>,
+    options: &Options<'_>,
+) -> Result<Option<NextBytes>, AllocError>
+    ensures { IfOk result (IsNextOf (rules_under options.now.version options.now.limits) error.now
+        (option_map (λ text. text.now) front.entry)) }
+{
+    match (error, front) {
+        (ToolError::Refused { cause, .. }, Some(front)) if *cause == Cause::Syntax => {
+            let next = NextBytes::after(alloc, front, options.version, &options.limits)?;
+            Ok(Some(next))
+        }
+        _ => Ok(None),
+    }
 }
 
 /// Writes both lines.
@@ -106,21 +142,39 @@ fn write_lines<F: Sink>(
     margin: &[u8],
     after: &[u8],
     blank: &[u8],
-    error: &ToolError,
-    options: &Options<'_>,
-    missing: u64,
+    reason: &Reason<'_>,
 ) -> Result<(), DeviceFault>
     ensures { OnOk result (Appends (F.written faults.old) (F.written faults.new)
-        (explanation_lines margin.now after.now blank.now (sentence_text
-        (rules_under options.now.version options.now.limits) missing error.now))) }
+        (explanation_lines margin.now after.now blank.now (reason_text
+        (rules_under reason.now.version reason.now.limits.now) reason.now.missing
+        reason.now.error.now reason.now.next))) }
 {
     write_text(faults, margin)?;
     write_quoted(faults, after)?;
     write_text(faults, b"\n")?;
     write_text(faults, blank)?;
     write_text(faults, b"^ ")?;
-    write_sentence(faults, error, options.version, &options.limits, missing)?;
+    write_reason(faults, reason)?;
     write_text(faults, b"\n")
+}
+
+/// Writes the sentence about an error.
+fn write_reason<F: Sink>(faults: &mut F, reason: &Reason<'_>) -> Result<(), DeviceFault>
+    ensures { WritesText (F.written faults.old) (F.written faults.new) (F.failures faults.old)
+        (F.failures faults.new) result (reason_text
+        (rules_under reason.now.version reason.now.limits.now) reason.now.missing
+        reason.now.error.now reason.now.next) }
+{
+    match &reason.next {
+        Some(next) => next.write(faults),
+        None => write_sentence(
+            faults,
+            reason.error,
+            reason.version,
+            reason.limits,
+            reason.missing,
+        ),
+    }
 }
 
 /// Writes the first line up to the place of the error.
@@ -132,7 +186,7 @@ fn write_margin<F: Sink>(faults: &mut F, place: u64, before: &[u8]) -> Result<()
     write_quoted(faults, before)
 }
 
-/// Writes the sentence about an error.
+/// Writes the sentence about an error without the bytes that are valid there.
 fn write_sentence<F: Sink>(
     faults: &mut F,
     error: &ToolError,
@@ -174,7 +228,7 @@ fn write_cause<F: Sink>(
 {
     match cause {
         Cause::Double => write_double(faults, version),
-        Cause::Version => write_text(faults, b"version 2 doesn't have this; try --proto 3"),
+        Cause::Version => write_text(faults, b"version 2 doesn't have this; use -3"),
         Cause::NestedPush => write_text(faults, b"a push cannot be inside another value"),
         Cause::Range => write_text(faults, b"the integer doesn't fit into 64 bits"),
         Cause::Depth => write_number(
@@ -223,7 +277,7 @@ fn write_double<F: Sink>(faults: &mut F, version: Version) -> Result<(), DeviceF
         (F.failures faults.new) result (double_text version) }
 {
     match version {
-        Version::Two => write_text(faults, b"a double; accepted with --doubles and --proto 3"),
-        Version::Three => write_text(faults, b"a double; accepted with --doubles"),
+        Version::Two => write_text(faults, b"a double; use -3"),
+        Version::Three => write_text(faults, b"a double; use --doubles or -3"),
     }
 }

@@ -20,4 +20,5 @@ mod short_line;
 pub mod show;
 mod starts;
 mod stream;
+mod valid;
 pub mod watched;

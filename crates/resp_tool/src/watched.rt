@@ -1,10 +1,10 @@
 //! A source that keeps the last bytes of its stream and the place at which its last value begins.
 
-ghost use Rattle.std.specs.Prelude.{◌≡◌, ◌≤◌, ◌+◌, ◌-◌, ◌++◌, ℕ, List, [], length, drop, take, IfOk, IfSome, IsErr, false};
+ghost use Rattle.std.specs.Prelude.{◌≡◌, ◌≤◌, ◌+◌, ◌-◌, ◌++◌, ℕ, List, [], length, drop, take, IfOk, IfSome, IsErr, IsSome, false};
 ghost use Rattle.resp_tool.specs.Begun.{HavePassed};
-ghost use Rattle.resp_tool.specs.Explained.{HasWatched, IsPlace, held_bytes, rules_watched};
+ghost use Rattle.resp_tool.specs.Explained.{HasWatched, HoldsLast, IsHeld, IsPlace, held_bytes, rules_watched};
 ghost use Rattle.resp_print.specs.Live.{Records};
-ghost use Rattle.resp_value.specs.Devices.{Reads, count_after, failures_after, read_fails};
+ghost use Rattle.resp_value.specs.Devices.{Reads, count_after, failures_after, last_count, read_fails};
 ghost use Rattle.resp_value.specs.Rules.{rules_under};
 
 use crate::starts::Starts;
@@ -93,7 +93,10 @@ impl<R> Watched<R> {
     /// Call this once: the bytes after that value are not scanned any more.
     pub(crate) fn place_of(&mut self, value: u64, at: u64) -> Option<u64>
         ensures place { (bytes : List ℕ) → HasWatched self.old bytes →
-            IfSome result (IsPlace (rules_watched self.old) bytes value at) }
+            IfSome result (IsPlace (rules_watched self.old) bytes value at self.new.starts.start) }
+        ensures holds { (bytes : List ℕ) → HasWatched self.old bytes →
+            IsSome result → HoldsLast self.new bytes }
+        ensures same_size { held_bytes self.new ≡ held_bytes self.old }
     {
         if self.is_lost || value == 0 {
             return None;
@@ -104,6 +107,26 @@ impl<R> Watched<R> {
             return None;
         }
         Some(self.starts.start().saturating_add(at))
+    }
+
+    /// Returns the first `at` bytes of the value that begins at [`Starts::start`], if all of them
+    /// are in memory.
+    pub(crate) fn front(&self, at: u64) -> Option<&[u8]>
+        ensures front { (bytes begun : List ℕ) → HoldsLast self.now bytes →
+            length bytes ≤ last_count → self.now.starts.start ≡ length begun →
+            IfSome result (λ front. front.now ≡ take at (drop (length begun) bytes)) }
+        ensures none { (bytes begun : List ℕ) → HoldsLast self.now bytes →
+            self.now.starts.start ≡ length begun →
+            IsHeld (held_bytes self.now) bytes begun at → IsSome result }
+    {
+        let held = self.held.as_slice();
+        let first = self.read.checked_sub(held.len() as u64)?;
+        let begin = self.starts.start().checked_sub(first)?;
+        let end = begin.checked_add(at)?;
+        if end > held.len() as u64 {
+            return None;
+        }
+        Some(&held[begin as usize..end as usize])
     }
 
     /// Returns the least number of bytes that complete the value that was begun.
