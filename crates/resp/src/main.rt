@@ -30,7 +30,7 @@ use std::cell::Cell;
 use std::env;
 use std::fs::File;
 use std::hash::RandomState;
-use std::io::{self, Read, Write};
+use std::io::{self, IsTerminal, Read, Write};
 use std::net::{Net, TcpListener, TcpStream};
 use std::process::ExitCode;
 
@@ -92,6 +92,7 @@ fn run_words<W: LiveSink, F: Sink>(
     match read_words(rt.alloc(), words, writer, faults) {
         Ok(Asked::Stream(options)) => run_task(rt, &options, writer, faults),
         Ok(Asked::Play { explains }) => {
+            let explains = explains || rt.stderr().is_terminal();
             let hasher = RandomState::new(rt).ok();
             let mut reader = Device::new(rt.stdin());
             run_loop(
@@ -121,10 +122,10 @@ fn run_task<W: LiveSink, F: Sink>(
 {
     let alloc = rt.alloc();
     if options.file == STANDARD_INPUT {
-        return Ok(run_stream(alloc, options, rt.stdin(), writer, faults));
+        return Ok(run_stream(rt, options, rt.stdin(), writer, faults));
     }
     match File::open(rt, options.file) {
-        Ok(file) => Ok(run_stream(alloc, options, file, writer, faults)),
+        Ok(file) => Ok(run_stream(rt, options, file, writer, faults)),
         Err(error) => {
             let why = format!(in alloc; "{error}")?;
             Ok(refuse_file(options.file, why.as_str(), faults))
@@ -132,10 +133,10 @@ fn run_task<W: LiveSink, F: Sink>(
     }
 }
 
-/// Runs the command on a stream and returns the status. If the options request it, prints an
-/// explanation after the line of a fault.
+/// Runs the command on a stream and returns the status. If the options request it, or if standard
+/// error is a terminal, prints an explanation after the line of a fault.
 fn run_stream<R: Read + Drop, W: LiveSink, F: Sink>(
-    alloc: Global,
+    rt: &HostRuntime,
     options: &Options<'_>,
     stream: R,
     writer: &mut W,
@@ -143,8 +144,9 @@ fn run_stream<R: Read + Drop, W: LiveSink, F: Sink>(
 ) -> u8
     requires { (1 ≤ options.now.piece) × (options.now.piece ≤ 65536) }
 {
+    let alloc = rt.alloc();
     let mut reader = Device::new(stream);
-    if !options.explains {
+    if !options.explains && !rt.stderr().is_terminal() {
         return run_options(alloc, options, &mut reader, writer, faults);
     }
     let mut watched = Watched::new(alloc, reader, options.version, &options.limits);

@@ -21,7 +21,7 @@ pub enum Asked<'a> {
     Stream(Options<'a>),
     /// Play a script: `loop`.
     Play {
-        /// Whether a bad line is explained.
+        /// Whether `--explain` is given: a bad line is explained.
         explains: bool,
     },
     /// Serve clients: `serve`.

@@ -39,7 +39,7 @@ pub struct Options<'a> {
     pub piece: usize,
     /// The name of the file to read, or [`STANDARD_INPUT`].
     pub file: &'a str,
-    /// Whether an error in the input is explained.
+    /// Whether `--explain` is given: an error in the input is explained.
     pub explains: bool,
 }
 

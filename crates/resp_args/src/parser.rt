@@ -280,7 +280,8 @@ fn stream_task<'a>(
     ensures { MakesTask (with_options (new_app name.entry.now)
         (stream_options (vp.Names versions.entry))) result }
 {
-    let why = "Says where in the input an error is, and why";
+    let why =
+        "Says where in the input an error is, and why;\nthe default if standard error is a terminal";
     let two = "Protocol version 2, also with -3";
     let three = "Protocol version 3 with doubles";
     let task = bare_task(alloc, name, about, STREAM_HELP);
@@ -300,7 +301,8 @@ fn loop_task<'a>(alloc: Global) -> Result<Command<'a>, clap::Error>
         (with_options (new_app (codes "loop")) (flag_option (codes "explain") ∷ [])) result }
 {
     let about = "Plays a script of clients of one server from standard input";
-    let why = "Says why a line of the script is wrong";
+    let why =
+        "Says why a line of the script is wrong;\nthe default if standard error is a terminal";
     let task = bare_task(alloc, "loop", about, LOOP_HELP);
     with_arg(task, flag(alloc, "explain", why))
 }
