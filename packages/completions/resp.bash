@@ -23,7 +23,7 @@ _resp() {
     -*) COMPREPLY=($(compgen -W "${options-}" -- "$word")) ;;
     *)
         case $command in
-        show | check | canon) compopt -o filenames && COMPREPLY=($(compgen -f -- "$word")) ;;
+        show | check | canon | loop) compopt -o filenames && COMPREPLY=($(compgen -f -- "$word")) ;;
         esac
         ;;
     esac

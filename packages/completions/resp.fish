@@ -3,7 +3,7 @@ complete -c resp -f
 complete -c resp -n __fish_use_subcommand -a show -d 'Prints each value of a stream as lines of text'
 complete -c resp -n __fish_use_subcommand -a check -d 'Reads a stream and prints the number of its values and bytes'
 complete -c resp -n __fish_use_subcommand -a canon -d 'Writes the canonical text of each value of a stream'
-complete -c resp -n __fish_use_subcommand -a loop -d 'Plays a script of clients of one server from standard input'
+complete -c resp -n __fish_use_subcommand -a loop -d 'Plays a script of clients of one server'
 complete -c resp -n __fish_use_subcommand -a serve -d 'Serves PING, ECHO, GET, SET, DEL and HELLO to many clients at once'
 complete -c resp -n __fish_use_subcommand -a tap -d 'Forwards connections to a server and prints the traffic'
 complete -c resp -n __fish_use_subcommand -a help -d 'Prints the help of a command'

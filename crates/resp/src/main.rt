@@ -31,7 +31,6 @@ use std::env;
 use std::fs::File;
 use std::hash::RandomState;
 use std::io::{self, IsTerminal, Read, Write};
-use std::net::{Net, TcpListener, TcpStream};
 use std::process::ExitCode;
 
 /// The exit status after a failed device or when out of memory.
@@ -91,19 +90,9 @@ fn run_words<W: LiveSink, F: Sink>(
 ) -> Result<u8, AllocError> {
     match read_words(rt.alloc(), words, writer, faults) {
         Ok(Asked::Stream(options)) => run_task(rt, &options, writer, faults),
-        Ok(Asked::Play { explains }) => {
+        Ok(Asked::Play { explains, file }) => {
             let explains = explains || rt.stderr().is_terminal();
-            let hasher = RandomState::new(rt).ok();
-            let mut reader = Device::new(rt.stdin());
-            run_loop(
-                rt,
-                rt.alloc(),
-                hasher,
-                explains,
-                &mut reader,
-                writer,
-                faults,
-            )
+            run_script(rt, file, explains, writer, faults)
         }
         Ok(Asked::Serve(serving)) => run_serve(rt, &serving, writer, faults),
         Ok(Asked::Tap(tapping)) => run_tap(rt, &tapping, writer, faults),
@@ -160,17 +149,37 @@ fn run_stream<R: Read + Drop, W: LiveSink, F: Sink>(
     }
 }
 
+/// Plays the script in this file, or on standard input, and returns the status.
+fn run_script<W: Sink, F: Sink>(
+    rt: &HostRuntime,
+    file: &str,
+    explains: bool,
+    writer: &mut W,
+    faults: &mut F,
+) -> Result<u8, AllocError> {
+    if file == STANDARD_INPUT {
+        let mut reader = Device::new(rt.stdin());
+        return run_loop(rt, explains, &mut reader, writer, faults);
+    }
+    match File::open(rt, file) {
+        Ok(opened) => run_loop(rt, explains, &mut Device::new(opened), writer, faults),
+        Err(error) => {
+            let why = format!(in rt.alloc(); "{error}")?;
+            Ok(refuse_file(file, why.as_str(), faults))
+        }
+    }
+}
+
 /// Plays the script in the input over TCP and returns the status. If requested, prints after the
 /// line of a bad line why it is bad.
 fn run_loop<R: Source, W: Sink, F: Sink>(
-    net: &impl Net<Listener = TcpListener, Stream = TcpStream>,
-    alloc: Global,
-    hasher: Option<RandomState>,
+    rt: &HostRuntime,
     explains: bool,
     reader: &mut R,
     writer: &mut W,
     faults: &mut F,
 ) -> Result<u8, AllocError> {
+    let alloc = rt.alloc();
     let bytes = match read_input(alloc, reader) {
         Ok(bytes) => bytes,
         Err(error) => return Ok(stop(&error, faults)),
@@ -187,7 +196,7 @@ fn run_loop<R: Source, W: Sink, F: Sink>(
     };
     let mut links = Vec::new(alloc);
     for index in 0..script.clients {
-        match TcpLink::connect(net) {
+        match TcpLink::connect(rt) {
             Ok(link) => links.push(link)?,
             Err(error) => {
                 let client = index as u64 + 1;
@@ -195,7 +204,7 @@ fn run_loop<R: Source, W: Sink, F: Sink>(
             }
         }
     }
-    let Some(hasher) = hasher else {
+    let Ok(hasher) = RandomState::new(rt) else {
         return Ok(stop(&ToolError::Read, faults));
     };
     let Ok(mut world) = World::over(alloc, links, Limits::standard(), hasher) else {

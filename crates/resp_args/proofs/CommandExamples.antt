@@ -1,6 +1,7 @@
 -- What the parser makes of the words of the worked examples.
 use Rattle.std.specs.Str.{bytes_eq}
 use Rattle.std.proofs.Common.{true≢false, option_map, rules, ◌≢◌, Option, ◌≡◌, ◌∙◌, ap, Bool, true, false, List, [], ◌∷◌, None, Some, codes, refl, sym, inl, inr, subst, arith}
+use Rattle.std.specs.Borrow.{Bor}
 use Rattle.clap.specs.Words.{App, IsAmong, Row, Text, fault_of, first_of, subcommand_of}
 use Rattle.clap.specs.declared.error.kind.ErrorKind.{ErrorKind}
 use Rattle.clap.specs.declared.error.kind.ErrorKind.TheVariants.{ArgumentConflict, DisplayHelp, DisplayVersion, MissingSubcommand, ValueValidation}
@@ -98,9 +99,9 @@ defaults_are_asked versions takes options are =
       subst (λ (entered : Option (Text × List Row)). Enters entered (Stream options)) (sym (alone_enters_show versions)) enters,
     )
 
-pub loop_is_asked : (versions : ValueParser) → AskFor (resp_app versions) explained_loop (Play true)
+pub loop_is_asked : (versions : ValueParser) (name : Bor Text) → name.now ≡ codes "-" → AskFor (resp_app versions) explained_loop (Play true name)
 unfolding clap_on_literals
-loop_is_asked versions = (refl, (refl, refl))
+loop_is_asked versions name is = (refl, (refl, refl, ap (λ (t : Text). Some t) (sym is)))
 
 pub wrong_of_kind : (program : App) (words : List Text) (kind : ErrorKind) → fault_of program words ≡ kind ∷ [] → kind ≢ DisplayHelp →
     kind ≢ DisplayVersion → AreWrong AskFor program words

@@ -1,5 +1,6 @@
 -- The words of the worked examples of command lines.
 use Rattle.std.specs.Prelude.{◌≡◌, ℕ, Bool, true, false, List, [], ◌∷◌, codes}
+use Rattle.std.specs.Borrow.{Bor}
 use Rattle.clap.specs.Words.{App, Text, fault_of}
 use Rattle.resp_value.specs.Bounds.{Bounds}
 use Rattle.resp_value.specs.declared.version.Version.{Version}
@@ -24,9 +25,10 @@ abbrev pub AskForThese : List Text → (Options → Type 0) → Type 0
 AskForThese words These = (program : App) → IsProgram program → (options : Options) → These options
     → AskFor program words (Stream options)
 
--- the words ask for a script to be played; the flag says whether a bad line is explained
-abbrev pub AskToPlay : List Text → Bool → Type 0
-AskToPlay words explains = (program : App) → IsProgram program → AskFor program words (Play explains)
+-- the words ask for the script in this file to be played; the flag says whether a bad line is explained
+abbrev pub AskToPlay : List Text → Bool → Text → Type 0
+AskToPlay words explains file = (program : App) → IsProgram program → (name : Bor Text) → name.now ≡ file →
+    AskFor program words (Play explains name)
 
 -- the words ask for something other than reading a stream
 abbrev pub AskForNoStream : List Text → Type 0

@@ -68,6 +68,10 @@ stream_options versions = value_option (codes "proto") versions (codes "2") ∷
     flag_option (codes "explain") ∷
     file_word ∷ [])
 
+-- the options of `loop`
+abbrev pub loop_options : List Rule
+loop_options = flag_option (codes "explain") ∷ file_word ∷ []
+
 -- an address, a required argument without a name
 abbrev pub address_word : Text → Rule
 address_word name = record (new_rule name) { value_names = 1; required = true }
@@ -108,7 +112,7 @@ resp_app versions = with_subcommand (with_subcommand (with_subcommand (with_subc
     (task_shape (codes "show") (stream_options versions)))
     (task_shape (codes "check") (stream_options versions)))
     (task_shape (codes "canon") (stream_options versions)))
-    (task_shape (codes "loop") (flag_option (codes "explain") ∷ [])))
+    (task_shape (codes "loop") loop_options))
     (task_shape (codes "serve") serve_options))
     (task_shape (codes "tap") tap_options)
 

@@ -4,7 +4,7 @@ ghost use Rattle.std.specs.Prelude.{IfOk, OnErr, codes};
 ghost use Rattle.clap.specs.Words.{found_of, rows_of, subcommand_rows_of};
 ghost use Rattle.resp_args.specs.CommandWords.{Enters, IsAsked, task_word};
 
-use crate::options::{Options, Task, flag_of, options_of};
+use crate::options::{Options, Task, flag_of, options_of, text_of};
 use crate::serving::{Serving, serving_of};
 use crate::tapping::{Tapping, tapping_of};
 use clap::ArgMatches;
@@ -23,6 +23,8 @@ pub enum Asked<'a> {
     Play {
         /// Whether `--explain` is given: a bad line is explained.
         explains: bool,
+        /// The name of the file to read, or [`STANDARD_INPUT`](crate::options::STANDARD_INPUT).
+        file: &'a str,
     },
     /// Serve clients: `serve`.
     Serve(Serving<'a>),
@@ -113,9 +115,9 @@ fn play_of<'a>(given: &ArgMatches<'a>) -> Result<Asked<'a>, NothingAsked<'a>>
     ensures err { OnErr result ((asked : Asked)
         → IsAsked (codes "loop") (rows_of (found_of given.now)) asked → ⊥) }
 {
-    match flag_of(given, "explain") {
-        Some(explains) => Ok(Asked::Play { explains }),
-        None => Err(NothingAsked::OtherWords),
+    match (flag_of(given, "explain"), text_of(given, "file")) {
+        (Some(explains), Some(file)) => Ok(Asked::Play { explains, file }),
+        _ => Err(NothingAsked::OtherWords),
     }
 }
 

@@ -12,9 +12,9 @@ pub fn show_alone_asks_for_the_defaults()
         (codes "-") false) }
 {}
 
-/// `resp loop --explain` plays a script and explains a bad line.
+/// `resp loop --explain` plays the script in the standard input and explains a bad line.
 pub fn loop_asks_to_play()
-    ensures { AskToPlay explained_loop true }
+    ensures { AskToPlay explained_loop true (codes "-") }
 {}
 
 /// Wrong words, or the words of `serve`, do not ask for a stream or a script, and `--help` asks for

@@ -5,7 +5,7 @@ ghost use Rattle.std.specs.Prelude.{◌≡◌, false, [], ◌∷◌, codes, map}
 ghost use Rattle.clap.specs.Words.{App, Rule, new_app, rule_of, with_rule, with_subcommand};
 ghost use Rattle.clap.specs.declared.builder.value_parser.ValueParser.TheVariants as vp;
 ghost use Rattle.resp_args.specs.CommandWords.{FindsWords};
-ghost use Rattle.resp_args.specs.Program.{IsProgram, MakesTask, address_word, bare_app, file_word, flag_option, limit_options, numbers_between, resp_app, serve_options, short_flag_option, stream_options, tap_options, value_option, with_options};
+ghost use Rattle.resp_args.specs.Program.{IsProgram, MakesTask, address_word, bare_app, file_word, flag_option, limit_options, loop_options, numbers_between, resp_app, serve_options, short_flag_option, stream_options, tap_options, value_option, with_options};
 
 use crate::options::STANDARD_INPUT;
 use clap::{Arg, ArgAction, ArgMatches, Command};
@@ -40,17 +40,16 @@ Exit status:
   3  The file can't be opened, a read or a write failed, or memory is out";
 
 /// The end of the help of `loop`.
-const LOOP_HELP: &str = r"The script is read from standard input.
-
-Examples:
+const LOOP_HELP: &str = r"Examples:
   printf 'clients 1\nsend 1 PING\nflush\n' | resp loop
-  resp loop --explain <script
+  resp loop --explain script.txt
 
 Exit status:
   0  The script was played
   1  A line of the script is wrong
   2  Usage error
-  3  A connection, a read or a write failed, or memory is out";
+  3  The file can't be opened, a connection, a read or a write failed,
+     or memory is out";
 
 /// The end of the help of `serve`.
 const SERVE_HELP: &str = r"Examples:
@@ -298,13 +297,14 @@ fn stream_task<'a>(
 /// Returns the subcommand `loop`.
 fn loop_task<'a>(alloc: Global) -> Result<Command<'a>, clap::Error>
     ensures { MakesTask
-        (with_options (new_app (codes "loop")) (flag_option (codes "explain") ∷ [])) result }
+        (with_options (new_app (codes "loop")) loop_options) result }
 {
-    let about = "Plays a script of clients of one server from standard input";
+    let about = "Plays a script of clients of one server";
     let why =
         "Says why a line of the script is wrong;\nthe default if standard error is a terminal";
     let task = bare_task(alloc, "loop", about, LOOP_HELP);
-    with_arg(task, flag(alloc, "explain", why))
+    let task = with_arg(task, flag(alloc, "explain", why));
+    with_arg(task, file(alloc))
 }
 
 /// Returns the subcommand `serve`.

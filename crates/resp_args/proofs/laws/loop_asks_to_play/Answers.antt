@@ -7,4 +7,4 @@ use Rattle.resp_args.proofs.CommandExamples.{loop_is_asked}
 use Rattle.resp_args.proofs.laws.loop_asks_to_play.Goals as goal
 
 pub returns : goal.returns
-returns c = λ program is. subst (λ (p : App). AskFor p explained_loop (Play true)) (sym is.2) (loop_is_asked is.0)
+returns c = λ program is name file. subst (λ (p : App). AskFor p explained_loop (Play true name)) (sym is.2) (loop_is_asked is.0 name file)
