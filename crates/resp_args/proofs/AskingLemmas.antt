@@ -1,7 +1,7 @@
 -- What the words give an option, from what the matches read of it.
-use Rattle.std.proofs.Common.{subst, ◌&&◌, arith, inl, inr, ◌⊎◌, ◌≢◌, ◌∙◌, ◌≡◌, ℕ, ap, Bool, true, false, List, [], ◌∷◌, map, refl, sym, Option, Some, None, Result, Ok, Err, IfOk, IfErr, IfSome, IfNone, codes}
+use Rattle.std.proofs.Common.{subst, ◌&&◌, arith, inl, inr, ◌⊎◌, ◌≢◌, ◌∙◌, ◌≡◌, ℕ, ap, Bool, true, false, List, [], ◌∷◌, map, refl, sym, Option, Some, None, Result, Ok, Err, IfOk, IfErr, IfSome, IfNone, OnErr, codes, unwrap_or}
 use Rattle.std.specs.Str.Parse.{ParsesBool, ParsesUnsigned}
-use Rattle.clap.specs.Words.{App, FailsBy, HasKind, HasMatchesOf, IsAmong, kind_of, ReadsOne, Row, Text, fault_of, is_simple, is_simple_and_free, one_text, rows_of, subcommand_of, subcommand_rows_of}
+use Rattle.clap.specs.Words.{App, FailsBy, HasKind, HasMatchesOf, IsAmong, kind_of, ReadsOne, Row, Text, fault_of, first_of, is_simple, is_simple_and_free, one_text, rows_of, subcommand_of, subcommand_rows_of}
 use Rattle.clap.specs.declared.error.Error.{Error}
 use Rattle.clap.specs.declared.error.kind.ErrorKind.{ErrorKind}
 use Rattle.clap.specs.declared.error.kind.ErrorKind.TheVariants.{DisplayHelp, DisplayVersion, OutOfMemory}
@@ -10,19 +10,22 @@ use Rattle.clap.specs.declared.parser.matches.ArgMatches.{ArgMatches}
 use Rattle.clap.specs.declared.parser.matches.Found.{Found}
 use Rattle.clap.proofs.OnLiterals.{clap_on_literals}
 use Rattle.clap.proofs.WalkLemmas.{one_text-rows}
-use Rattle.resp_args.specs.CommandWords.{AnswersSort, AnswersStatus, AskFor, Enters, IsOfSort, FindsWords, HasFlag, HasNumber, HasReading, HasTapping, IsAsked, flag_text, task_word}
+use Rattle.resp_args.specs.CommandWords.{AnswersSort, AnswersStatus, AskFor, Enters, IsOfSort, FindsWords, HasFlag, HasNumber, HasPort, HasReading, HasServing, HasTapping, IsAddressText, IsAsked, IsLocalPort, flag_text, task_word}
 use Rattle.resp_args.specs.Faults.{IsWordStatus}
 use Rattle.std.specs.Str.{bytes_eq}
 use Rattle.std.specs.Prelude.{if◌then◌else◌}
 use Rattle.resp_args.specs.Program.{IsProgram, resp_app}
 use Rattle.resp_args.proofs.CommandLemmas.{names_take_versions}
 use Rattle.std.specs.Borrow.{Bor}
+use Rattle.std.specs.Net.Grammar.{IsSocketText}
+use Rattle.std.specs.declared.net.socket_addr.SocketAddr.{SocketAddr}
 use Rattle.clap.specs.declared.builder.value_parser.ValueParser.TheVariants as vp
 use Rattle.resp_value.specs.declared.version.Version.{Version}
 use Rattle.resp_args.specs.declared.asked.Asked.{Asked}
 use Rattle.resp_args.specs.declared.asked.Asked.TheVariants.{Stream, Play, Serve, Tap}
 use Rattle.resp_args.specs.declared.options.Task.{Task}
 use Rattle.resp_args.specs.declared.options.Task.TheVariants.{Show, Check, Canon}
+use Rattle.resp_args.specs.declared.serving.Serving.{Serving}
 use Rattle.resp_args.specs.declared.tapping.Tapping.{Tapping}
 
 none≢some : {X : Type 0} (x : X) → Some x ≡ None → ⊥
@@ -90,6 +93,53 @@ module _ (given : List Row) (version : Version) (doubles : Bool) where
       true_is_not_false e = cc
   reading_has_three off (inr (inl reads)) = (true, reads.1)
   reading_has_three off (inr (inr reads)) = (false, reads.1)
+
+-- a text that is a port after none of the prefixes is no port of this machine
+pub no_local_port : (text : Text) (r : Option ℕ) → ((number : ℕ) → HasPort [] text number → ⊥) →
+    ((number : ℕ) → HasPort (codes ":") text number → ⊥) → IfNone r ((number : ℕ) → HasPort (codes "localhost:") text number → ⊥) →
+    IfNone r ((number : ℕ) → IsLocalPort text number → ⊥)
+no_local_port text (Some port) alone colon local = tt
+no_local_port text None alone colon local = none
+  where
+    none : (number : ℕ) → IsLocalPort text number → ⊥
+    none number (inl has) = alone number has
+    none number (inr (inl has)) = colon number has
+    none number (inr (inr has)) = local number has
+
+-- a text that is neither is no address
+pub no_address : (text : Text) → ((address : SocketAddr) → IsSocketText text address → ⊥) → ((number : ℕ) → IsLocalPort text number → ⊥) →
+    (address : SocketAddr) → IsAddressText text address → ⊥
+no_address text socket local address (inl is) = socket address is
+no_address text socket local address (inr (number, is, there)) = local number is
+
+-- an option has one text
+same_text : (a b : Text) (found : Option Text) → found ≡ Some a → found ≡ Some b → a ≡ b
+same_text a b found is is' = ap (λ (o : Option Text). unwrap_or o []) (sym is ∙ is')
+
+-- a text that is no address is that of no address in the words
+pub no_serving : (given : List Row) (text : Text) → first_of (codes "address") given ≡ Some text →
+    ((address : SocketAddr) → IsAddressText text address → ⊥) → (serving : Serving) → HasServing given serving → ⊥
+no_serving given text is none serving has =
+    let same = same_text text serving.address_text.now (first_of (codes "address") given) is has.0.text in
+    none serving.address (subst (λ z. IsAddressText z serving.address) (sym same) has.1)
+
+pub no_listener : (given : List Row) (text : Text) → first_of (codes "listen") given ≡ Some text →
+    ((address : SocketAddr) → IsAddressText text address → ⊥) → (tapping : Tapping) → HasTapping given tapping → ⊥
+no_listener given text is none tapping has =
+    let (server, words, listen, to) = has in
+    let same = same_text text tapping.address_text.now (first_of (codes "listen") given) is words.listen_text in
+    none tapping.address (subst (λ z. IsAddressText z tapping.address) (sym same) listen)
+
+pub no_server : (given : List Row) (text : Text) → first_of (codes "server") given ≡ Some text →
+    ((address : SocketAddr) → IsAddressText text address → ⊥) → (tapping : Tapping) → HasTapping given tapping → ⊥
+no_server given text is none tapping has =
+    let (server, words, listen, to) = has in
+    let same = same_text text server (first_of (codes "server") given) is words.server_text in
+    none tapping.server (subst (λ z. IsAddressText z tapping.server) (sym same) to)
+
+pub on_err : {X E : Type 0} (r : Result X E) (P : Type 0) → P → OnErr r P
+on_err (Ok x) P p = tt
+on_err (Err e) P p = p
 
 -- the program is one of which the matches are known
 program_is_free : (versions : ValueParser) → is_simple_and_free (resp_app versions) ≡ true

@@ -1,6 +1,10 @@
 -- The meaning of the words of a command line.
 use Rattle.std.specs.Prelude.{◌≡◌, ◌≢◌, ◌⊎◌, ◌≤◌, ◌<◌, ◌^◌, ℕ, Bool, false, true, not, if◌then◌else◌, codes}
-use Rattle.std.specs.Prelude.{List, [], Option, Some, None, Result, Ok, Err}
+use Rattle.std.specs.Prelude.{List, [], ◌∷◌, ◌++◌, Option, Some, None, Result, Ok, Err}
+use Rattle.std.specs.Net.Addr.{ipv4_octets}
+use Rattle.std.specs.Net.Socket.{v4_ip, v4_port}
+use Rattle.std.specs.declared.net.socket_addr.SocketAddr.{SocketAddr}
+use Rattle.std.specs.declared.net.socket_addr.SocketAddr.TheVariants as Socket
 use Rattle.std.specs.Net.Grammar.{IsSocketText}
 use Rattle.std.specs.Str.Parse.{IsNumeral, digits_value, without_leading_plus}
 use Rattle.clap.specs.Words.{App, HasKind, IsAmong, Row, Text, fault_of, first_of, one_of, subcommand_of}
@@ -57,6 +61,27 @@ HasReading given version doubles =
     ⊎ HasFlag given (codes "two") false × HasFlag given (codes "three") false × HasProto given version
     × HasFlag given (codes "doubles") doubles
 
+-- the text is the number of a port after this prefix
+abbrev pub HasPort : Text → Text → ℕ → Type 0
+HasPort before text number = (port : Text) × (text ≡ before ++ port) × IsNumeral 10 (without_leading_plus port) ×
+    (digits_value 10 (without_leading_plus port) ≡ number) × (number < 65536)
+
+-- the text is a port of this machine, as `6379`, `:6379` or `localhost:6379`
+abbrev pub IsLocalPort : Text → ℕ → Type 0
+IsLocalPort text number =
+    HasPort [] text number ⊎ HasPort (codes ":") text number ⊎ HasPort (codes "localhost:") text number
+
+-- the address is this port of 127.0.0.1
+abbrev pub IsLoopback : SocketAddr → ℕ → Type 0
+IsLoopback (Socket.V4 address) number =
+    (ipv4_octets (v4_ip address) ≡ 127 ∷ 0 ∷ 0 ∷ 1 ∷ []) × (v4_port address ≡ number)
+IsLoopback (Socket.V6 address) number = ⊥
+
+-- the text is an IP address and a port, or a port of this machine
+abbrev pub IsAddressText : Text → SocketAddr → Type 0
+IsAddressText text address =
+    IsSocketText text address ⊎ (number : ℕ) × IsLocalPort text number × IsLoopback address number
+
 -- ---- all options of a subcommand
 
 pub record HasLimits (given : List Row) (limits : Bounds) : Type 0 where
@@ -87,7 +112,7 @@ pub record HasServeWords (given : List Row) (address : Text) (limits : Bounds) (
 abbrev pub HasServing : List Row → Serving → Type 0
 HasServing given serving =
     HasServeWords given serving.address_text.now serving.limits serving.clients serving.held ×
-    IsSocketText serving.address_text.now serving.address
+    IsAddressText serving.address_text.now serving.address
 
 -- the options of `tap` that are no address
 pub record HasTapOptions (given : List Row) (options : TapOptions) : Type 0 where
@@ -119,7 +144,7 @@ tap_options_of tapping = record {
 abbrev pub HasTapping : List Row → Tapping → Type 0
 HasTapping given tapping = (server_text : Text) ×
     HasTapWords given tapping.address_text.now server_text (tap_options_of tapping) ×
-    IsSocketText tapping.address_text.now tapping.address × IsSocketText server_text tapping.server
+    IsAddressText tapping.address_text.now tapping.address × IsAddressText server_text tapping.server
 
 abbrev pub task_word : Task → Text
 task_word Show = codes "show"

@@ -63,7 +63,7 @@ fn write_bad_address<F: Sink>(text: &str, name: &str, faults: &mut F) -> Result<
     write_text(faults, name.as_bytes())?;
     write_text(
         faults,
-        b">': an IP address and a port are wanted, as 127.0.0.1:6380\n\n",
+        b">': expected an IP address and a port, such as 127.0.0.1:6380, or a port of this machine, such as 6380 or localhost:6380\n\n",
     )?;
     write_text(faults, b"For more information, try '--help'.\n")
 }

@@ -1,16 +1,15 @@
 //! The options of the command line.
 
 ghost use Rattle.std.specs.Prelude.{◌≡◌, ℕ, Bool, false, IfNone, IfOk, IfSome, OnErr, option_map};
-ghost use Rattle.std.specs.Net.Grammar.{IsSocketText};
 ghost use Rattle.clap.specs.Words.{first_of, found_of, rows_of};
-ghost use Rattle.resp_args.specs.CommandWords.{HasFlag, HasLimits, HasNumber, HasOptions, HasProto, HasReading, HasSmallNumber};
+ghost use Rattle.resp_args.specs.CommandWords.{HasFlag, HasLimits, HasNumber, HasOptions, HasPort, HasProto, HasReading, HasSmallNumber, IsAddressText, IsLocalPort};
 ghost use Rattle.resp_value.specs.Bounds.{Bounds};
 
 use crate::asked::NothingAsked;
 use clap::ArgMatches;
 use resp_value::limits::Limits;
 use resp_value::version::Version;
-use std::net::SocketAddr;
+use std::net::{Ipv4Addr, SocketAddr, SocketAddrV4};
 
 /// The file name that stands for standard input.
 pub const STANDARD_INPUT: &str = "-";
@@ -99,14 +98,43 @@ pub(crate) fn text_of<'a>(matches: &ArgMatches<'a>, name: &str) -> Option<&'a st
     matches.get_str(name)
 }
 
-/// Returns the address in a text, which was given for the argument `name`.
+/// Returns the address in a text, which was given for the argument `name`. Without an IP address it
+/// is an address of this machine.
 pub(crate) fn address_of<'a>(text: &'a str, name: &'a str) -> Result<SocketAddr, NothingAsked<'a>>
-    ensures ok { IfOk result (IsSocketText text.now) }
-    ensures err { OnErr result ((address : SocketAddr) → IsSocketText text.now address → ⊥) }
+    ensures ok { IfOk result (IsAddressText text.now) }
+    ensures err { OnErr result ((address : SocketAddr) → IsAddressText text.now address → ⊥) }
 {
-    match text.parse::<SocketAddr>() {
-        Ok(address) => Ok(address),
-        Err(_) => Err(NothingAsked::BadAddress { text, name }),
+    if let Ok(address) = text.parse::<SocketAddr>() {
+        return Ok(address);
+    }
+    match local_port(text) {
+        Some(port) => Ok(SocketAddr::V4(SocketAddrV4::new(Ipv4Addr::LOCALHOST, port))),
+        None => Err(NothingAsked::BadAddress { text, name }),
+    }
+}
+
+/// Returns the port of this machine in a text.
+fn local_port(text: &str) -> Option<u16>
+    ensures some { IfSome result (IsLocalPort text.now) }
+    ensures none { IfNone result ((number : ℕ) → IsLocalPort text.now number → ⊥) }
+{
+    if let Some(port) = port_after("", text) {
+        return Some(port);
+    }
+    if let Some(port) = port_after(":", text) {
+        return Some(port);
+    }
+    port_after("localhost:", text)
+}
+
+/// Returns the port in a text after a prefix.
+fn port_after(prefix: &str, text: &str) -> Option<u16>
+    ensures some { IfSome result (HasPort prefix.now text.now) }
+    ensures none { IfNone result ((number : ℕ) → HasPort prefix.now text.now number → ⊥) }
+{
+    match text.strip_prefix(prefix)?.parse::<u16>() {
+        Ok(port) => Some(port),
+        Err(_) => None,
     }
 }
 
