@@ -3,3 +3,4 @@ pub mod Replies
 pub mod SecretWords
 pub mod TimeLemmas
 pub mod Visits
+pub mod Streams

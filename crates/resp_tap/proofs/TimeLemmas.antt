@@ -6,7 +6,7 @@ use Rattle.std.specs.Option.{option_to_list}
 use Rattle.resp_value.specs.Data.{Datum}
 use Rattle.resp_value.specs.Values.{datum_of}
 use Rattle.resp_value.specs.declared.version.Version.{Version}
-use Rattle.resp_session.specs.Heard.{is_push, numbered_from}
+use Rattle.resp_session.specs.Heard.{is_push, numbered_from, numbered_replies}
 use Rattle.resp_session.specs.Reading.{waiting_after_reply}
 use Rattle.resp_tap.specs.Kinds.{command_kind}
 use Rattle.resp_tap.specs.Taps.{TapState, asks_after, at_front, tap_state, version_of_kind, with_refused_command}
@@ -127,6 +127,14 @@ replied P Unpaired h = absurd h
 numbered_push : (b : Bool) (first number : ℕ) (x : Datum) → numbered_from first (cond (not b) (x ∷ []) []) ≡ (number, x) ∷ [] → b ≡ true → ⊥
 numbered_push true first number x numbered e = cc
 numbered_push false first number x numbered e = cc
+
+not_pushed : (b : Bool) (first number : ℕ) (x : Datum) → numbered_from first (cond (not b) (x ∷ []) []) ≡ (number, x) ∷ [] → b ≡ false
+not_pushed true first number x numbered = absurd (cc)
+not_pushed false first number x numbered = refl
+
+-- a value that has a number is no push
+pub is_no_push : (first number : ℕ) (x : Datum) → numbered_replies first (x ∷ []) ≡ (number, x) ∷ [] → is_push x ≡ false
+is_no_push first number x numbered = not_pushed (is_push x) first number x numbered
 
 -- one command less waits after a reply
 one_less : (version : Version) (asks : List (Option Version)) (x : Datum) → (asks ≡ [] → ⊥) →

@@ -14,3 +14,4 @@ pub mod Watches
 pub mod Ends
 -- What the steps of a tap promise one another, which no public clause names.
 pub mod SeenOf
+pub mod Streams

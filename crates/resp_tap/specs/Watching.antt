@@ -1,5 +1,5 @@
 -- The results that a tap reports for the bytes of either side, in terms of texts and values.
-use Rattle.std.specs.Prelude.{◌≡◌, ◌⊎◌, ℕ, ◌+◌, ◌≤◌, ◌^◌, false, Some, List, [], ◌∷◌, ◌++◌, length, take}
+use Rattle.std.specs.Prelude.{◌≡◌, ◌⊎◌, ℕ, ◌+◌, ◌<◌, ◌≤◌, ◌^◌, false, Some, List, [], ◌∷◌, ◌++◌, length, take}
 use Rattle.resp_value.specs.Bounds.{Bounds}
 use Rattle.resp_value.specs.Data.{Datum}
 use Rattle.resp_value.specs.Rules.{Rules, WithinTotal, rules_under}
@@ -67,9 +67,10 @@ KeepsRequest old new = (front : List ℕ) → HasTakenRequest old front → HasT
 abbrev pub KeepsValue : Tap → Tap → Type 0
 KeepsValue old new = (front : List ℕ) → HasTakenValue old front → HasTakenValue new front
 
--- the client's text is the next command, with these words
+-- the client's text is the next command, with these words, of which the first is its name
 pub record GivesCommand (s : TapState) (new : Tap) (written : List ℕ) (number : ℕ) (words : List (List ℕ)) :
     Type 0 where
+  pub some : 0 < length words
   pub value : Datum
   pub spelled : IsSpelling (request_rules s.limits) value written
   pub means : meaning_of value ≡ array_meaning (Some words)

@@ -1,8 +1,11 @@
 //! Facts about the definitions. Each function does nothing; its contract states the fact.
 
 ghost use Rattle.resp_tap.specs.SecretLaws.{SecretsAreRedactedSo};
+ghost use Rattle.resp_tap.specs.Streams.{TellsTheConnection};
 ghost use Rattle.resp_tap.specs.TimeLaws.{PrintsAsPlayed, TimesAreToldSo};
 ghost use Rattle.resp_tap.specs.Ways.{VisitsAddUp};
+
+use resp_session::laws as session;
 
 /// Successive visits of a [`Way`](crate::way::Way) forward what one visit of all their bytes would
 /// forward: the bytes written, followed by the bytes that wait, are the bytes read, in order.
@@ -24,3 +27,14 @@ pub fn without_times_lines_are_those_of_loop()
 pub fn secrets_are_redacted_so()
     ensures { SecretsAreRedactedSo }
 {}
+
+/// However the bytes of both sides are cut into pieces, [`watch`](crate::watch::watch) reports the
+/// commands of the client, numbered from 1, and the replies and pushes that a client reads after it
+/// has sent these commands. The nth reply has the number n.
+pub fn pieces_tell_the_connection()
+    ensures { TellsTheConnection }
+{
+    session::readings_go_on();
+    session::readings_stay();
+    session::hearing_goes_on();
+}
