@@ -167,7 +167,7 @@ pub holds_no_idle : (limits : Bounds) (es : List (ℕ × Session)) (store : Stor
 holds_no_idle limits es store last id sound = idle_seat limits last es id sound.sound
 
 -- all of a piece is used if more can wait than memory has
-used_up : (before after : ℕ) (closing : Bool) (size used : ℕ) → TakesWithin (2 ^ 64 - 1) before after closing size used → used ≡ size
+pub used_up : (before after : ℕ) (closing : Bool) (size used : ℕ) → TakesWithin (2 ^ 64 - 1) before after closing size used → used ≡ size
 used_up before after closing size used t = elim (cases_lt used size) as (λ _. used ≡ size) [
   | inl less ↦ let (_, over, in_memory) = t.stops less in absurd (omega (arith, over, in_memory))
   | inr most ↦ let within = t.within in omega (arith, most, within)

@@ -1,10 +1,11 @@
 -- Empty places that are closed up.
-use Rattle.std.proofs.Common.{◌≡◌, ℕ, zero, suc, ◌+◌, ◌<◌, ◌≤◌, ◌⊎◌, set, map, take, drop, List, [], ◌∷◌, ◌++◌, length, get_or, Option, None, Some, refl, sym, ap, subst, ◌∙◌, inl, inr, append-nil, drop-cons, arith}
+use Rattle.std.proofs.Common.{◌≡◌, ℕ, zero, suc, ◌*◌, ◌+◌, ◌<◌, ◌≤◌, ◌⊎◌, set, map, take, drop, List, [], ◌∷◌, ◌++◌, length, get_or, Option, None, Some, refl, sym, ap, subst, ◌∙◌, inl, inr, append-nil, drop-cons, arith}
 use Rattle.std.specs.List.{IsDistinct, slice_get}
 use Rattle.std.specs.Map.{keys_of}
+use Rattle.std.specs.Option.{option_map}
 use Rattle.std.proofs.lemmas.Bool.{cases_eq}
-use Rattle.std.proofs.lemmas.List.{take_more}
-use Rattle.std.proofs.lemmas.Option.{slice_get_within, slice_get-get_or, get_or_from_slice_get}
+use Rattle.std.proofs.lemmas.List.{length-map, length-take, take_more}
+use Rattle.std.proofs.lemmas.Option.{slice_get-map, slice_get_within, slice_get-get_or, get_or_from_slice_get}
 use Rattle.indexmap.specs.IndexMap.{set_value_at}
 use Rattle.resp_session.specs.Stores.{Store}
 use Rattle.resp_server.specs.Entries.{Rows, AreInPlace, same_bytes, entry_at, entries_in, and_some, somes}
@@ -21,6 +22,8 @@ pub record IsClosingUp (rows : Rows) (places : List (Option ℕ)) (filled place 
       (slice_get places row.1.place ≡ Some (Some i)) × ((row.1.place < filled) ⊎ (place ≤ row.1.place))
   pub alone : (s i : ℕ) → (s < filled) ⊎ (place ≤ s) → slice_get places s ≡ Some (Some i) →
       (row : Bytes × Row) × (slice_get rows i ≡ Some row) × (row.1.place ≡ s)
+  -- no place before `filled` is empty
+  pub full : (s : ℕ) → s < filled → (i : ℕ) × (slice_get places s ≡ Some (Some i))
   pub shows : somes (take filled (slots_of rows places)) ++ somes (drop place (slots_of rows places)) ≡ entries
 
 pub begins : (rows : Rows) (places : List (Option ℕ)) → AreInPlace rows places → IsClosingUp rows places 0 0 (entries_in rows places)
@@ -29,6 +32,7 @@ begins rows places h = record {
   not_past = omega arith;
   there = λ i row at. (h.there i row at, inr (omega arith));
   alone = λ s i region at. h.alone s i at;
+  full = λ s none. absurd (omega (arith, none));
   shows = refl;
 }
 
@@ -106,6 +110,7 @@ passes_empty rows places filled place entries h empty = record {
     | inl near ↦ inl near
     | inr far ↦ inr (omega (arith, far))
   ]) at;
+  full = h.full;
   shows = ap (λ rest. somes (take filled (slots_of rows places)) ++ rest)
       (sym (from_here (slots_of rows places) place None (slot_of rows places place None empty))) ∙
       h.shows;
@@ -230,6 +235,10 @@ module _ (rows : Rows) (places : List (Option ℕ)) (filled place : ℕ) (entrie
           ] in
           (row, value_other rows i j new (other_row s j row its placed elsewhere) ∙ its, placed)
     ];
+    full = λ s near. elim (cases_eq s filled) [
+      | inl here ↦ (i, ap (slice_get places') here ∙ filled_now)
+      | inr apart ↦ let (j, found) = h.full s (omega (arith, near, apart)) in (j, get_set_other places filled s (Some i) apart ∙ found)
+    ];
     shows =
         let b = h.not_past in
         let e : List ℕ × List ℕ = (key.items, old.value) in
@@ -268,3 +277,45 @@ goes_past rows places filled place entries h empty rows' places' filled' same sa
     subst (λ r. IsClosingUp r places' filled' (place + 1) entries) (sym same)
     (subst (λ p. IsClosingUp rows p filled' (place + 1) entries) (sym same')
     (subst (λ n. IsClosingUp rows places n (place + 1) entries) (sym counted) (passes_empty rows places filled place entries h empty)))
+
+-- ---- how many places are left
+
+-- a list without one of its numbers
+abbrev without : List ℕ → ℕ → List ℕ
+without [] j = []
+without (x ∷ xs) zero = xs
+without (x ∷ xs) (suc j) = x ∷ without xs j
+
+one_fewer : (xs : List ℕ) (j x : ℕ) → slice_get xs j ≡ Some x → length (without xs j) + 1 ≡ length xs
+one_fewer [] j x at = absurd (cc)
+one_fewer (y ∷ xs) zero x at = omega arith
+one_fewer (y ∷ xs) (suc j) x at = let rest = one_fewer xs j x at in omega (arith, rest)
+
+still_there : (xs : List ℕ) (j k x y : ℕ) → slice_get xs j ≡ Some x → slice_get xs k ≡ Some y → (y ≡ x → ⊥) →
+    (l : ℕ) × (slice_get (without xs j) l ≡ Some y)
+still_there [] j k x y at found apart = absurd (cc)
+still_there (z ∷ xs) zero zero x y at found apart = let e : Some y ≡ Some x = sym found ∙ at in let same : y ≡ x = cc in absurd (apart same)
+still_there (z ∷ xs) zero (suc k) x y at found apart = (k, found)
+still_there (z ∷ xs) (suc j) zero x y at found apart = (zero, found)
+still_there (z ∷ xs) (suc j) (suc k) x y at found apart = let (l, later) = still_there xs j k x y at found apart in (suc l, later)
+
+-- a list that has every number below n has at least n numbers
+as_many : (n : ℕ) (xs : List ℕ) → ((x : ℕ) → x < n → (k : ℕ) × (slice_get xs k ≡ Some x)) → n ≤ length xs
+as_many zero xs each = omega arith
+as_many (suc n) xs each =
+    let (j, at) = each n (omega arith) in
+    let fewer = one_fewer xs j n at in
+    let rest = as_many n (without xs j) (λ x less. let (k, found) = each x (omega (arith, less)) in
+    still_there xs j k n x at found (λ same. omega (arith, less, same))) in
+    omega (arith, rest, fewer)
+
+pub ends_with_few : (rows : Rows) (places : List (Option ℕ)) (filled place : ℕ) (entries : Store) → IsClosingUp rows places filled place entries →
+    length (take filled places) ≤ 2 * length rows + 1
+ends_with_few rows places filled place entries h =
+    let place_of : Bytes × Row → ℕ = λ row. row.1.place in
+    let enough = as_many filled (map place_of rows) (λ s near. let (i, found) = h.full s near in
+    let (row, its, placed) = h.alone s i (inl near) found in
+    (i, slice_get-map place_of rows i ∙ ap (option_map place_of) its ∙ ap Some placed)) in
+    let size = length-map rows place_of in
+    let taken = length-take filled places in
+    omega (arith, enough, size, taken)

@@ -103,6 +103,18 @@ still_few limits es store last hub view limits' store' ns id old new written fou
     subst (λ o. IfSome o (λ s. length s.out ≤ most)) (sym (seat_changed limits' es ns store' last id old new written found))
     (keeps (subst (λ o. IfSome o (λ s. length s.out ≤ most)) (seat_is limits es store last hub view id (Some old) found) few))
 
+-- at most `held` bytes and one reply wait after an answer, whose bytes are kept, if at most so many waited before
+pub answer_is_bounded : (limits : Bounds) (es : List (ℕ × Session)) (store : Store) (last : ℕ) (hub : HubState) → state_of limits es store last ≡ hub →
+    (limits' : Bounds) (store' : Store) (ns : List (ℕ × Session)) (id : ℕ) (old answered new : Session) → ns ≡ set_value (is_id id) es new →
+    Some old ≡ lookup (is_id id) es → (held : ℕ) →
+    (length old.out.items ≤ held + limits.total → length answered.out.items ≤ held + limits.total) → new.out.items ≡ answered.out.items →
+    WaitsAtMost (held + hub.limits.total) hub id → WaitsAtMost (held + hub.limits.total) (state_of limits' ns store' last) id
+answer_is_bounded limits es store last hub view limits' store' ns id old answered new written found held keeps kept =
+    let total = ap (λ (h : HubState). h.limits.total) view in
+    let same = ap length kept in
+    still_few limits es store last hub view limits' store' ns id old new written found (held + hub.limits.total)
+    (λ few. let after = keeps (omega (arith, few, total)) in omega (arith, after, total, same))
+
 -- what holds of the seat holds of the session that was found
 pub if_seated : (limits : Bounds) (es : List (ℕ × Session)) (store : Store) (last : ℕ) (hub : HubState) → state_of limits es store last ≡ hub →
     (id : ℕ) (old : Session) → Some old ≡ lookup (is_id id) es → (P : Seat → Type 0) → IfSome (seat_at hub id) P → P (seat_of old)

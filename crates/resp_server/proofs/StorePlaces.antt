@@ -182,6 +182,11 @@ keys_stay [] i new = refl
 keys_stay (r ∷ rows) zero new = refl
 keys_stay (r ∷ rows) (suc i) new = ap (λ ks. r.0 ∷ ks) (keys_stay rows i new)
 
+pub as_many_stay : (rows : Rows) (i : ℕ) (new : Row) → length (set_value_at rows i new) ≡ length rows
+as_many_stay [] i new = refl
+as_many_stay (r ∷ rows) zero new = refl
+as_many_stay (r ∷ rows) (suc i) new = let rest = as_many_stay rows i new in omega (arith, rest)
+
 -- the value of a row, which keeps its place
 pub written_in_place : (rows : Rows) (places : List (Option ℕ)) → AreInPlace rows places → (i : ℕ) (key : Bytes) (old new : Row) →
     slice_get rows i ≡ Some (key, old) → new.place ≡ old.place → AreInPlace (set_value_at rows i new) places

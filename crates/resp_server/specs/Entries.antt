@@ -1,5 +1,5 @@
 -- The entries of the store as data, and their places.
-use Rattle.std.specs.Prelude.{◌≡◌, ℕ, Bool, List, [], ◌∷◌, map, Option, None, Some, Vec}
+use Rattle.std.specs.Prelude.{◌≡◌, ℕ, ◌*◌, ◌+◌, ◌≤◌, Bool, List, [], ◌∷◌, length, map, Option, None, Some, Vec}
 use Rattle.std.specs.List.{IsDistinct, slice_get}
 use Rattle.std.specs.Map.{keys_of}
 use Rattle.std.specs.Option.{option_map}
@@ -45,3 +45,8 @@ pub record AreInPlace (rows : Rows) (places : List (Option ℕ)) : Type 0 where
       slice_get places row.1.place ≡ Some (Some i)
   pub alone : (place i : ℕ) → slice_get places place ≡ Some (Some i) →
       (row : Vec ℕ Global × Row) × (slice_get rows i ≡ Some row) × (row.1.place ≡ place)
+
+-- the rows are in their places, and no more than half of the places are empty, or one more
+pub record HoldsRows (rows : Rows) (places : List (Option ℕ)) : Type 0 where
+  pub in_place : AreInPlace rows places
+  pub few : length places ≤ 2 * length rows + 1

@@ -313,7 +313,8 @@ impl<S: BuildHasher> Hub<S> {
 
     /// Gives a session a piece as [`Hub::bytes`] does, but runs no further command when more than
     /// `held` bytes wait to be written. Returns the number of bytes that were used. Give the others
-    /// again once bytes were written. So at most `held` bytes and one reply wait.
+    /// again once bytes were written. So at most `held` bytes and one reply wait, if no push is
+    /// queued.
     ///
     /// # Errors
     ///

@@ -1,10 +1,11 @@
 //! The store: keys with their values, in the order in which the keys were added.
 
-ghost use Rattle.std.specs.Prelude.{◌≡◌, ◌+◌, ◌<◌, ◌≤◌, ◌∷◌, [], ℕ, None, Some, Vec, length, slice_get, IfNone, IfSome, IsSome, OnOk, OnErr};
+ghost use Rattle.std.specs.Prelude.{◌≡◌, ◌*◌, ◌+◌, ◌<◌, ◌≤◌, ◌∷◌, [], ℕ, None, Some, Vec, length, slice_get, IfNone, IfSome, IsSome, OnOk, OnErr};
 ghost use Rattle.std.proofs.Common.{Global};
 ghost use Rattle.std.specs.Option.{option_map};
 ghost use Rattle.resp_value.specs.Values.{content_bytes};
 ghost use Rattle.indexmap.specs.IndexMap.{index_map_len, set_value_at};
+ghost use Rattle.resp_server.specs.Entries.{AreInPlace, entries_in};
 ghost use Rattle.resp_server.specs.declared.row.Row.{Row};
 ghost use Rattle.resp_server.specs.Words.{words_left};
 ghost use Rattle.resp_session.specs.Stores.{value_at, store_with, store_without};
@@ -21,7 +22,7 @@ use std::marker::Model;
 
 /// Keys with their values. A new key goes last, and a key that is set again keeps its place. The
 /// place of a removed key stays empty, so no other key moves, until more than half of the places
-/// are empty.
+/// are empty. Then the empty places are removed.
 #[derive(Drop)]
 pub(crate) struct Store<S: BuildHasher> {
     /// The keys and their values, in no particular order.
@@ -32,13 +33,13 @@ pub(crate) struct Store<S: BuildHasher> {
 
 impl<S: BuildHasher> Model for Store<S> {
     ghost use Rattle.std.specs.Prelude.{ℕ, List};
-    ghost use Rattle.resp_server.specs.Entries.{AreInPlace, entries_in};
+    ghost use Rattle.resp_server.specs.Entries.{HoldsRows, entries_in};
 
     ghost Value = { List (List ℕ × List ℕ) };
 
     ghost view = { λ store. entries_in store.rows.entries store.places.items };
 
-    ghost invariant = { λ store. AreInPlace store.rows.entries store.places.items };
+    ghost invariant = { λ store. HoldsRows store.rows.entries store.places.items };
 }
 
 impl<S: BuildHasher> Store<S> {
@@ -137,11 +138,10 @@ impl<S: BuildHasher> Store<S> {
             };
             removed += self.remove_key(key);
         }
-        self.close_up();
         removed
     }
 
-    /// Removes a key and leaves its place empty. Returns the number of keys removed, 0 or 1.
+    /// Removes a key. Returns the number of keys removed, 0 or 1.
     fn remove_key(&mut self, key: &[u8]) -> u64
         ensures removed { self.new ≡ store_without self.old (key.now ∷ []) }
         ensures count { result + length self.new ≡ length self.old }
@@ -158,26 +158,31 @@ impl<S: BuildHasher> Store<S> {
         if let Some((_, moved)) = self.rows.get_index(index) {
             self.places[moved.place] = Some(index);
         }
+        close_up(&mut self.rows, &mut self.places);
         1
     }
+}
 
-    /// Removes the empty places if they are more than half.
-    fn close_up(&mut self)
-        ensures { self.new ≡ self.old }
-    {
-        if self.places.len() / 2 <= self.rows.len() {
-            return;
-        }
-        let mut filled = 0;
-        for place in 0..self.places.len() {
-            if let Some(index) = self.places[place] {
-                self.places[filled] = Some(index);
-                move_row(&mut self.rows, index, filled);
-                filled += 1;
-            }
-        }
-        self.places.truncate(filled);
+/// Removes the empty places if they are more than half.
+fn close_up<S: BuildHasher>(rows: &mut IndexMap<Vec<u8>, Row, S>, places: &mut Vec<Option<usize>>)
+    requires { AreInPlace rows.old.entries places.old.items }
+    ensures same { entries_in rows.new.entries places.new.items ≡
+        entries_in rows.old.entries places.old.items }
+    ensures in_place { AreInPlace rows.new.entries places.new.items }
+    ensures few { length places.new.items ≤ 2 * length rows.new.entries + 1 }
+{
+    if places.len() / 2 <= rows.len() {
+        return;
     }
+    let mut filled = 0;
+    for place in 0..places.len() {
+        if let Some(index) = places[place] {
+            places[filled] = Some(index);
+            move_row(rows, index, filled);
+            filled += 1;
+        }
+    }
+    places.truncate(filled);
 }
 
 /// Stores in the row with this index that its key is in this place.

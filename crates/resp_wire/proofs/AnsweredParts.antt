@@ -1,29 +1,24 @@
 -- Parts of a piece, answered one after another.
 use Rattle.std.specs.Prelude.{⊤}
 use Rattle.std.specs.List.{concat}
-use Rattle.std.proofs.Common.{◌≡◌, ℕ, ◌+◌, ◌-◌, ◌<◌, ◌≤◌, Bool, true, false, List, [], ◌∷◌, ◌++◌, length, take, drop, arith, append_assoc, take_all, Option, Some, Result, Ok, Err, OnOk, IfOk, IfErr, refl, sym, ap, subst, ◌∙◌, take-add}
+use Rattle.std.proofs.Common.{◌≡◌, ◌⊎◌, inl, inr, ℕ, ◌+◌, ◌-◌, ◌<◌, ◌≤◌, Bool, true, false, List, [], ◌∷◌, ◌++◌, length, take, drop, arith, append_assoc, take_all, Option, Some, Result, Ok, Err, OnOk, OnErr, IfOk, IfErr, refl, sym, ap, subst, ◌∙◌, take-add, length-drop}
 use Rattle.std.specs.Result.{is_ok}
+use Rattle.std.proofs.lemmas.Bool.{cases_lt}
 use Rattle.std.proofs.lemmas.List.{drop-take, length-append, take-append-drop, take-append-le}
 use Rattle.resp_session.specs.AnswerLaws.{AnswersAreAdded, AnswersGoOn}
 use Rattle.resp_server.specs.Handling.{WhereOpen}
 use Rattle.resp_server.specs.Hubs.{HubState, Seat, WaitsAtMost, seat_at}
-use Rattle.resp_wire.specs.Serving.{AnswersBefore, AnswersGiven, EndsAnswering, HadAnswered, IsOpen, MayLeave, Serves, StopsAnswering, StopsServing}
+use Rattle.resp_wire.specs.Serving.{AnswersBefore, AnswersGiven, EndsAnswering, HadAnswered, IsOpen, LeavesRest, MayLeave, Overfills, Serves, StopsAnswering, StopsOverfull, StopsServing}
 use Rattle.resp_wire.specs.declared.error.ServeError.{ServeError}
 use Rattle.resp_wire.specs.declared.error.ServeError.TheVariants.{NoSession, OutOfMemory, Read, Write, TooManyTurns}
-use Rattle.resp_wire.specs.declared.serve.Answered.{Answered}
 use Rattle.resp_wire.proofs.Seated.{at_open, where_open}
 use Rattle.resp_wire.proofs.Pieces.{concat_more}
-use Rattle.resp_wire.proofs.ServedTexts.{Stands, piece_stops, seat_given, seat_of, serves_piece, stands, stops_piece}
+use Rattle.resp_wire.proofs.ServedTexts.{Stands, piece_serves, piece_stops, seat_given, seat_of, serves_piece, stands, stops_piece}
 
 -- the result of a part that was answered
 pub ok_end : (end : Result Bool ServeError) → is_ok end ≡ true → (closing : Bool) × (end ≡ Ok closing)
 ok_end (Ok closing) ok = (closing, refl)
 ok_end (Err error) ok = absurd (cc)
-
--- what is said of one that was not
-pub not_ok : (end : Result Bool ServeError) → is_ok end ≡ false → (P : Type 0) → OnOk end P
-not_ok (Ok closing) ok P = absurd (cc)
-not_ok (Err error) ok P = tt
 
 -- what holds of a part that was answered
 pub if_ok : (end : Result Bool ServeError) (closing : Bool) → end ≡ Ok closing → IfOk end (λ closing. closing ≡ false) → closing ≡ false
@@ -117,12 +112,14 @@ before_last old id s front pieces p q held held' each k less =
     subst (λ texts. HadAnswered old id s (front ++ concat texts) held held')
     (take-append-le k pieces (p ∷ []) few ∙ sym (take-append-le k pieces (q ∷ []) few)) (each k (omega (arith, few, length-append pieces (p ∷ []))))
 
-pub may_leave : (fails fails' left : ℕ) (error : ServeError) (rest : List ℕ) → StopsAnswering fails fails' left error → MayLeave (Err error) rest
-may_leave fails fails' left NoSession rest why = absurd why
-may_leave fails fails' left OutOfMemory rest why = tt
-may_leave fails fails' left Read rest why = absurd why
-may_leave fails fails' left Write rest why = tt
-may_leave fails fails' left TooManyTurns rest why = tt
+-- when out of memory nothing is left, and after other errors of an answer bytes may be left
+pub may_leave : (fails fails' left : ℕ) (error : ServeError) (rest : List ℕ) → StopsAnswering fails fails' left error →
+    (error ≡ OutOfMemory → rest ≡ []) → MayLeave (Err error) rest
+may_leave fails fails' left NoSession rest why memory = absurd why
+may_leave fails fails' left OutOfMemory rest why memory = memory refl
+may_leave fails fails' left Read rest why memory = absurd why
+may_leave fails fails' left Write rest why memory = tt
+may_leave fails fails' left TooManyTurns rest why memory = tt
 
 -- the pieces that were read, of which the last one was given in part
 pub part_stops : AnswersGoOn → AnswersAreAdded → (old cur new : HubState) (id : ℕ) (pieces : List (List ℕ)) (bytes : List ℕ) (count used : ℕ)
@@ -150,3 +147,90 @@ pub still_few : (held : ℕ) (old cur new : HubState) (id : ℕ) → cur.limits 
 still_few held old cur new id same before after few =
     let bound : held + cur.limits.total ≡ held + old.limits.total = ap (λ l. held + l.total) same in
     subst (λ n. WaitsAtMost n cur id → WaitsAtMost n new id) bound after (before few)
+
+-- Bytes that are left because too many waited.
+
+-- what holds of a part that was not answered
+pub at_err : (end : Result Bool ServeError) (error : ServeError) → end ≡ Err error → (P : Type 0) → OnErr end P → P
+at_err end error is P = subst (λ e. OnErr e P) is
+
+on_err : {P Q : Type 0} (end : Result Bool ServeError) → (P → Q) → OnErr end P → OnErr end Q
+on_err (Ok closing) f p = tt
+on_err (Err error) f p = f p
+
+-- the first part of a piece
+pub first_overfills : (most : ℕ) (old new : HubState) (id : ℕ) (piece : List ℕ) (used : ℕ) (held held' : Option (List ℕ)) (end : Result Bool ServeError) →
+    OnErr end (used < length piece → Overfills most old new id (take used piece) held held') →
+    OnErr end (used < length piece → LeavesRest most old new id piece held held')
+first_overfills most old new id piece used held held' end = on_err end (λ overfills less. record {
+  count = 0;
+  size = used;
+  between = old;
+  held_between = held;
+  before = inl (refl, refl);
+  overfills = overfills less;
+})
+
+-- a part after others
+pub part_overfills : (most : ℕ) (old cur new : HubState) (id : ℕ) (piece part : List ℕ) (n m : ℕ) (closing : Bool) (held held' held'' : Option (List ℕ))
+    (end : Result Bool ServeError) → AnswersGiven old cur id piece held held' (record { used = n; end = Ok closing }) → part ≡ drop n piece →
+    OnErr end (m < length part → Overfills most cur new id (take m part) held' held'') →
+    OnErr end (n + m < length piece → LeavesRest most old new id piece held held'')
+part_overfills most old cur new id piece part n m closing held held' held'' end before is = on_err end (λ overfills less.
+    let left = ap length is ∙ length-drop n piece in
+    record {
+      count = n;
+      size = m;
+      between = cur;
+      held_between = held';
+      before = inr (where_open old id _ (λ s here not_closing front taken.
+          (at_open old id (λ t f. Serves old cur id t (f ++ take n piece) held held' [] × Unit {0}) s front before here not_closing taken).0));
+      overfills = subst (λ z. Overfills most cur new id (take m z) held' held'') is (overfills (omega (arith, less, left)));
+    })
+
+stops_by : AnswersGoOn → AnswersAreAdded → (most : ℕ) (old cur between new : HubState) (id : ℕ) (pieces : List (List ℕ)) (piece last : List ℕ) (count : ℕ)
+    (held held' held_between held'' : Option (List ℕ)) →
+    WhereOpen old id (λ s front. Serves old cur id s (front ++ concat pieces) held held' [] × AnswersBefore old id s front pieces held held') →
+    IsOpen cur id → ((between ≡ cur) × (held_between ≡ held')) ⊎
+    WhereOpen cur id (λ s front. Serves cur between id s (front ++ take count piece) held' held_between []) →
+    Overfills most between new id last held_between held'' → WhereOpen old id (λ s front. StopsOverfull most old new id s front held held'')
+stops_by go_on added most old cur between new id pieces piece last count held held' held_between held'' served o (inl (same, same')) overfills =
+    where_open old id _ (λ s here not_closing front taken. record {
+      before = concat pieces;
+      last = last;
+      between = cur;
+      held_between = held';
+      served = (at_open old id (λ t f. Serves old cur id t (f ++ concat pieces) held held' [] × AnswersBefore old id t f pieces held held') s front served
+          here not_closing taken).0;
+      overfills = subst (λ h. Overfills most cur new id last h held'') same' (subst (λ h. Overfills most h new id last held_between held'') same overfills);
+    })
+stops_by go_on added most old cur between new id pieces piece last count held held' held_between held'' served o (inr given) overfills =
+    let part = take count piece in
+    let with_unit = where_open cur id (λ s front. Serves cur between id s (front ++ part) held' held_between [] × ⊤) (λ s here not_closing front taken.
+    (at_open cur id (λ t f. Serves cur between id t (f ++ part) held' held_between []) s front given here not_closing taken, tt)) in
+    let all = piece_serves go_on added old cur between id pieces part held held' held_between served o with_unit in
+    where_open old id _ (λ s here not_closing front taken. record {
+      before = concat (pieces ++ part ∷ []);
+      last = last;
+      between = between;
+      held_between = held_between;
+      served = (at_open old id (λ t f. Serves old between id t (f ++ concat (pieces ++ part ∷ [])) held held_between [] × ⊤ ×
+          AnswersBefore old id t f (pieces ++ part ∷ []) held held_between) s front all here not_closing taken).0;
+      overfills = overfills;
+    })
+
+-- pieces that were answered, and one of which bytes are left
+pub stops_overfull : AnswersGoOn → AnswersAreAdded → (most : ℕ) (old cur new : HubState) (id : ℕ) (pieces : List (List ℕ)) (piece : List ℕ)
+    (held held' held'' : Option (List ℕ)) →
+    WhereOpen old id (λ s front. Serves old cur id s (front ++ concat pieces) held held' [] × AnswersBefore old id s front pieces held held') →
+    IsOpen cur id → LeavesRest most cur new id piece held' held'' → WhereOpen old id (λ s front. StopsOverfull most old new id s front held held'')
+stops_overfull go_on added most old cur new id pieces piece held held' held'' served o left =
+    stops_by go_on added most old cur left.between new id pieces piece (take left.size (drop left.count piece)) left.count held held' left.held_between held''
+    served o left.before left.overfills
+
+-- where bytes are left, not all of the piece was used
+pub some_left : (count used : ℕ) (bytes : List ℕ) → (take (count - used) (drop used bytes) ≡ [] → ⊥) → used < count
+some_left count used bytes some = elim (cases_lt used count) [
+  | inl less ↦ less
+  | inr all ↦ absurd (some (let none : count - used ≡ 0 = omega (arith, all) in ap (λ n. take n (drop used bytes)) none))
+]

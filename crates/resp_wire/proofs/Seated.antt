@@ -1,30 +1,17 @@
 -- A hub with another session in the place of one.
 use Rattle.std.proofs.Common.{arith, length, take, drop, ◌≤◌, ◌≡◌, ℕ, ◌==◌, Bool, true, false, cond, Option, None, Some, List, [], ◌∷◌, IfSome, refl, sym, ap, subst, ◌∙◌}
-use Rattle.std.specs.Map.{lookup}
 use Rattle.std.specs.Option.{option_map}
 use Rattle.std.proofs.lemmas.List.{drop_all, length-append, take-append-drop}
 use Rattle.resp_value.specs.Devices.{Appends}
 use Rattle.resp_server.specs.Handling.{WhereOpen}
 use Rattle.resp_server.specs.Hubs.{HubState, Seat, WaitsAtMost, seat_at, seated, with_seat}
 use Rattle.resp_server.specs.Reading.{HasReadFront}
+use Rattle.resp_server.proofs.Seats.{put_there, with_same}
 use Rattle.resp_wire.specs.Serving.{HasSent, IsClosing, IsOpen, IsThere}
-
-found_by : (id : ℕ) (e : ℕ × Seat) (es : List (ℕ × Seat)) (old new : Seat) (here : Bool) → (id == e.0) ≡ here →
-    cond here (Some e.1) (lookup (λ other. id == other) es) ≡ Some old →
-    (lookup (λ other. id == other) es ≡ Some old → lookup (λ other. id == other) (with_seat es id new) ≡ Some new) →
-    lookup (λ other. id == other) (cond here ((e.0, new) ∷ es) (e ∷ with_seat es id new)) ≡ Some new
-found_by id e es old new true is found later = ap (λ b. cond b (Some new) (lookup (λ other. id == other) es)) is
-found_by id e es old new false is found later =
-    ap (λ b. cond b (Some e.1) (lookup (λ other. id == other) (with_seat es id new))) is ∙ later found
-
-found_in : (id : ℕ) (es : List (ℕ × Seat)) (old new : Seat) → lookup (λ other. id == other) es ≡ Some old →
-    lookup (λ other. id == other) (with_seat es id new) ≡ Some new
-found_in id [] old new found = absurd (cc)
-found_in id (e ∷ es) old new found = found_by id e es old new (id == e.0) refl found (found_in id es old new)
 
 -- there stands then the new session
 pub seat_here : (hub : HubState) (id : ℕ) (old new : Seat) → seat_at hub id ≡ Some old → seat_at (seated hub id new) id ≡ Some new
-seat_here hub id old new found = found_in id hub.sessions old new found
+seat_here hub id old new found = put_there hub.sessions id old new found
 
 twice_by : (id : ℕ) (e : ℕ × Seat) (es : List (ℕ × Seat)) (a b : Seat) (here : Bool) → (id == e.0) ≡ here →
     with_seat (with_seat es id a) id b ≡ with_seat es id b →
@@ -43,19 +30,9 @@ seated_twice hub id a b =
     ap (λ sessions. record { limits = hub.limits; sessions = sessions; store = hub.store; last = hub.last }) (twice_in id hub.sessions a b)
 
 -- a session in its own place changes nothing
-same_by : (id : ℕ) (e : ℕ × Seat) (es : List (ℕ × Seat)) (s : Seat) (here : Bool) →
-    cond here (Some e.1) (lookup (λ other. id == other) es) ≡ Some s → (lookup (λ other. id == other) es ≡ Some s → with_seat es id s ≡ es) →
-    cond here ((e.0, s) ∷ es) (e ∷ with_seat es id s) ≡ e ∷ es
-same_by id e es s true found later = let same : s ≡ e.1 = cc in ap (λ z. (e.0, z) ∷ es) same
-same_by id e es s false found later = ap (λ l. e ∷ l) (later found)
-
-same_in : (id : ℕ) (es : List (ℕ × Seat)) (s : Seat) → lookup (λ other. id == other) es ≡ Some s → with_seat es id s ≡ es
-same_in id [] s found = absurd (cc)
-same_in id (e ∷ es) s found = same_by id e es s (id == e.0) found (same_in id es s)
-
 pub seated_same : (hub : HubState) (id : ℕ) (s : Seat) → seat_at hub id ≡ Some s → hub ≡ seated hub id s
 seated_same hub id s here =
-    ap (λ sessions. record { limits = hub.limits; sessions = sessions; store = hub.store; last = hub.last }) (sym (same_in id hub.sessions s here))
+    ap (λ sessions. record { limits = hub.limits; sessions = sessions; store = hub.store; last = hub.last }) (sym (with_same hub.sessions id s here))
 
 -- one session stands there
 pub one_seat : (o : Option Seat) (a b : Seat) → o ≡ Some a → o ≡ Some b → a ≡ b

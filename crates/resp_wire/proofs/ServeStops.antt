@@ -87,3 +87,10 @@ within_out (Some s) text count is within = let same : text ≡ s.out = cc in sub
 pub memory_was_wanting : (error : HubError) → (error ≡ hub.NoSession → ⊥) → (P : ℕ → Type 0) → IfOutOfMemory error P → (commands : ℕ) × P commands
 memory_was_wanting hub.NoSession other P p = absurd (other refl)
 memory_was_wanting (hub.OutOfMemory commands) other P p = (commands, p)
+
+-- a write does not stop when out of memory
+pub not_of_memory : (A : Type 0) (answer : Result A ServeError) (failures failures' left : ℕ) (error : ServeError) → answer ≡ Err error →
+    StopsWriting failures failures' left error → IsErrOf answer OutOfMemory → ⊥
+not_of_memory A answer failures failures' left error here h is =
+    let same : error ≡ OutOfMemory = let z = sym here ∙ is in cc in
+    subst (StopsWriting failures failures' left) same h

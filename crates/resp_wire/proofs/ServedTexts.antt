@@ -1,6 +1,6 @@
 -- Texts that are answered and written, one after another.
 use Rattle.std.specs.Prelude.{⊤}
-use Rattle.std.proofs.Common.{◌≡◌, ℕ, ◌+◌, ◌<◌, IfSome, Result, Ok, Err, length, Bool, true, false, Option, Some, List, [], ◌∷◌, ◌++◌, take, refl, sym, ap, subst, ◌∙◌, arith, append_assoc}
+use Rattle.std.proofs.Common.{◌≡◌, ℕ, ◌+◌, ◌-◌, ◌<◌, ◌^◌, IfSome, Result, Ok, Err, length, Bool, true, false, Option, Some, List, [], ◌∷◌, ◌++◌, take, refl, sym, ap, subst, ◌∙◌, arith, append_assoc}
 use Rattle.std.specs.List.{concat}
 use Rattle.std.proofs.lemmas.List.{append-nil}
 use Rattle.std.specs.Option.{option_map}
@@ -13,7 +13,8 @@ use Rattle.resp_server.specs.Answering.{TakesWithin, state_with}
 use Rattle.resp_server.specs.Handling.{HasAnswered, HasCutShort, WhereOpen}
 use Rattle.resp_server.specs.Hubs.{HubState, Seat, seat_at, seated, stocked}
 use Rattle.resp_server.specs.Reading.{HasReadFront, Reading}
-use Rattle.resp_wire.specs.Serving.{AnswersBefore, HadAnswered, HasSent, IsClosing, IsOpen, IsThere, MayLeave, Serves, ServesFirst, StopsServing}
+use Rattle.resp_server.proofs.AnsweredHubs.{used_up}
+use Rattle.resp_wire.specs.Serving.{AnswersBefore, HadAnswered, HasSent, IsClosing, IsOpen, IsThere, MayLeave, Serves, ServesFirst, StopsServing, WaitsMore}
 use Rattle.resp_wire.specs.declared.error.ServeError.{ServeError}
 use Rattle.resp_wire.specs.declared.error.ServeError.TheVariants.{NoSession, OutOfMemory, Read, Write, TooManyTurns}
 use Rattle.resp_wire.specs.declared.serve.Served.{Served}
@@ -398,24 +399,40 @@ sent_is_closing old new id held held' waits closing h is =
     ap (option_map (λ (s : Seat). s.closing)) (ap (λ g. seat_at g id) h.state ∙ seat_here old id h.seat seat h.here) ∙
     sym (ap (option_map (λ (s : Seat). s.closing)) h.here) ∙ is
 
--- a session of which bytes of a piece are left goes on
-pub goes_on : (old given new : HubState) (id : ℕ) (s : Seat) (most size used : ℕ) (held held' : Option (List ℕ)) (waits : List ℕ) (closing : Bool) →
-    seat_at old id ≡ Some s → IsThere given id →
+-- how much of a piece a session used that was found
+pub takes_at : (old given : HubState) (id : ℕ) (s : Seat) (most size used : ℕ) → seat_at old id ≡ Some s → (there : IsThere given id) →
     IfSome (seat_at old id) (λ s. IfSome (seat_at given id) (λ t. TakesWithin most (length s.out) (length t.out) t.closing size used)) →
-    HasSent given new id held held' waits → IsClosing new id closing → used < size → closing ≡ false
-goes_on old given new id s most size used held held' waits closing here (t, there) within sent is less =
+    TakesWithin most (length s.out) (length there.0.out) there.0.closing size used
+takes_at old given id s most size used here (t, there) within =
     let P : Seat → Seat → Type 0 = λ a b. TakesWithin most (length a.out) (length b.out) b.closing size used in
-    let takes : P s t = subst (λ o. IfSome o (P s)) there (subst (λ o. IfSome o (λ a. IfSome (seat_at given id) (P a))) here within) in
+    subst (λ o. IfSome o (P s)) there (subst (λ o. IfSome o (λ a. IfSome (seat_at given id) (P a))) here within)
+
+-- a session of which bytes of a piece are left goes on
+pub goes_on : (given new : HubState) (id : ℕ) (most before size used : ℕ) (held held' : Option (List ℕ)) (waits : List ℕ) (closing : Bool)
+    (there : IsThere given id) → TakesWithin most before (length there.0.out) there.0.closing size used → HasSent given new id held held' waits →
+    IsClosing new id closing → used < size → closing ≡ false
+goes_on given new id most before size used held held' waits closing (t, there) takes sent is less =
     let given_open : IsClosing given id false = ap (option_map (λ (b : Seat). b.closing)) there ∙ ap Some (takes.stops less).0 in
     let both : Some closing ≡ Some false = sym is ∙ sent_is_closing given new id held held' waits false sent given_open in
     cc
+
+-- and more bytes wait in it than may
+pub waits_more : (given : HubState) (id most before size used : ℕ) (there : IsThere given id) →
+    TakesWithin most before (length there.0.out) there.0.closing size used → used < size → WaitsMore most given id
+waits_more given id most before size used (t, there) takes less =
+    subst (λ o. IfSome o (λ (b : Seat). most < length b.out)) (sym there) (takes.stops less).1
+
+-- a session that may hold everything uses the whole piece
+pub uses_all : (most before after : ℕ) (closing : Bool) (size used : ℕ) → TakesWithin most before after closing size used → most ≡ 2 ^ 64 - 1 → used ≡ size
+uses_all most before after closing size used takes all =
+    used_up before after closing size used (subst (λ m. TakesWithin m before after closing size used) all takes)
 
 -- nothing may be left after each result
 pub leaves_none : (result : Result Served ServeError) → MayLeave result []
 leaves_none (Ok Ended) = refl
 leaves_none (Ok Closed) = refl
 leaves_none (Err NoSession) = refl
-leaves_none (Err OutOfMemory) = tt
+leaves_none (Err OutOfMemory) = refl
 leaves_none (Err Read) = refl
 leaves_none (Err Write) = tt
 leaves_none (Err TooManyTurns) = tt

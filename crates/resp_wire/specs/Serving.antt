@@ -1,5 +1,5 @@
 -- The results of a server's end, in terms of its hub and of the bytes written.
-use Rattle.std.specs.Prelude.{◌≡◌, ◌⊎◌, ℕ, ◌+◌, ◌-◌, ◌<◌, Bool, true, false, List, [], ◌++◌, length, take, drop, Option, Some, None, Result, Ok, Err, IfOk, IfErr, OnOk}
+use Rattle.std.specs.Prelude.{◌≡◌, ◌⊎◌, ℕ, ◌+◌, ◌-◌, ◌<◌, ◌≤◌, ◌^◌, Bool, true, false, List, [], ◌++◌, length, take, drop, Option, Some, None, Result, Ok, Err, IfSome, IfOk, IfErr, IsErrOf, OnOk}
 use Rattle.std.specs.List.{concat}
 use Rattle.std.specs.Option.{option_map}
 use Rattle.resp_value.specs.Devices.{Appends, HasRisen, failures_after}
@@ -7,7 +7,7 @@ use Rattle.resp_server.specs.Handling.{HasAnswered, HasCutShort, WhereOpen}
 use Rattle.resp_server.specs.Hubs.{HubState, Seat, WaitsAtMost, seat_at, seated}
 use Rattle.resp_server.specs.Reading.{HasReadFront}
 use Rattle.resp_wire.specs.Pieces.{ReadsPieces}
-use Rattle.resp_wire.specs.Turns.{TellsEnd}
+use Rattle.resp_wire.specs.Turns.{Spends, TellsEnd}
 use Rattle.resp_wire.specs.declared.error.ServeError.{ServeError}
 use Rattle.resp_wire.specs.declared.error.ServeError.TheVariants.{NoSession, OutOfMemory, Read, Write, TooManyTurns}
 use Rattle.resp_wire.specs.declared.serve.Answered.{Answered}
@@ -132,9 +132,8 @@ ends_by_read (Err error) = is_of_reader error
 abbrev pub rest_in : Visit → List ℕ → List ℕ
 rest_in visit bytes = take (visit.rest.end - visit.rest.start) (drop visit.rest.start bytes)
 
--- bytes may be left only after a failed write, when out of memory, and where no turn is left
+-- bytes may be left only after a failed write, and where no turn is left
 abbrev pub MayLeave : Result Served ServeError → List ℕ → Type 0
-MayLeave (Err OutOfMemory) rest = Unit {0}
 MayLeave (Err Write) rest = Unit {0}
 MayLeave (Err TooManyTurns) rest = Unit {0}
 MayLeave _ rest = rest ≡ []
@@ -152,6 +151,36 @@ ServesPieces most written remaining calls failures writer writer' reader reader'
     OnOk result (Serves old new id s (front ++ given) (written writer) (written writer') []) ×
     IfErr result (StopsServing old new id s front given (written writer) (written writer')) ×
     AnswersBefore old id s front pieces (written writer) (written writer'))
+
+-- more than this many bytes wait to be written to the session's client
+abbrev pub WaitsMore : ℕ → HubState → ℕ → Type 0
+WaitsMore most hub id = IfSome (seat_at hub id) (λ s. most < length s.out)
+
+-- The session answered a text, and then more than `most` bytes waited, at most one reply more. A write stopped that left
+-- some of them.
+pub record Overfills (most : ℕ) (old new : HubState) (id : ℕ) (text : List ℕ) (held held' : Option (List ℕ)) : Type 0 where
+  pub given : HubState
+  pub commands : ℕ
+  pub answered : WhereOpen old id (λ s front. HasAnswered old given id s (front ++ text) commands)
+  pub many : WaitsMore most given id
+  pub bounded : WaitsAtMost (most + old.limits.total) given id
+  pub sent : HasSentPart given new id held held'
+
+-- All replies to the bytes before were written, and then more than `most` bytes waited, at most one reply more. A write
+-- stopped that left some of them.
+pub record StopsOverfull (most : ℕ) (old new : HubState) (id : ℕ) (s : Seat) (front : List ℕ) (held held' : Option (List ℕ)) :
+    Type 0 where
+  pub before : List ℕ
+  pub last : List ℕ
+  pub between : HubState
+  pub held_between : Option (List ℕ)
+  pub served : Serves old between id s (front ++ before) held held_between []
+  pub overfills : Overfills most between new id last held_between held'
+
+-- if bytes of a piece are left, more than `most` bytes waited
+abbrev pub LeavesOverfull : {W : Type 0} → ℕ → (W → Option (List ℕ)) → W → W → HubState → HubState → ℕ → List ℕ → Type 0
+LeavesOverfull most written writer writer' old new id rest = (rest ≡ [] → ⊥) →
+    WhereOpen old id (λ s front. StopsOverfull most old new id s front (written writer) (written writer'))
 
 -- whether a call stopped because a write failed
 abbrev pub failed_to_write : {T : Type 0} → Result T ServeError → Bool
@@ -199,3 +228,27 @@ pub record EndsAnswering (most : ℕ) (old new : HubState) (id fails fails' left
   pub refusal : IfErr answered.end (StopsAnswering fails fails' left)
   pub same_limits : new.limits ≡ old.limits
   pub bounded : WaitsAtMost most old id → WaitsAtMost most new id
+
+-- The session was given the first bytes of a piece, of which `used` is the number, and answered them. `most` bytes and one
+-- reply wait at most.
+pub record AnswersPiece {W : Type 0} (written : W → Option (List ℕ)) (calls failures : W → ℕ) (most : ℕ) (old new : HubState)
+    (id : ℕ) (writer writer' : W) (piece : List ℕ) (turns turns' : ℕ) (answered : Answered) : Type 0 where
+  pub within : answered.used ≤ length piece
+  pub given : AnswersGiven old new id piece (written writer) (written writer') answered
+  pub whole : most ≡ 2 ^ 64 - 1 → answered.used ≡ length piece
+  -- when out of memory, nothing is left of the piece
+  pub no_memory : IsErrOf answered.end OutOfMemory → answered.used ≡ length piece
+  pub ends : EndsAnswering (most + old.limits.total) old new id (failures writer) (failures writer') turns' answered
+  pub spends : Spends (calls writer) (calls writer') turns turns'
+
+-- The parts of a piece before a part were answered and their replies were written, and this part overfilled the session.
+pub record LeavesRest (most : ℕ) (old new : HubState) (id : ℕ) (piece : List ℕ) (held held' : Option (List ℕ)) :
+    Type 0 where
+  pub count : ℕ
+  pub size : ℕ
+  pub between : HubState
+  pub held_between : Option (List ℕ)
+  -- no part came before, or the parts before it were answered
+  pub before : ((between ≡ old) × (held_between ≡ held)) ⊎
+      WhereOpen old id (λ s front. Serves old between id s (front ++ take count piece) held held_between [])
+  pub overfills : Overfills most between new id (take size (drop count piece)) held_between held'

@@ -1,11 +1,11 @@
 //! The server's end of a connection.
 
-ghost use Rattle.std.specs.Prelude.{◌≡◌, ◌≢◌, ◌+◌, ◌-◌, ◌<◌, ◌≤◌, ◌^◌, ◌++◌, ℕ, List, [], length, true, false, None, Err, IfSome, IfOk, IfErr, IsErrOf, OnOk, OnErr};
+ghost use Rattle.std.specs.Prelude.{◌≡◌, ◌≢◌, ◌+◌, ◌-◌, ◌<◌, ◌≤◌, ◌^◌, ◌++◌, ℕ, List, [], length, take, true, false, None, Err, IfSome, IfOk, IfErr, IsErrOf, OnOk, OnErr};
 ghost use Rattle.resp_server.specs.Hubs.{Seat, WaitsAtMost, seat_at};
 ghost use Rattle.resp_server.specs.Handling.{HasAnswered, WhereOpen};
 ghost use Rattle.resp_value.specs.Devices.{failures_after};
 ghost use Rattle.resp_wire.specs.Asking.{SpendsAtMost, SpendsTurns};
-ghost use Rattle.resp_wire.specs.Serving.{AnswersGiven, EndsAnswering, EndsBy, FailsServing, HasSent, HasSentPart, IsClosing, IsOpen, IsThere, Serves, ServesClosing, ServesPieces, StopsAnswering, StopsReading, StopsServing, StopsWriting, failed_to_read, failed_to_write, rest_in, is_of_reader, is_of_writer};
+ghost use Rattle.resp_wire.specs.Serving.{AnswersPiece, EndsBy, FailsServing, HasSent, HasSentPart, IsClosing, IsOpen, IsThere, LeavesOverfull, LeavesRest, Overfills, Serves, ServesClosing, ServesPieces, StopsAnswering, StopsReading, StopsServing, StopsWriting, failed_to_read, failed_to_write, rest_in, is_of_reader, is_of_writer};
 ghost use Rattle.resp_wire.specs.Turns.{Halts, Spends, has_failed};
 
 use crate::error::ServeError;
@@ -115,7 +115,7 @@ pub struct Visit {
     /// How the connection ended, or why the call stopped.
     pub end: Result<Served, ServeError>,
     /// The place in the buffer of the bytes that were read and not given to the session. It is empty
-    /// except after `OutOfMemory`, `Write` and `TooManyTurns`.
+    /// except after `Write` and `TooManyTurns`.
     pub rest: Range<usize>,
 }
 
@@ -124,8 +124,9 @@ pub struct Visit {
 /// pieces.
 ///
 /// If more than `held` bytes wait, they are written before the session is given more of the piece. So
-/// at most `held` bytes and one reply wait. If they cannot be written, the rest of the piece is in
-/// the buffer: let the reader return it first in the next call. With `usize::MAX` there is no rest.
+/// at most `held` bytes and one reply wait, if no push is queued. If they cannot be written, the rest
+/// of the piece is in the buffer: let the reader return it first in the next call. With `usize::MAX`
+/// there is no rest.
 ///
 /// # Errors
 ///
@@ -149,6 +150,9 @@ pub fn serve_with<R: Source, W: Sink, S: BuildHasher>(
         (R.remaining reader.new)) }
 
     ensures whole { held ≡ 2 ^ 64 - 1 → rest_in result buffer.new ≡ [] }
+    // Bytes are left only if more than `held` bytes waited and could not all be written.
+    ensures full { LeavesOverfull held W.written writer.old writer.new hub.old hub.new id
+        (rest_in result buffer.new) }
     ensures in_buffer { (result.rest.start ≤ result.rest.end) ×
         (result.rest.end ≤ length buffer.new) }
     ensures bounded { WaitsAtMost (held + hub.old.limits.total) hub.old id →
@@ -211,6 +215,8 @@ fn serve_open<R: Source, W: Sink, S: BuildHasher>(
     ensures end { IfOk result.end (EndsBy hub.new id (R.remaining reader.old)
         (R.remaining reader.new)) }
     ensures whole { held ≡ 2 ^ 64 - 1 → rest_in result buffer.new ≡ [] }
+    ensures full { LeavesOverfull held W.written writer.old writer.new hub.old hub.new id
+        (rest_in result buffer.new) }
     ensures in_buffer { (result.rest.start ≤ result.rest.end) ×
         (result.rest.end ≤ length buffer.new) }
     ensures bounded { WaitsAtMost (held + hub.old.limits.total) hub.old id →
@@ -280,15 +286,13 @@ fn answer<W: Sink, S: BuildHasher>(
     turns: &mut u64,
     held: usize,
 ) -> Answered
-    requires { IsOpen hub.old id }
-    ensures within { result.used ≤ length piece.now }
-    ensures answered { AnswersGiven hub.old hub.new id piece.now (W.written writer.old)
-        (W.written writer.new) result }
+    requires is_open { IsOpen hub.old id }
+    requires none_waits { WaitsAtMost 0 hub.old id }
+    ensures part { AnswersPiece W.written W.calls W.failures held hub.old hub.new id writer.old
+        writer.new piece.now turns.old turns.new result }
     ensures none_left { OnOk result.end (result.used ≡ length piece.now) }
-    ensures whole { held ≡ 2 ^ 64 - 1 → result.used ≡ length piece.now }
-    ensures ends { EndsAnswering (held + hub.old.limits.total) hub.old hub.new id
-        (W.failures writer.old) (W.failures writer.new) turns.new result }
-    ensures turns { Spends (W.calls writer.old) (W.calls writer.new) turns.old turns.new }
+    ensures full { OnErr result.end (result.used < length piece.now → LeavesRest held hub.old
+        hub.new id piece.now (W.written writer.old) (W.written writer.new)) }
 {
     laws::answers_go_on();
     laws::answers_are_added();
@@ -312,16 +316,14 @@ fn answer_part<W: Sink, S: BuildHasher>(
     turns: &mut u64,
     held: usize,
 ) -> Answered
-    requires { IsOpen hub.old id }
-    ensures within { result.used ≤ length piece.now }
-    ensures answered { AnswersGiven hub.old hub.new id piece.now (W.written writer.old)
-        (W.written writer.new) result }
+    requires is_open { IsOpen hub.old id }
+    requires none_waits { WaitsAtMost 0 hub.old id }
+    ensures part { AnswersPiece W.written W.calls W.failures held hub.old hub.new id writer.old
+        writer.new piece.now turns.old turns.new result }
     ensures more { result.used < length piece.now → IfOk result.end (λ closing. closing ≡ false) }
-    ensures onward { WaitsAtMost held hub.old id → 0 < length piece.now → 0 < result.used }
-    ensures whole { held ≡ 2 ^ 64 - 1 → result.used ≡ length piece.now }
-    ensures ends { EndsAnswering (held + hub.old.limits.total) hub.old hub.new id
-        (W.failures writer.old) (W.failures writer.new) turns.new result }
-    ensures turns { Spends (W.calls writer.old) (W.calls writer.new) turns.old turns.new }
+    ensures onward { 0 < length piece.now → 0 < result.used }
+    ensures full { OnErr result.end (result.used < length piece.now → Overfills held hub.old
+        hub.new id (take result.used piece.now) (W.written writer.old) (W.written writer.new)) }
 {
     let taken = match hub.bytes_within(id, piece, held) {
         Ok(taken) => taken,

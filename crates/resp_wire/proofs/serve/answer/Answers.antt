@@ -1,39 +1,40 @@
-use Rattle.std.proofs.Common.{◌≡◌, ◌+◌, ◌-◌, ◌<◌, ◌≤◌, Ok, length, drop, refl, sym, ap, subst, ◌∙◌, arith, length-drop}
-use Rattle.resp_wire.specs.Serving.{AnswersGiven, EndsAnswering, IsOpen}
-use Rattle.resp_wire.proofs.AnsweredParts.{ends_more, if_ok, not_ok, ok_end, part_more}
-use Rattle.resp_wire.proofs.Seated.{none_is_few}
+use Rattle.std.proofs.Common.{◌+◌, length, sym, ap, subst, ◌∙◌, arith, length-drop}
+use Rattle.resp_wire.specs.Serving.{AnswersGiven, EndsAnswering}
+use Rattle.resp_wire.proofs.AnsweredParts.{ends_more, first_overfills, if_ok, ok_end, part_more, part_overfills}
 use Rattle.resp_wire.proofs.Turning.{spends_more}
 use Rattle.resp_wire.proofs.serve.answer.Goals as goal
 
 pub loop-answered-init : goal.loop-answered-init
 loop-answered-init g c = record {
-  within = c.answer_part-answered.ensures.within;
-  answered = c.answer_part-answered.ensures.answered;
+  part = c.answer_part-answered.ensures.part;
   more = c.answer_part-answered.ensures.more;
-  whole = c.answer_part-answered.ensures.whole;
-  ends = c.answer_part-answered.ensures.ends;
-  turns = c.answer_part-answered.ensures.turns;
+  full = first_overfills c.args.held c.args.hub.now c.answer_part-answered.new.hub c.args.id c.args.piece.now c.answer_part-answered.result.used
+      (g.W.Sink.written c.args.writer.now) (g.W.Sink.written c.answer_part-answered.new.writer) c.answer_part-answered.result.end
+      c.answer_part-answered.ensures.full;
 }
 
-pub answer_part-part-requires : goal.answer_part-part-requires
-answer_part-part-requires g c =
+pub answer_part-part-requires-clause-is_open : goal.answer_part-part-requires-clause-is_open
+answer_part-part-requires-clause-is_open g c =
     let i = c.loop-answered.invariant in
     let n = c.loop-answered.answered.used in
     let (closing, is) = ok_end c.loop-answered.answered.end (sym c.is_ok.ensures.value ∙ c.if-is_ok.true) in
     let ends = subst (λ e. EndsAnswering (c.args.held + c.args.hub.now.limits.total) c.args.hub.now c.loop-answered.hub c.args.id
-    (g.W.Sink.failures c.args.writer.now) (g.W.Sink.failures c.loop-answered.writer) c.loop-answered.turns (record { used = n; end = e })) is i.ends in
+    (g.W.Sink.failures c.args.writer.now) (g.W.Sink.failures c.loop-answered.writer) c.loop-answered.turns (record { used = n; end = e })) is i.part.ends in
     ends.is_open (if_ok c.loop-answered.answered.end closing is (i.more c.loop-answered-test.true))
+
+pub answer_part-part-requires-clause-none_waits : goal.answer_part-part-requires-clause-none_waits
+answer_part-part-requires-clause-none_waits g c =
+    let i = c.loop-answered.invariant in
+    let n = c.loop-answered.answered.used in
+    let (closing, is) = ok_end c.loop-answered.answered.end (sym c.is_ok.ensures.value ∙ c.if-is_ok.true) in
+    (subst (λ e. EndsAnswering (c.args.held + c.args.hub.now.limits.total) c.args.hub.now c.loop-answered.hub c.args.id
+    (g.W.Sink.failures c.args.writer.now) (g.W.Sink.failures c.loop-answered.writer) c.loop-answered.turns (record { used = n; end = e })) is i.part.ends).sent
 
 pub loop-answered-smaller : goal.loop-answered-smaller
 loop-answered-smaller g c =
-    let i = c.loop-answered.invariant in
-    let n = c.loop-answered.answered.used in
-    let (closing, is) = ok_end c.loop-answered.answered.end (sym c.is_ok.ensures.value ∙ c.if-is_ok.true) in
-    let ends = subst (λ e. EndsAnswering (c.args.held + c.args.hub.now.limits.total) c.args.hub.now c.loop-answered.hub c.args.id
-    (g.W.Sink.failures c.args.writer.now) (g.W.Sink.failures c.loop-answered.writer) c.loop-answered.turns (record { used = n; end = e })) is i.ends in
-    let left = ap length c.beyond.ensures ∙ length-drop n c.args.piece.now in
+    let left = ap length c.beyond.ensures ∙ length-drop c.loop-answered.answered.used c.args.piece.now in
     let test = c.loop-answered-test.true in
-    let some = c.answer_part-part.ensures.onward (none_is_few c.loop-answered.hub c.args.id c.args.held ends.sent) (omega (arith, left, test)) in
+    let some = c.answer_part-part.ensures.onward (omega (arith, left, test)) in
     omega (arith, some, test)
 
 pub loop-answered-preserved : goal.loop-answered-preserved
@@ -51,22 +52,28 @@ loop-answered-preserved g c =
     let held'' = g.W.Sink.written c.answer_part-part.new.writer in
     let (closing, is) = ok_end c.loop-answered.answered.end (sym c.is_ok.ensures.value ∙ c.if-is_ok.true) in
     let ends = subst (λ e. EndsAnswering (c.args.held + old.limits.total) old cur id (g.W.Sink.failures c.args.writer.now)
-    (g.W.Sink.failures c.loop-answered.writer) c.loop-answered.turns (record { used = n; end = e })) is i.ends in
-    let before = subst (λ e. AnswersGiven old cur id piece held held' (record { used = n; end = e })) is i.answered in
-    let after = subst (λ text. AnswersGiven cur new id text held' held'' part) c.beyond.ensures c.answer_part-part.ensures.answered in
+    (g.W.Sink.failures c.loop-answered.writer) c.loop-answered.turns (record { used = n; end = e })) is i.part.ends in
+    let before = subst (λ e. AnswersGiven old cur id piece held held' (record { used = n; end = e })) is i.part.given in
+    let p = c.answer_part-part.ensures.part in
+    let after = subst (λ text. AnswersGiven cur new id text held' held'' part) c.beyond.ensures p.given in
     let open_now = ends.is_open (if_ok c.loop-answered.answered.end closing is (i.more c.loop-answered-test.true)) in
     let left = ap length c.beyond.ensures ∙ length-drop n piece in
-    let within = c.answer_part-part.ensures.within in
+    let within = p.within in
     let test = c.loop-answered-test.true in
     record {
-      within = omega (arith, within, left, test);
-      answered = part_more c.answers_go_on.ensures c.answers_are_added.ensures old cur new id piece n part.used closing part.end held held' held'' before
-          open_now after;
+      part = record {
+        within = omega (arith, within, left, test);
+        given = part_more c.answers_go_on.ensures c.answers_are_added.ensures old cur new id piece n part.used closing part.end held held' held'' before
+            open_now after;
+        whole = λ all. absurd (let used = i.part.whole all in omega (arith, used, test));
+        no_memory = λ out. let all = p.no_memory out in omega (arith, all, left, test);
+        ends = ends_more c.args.held old cur new id (g.W.Sink.failures c.args.writer.now) (g.W.Sink.failures c.loop-answered.writer)
+            (g.W.Sink.failures c.answer_part-part.new.writer) c.loop-answered.turns c.answer_part-part.new.turns n part.used closing part.end ends
+            p.ends;
+        spends = spends_more (g.W.Sink.calls c.args.writer.now) (g.W.Sink.calls c.loop-answered.writer) (g.W.Sink.calls c.answer_part-part.new.writer)
+            c.args.turns.now c.loop-answered.turns c.answer_part-part.new.turns i.part.spends p.spends;
+      };
       more = λ less. c.answer_part-part.ensures.more (omega (arith, less, left, test));
-      whole = λ all. absurd (let used = i.whole all in omega (arith, used, test));
-      ends = ends_more c.args.held old cur new id (g.W.Sink.failures c.args.writer.now) (g.W.Sink.failures c.loop-answered.writer)
-          (g.W.Sink.failures c.answer_part-part.new.writer) c.loop-answered.turns c.answer_part-part.new.turns n part.used closing part.end ends
-          c.answer_part-part.ensures.ends;
-      turns = spends_more (g.W.Sink.calls c.args.writer.now) (g.W.Sink.calls c.loop-answered.writer) (g.W.Sink.calls c.answer_part-part.new.writer)
-          c.args.turns.now c.loop-answered.turns c.answer_part-part.new.turns i.turns c.answer_part-part.ensures.turns;
+      full = part_overfills c.args.held old cur new id piece c.beyond.result.now n part.used closing held held' held'' part.end before c.beyond.ensures
+          c.answer_part-part.ensures.full;
     }

@@ -1,143 +1,186 @@
-use Rattle.std.proofs.Common.{◌≡◌, ◌+◌, ◌<◌, ◌^◌, ◌-◌, ◌++◌, [], Err, arith, length, take, take_all, ap, refl, subst, sym, ◌∙◌}
+use Rattle.std.proofs.Common.{◌≡◌, ◌+◌, ◌++◌, [], Err, arith, length, take, take_all, ap, refl, subst, sym, ◌∙◌}
 use Rattle.resp_value.specs.Devices.{failures_after}
 use Rattle.resp_server.specs.Handling.{HasCutShort}
-use Rattle.resp_server.specs.Hubs.{HubState, WaitsAtMost}
-use Rattle.resp_wire.specs.Serving.{IsClosing, StopsAnswering, StopsServing, is_of_reader, is_of_writer}
-use Rattle.resp_wire.proofs.Seated.{at_open, is_open, not_there, open_is_there, sent_few, sent_none, where_open}
-use Rattle.resp_wire.proofs.ServedTexts.{answered_at, answered_is_there, first_waits, goes_on, sent_is_there, serves_given}
-use Rattle.resp_wire.proofs.ServeStops.{answering, memory_was_wanting, stops_writing}
+use Rattle.resp_server.specs.Hubs.{HubState}
+use Rattle.resp_server.specs.declared.error.HubError.TheVariants as hub
+use Rattle.resp_wire.specs.Serving.{StopsAnswering, StopsServing, is_of_reader, is_of_writer}
+use Rattle.resp_wire.proofs.Seated.{at_open, is_open, none_is_few, not_there, open_is_there, sent_few, sent_none, where_open}
+use Rattle.resp_wire.proofs.ServedTexts.{answered_at, answered_is_there, first_waits, goes_on, sent_is_there, serves_given, takes_at, uses_all, waits_more}
+use Rattle.resp_wire.proofs.ServeStops.{answering, memory_was_wanting, not_of_memory, stops_writing}
+use Rattle.resp_wire.proofs.Turning.{spends_nothing}
 use Rattle.resp_wire.proofs.serve.answer_part.Goals as goal
 
-pub returns-in-Err-clause-answered : goal.returns-in-Err-clause-answered
-returns-in-Err-clause-answered g c =
+pub returns-in-Err-clause-part : goal.returns-in-Err-clause-part
+returns-in-Err-clause-part g c =
     let old = c.args.hub.now in
     let new = c.bytes_within.new.self in
     let id = c.args.id in
     let piece = c.args.piece.now in
+    let o = c.requires.is_open in
     let held = g.W.Sink.written c.args.writer.now in
-    let all : take (length piece) piece ≡ piece = take_all (length piece) piece (omega arith) in
-    where_open old id _ (λ s here not_closing front taken.
-    let (commands, cut) = memory_was_wanting c.in-Err.error (λ e. not_there old id (open_is_there old id c.requires) (c.in-Err.ensures.none (ap Err e)))
-    (HasCutShort old new id s front piece) (at_open old id _ s front c.in-Err.ensures.cut_short here not_closing taken) in (
-      tt,
-      subst (λ z. StopsServing old new id s front z held held c.unanswered.result) (sym all)
-          (subst (StopsServing old new id s front piece held held) (sym c.unanswered.ensures) (first_waits old new id s front piece held commands here cut)),
-    ))
-
-pub returns-in-Err-clause-ends : goal.returns-in-Err-clause-ends
-returns-in-Err-clause-ends g c =
-    let old = c.args.hub.now in
-    let id = c.args.id in
-    let o = c.requires in
     let fails = g.W.Sink.failures c.args.writer.now in
-    let (commands, cut) = memory_was_wanting c.in-Err.error (λ e. not_there old id (open_is_there old id c.requires) (c.in-Err.ensures.none (ap Err e)))
-    (HasCutShort old c.bytes_within.new.self id o.seat o.front c.args.piece.now)
+    let all : take (length piece) piece ≡ piece = take_all (length piece) piece (omega arith) in
+    let there = λ (e : c.in-Err.error ≡ hub.NoSession). not_there old id (open_is_there old id o) (c.in-Err.ensures.none (ap Err e)) in
+    let (_, cut) = memory_was_wanting c.in-Err.error there (HasCutShort old new id o.seat o.front piece)
     (at_open old id _ o.seat o.front c.in-Err.ensures.cut_short o.here o.not_closing o.taken) in
     record {
-      closing = tt;
-      is_open = tt;
-      sent = tt;
-      none_failed = tt;
-      failures = subst (λ error. fails ≡ failures_after (is_of_writer error) fails) (sym c.unanswered.ensures) refl;
-      no_read = ap is_of_reader c.unanswered.ensures;
-      refusal = subst (StopsAnswering fails fails c.args.turns.now) (sym c.unanswered.ensures) tt;
-      same_limits = ap (λ (h : HubState). h.limits) cut.state;
-      bounded = c.bytes_within.ensures.bounded;
+      within = omega arith;
+      given = where_open old id _ (λ s here not_closing front taken.
+          let (commands, cut) = memory_was_wanting c.in-Err.error there (HasCutShort old new id s front piece)
+          (at_open old id _ s front c.in-Err.ensures.cut_short here not_closing taken) in (
+            tt,
+            subst (λ z. StopsServing old new id s front z held held c.unanswered.result) (sym all)
+                (subst (StopsServing old new id s front piece held held) (sym c.unanswered.ensures) (first_waits old new id s front piece held commands here cut)),
+          ));
+      whole = λ _. refl;
+      no_memory = λ _. refl;
+      ends = record {
+        closing = tt;
+        is_open = tt;
+        sent = tt;
+        none_failed = tt;
+        failures = subst (λ error. fails ≡ failures_after (is_of_writer error) fails) (sym c.unanswered.ensures) refl;
+        no_read = ap is_of_reader c.unanswered.ensures;
+        refusal = subst (StopsAnswering fails fails c.args.turns.now) (sym c.unanswered.ensures) tt;
+        same_limits = ap (λ (h : HubState). h.limits) cut.state;
+        bounded = c.bytes_within.ensures.bounded;
+      };
+      spends = spends_nothing (g.W.Sink.calls c.args.writer.now) c.args.turns.now;
     }
 
 pub write_out-requires : goal.write_out-requires
 write_out-requires g c =
     let old = c.args.hub.now in
     let id = c.args.id in
-    let o = c.requires in
+    let o = c.requires.is_open in
     let given = take c.in-Ok.taken.used c.args.piece.now in
     answered_is_there old c.bytes_within.new.self id o.seat (o.front ++ given) c.in-Ok.taken.commands o.here
     (answered_at old c.bytes_within.new.self id given c.in-Ok.taken.commands c.in-Ok.ensures.answered o.seat o.front o.here o.not_closing o.taken)
 
-pub returns-in-Err-write_out-clause-answered : goal.returns-in-Err-write_out-clause-answered
-returns-in-Err-write_out-clause-answered g c =
+pub returns-in-Err-write_out-clause-part : goal.returns-in-Err-write_out-clause-part
+returns-in-Err-write_out-clause-part g c =
     let old = c.args.hub.now in
     let given = c.bytes_within.new.self in
     let new = c.write_out.new.hub in
     let id = c.args.id in
-    let piece = take c.in-Ok.taken.used c.args.piece.now in
+    let used = c.in-Ok.taken.used in
+    let size = length c.args.piece.now in
+    let piece = take used c.args.piece.now in
+    let o = c.requires.is_open in
     let held = g.W.Sink.written c.args.writer.now in
     let held' = g.W.Sink.written c.write_out.new.writer in
+    let fails = g.W.Sink.failures c.args.writer.now in
+    let fails' = g.W.Sink.failures c.write_out.new.writer in
     let (waits, some, sent) = c.in-Err-write_out.ensures.part in
-    where_open old id _ (λ s here not_closing front taken. (
-      tt,
-      stops_writing old given new id s front piece held held' waits (g.W.Sink.failures c.args.writer.now) (g.W.Sink.failures c.write_out.new.writer)
-          c.write_out.new.turns c.in-Err-write_out.error c.in-Err-write_out.ensures.refusal some
-          (serves_given old given new id s (front ++ piece) held held' waits c.in-Ok.taken.commands
-          (answered_at old given id piece c.in-Ok.taken.commands c.in-Ok.ensures.answered s front here not_closing taken) sent),
-    ))
+    let answered = answered_at old given id piece c.in-Ok.taken.commands c.in-Ok.ensures.answered o.seat o.front o.here o.not_closing o.taken in
+    let there = answered_is_there old given id o.seat (o.front ++ piece) c.in-Ok.taken.commands o.here answered in
+    let takes = takes_at old given id o.seat c.args.held size used o.here there c.in-Ok.ensures.within in
+    record {
+      within = takes.within;
+      given = where_open old id _ (λ s here not_closing front taken. (
+        tt,
+        stops_writing old given new id s front piece held held' waits fails fails' c.write_out.new.turns c.in-Err-write_out.error
+            c.in-Err-write_out.ensures.refusal some
+            (serves_given old given new id s (front ++ piece) held held' waits c.in-Ok.taken.commands
+            (answered_at old given id piece c.in-Ok.taken.commands c.in-Ok.ensures.answered s front here not_closing taken) sent),
+      ));
+      whole = uses_all c.args.held (length o.seat.out) (length there.0.out) there.0.closing size used takes;
+      no_memory = λ is. absurd (not_of_memory _ _ fails fails' c.write_out.new.turns c.in-Err-write_out.error refl c.in-Err-write_out.ensures.refusal is);
+      ends = record {
+        closing = tt;
+        is_open = tt;
+        sent = tt;
+        none_failed = tt;
+        failures = c.in-Err-write_out.ensures.failures;
+        no_read = c.in-Err-write_out.ensures.no_read;
+        refusal = answering fails fails' c.write_out.new.turns c.in-Err-write_out.error c.in-Err-write_out.ensures.refusal;
+        same_limits = ap (λ (h : HubState). h.limits) sent.state ∙ ap (λ (h : HubState). h.limits) answered.state;
+        bounded = λ few. sent_few given new id held held' waits (c.args.held + old.limits.total) sent (c.bytes_within.ensures.bounded few);
+      };
+      spends = c.write_out.ensures.turns;
+    }
 
-pub returns-in-Err-write_out-clause-ends : goal.returns-in-Err-write_out-clause-ends
-returns-in-Err-write_out-clause-ends g c =
+pub returns-in-Err-write_out-clause-full : goal.returns-in-Err-write_out-clause-full
+returns-in-Err-write_out-clause-full g c less =
     let old = c.args.hub.now in
     let given = c.bytes_within.new.self in
     let id = c.args.id in
-    let o = c.requires in
-    let (waits, some, sent) = c.in-Err-write_out.ensures.part in
-    let answered = answered_at old given id (take c.in-Ok.taken.used c.args.piece.now) c.in-Ok.taken.commands c.in-Ok.ensures.answered o.seat o.front o.here
-    o.not_closing o.taken in
+    let used = c.in-Ok.taken.used in
+    let size = length c.args.piece.now in
+    let piece = take used c.args.piece.now in
+    let o = c.requires.is_open in
+    let there = answered_is_there old given id o.seat (o.front ++ piece) c.in-Ok.taken.commands o.here
+    (answered_at old given id piece c.in-Ok.taken.commands c.in-Ok.ensures.answered o.seat o.front o.here o.not_closing o.taken) in
+    let takes = takes_at old given id o.seat c.args.held size used o.here there c.in-Ok.ensures.within in
     record {
-      closing = tt;
-      is_open = tt;
-      sent = tt;
-      none_failed = tt;
-      failures = c.in-Err-write_out.ensures.failures;
-      no_read = c.in-Err-write_out.ensures.no_read;
-      refusal = answering (g.W.Sink.failures c.args.writer.now) (g.W.Sink.failures c.write_out.new.writer) c.write_out.new.turns c.in-Err-write_out.error
-          c.in-Err-write_out.ensures.refusal;
-      same_limits = ap (λ (h : HubState). h.limits) sent.state ∙ ap (λ (h : HubState). h.limits) answered.state;
-      bounded = λ few. sent_few given c.write_out.new.hub id (g.W.Sink.written c.args.writer.now) (g.W.Sink.written c.write_out.new.writer) waits
-          (c.args.held + old.limits.total) sent (c.bytes_within.ensures.bounded few);
+      given = given;
+      commands = c.in-Ok.taken.commands;
+      answered = c.in-Ok.ensures.answered;
+      many = waits_more given id c.args.held (length o.seat.out) size used there takes less;
+      bounded = c.bytes_within.ensures.bounded (none_is_few old id (c.args.held + old.limits.total) c.requires.none_waits);
+      sent = c.in-Err-write_out.ensures.part;
     }
 
-pub returns-in_default-is_closing-clause-answered :
-    goal.returns-in_default-is_closing-clause-answered
-returns-in_default-is_closing-clause-answered g c = absurd (not_there c.write_out.new.hub c.args.id
+pub returns-in_default-is_closing-clause-part : goal.returns-in_default-is_closing-clause-part
+returns-in_default-is_closing-clause-part g c = absurd (not_there c.write_out.new.hub c.args.id
     (sent_is_there c.bytes_within.new.self c.write_out.new.hub c.args.id (g.W.Sink.written c.args.writer.now) (g.W.Sink.written c.write_out.new.writer) _
     c.in_default.ensures.sent) c.in_default-is_closing.ensures.none)
 
-pub returns-in_default-is_closing-clause-ends :
-    goal.returns-in_default-is_closing-clause-ends
-returns-in_default-is_closing-clause-ends g c = absurd (not_there c.write_out.new.hub c.args.id
+pub returns-in_default-is_closing-clause-full : goal.returns-in_default-is_closing-clause-full
+returns-in_default-is_closing-clause-full g c = absurd (not_there c.write_out.new.hub c.args.id
     (sent_is_there c.bytes_within.new.self c.write_out.new.hub c.args.id (g.W.Sink.written c.args.writer.now) (g.W.Sink.written c.write_out.new.writer) _
     c.in_default.ensures.sent) c.in_default-is_closing.ensures.none)
 
 pub returns-clause-more : goal.returns-clause-more
 returns-clause-more g c =
-    let o = c.requires in
-    let piece = take c.in-Ok.taken.used c.args.piece.now in
-    let given = answered_is_there c.args.hub.now c.bytes_within.new.self c.args.id o.seat (o.front ++ piece) c.in-Ok.taken.commands o.here
-    (answered_at c.args.hub.now c.bytes_within.new.self c.args.id piece c.in-Ok.taken.commands c.in-Ok.ensures.answered o.seat o.front o.here o.not_closing
-    o.taken) in
-    goes_on c.args.hub.now c.bytes_within.new.self c.write_out.new.hub c.args.id o.seat c.args.held (length c.args.piece.now) c.in-Ok.taken.used
-    (g.W.Sink.written c.args.writer.now) (g.W.Sink.written c.write_out.new.writer) [] c.in-Ok-is_closing.closing o.here given
-    c.in-Ok.ensures.within c.in_default.ensures.sent c.in-Ok-is_closing.ensures.closing
+    let o = c.requires.is_open in
+    let old = c.args.hub.now in
+    let given = c.bytes_within.new.self in
+    let used = c.in-Ok.taken.used in
+    let size = length c.args.piece.now in
+    let piece = take used c.args.piece.now in
+    let there = answered_is_there old given c.args.id o.seat (o.front ++ piece) c.in-Ok.taken.commands o.here
+    (answered_at old given c.args.id piece c.in-Ok.taken.commands c.in-Ok.ensures.answered o.seat o.front o.here o.not_closing o.taken) in
+    goes_on given c.write_out.new.hub c.args.id c.args.held (length o.seat.out) size used (g.W.Sink.written c.args.writer.now)
+    (g.W.Sink.written c.write_out.new.writer) [] c.in-Ok-is_closing.closing there
+    (takes_at old given c.args.id o.seat c.args.held size used o.here there c.in-Ok.ensures.within) c.in_default.ensures.sent
+    c.in-Ok-is_closing.ensures.closing
 
-pub returns-clause-ends : goal.returns-clause-ends
-returns-clause-ends g c =
+pub returns-clause-part : goal.returns-clause-part
+returns-clause-part g c =
     let old = c.args.hub.now in
     let given = c.bytes_within.new.self in
     let new = c.write_out.new.hub in
     let id = c.args.id in
-    let o = c.requires in
+    let used = c.in-Ok.taken.used in
+    let size = length c.args.piece.now in
+    let piece = take used c.args.piece.now in
+    let o = c.requires.is_open in
     let held = g.W.Sink.written c.args.writer.now in
     let held' = g.W.Sink.written c.write_out.new.writer in
     let sent = c.in_default.ensures.sent in
-    let answered = answered_at old given id (take c.in-Ok.taken.used c.args.piece.now) c.in-Ok.taken.commands c.in-Ok.ensures.answered o.seat o.front o.here
-    o.not_closing o.taken in
+    let answered = answered_at old given id piece c.in-Ok.taken.commands c.in-Ok.ensures.answered o.seat o.front o.here o.not_closing o.taken in
+    let there = answered_is_there old given id o.seat (o.front ++ piece) c.in-Ok.taken.commands o.here answered in
+    let takes = takes_at old given id o.seat c.args.held size used o.here there c.in-Ok.ensures.within in
     record {
-      closing = c.in-Ok-is_closing.ensures.closing;
-      is_open = λ not. is_open new id c.in-Ok-is_closing.closing c.in-Ok-is_closing.ensures.closing not c.is_closing.ensures.taking;
-      sent = sent_none given new id held held' sent;
-      none_failed = c.in_default.ensures.none_failed;
-      failures = c.in_default.ensures.none_failed;
-      no_read = refl;
-      refusal = tt;
-      same_limits = ap (λ (h : HubState). h.limits) sent.state ∙ ap (λ (h : HubState). h.limits) answered.state;
-      bounded = λ few. sent_few given new id held held' [] (c.args.held + old.limits.total) sent (c.bytes_within.ensures.bounded few);
+      within = takes.within;
+      given = where_open old id _ (λ s here not_closing front taken. (
+        serves_given old given new id s (front ++ piece) held held' [] c.in-Ok.taken.commands
+            (answered_at old given id piece c.in-Ok.taken.commands c.in-Ok.ensures.answered s front here not_closing taken) sent,
+        tt,
+      ));
+      whole = uses_all c.args.held (length o.seat.out) (length there.0.out) there.0.closing size used takes;
+      no_memory = λ is. absurd (cc);
+      ends = record {
+        closing = c.in-Ok-is_closing.ensures.closing;
+        is_open = λ not. is_open new id c.in-Ok-is_closing.closing c.in-Ok-is_closing.ensures.closing not c.is_closing.ensures.taking;
+        sent = sent_none given new id held held' sent;
+        none_failed = c.in_default.ensures.none_failed;
+        failures = c.in_default.ensures.none_failed;
+        no_read = refl;
+        refusal = tt;
+        same_limits = ap (λ (h : HubState). h.limits) sent.state ∙ ap (λ (h : HubState). h.limits) answered.state;
+        bounded = λ few. sent_few given new id held held' [] (c.args.held + old.limits.total) sent (c.bytes_within.ensures.bounded few);
+      };
+      spends = c.write_out.ensures.turns;
     }

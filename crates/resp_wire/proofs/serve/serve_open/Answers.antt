@@ -7,9 +7,9 @@ use Rattle.resp_server.specs.Hubs.{HubState}
 use Rattle.resp_wire.specs.Serving.{AnswersBefore, AnswersGiven, EndsAnswering, FailsServing, Serves, StopsServing, is_of_reader}
 use Rattle.resp_wire.specs.Pieces.{ReadsNothing}
 use Rattle.resp_wire.specs.Turns.{WereRead}
-use Rattle.resp_wire.proofs.AnsweredParts.{given_whole, may_leave, part_stops, rest_of, still_few}
+use Rattle.resp_wire.proofs.AnsweredParts.{at_err, given_whole, may_leave, none_left, part_stops, rest_of, some_left, still_few, stops_overfull}
 use Rattle.resp_wire.proofs.Pieces.{all_read, gives, halted, only_pieces}
-use Rattle.resp_wire.proofs.Seated.{at_open, sent_few, where_open}
+use Rattle.resp_wire.proofs.Seated.{at_open, sent_few, sent_none, where_open}
 use Rattle.resp_wire.proofs.ServedTexts.{leaves_none, nothing_before, open_is, piece_serves, sent_is_open, serves_nothing}
 use Rattle.resp_wire.proofs.ServeStops.{fails_reading, no_turn_to_read, stops_reading, stops_writing}
 use Rattle.resp_wire.proofs.Exchanges.{spends_writes}
@@ -65,6 +65,7 @@ loop-count-init g c =
         )),
       );
       is_open = sent_is_open old new id held held' [] c.requires.is_open sent;
+      none_waits = sent_none old new id held held' sent;
       same_limits = ap (λ (h : HubState). h.limits) sent.state;
       bounded = sent_few old new id held held' [] (c.args.held + old.limits.total) sent;
       spends = spends_writes (g.W.Sink.calls c.args.writer.now) (g.W.Sink.calls c.write_out.new.writer) (g.R.Source.calls c.args.reader.now) c.args.turns.now
@@ -183,11 +184,11 @@ returns-in-Err-end-clause-served g c =
     let new = c.answer-answered.new.hub in
     let ends = subst (λ e. EndsAnswering (c.args.held + cur.limits.total) cur new id (g.W.Sink.failures c.loop-count.writer)
     (g.W.Sink.failures c.answer-answered.new.writer) c.answer-answered.new.turns (record { used = used; end = e })) c.in-Err-end.is
-    c.answer-answered.ensures.ends in
+    c.answer-answered.ensures.part.ends in
     let answered = subst (λ e. AnswersGiven cur new id c.front.result.now held' held'' (record { used = used; end = e })) c.in-Err-end.is
-    c.answer-answered.ensures.answered in
-    let within : used ≤ n =
-    omega (arith, c.answer-answered.ensures.within, ap length c.front.ensures, length-take-le n into c.in-Ok.ensures.within) in
+    c.answer-answered.ensures.part.given in
+    let size : length c.front.result.now ≡ n = ap length c.front.ensures ∙ length-take-le n into c.in-Ok.ensures.within in
+    let within : used ≤ n = omega (arith, c.answer-answered.ensures.part.within, size) in
     let given_all = gives (length c.args.buffer.now) g.R.Source.remaining g.R.Source.calls g.R.Source.failures c.args.reader.now c.loop-count.reader c.read_some.new.reader pieces into n
     given
     c.in-Ok.ensures.within (search rules) (search rules) c.in-Ok.ensures.read c.in-Ok.ensures.once c.in-Ok.ensures.none_failed in (
@@ -195,7 +196,8 @@ returns-in-Err-end-clause-served g c =
       concat pieces ++ take used (take n into),
       rest_of pieces into n used within,
       may_leave (g.W.Sink.failures c.loop-count.writer) (g.W.Sink.failures c.answer-answered.new.writer) c.answer-answered.new.turns error
-          (take (n - used) (drop used into)) ends.refusal,
+          (take (n - used) (drop used into)) ends.refusal
+          (λ out. none_left n used into (c.answer-answered.ensures.part.no_memory (c.in-Err-end.is ∙ ap Err out) ∙ size)),
       only_pieces (length c.args.buffer.now) g.R.Source.remaining g.R.Source.calls g.R.Source.failures c.args.reader.now c.read_some.new.reader (pieces ++ take n into ∷ [])
           (is_of_reader error) given_all ends.no_read,
       part_stops c.answers_go_on.ensures c.answers_are_added.ensures c.args.hub.now cur new id pieces into n used held held' held'' error served
@@ -203,10 +205,26 @@ returns-in-Err-end-clause-served g c =
           (subst (λ z. WhereOpen cur id (λ s front. ⊤ × StopsServing cur new id s front (take used z) held' held'' error)) c.front.ensures answered),
     )
 
+pub returns-in-Err-end-clause-full : goal.returns-in-Err-end-clause-full
+returns-in-Err-end-clause-full g c some =
+    let n = c.in-Ok.count in
+    let into = c.read_some.new.into in
+    let used = c.answer-answered.result.used in
+    let (pieces, given, served) = c.loop-count.invariant.served in
+    let held' = g.W.Sink.written c.loop-count.writer in
+    let held'' = g.W.Sink.written c.answer-answered.new.writer in
+    let cur = c.loop-count.hub in
+    let new = c.answer-answered.new.hub in
+    let size : length c.front.result.now ≡ n = ap length c.front.ensures ∙ length-take-le n into c.in-Ok.ensures.within in
+    let left = at_err c.answer-answered.result.end c.in-Err-end.error c.in-Err-end.is _ c.answer-answered.ensures.full
+    (let less = some_left n used into some in omega (arith, less, size)) in
+    stops_overfull c.answers_go_on.ensures c.answers_are_added.ensures c.args.held c.args.hub.now cur new c.args.id pieces c.front.result.now
+    (g.W.Sink.written c.args.writer.now) held' held'' served c.loop-count.invariant.is_open left
+
 pub returns-in-Err-end-clause-turns : goal.returns-in-Err-end-clause-turns
 returns-in-Err-end-clause-turns g c = spends_both (g.W.Sink.calls c.args.writer.now) (g.W.Sink.calls c.loop-count.writer)
     (g.W.Sink.calls c.answer-answered.new.writer) (g.R.Source.calls c.args.reader.now) (g.R.Source.calls c.loop-count.reader) (g.R.Source.calls c.read_some.new.reader)
-    c.args.turns.now c.loop-count.turns c.read_some.new.turns c.answer-answered.new.turns c.loop-count.invariant.spends c.read_some.ensures.turns c.answer-answered.ensures.turns
+    c.args.turns.now c.loop-count.turns c.read_some.new.turns c.answer-answered.new.turns c.loop-count.invariant.spends c.read_some.ensures.turns c.answer-answered.ensures.part.spends
 
 pub returns-in-Ok-true-clause-served : goal.returns-in-Ok-true-clause-served
 returns-in-Ok-true-clause-served g c =
@@ -231,13 +249,13 @@ returns-in-Ok-true-clause-served g c =
           (g.W.Sink.written c.args.writer.now) held' held'' served c.loop-count.invariant.is_open
           (subst (λ z. WhereOpen cur id (λ s front. Serves cur new id s (front ++ z) held' held'' [] × ⊤)) c.front.ensures
           (given_whole cur new id c.front.result.now c.answer-answered.result.used c.answer-answered.result.end c.in-Ok-true.field-0 held' held''
-          c.in-Ok-true.is c.answer-answered.ensures.none_left c.answer-answered.ensures.answered)),
+          c.in-Ok-true.is c.answer-answered.ensures.none_left c.answer-answered.ensures.part.given)),
     )
 
 pub returns-in-Ok-true-clause-turns : goal.returns-in-Ok-true-clause-turns
 returns-in-Ok-true-clause-turns g c = spends_both (g.W.Sink.calls c.args.writer.now) (g.W.Sink.calls c.loop-count.writer)
     (g.W.Sink.calls c.answer-answered.new.writer) (g.R.Source.calls c.args.reader.now) (g.R.Source.calls c.loop-count.reader) (g.R.Source.calls c.read_some.new.reader)
-    c.args.turns.now c.loop-count.turns c.read_some.new.turns c.answer-answered.new.turns c.loop-count.invariant.spends c.read_some.ensures.turns c.answer-answered.ensures.turns
+    c.args.turns.now c.loop-count.turns c.read_some.new.turns c.answer-answered.new.turns c.loop-count.invariant.spends c.read_some.ensures.turns c.answer-answered.ensures.part.spends
 
 pub loop-count-preserved : goal.loop-count-preserved
 loop-count-preserved g c =
@@ -256,10 +274,10 @@ loop-count-preserved g c =
     c.loop-count.invariant.is_open
     (subst (λ z. WhereOpen cur id (λ s front. Serves cur new id s (front ++ z) held' held'' [] × ⊤)) c.front.ensures
     (given_whole cur new id c.front.result.now c.answer-answered.result.used c.answer-answered.result.end c.in-Ok-false.field-0 held' held''
-    c.in-Ok-false.is c.answer-answered.ensures.none_left c.answer-answered.ensures.answered)) in
+    c.in-Ok-false.is c.answer-answered.ensures.none_left c.answer-answered.ensures.part.given)) in
     let ends = subst (λ e. EndsAnswering (c.args.held + cur.limits.total) cur new id (g.W.Sink.failures c.loop-count.writer)
     (g.W.Sink.failures c.answer-answered.new.writer) c.answer-answered.new.turns (record { used = c.answer-answered.result.used; end = e })) c.in-Ok-false.is
-    c.answer-answered.ensures.ends in
+    c.answer-answered.ensures.part.ends in
     record {
       served = (
         more,
@@ -271,11 +289,12 @@ loop-count-preserved g c =
             (v, each)),
       );
       is_open = ends.is_open (search rules);
+      none_waits = ends.sent;
       same_limits = ends.same_limits ∙ c.loop-count.invariant.same_limits;
       bounded = still_few c.args.held old cur new id c.loop-count.invariant.same_limits c.loop-count.invariant.bounded ends.bounded;
       spends = spends_both (g.W.Sink.calls c.args.writer.now) (g.W.Sink.calls c.loop-count.writer) (g.W.Sink.calls c.answer-answered.new.writer)
           (g.R.Source.calls c.args.reader.now) (g.R.Source.calls c.loop-count.reader) (g.R.Source.calls c.read_some.new.reader) c.args.turns.now
-          c.loop-count.turns c.read_some.new.turns c.answer-answered.new.turns c.loop-count.invariant.spends c.read_some.ensures.turns c.answer-answered.ensures.turns;
+          c.loop-count.turns c.read_some.new.turns c.answer-answered.new.turns c.loop-count.invariant.spends c.read_some.ensures.turns c.answer-answered.ensures.part.spends;
       writes = ends.none_failed ∙ c.loop-count.invariant.writes;
       reads = c.in-Ok.ensures.none_failed ∙ c.loop-count.invariant.reads;
     }

@@ -14,6 +14,7 @@ invariant-loop-count g l = record {
       WhereOpen l.fn.hub l.fn.id (λ s front. Serves l.fn.hub l.hub l.fn.id s (front ++ concat pieces) (g.W.Sink.written l.fn.writer)
       (g.W.Sink.written l.writer) [] × AnswersBefore l.fn.hub l.fn.id s front pieces (g.W.Sink.written l.fn.writer) (g.W.Sink.written l.writer));
   is_open : IsOpen l.hub l.fn.id;
+  none_waits : WaitsAtMost 0 l.hub l.fn.id;
   same_limits : l.hub.limits ≡ l.fn.hub.limits;
   bounded : WaitsAtMost (l.held + l.fn.hub.limits.total) l.fn.hub l.fn.id → WaitsAtMost (l.held + l.fn.hub.limits.total) l.hub l.fn.id;
   spends : SpendsTurns (g.W.Sink.calls l.fn.writer) (g.W.Sink.calls l.writer) (g.R.Source.calls l.fn.reader) (g.R.Source.calls l.reader) l.fn.turns l.turns;

@@ -2,9 +2,9 @@ use Rattle.std.proofs.Common.{◌++◌, ◌+◌, length, take, ap, arith, None, 
 use Rattle.std.proofs.lemmas.Bool.{false≢true}
 use Rattle.resp_session.specs.Answers.{server_rules}
 use Rattle.resp_server.specs.Answering.{TakesWithin}
-use Rattle.resp_server.specs.Hubs.{HubIsSound, HubState, Seat, seat_at}
+use Rattle.resp_server.specs.Hubs.{HubIsSound, Seat, seat_at}
 use Rattle.resp_server.specs.declared.session.Session.{Session}
-use Rattle.resp_server.proofs.Seats.{if_changed, still_few, seat_is, seat_is_there, same_state, sound_at, sound_with}
+use Rattle.resp_server.proofs.Seats.{answer_is_bounded, if_changed, still_few, seat_is, seat_is_there, same_state, sound_at, sound_with}
 use Rattle.resp_server.proofs.AnsweredPieces.{answered_shrunk, cut_short_shrunk}
 use Rattle.resp_server.proofs.AnsweredHubs.{hub_answered, hub_cut_short, answered_sound, not_closing, if_closing, not_open, if_none, holds_no_idle}
 use Rattle.resp_server.proofs.hub.Hub.bytes_within.Goals as goal
@@ -160,22 +160,16 @@ returns-then-session-clause-bounded g c =
 pub returns-in-Err-clause-bounded : goal.returns-in-Err-clause-bounded
 returns-in-Err-clause-bounded g c =
     let i = c.self.inside in
-    let total = ap (λ (h : HubState). h.limits.total) c.self.view_is in
-    let same = ap length c.shrink.ensures.same_out in
-    let keeps = c.answer-answered.ensures.bounded in
-    still_few i.shared.limits i.sessions.entries i.shared.store i.last c.args.self.now c.self.view_is c.answer-answered.new.shared.limits c.answer-answered.new.shared.store _ c.args.id c.in-Some.session.now
-    c.shrink.new.self (c.get_mut.follows.holds _).0 c.in-Some.ensures.value (c.args.held + c.args.self.now.limits.total)
-    (λ few. let kept = keeps (omega (arith, few, total)) in omega (arith, kept, total, same))
+    answer_is_bounded i.shared.limits i.sessions.entries i.shared.store i.last c.args.self.now c.self.view_is c.answer-answered.new.shared.limits
+    c.answer-answered.new.shared.store _ c.args.id c.in-Some.session.now c.answer-answered.new.session c.shrink.new.self
+    (c.get_mut.follows.holds _).0 c.in-Some.ensures.value c.args.held c.answer-answered.ensures.bounded c.shrink.ensures.same_out
 
 pub returns-clause-bounded : goal.returns-clause-bounded
 returns-clause-bounded g c =
     let i = c.self.inside in
-    let total = ap (λ (h : HubState). h.limits.total) c.self.view_is in
-    let same = ap length c.shrink.ensures.same_out in
-    let keeps = c.answer-answered.ensures.bounded in
-    still_few i.shared.limits i.sessions.entries i.shared.store i.last c.args.self.now c.self.view_is c.answer-answered.new.shared.limits c.answer-answered.new.shared.store _ c.args.id c.in-Some.session.now
-    c.shrink.new.self (c.get_mut.follows.holds _).0 c.in-Some.ensures.value (c.args.held + c.args.self.now.limits.total)
-    (λ few. let kept = keeps (omega (arith, few, total)) in omega (arith, kept, total, same))
+    answer_is_bounded i.shared.limits i.sessions.entries i.shared.store i.last c.args.self.now c.self.view_is c.answer-answered.new.shared.limits
+    c.answer-answered.new.shared.store _ c.args.id c.in-Some.session.now c.answer-answered.new.session c.shrink.new.self
+    (c.get_mut.follows.holds _).0 c.in-Some.ensures.value c.args.held c.answer-answered.ensures.bounded c.shrink.ensures.same_out
 
 pub returns-clause-within : goal.returns-clause-within
 returns-clause-within g c =

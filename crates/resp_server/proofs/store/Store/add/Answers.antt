@@ -1,28 +1,34 @@
 use Rattle.std.specs.Result.{is_err, is_ok}
 use Rattle.std.specs.Prelude.{if◌then◌else◌}
-use Rattle.std.proofs.Common.{rules, ◌≡◌, Bool, true, false, Result, Ok, Err, OnOk, refl, ℕ, ◌++◌, ◌∷◌, [], List, length, Option, Some, None, subst, sym, ap, ◌∙◌}
+use Rattle.std.proofs.Common.{rules, ◌≡◌, arith, Bool, true, false, Result, Ok, Err, OnOk, refl, ℕ, ◌++◌, ◌∷◌, [], List, length, Option, Some, None, sym, ap, ◌∙◌}
 use Rattle.std.specs.List.{IsDistinct}
 use Rattle.std.specs.Map.{keys_of, lookup}
 use Rattle.std.specs.Str.{bytes_eq}
+use Rattle.std.proofs.lemmas.List.{length-append}
 use Rattle.indexmap.specs.IndexMap.{IndexMap, insert_entry}
 use Rattle.indexmap.proofs.CallerLemmas.{insert_entry-new}
 use Rattle.resp_value.specs.Values.{content_bytes}
 use Rattle.resp_session.specs.Stores.{store_with, value_at}
-use Rattle.resp_server.specs.Entries.{AreInPlace, Rows, entries_in, same_bytes}
+use Rattle.resp_server.specs.Entries.{HoldsRows, Rows, entries_in, same_bytes}
 use Rattle.resp_server.specs.declared.row.Row.{Row}
 use Rattle.resp_server.proofs.StoreEntries.{Bytes}
 use Rattle.resp_server.proofs.StorePlaces.{added, no_row}
 use Rattle.resp_server.proofs.store.Store.add.Goals as goal
 
 -- a key without a value stands last, where a map puts its row last and a list the row's index
-stands_last : {S : Type 0} (rows : IndexMap Bytes Row S) (places : List (Option ℕ)) → AreInPlace rows.entries places → (key : Bytes) (row : Row) →
+stands_last : {S : Type 0} (rows : IndexMap Bytes Row S) (places : List (Option ℕ)) → HoldsRows rows.entries places → (key : Bytes) (row : Row) →
     row.place ≡ length places → value_at (entries_in rows.entries places) key.items ≡ None → (rows' : Rows) →
     rows' ≡ insert_entry same_bytes rows.entries key row → IsDistinct same_bytes (keys_of rows') → (n : ℕ) → n ≡ length rows.entries →
     (places' : List (Option ℕ)) → places' ≡ places ++ Some n ∷ [] →
-    AreInPlace rows' places' × (entries_in rows' places' ≡ store_with (entries_in rows.entries places) key.items row.value)
+    HoldsRows rows' places' × (entries_in rows' places' ≡ store_with (entries_in rows.entries places) key.items row.value)
 stands_last {S} rows places h key row placed absent rows' is distinct n size places' is' =
-    let none : lookup (λ (k : Bytes). bytes_eq key.items k.items) rows.entries ≡ None = no_row rows.entries places h key.items absent in
-    added rows.entries places h key row placed none rows' (is ∙ insert_entry-new same_bytes rows key row none) distinct n size places' is'
+    let none : lookup (λ (k : Bytes). bytes_eq key.items k.items) rows.entries ≡ None = no_row rows.entries places h.in_place key.items absent in
+    let last : rows' ≡ rows.entries ++ (key, row) ∷ [] = is ∙ insert_entry-new same_bytes rows key row none in
+    let (in_place, entries) = added rows.entries places h.in_place key row placed none rows' last distinct n size places' is' in
+    let one_row = ap length last ∙ length-append rows.entries ((key, row) ∷ []) in
+    let one_place = ap length is' ∙ length-append places (Some n ∷ []) in
+    let few = h.few in
+    (record { in_place = in_place; few = omega (arith, few, one_row, one_place) }, entries)
 
 not_err : {T E : Type 0} (r : Result T E) (failed : Bool) → failed ≡ is_err r → failed ≡ false → is_ok r ≡ true
 not_err (Ok x) failed is ok = refl

@@ -25,4 +25,4 @@ pub returns-clause-removed : goal.returns-clause-removed
 returns-clause-removed g c =
     let same = c.loop.invariant in
     let none = none_left (words_left c.loop.keys) (omega (arith, same.taken, c.loop-test.false, c.len-end.ensures)) in
-    c.close_up.ensures ∙ sym (without_none c.loop.self) ∙ ap (store_without c.loop.self) (sym none) ∙ same.left
+    sym (without_none c.loop.self) ∙ ap (store_without c.loop.self) (sym none) ∙ same.left
