@@ -493,8 +493,12 @@ result_tells : Laws → (side : Side) (limits : Bounds) (x : Told) (now : Option
     Tells side limits (told_more x side (take used piece) (command_in what) (reply_in what) (push_in what)) new.tap other
 result_tells laws Client limits x now old new piece used what other h sees fine =
     let first = sees.read h.so_far.reads_commands h.own h.taken in
-    let (request, taken, so_far) = client_tells laws.stay limits x (tap_state old.tap) new.tap h.own other piece used what h.so_far first.0 fine in
-    record { own = request; taken = taken; so_far = so_far }
+    elim first.0 [
+      | inl told ↦
+          let (request, taken, so_far) = client_tells laws.stay limits x (tap_state old.tap) new.tap h.own other piece used what h.so_far told fine in
+          record { own = request; taken = taken; so_far = so_far }
+      | inr lacks ↦ absurd (subst IsNoError lacks.1.told fine)
+    ]
 result_tells laws Server limits x now old new piece used what other h sees fine =
     let first = sees.read h.so_far.reads_replies h.own h.taken in
     let (rest, taken, so_far) = server_tells laws.go_on laws.hears limits x (tap_state old.tap) (at_front h.own piece (tap_state old.tap)) new.tap other h.own

@@ -5,7 +5,7 @@ use Rattle.resp_print.specs.declared.print_error.PrintError.{PrintError}
 use Rattle.resp_tap.specs.Taps.{TapState, at_front, tap_state}
 use Rattle.resp_tap.specs.Texts.{levels_of, seen_text}
 use Rattle.resp_tap.specs.Times.{HasTimes, KeepsTimes, stamp_of}
-use Rattle.resp_tap.specs.Watching.{KeepsRequest, KeepsValue, SeesRequest, SeesValue, WhereAnswered, WhereRequested}
+use Rattle.resp_tap.specs.Watching.{KeepsRequest, KeepsValue, SeesTimed, SeesValue, WhereAnswered, WhereRequested}
 use Rattle.resp_tap.specs.declared.moment.Moment.{Moment}
 use Rattle.resp_tap.specs.declared.print.Printing.{Printing}
 use Rattle.resp_tap.specs.declared.seen.Seen.{Seen}
@@ -26,9 +26,9 @@ WhereSent Client t P = WhereRequested t P
 WhereSent Server t P = WhereAnswered t P
 
 -- the result for the bytes of this side
-abbrev pub SeesSent : Side → TapState → Tap → List ℕ → List ℕ → ℕ → Seen → Type 0
-SeesSent Client s new front piece used seen = SeesRequest s new front piece used seen
-SeesSent Server s new front piece used seen = SeesValue (at_front front piece s) new front piece used seen
+abbrev pub SeesSent : Side → Option Moment → TapState → Tap → List ℕ → List ℕ → ℕ → Seen → Type 0
+SeesSent Client now s new front piece used seen = SeesTimed now s new front piece used seen
+SeesSent Server now s new front piece used seen = SeesValue (at_front front piece s) new front piece used seen
 
 -- whether the bytes of this side are still read
 abbrev pub is_read_of : Side → TapState → Bool
@@ -39,7 +39,7 @@ is_read_of Server s = s.reads_replies
 pub record SeesFirst (side : Side) (now : Option Moment) (old new : TimedTap) (piece : List ℕ) (used : ℕ)
     (what : Seen) : Type 0 where
   pub read : is_read_of side (tap_state old.tap) ≡ true → WhereSent side old.tap (λ front.
-      SeesSent side (tap_state old.tap) new.tap front piece used what × KeepsTimes now old new)
+      SeesSent side now (tap_state old.tap) new.tap front piece used what × KeepsTimes now old new)
   pub unread : is_read_of side (tap_state old.tap) ≡ false → (new ≡ old) × (used ≡ length piece) × (what ≡ seen.Nothing)
 
 -- The text of the result is printed, as far as writes succeed. If times are printed, the text of a reply has the time

@@ -1,5 +1,5 @@
 -- The results that a tap reports for the bytes of either side, in terms of texts and values.
-use Rattle.std.specs.Prelude.{◌≡◌, ◌⊎◌, ℕ, ◌+◌, ◌<◌, ◌≤◌, ◌^◌, false, Some, List, [], ◌∷◌, ◌++◌, length, take}
+use Rattle.std.specs.Prelude.{◌≡◌, ◌≢◌, ◌⊎◌, ℕ, ◌+◌, ◌<◌, ◌≤◌, ◌^◌, false, Option, Some, IsSome, List, [], ◌∷◌, ◌++◌, length, take}
 use Rattle.resp_value.specs.Bounds.{Bounds}
 use Rattle.resp_value.specs.Data.{Datum}
 use Rattle.resp_value.specs.Rules.{Rules, WithinTotal, rules_under}
@@ -24,6 +24,8 @@ use Rattle.resp_tap.specs.declared.seen.Place.{Place}
 use Rattle.resp_tap.specs.declared.seen.Place.TheVariants as place
 use Rattle.resp_tap.specs.declared.seen.Seen.{Seen}
 use Rattle.resp_tap.specs.declared.seen.Seen.TheVariants as seen
+use Rattle.resp_tap.specs.declared.kind.CommandKind.TheVariants.{Unpairing}
+use Rattle.resp_tap.specs.declared.moment.Moment.{Moment}
 use Rattle.resp_tap.specs.declared.pairing.Pairing.{Pairing}
 use Rattle.resp_tap.specs.declared.pairing.Pairing.TheVariants.{Paired, Ending, Unpaired}
 use Rattle.resp_tap.specs.declared.tap.Tap.{Tap}
@@ -102,23 +104,33 @@ pub record AwaitsRequest (s : TapState) (new : Tap) (written piece : List ℕ) (
   pub after : tap_state new ≡ s
   pub takes : HasTakenRequest new written
 
--- why a complete command is rejected: too many commands wait, all numbers are used, or an allocation failed
-abbrev pub IsLeftOut : TapState → Cause → Type 0
-IsLeftOut s cause = ((cause ≡ causes.TooMany) × ((2 ^ 20 ≤ length s.waiting.asks) ⊎ (2 ^ 63 ≤ s.commands))) ⊎
-    (cause ≡ causes.OutOfMemory)
+-- Why a command with these words is rejected: too many commands wait, all numbers are used, or an allocation failed. An
+-- allocation is needed only if the command waits for its reply.
+abbrev pub IsLeftOut : TapState → List (List ℕ) → Cause → Type 0
+IsLeftOut s words cause =
+    ((cause ≡ causes.TooMany) × ((2 ^ 20 ≤ length s.waiting.asks) ⊎ (2 ^ 63 ≤ s.commands))) ⊎
+    ((cause ≡ causes.OutOfMemory) × (s.pairing ≡ Paired) × (command_kind words ≢ Unpairing))
 
--- why the client's bytes are rejected: by the grammar, because an allocation failed, or because there are too many
--- commands
-abbrev pub RefusesOfRequest : TapState → List ℕ → List ℕ → Cause → ℕ → Type 0
-RefusesOfRequest s front piece cause at =
+-- the client's text is a command, which is rejected at its end
+pub record LeavesOut (s : TapState) (written : List ℕ) (cause : Cause) : Type 0 where
+  pub value : Datum
+  pub words : List (List ℕ)
+  pub spelled : IsSpelling (request_rules s.limits) value written
+  pub means : meaning_of value ≡ array_meaning (Some words)
+  pub left_out : IsLeftOut s words cause
+
+-- why the client's bytes are rejected: by the grammar, because an allocation failed, or because a complete command is
+-- rejected
+abbrev pub RefusesOfRequest : TapState → List ℕ → List ℕ → ℕ → Cause → ℕ → Type 0
+RefusesOfRequest s front piece used cause at =
     RefusesByte (request_rules s.limits) front piece (record { cause = cause; at = at }) ⊎
     LacksMemory (request_rules s.limits) front piece (record { cause = cause; at = at }) ⊎
-    (IsLeftOut s cause × (at ≡ 0))
+    (LeavesOut s (front ++ take used piece) cause × (at ≡ 0))
 
 -- the client's bytes are rejected, as part of the next command
-pub record RefusesRequestAt (s : TapState) (new : Tap) (front piece : List ℕ) (cause : Cause) (at : ℕ)
+pub record RefusesRequestAt (s : TapState) (new : Tap) (front piece : List ℕ) (used : ℕ) (cause : Cause) (at : ℕ)
     (where' : Place) : Type 0 where
-  pub refused : RefusesOfRequest s front piece cause at
+  pub refused : RefusesOfRequest s front piece used cause at
   pub place : where' ≡ place.Command (s.commands + 1)
   pub after : tap_state new ≡ with_refused_command s
 
@@ -129,8 +141,20 @@ SeesRequest s new front piece used seen.Passed = GivesNothing s new (front ++ ta
 SeesRequest s new front piece used (seen.Command number words) =
     GivesCommand s new (front ++ take used piece) number words
 SeesRequest s new front piece used (seen.NotCommand number) = GivesNoCommand s new (front ++ take used piece) number
-SeesRequest s new front piece used (seen.Refused cause at where') = RefusesRequestAt s new front piece cause at where'
+SeesRequest s new front piece used (seen.Refused cause at where') =
+    RefusesRequestAt s new front piece used cause at where'
 SeesRequest s new front piece used _ = ⊥
+
+-- memory for the time of the next command is out, so it is rejected at its first byte
+pub record LacksTime (s : TapState) (new : Tap) (piece : List ℕ) (used : ℕ) (what : Seen) : Type 0 where
+  pub told : what ≡ seen.Refused causes.OutOfMemory 0 (place.Command (s.commands + 1))
+  pub whole_piece : used ≡ length piece
+  pub after : tap_state new ≡ with_refused_command s
+
+-- the result for the bytes of the client, if the times of commands are kept when a moment is given
+abbrev pub SeesTimed : Option Moment → TapState → Tap → List ℕ → List ℕ → ℕ → Seen → Type 0
+SeesTimed now s new front piece used what =
+    SeesRequest s new front piece used what ⊎ (IsSome now × LacksTime s new piece used what)
 
 -- the server's text is the reply to the first command that waits, and has its number
 pub record GivesReplyTo (s : TapState) (new : Tap) (written : List ℕ) (number : ℕ) (x : Datum) : Type 0 where

@@ -125,7 +125,7 @@ impl Tap {
     ghost use Rattle.resp_value.specs.Spellings.{IsSpelling};
     ghost use Rattle.resp_tap.specs.Kinds.{command_kind};
     ghost use Rattle.resp_tap.specs.Taps.{at_front, new_tap, tap_state, with_command, with_refused_command, with_refused_reply};
-    ghost use Rattle.resp_tap.specs.Watching.{HasTakenRequest, HasTakenValue, IsLeftOut, KeepsRequest, KeepsValue, SeesRequest, SeesValue, WhereAnswered, WhereRequested, request_rules};
+    ghost use Rattle.resp_tap.specs.Watching.{HasTakenRequest, HasTakenValue, IsLeftOut, KeepsRequest, KeepsValue, LacksTime, SeesRequest, SeesValue, WhereAnswered, WhereRequested, request_rules};
 
     /// Returns a tap of a new connection, which is read within these limits. It allocates nothing.
     pub fn new(alloc: Global, limits: &Limits) -> Tap
@@ -186,10 +186,9 @@ impl Tap {
         }
     }
 
-    /// Reports that memory for the next command ran out, at its first byte.
+    /// Reports that memory for the time of the next command ran out, at its first byte.
     pub(crate) fn lack_memory(&mut self, piece: &[u8]) -> Step
-        ensures seen { (front : List ℕ) → SeesRequest (tap_state self.old) self.new front piece.now
-            result.used result.seen }
+        ensures seen { LacksTime (tap_state self.old) self.new piece.now result.used result.seen }
         ensures same_value { KeepsValue self.old self.new }
         ensures whole_piece { result.used ≡ length piece.now }
         ensures refused { tap_state self.new ≡ with_refused_command (tap_state self.old) }
@@ -277,7 +276,7 @@ impl Tap {
         requires { 0 < length words.now }
         ensures counted { OnOk result (tap_state self.new ≡
             with_command (command_kind words.now) (tap_state self.old)) }
-        ensures refusal { IfErr result (IsLeftOut (tap_state self.old)) }
+        ensures refusal { IfErr result (IsLeftOut (tap_state self.old) words.now) }
         ensures unchanged { OnErr result (tap_state self.new ≡ tap_state self.old) }
         ensures same_request { self.new.requests ≡ self.old.requests }
         ensures same_value { KeepsValue self.old self.new }

@@ -2,7 +2,7 @@
 
 ghost use Rattle.std.specs.Prelude.{◌≡◌, ◌<◌, ◌≤◌, true, false, ℕ, List, [], Some, length, slice_get};
 ghost use Rattle.resp_tap.specs.Taps.{at_front, new_tap, tap_state};
-ghost use Rattle.resp_tap.specs.Watching.{HasTakenRequest, HasTakenValue, KeepsRequest, KeepsValue, SeesRequest, SeesValue, WhereAnswered, WhereRequested};
+ghost use Rattle.resp_tap.specs.Watching.{HasTakenRequest, HasTakenValue, KeepsRequest, KeepsValue, SeesTimed, SeesValue, WhereAnswered, WhereRequested};
 
 use crate::moment::Moment;
 use crate::seen::{Seen, Step};
@@ -68,8 +68,9 @@ impl TimedTap {
         &self.tap
     }
 
-    /// Returns the time of the command that the next reply belongs to, by the steady clock, if it
-    /// is known.
+    /// Returns the time of the command that the next reply belongs to, by the steady clock. It is
+    /// known if a moment was given with all bytes of both sides so far. If it was given with some of
+    /// them only, the time may be missing, or that of another command.
     pub fn asked(&self) -> Option<u64>
         ensures { (times : List ℕ) → HasTimes self.now times →
             result ≡ slice_get times (tap_state self.now.tap).answered }
@@ -86,7 +87,7 @@ impl TimedTap {
     /// the next command if the allocation for its time fails.
     pub fn from_client(&mut self, piece: &[u8], now: Option<Moment>) -> Step
         ensures seen { (tap_state self.old.tap).reads_commands ≡ true →
-            WhereRequested self.old.tap (λ front. SeesRequest (tap_state self.old.tap) self.new.tap
+            WhereRequested self.old.tap (λ front. SeesTimed now (tap_state self.old.tap) self.new.tap
             front piece.now result.used result.seen) }
         ensures times { (tap_state self.old.tap).reads_commands ≡ true →
             WhereRequested self.old.tap (λ front. KeepsTimes now self.old self.new) }
@@ -105,8 +106,8 @@ impl TimedTap {
     /// Reads bytes that the client sent, if a moment is given.
     fn from_client_at(&mut self, piece: &[u8], now: Moment) -> Step
         ensures seen { (tap_state self.old.tap).reads_commands ≡ true →
-            WhereRequested self.old.tap (λ front. SeesRequest (tap_state self.old.tap) self.new.tap
-            front piece.now result.used result.seen) }
+            WhereRequested self.old.tap (λ front. SeesTimed (Some now) (tap_state self.old.tap)
+            self.new.tap front piece.now result.used result.seen) }
         ensures times { (tap_state self.old.tap).reads_commands ≡ true →
             WhereRequested self.old.tap (λ front. KeepsTimes (Some now) self.old self.new) }
         ensures same_value { KeepsValue self.old.tap self.new.tap }

@@ -13,7 +13,7 @@ use Rattle.resp_tap.proofs.watch.step.Goals as goal
 -- what a side's own call says of a piece is what is said of either side
 sees_first : (own side : Side) (now : Option Moment) (old new : TimedTap) (piece : List ℕ) (step : Step) → side ≡ own →
     (is_read_of own (tap_state old.tap) ≡ true → WhereSent own old.tap (λ front.
-    SeesSent own (tap_state old.tap) new.tap front piece step.used step.seen × KeepsTimes now old new)) →
+    SeesSent own now (tap_state old.tap) new.tap front piece step.used step.seen × KeepsTimes now old new)) →
     (is_read_of own (tap_state old.tap) ≡ false → (new ≡ old) × (step ≡ record { used = length piece; seen = seen.Nothing })) →
     SeesFirst side now old new piece step.used step.seen
 sees_first own side now old new piece step is read unread =

@@ -1,11 +1,17 @@
-use Rattle.std.proofs.Common.{rules, ◌≡◌, ◌≢◌, [], ◌∷◌, ◌++◌, length, sym, ◌∙◌}
+use Rattle.std.proofs.Common.{rules, inl, inr, refl, ◌≡◌, ◌≢◌, [], ◌∷◌, ◌++◌, length, sym, ◌∙◌}
 use Rattle.std.specs.Prelude.{IsSome}
 use Rattle.resp_tap.specs.Taps.{tap_state}
 use Rattle.resp_tap.proofs.TimeLemmas.{snoc_same, times_go_on}
 use Rattle.resp_tap.proofs.timed.TimedTap.from_client_at.Goals as goal
 
 pub returns-then-is_err-clause-seen : goal.returns-then-is_err-clause-seen
-returns-then-is_err-clause-seen c = λ read. λ front taken. c.lack_memory.ensures.seen front
+returns-then-is_err-clause-seen c = λ read. λ front taken. inr (refl, c.lack_memory.ensures.seen)
+
+pub returns-then-waiting-clause-seen : goal.returns-then-waiting-clause-seen
+returns-then-waiting-clause-seen c = λ read. λ front taken. inl (c.from_client-step.ensures.seen read front taken)
+
+pub returns-else-waiting-clause-seen : goal.returns-else-waiting-clause-seen
+returns-else-waiting-clause-seen c = λ read. λ front taken. inl (c.from_client-step.ensures.seen read front taken)
 
 pub returns-then-waiting-clause-times : goal.returns-then-waiting-clause-times
 returns-then-waiting-clause-times c = λ read. λ front taken.
