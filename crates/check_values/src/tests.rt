@@ -15,6 +15,7 @@ mod lifetimes;
 mod limits;
 mod line;
 mod refusals;
+mod replies;
 mod sent;
 mod texts;
 mod value;

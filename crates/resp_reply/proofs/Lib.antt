@@ -1,0 +1,7 @@
+mod Members
+mod Groups
+mod Standing
+mod Hearing
+mod Heard
+mod Values
+mod Loops
