@@ -20,9 +20,9 @@ HERE = sys.argv[1]
 KEYS = 10_000
 # The commands that are drawn for each row of the table, and the words of which they are made.
 DRAWN = 25
-WORDS = "a b c d 0 1 2 3 4 STREAMS streams Store STOREDIST count block -1".split()
+WORDS = "a b c d 0 1 2 3 4 STREAMS streams Store STOREDIST count block -1 by GET Limit".split()
 # The commands for which the table does not say where the keys are, and those whose words are no keys but channels.
-UNKNOWN = {"migrate", "sort"}
+UNKNOWN = {"migrate"}
 CHANNELS = {"spublish", "ssubscribe", "sunsubscribe"}
 
 

@@ -18,7 +18,7 @@ use std::alloc::Global;
 use std::io::Read;
 
 /// Prints a command after a text, or that there is no such command.
-fn print_command(rt: &impl Print, before: &str, found: Option<Command>) -> Result<()> {
+fn print_command(rt: &impl Print, before: &str, found: Option<&Command>) -> Result<()> {
     let Some(command) = found else {
         println!(rt; "unknown")?;
         return Ok(());
@@ -81,7 +81,7 @@ fn print_class(rt: &impl Print, command: WholeCommand<'_>) -> Result<()> {
 }
 
 /// Prints the places of the keys of a command whose row is this one.
-fn print_keys(rt: &impl Print, row: Option<Command>, command: WholeCommand<'_>) -> Result<()> {
+fn print_keys(rt: &impl Print, row: Option<&Command>, command: WholeCommand<'_>) -> Result<()> {
     let Some(row) = row else {
         println!(rt; "unknown")?;
         return Ok(());
@@ -102,7 +102,7 @@ fn print_keys(rt: &impl Print, row: Option<Command>, command: WholeCommand<'_>) 
 }
 
 /// Returns the row of a command.
-fn row(mut command: WholeCommand<'_>) -> Option<Command> {
+fn row(mut command: WholeCommand<'_>) -> Option<&'static Command> {
     row_of(command.name, command.arguments.next())
 }
 

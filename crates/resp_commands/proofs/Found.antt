@@ -69,15 +69,38 @@ no_subcommand_past command word past k d less named =
     let place : inner_place_of command.container (map to_ascii_lowercase word) ≡ k = at_named_inner_place command word k d less named in
     absurd (omega arith)
 
+abbrev lower_name : Command → List ℕ
+lower_name command = map to_ascii_lowercase (name_of command)
+
+all_in_lower_case : map lower_name COMMANDS ≡ map name_of COMMANDS
+all_in_lower_case = refl
+
+all_inner_in_lower_case : map lower_name SUBCOMMANDS ≡ map name_of SUBCOMMANDS
+all_inner_in_lower_case = refl
+
+in_lower : (commands : List Command) → map lower_name commands ≡ map name_of commands → (k : ℕ) (d : Command) → k < length commands →
+    lower_name (get_or commands k d) ≡ name_of (get_or commands k d)
+in_lower commands same k d less =
+    sym (get_or-map lower_name commands k d [] less) ∙ ap (λ names. get_or names k []) same ∙ get_or-map name_of commands k d [] less
+
+-- the command at this place has the name that is the word in lower case
+pub named_in_lower : (word : List ℕ) (place : ℕ) (e : Command) → place < 240 → map to_ascii_lowercase word ≡ name_of (get_or COMMANDS place e) →
+    HasName (get_or COMMANDS place e) word
+named_in_lower word place e less same = same ∙ sym (in_lower COMMANDS all_in_lower_case place e less)
+
+pub inner_named_in_lower : (word : List ℕ) (place : ℕ) (e : Command) → place < 126 →
+    map to_ascii_lowercase word ≡ name_of (get_or SUBCOMMANDS place e) → HasName (get_or SUBCOMMANDS place e) word
+inner_named_in_lower word place e less same = same ∙ sym (in_lower SUBCOMMANDS all_inner_in_lower_case place e less)
+
 -- no command has a name if the command at its place has another
-pub unknown_other : (word : List ℕ) (place : ℕ) (e : Command) (name : List ℕ) → place ≡ place_of (map to_ascii_lowercase word) →
-    name ≡ name_of (get_or COMMANDS place e) → (map to_ascii_lowercase word ≡ map to_ascii_lowercase name → ⊥) → IsUnknown word
-unknown_other word place e name is its other k d less named =
+pub unknown_other : (word : List ℕ) (place : ℕ) (e : Command) → place ≡ place_of (map to_ascii_lowercase word) → place < 240 →
+    (map to_ascii_lowercase word ≡ name_of (get_or COMMANDS place e) → ⊥) → IsUnknown word
+unknown_other word place e is within other k d less named =
     let at : k ≡ place = sym (is ∙ at_named_place word k d less named) in
     let here : HasName (get_or COMMANDS k e) word =
     subst (λ command. HasName command word) (get_or_default COMMANDS k d e less) named in
     let there : HasName (get_or COMMANDS place e) word = subst (λ n. HasName (get_or COMMANDS n e) word) at here in
-    other (there ∙ ap (map to_ascii_lowercase) (sym its))
+    other (there ∙ in_lower COMMANDS all_in_lower_case place e within)
 
 -- a command has no subcommand with a name if the subcommand at its place is no such subcommand
 pub no_subcommand_other : (command : Command) (word : List ℕ) (place : ℕ) (e : Command) →
@@ -88,6 +111,12 @@ no_subcommand_other command word place e is other k d less named =
     let here : IsSubcommand command word (get_or SUBCOMMANDS k e) =
     subst (IsSubcommand command word) (get_or_default SUBCOMMANDS k d e less) named in
     other (subst (λ n. IsSubcommand command word (get_or SUBCOMMANDS n e)) at here)
+
+pub no_subcommand_named : (command : Command) (word : List ℕ) (place : ℕ) (e : Command) →
+    place ≡ inner_place_of command.container (map to_ascii_lowercase word) → place < 126 →
+    (map to_ascii_lowercase word ≡ name_of (get_or SUBCOMMANDS place e) → ⊥) → LacksSubcommand command word
+no_subcommand_named command word place e is within other =
+    no_subcommand_other command word place e is (λ same. other (same.1 ∙ in_lower SUBCOMMANDS all_inner_in_lower_case place e within))
 
 pub no_subcommand_container : (command : Command) (word : List ℕ) (place : ℕ) (e : Command) →
     place ≡ inner_place_of command.container (map to_ascii_lowercase word) →
@@ -108,7 +137,7 @@ no_class command word arguments (Some class) among named lacks = tt
 no_class command word arguments None among named lacks =
     λ k d less same. subst (λ c. LacksArgument c arguments) (sym (only_command command word k d among named less same)) lacks
 
-pub no_row : (command : Command) (word : List ℕ) (first : Option (Bor (List ℕ))) (found : Option Command) → Contains COMMANDS command →
+pub no_row : (command : Command) (word : List ℕ) (first : Option (Bor (List ℕ))) {X : Type 0} (found : Option X) → Contains COMMANDS command →
     HasName command word → IfNone found (LacksRow command first) → IfNone found (HasNoRow word first)
 no_row command word first (Some row) among named lacks = tt
 no_row command word first None among named lacks =
@@ -134,20 +163,6 @@ subcommands_distinct i j d less within container same =
     ap (λ name. inner_place_of (get_or SUBCOMMANDS j d).container (map to_ascii_lowercase name)) same ∙
     at_its_inner_place j d within in
     absurd (omega arith)
-
-abbrev lower_name : Command → List ℕ
-lower_name command = map to_ascii_lowercase (name_of command)
-
-all_in_lower_case : map lower_name COMMANDS ≡ map name_of COMMANDS
-all_in_lower_case = refl
-
-all_inner_in_lower_case : map lower_name SUBCOMMANDS ≡ map name_of SUBCOMMANDS
-all_inner_in_lower_case = refl
-
-in_lower : (commands : List Command) → map lower_name commands ≡ map name_of commands → (k : ℕ) (d : Command) → k < length commands →
-    lower_name (get_or commands k d) ≡ name_of (get_or commands k d)
-in_lower commands same k d less =
-    sym (get_or-map lower_name commands k d [] less) ∙ ap (λ names. get_or names k []) same ∙ get_or-map name_of commands k d [] less
 
 pub in_lower_case : NamesAreInLowerCase
 in_lower_case = (in_lower COMMANDS all_in_lower_case, in_lower SUBCOMMANDS all_inner_in_lower_case)

@@ -6,6 +6,7 @@ use Rattle.resp_value.specs.Numbers.{IsNumber}
 use Rattle.resp_commands.specs.declared.command.Keys.{Keys}
 use Rattle.resp_commands.specs.declared.command.Search.{Search}
 use Rattle.resp_commands.specs.declared.command.Search.TheVariants as search
+use Rattle.resp_commands.specs.Sorts.{IsSortedKey}
 use Rattle.resp_commands.specs.declared.keys.KeyPlaces.{KeyPlaces}
 use Rattle.resp_commands.specs.declared.keys.Places.{Places}
 
@@ -72,6 +73,7 @@ IsFurtherKey search.Counted start arguments place = IsCountedKey start arguments
 IsFurtherKey search.Streams start arguments place = IsStreamKey start arguments place
 IsFurtherKey search.Stores start arguments place =
     IsStoreKey (codes "store") start arguments place ⊎ IsStoreKey (codes "storedist") start arguments place
+IsFurtherKey search.Sort start arguments place = IsSortedKey start arguments place
 IsFurtherKey _ start arguments place = ⊥
 
 -- the word at this place is a key

@@ -3,7 +3,9 @@ pub mod Places
 pub mod Rows
 pub mod Merges
 pub mod Options
+pub mod Sorts
 pub mod Classes
 pub mod Keys
+pub mod KeyWords
 pub mod Checksums
 pub mod Slots

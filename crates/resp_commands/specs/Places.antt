@@ -2,10 +2,10 @@
 use Rattle.std.specs.Prelude.{ℕ, ◌+◌, ◌*◌, ◌/◌, ◌%◌, List, [], ◌∷◌, slice_index}
 use Rattle.resp_commands.specs.declared.table.TheConstants.{FACTOR, INNER_PLACES, INNER_STEPS, PLACES, STEPS}
 
--- the hash of a name, begun with a number
+-- the hash of a name, begun with a number; letters have the same digit in upper and in lower case
 abbrev pub hash_from : ℕ → List ℕ → ℕ
 hash_from hash [] = hash
-hash_from hash (byte ∷ bytes) = hash_from ((hash * FACTOR + byte) % 65536) bytes
+hash_from hash (byte ∷ bytes) = hash_from ((hash * FACTOR + byte % 32) % 65536) bytes
 
 -- the place of a hash, by these steps and places
 abbrev pub place_by : List ℕ → List ℕ → ℕ → ℕ

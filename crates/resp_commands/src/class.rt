@@ -1,7 +1,7 @@
 //! The class of a whole command.
 
-ghost use Rattle.std.specs.Prelude.{◌≡◌, if◌then◌else◌, IfNone, IfSome};
-ghost use Rattle.resp_commands.specs.Classes.{HasClass, HasNoClass, IsClassOf, LacksArgument};
+ghost use Rattle.std.specs.Prelude.{◌≡◌, ◌==◌, false, if◌then◌else◌, IfNone, IfSome};
+ghost use Rattle.resp_commands.specs.Classes.{HasClass, HasClassByWord, HasNoClass, IsClassOf, LacksArgument};
 
 use crate::command::{Class, Command};
 use crate::lookup::{entry, subcommand};
@@ -13,16 +13,18 @@ use resp_scan::whole::Words;
 ///
 /// A command with subcommands and without a word after its name has the class of its row. XREAD and
 /// XREADGROUP need a connection of their own only with BLOCK.
+#[inline(always)]
 pub fn class_of(name: &[u8], arguments: Words<'_>) -> Option<Class>
     ensures known { IfSome result (λ class. HasClass name.now arguments.entry class) }
     ensures unknown { IfNone result (HasNoClass name.now arguments.entry) }
 {
     let command = entry(name)?;
-    class_by(&command, arguments)
+    class_by(command, arguments)
 }
 
 /// Returns the class of a command by its row and the words after its name.
-fn class_by(command: &Command, mut arguments: Words<'_>) -> Option<Class>
+#[inline(always)]
+fn class_by(command: &Command, arguments: Words<'_>) -> Option<Class>
     ensures known { IfSome result (λ class. IsClassOf command.now arguments.entry class) }
     ensures unknown { IfNone result (LacksArgument command.now arguments.entry) }
 {
@@ -32,6 +34,17 @@ fn class_by(command: &Command, mut arguments: Words<'_>) -> Option<Class>
     if command.container == 0 {
         return Some(command.class);
     }
+    class_by_word(command, arguments)
+}
+
+/// Returns the class of a command with subcommands by the word after its name.
+#[inline(never)]
+fn class_by_word(command: &Command, mut arguments: Words<'_>) -> Option<Class>
+    requires waits_never { command.now.may_block ≡ false }
+    requires has_subcommands { (command.now.container == 0) ≡ false }
+    ensures known { IfSome result (λ class. HasClassByWord command.now arguments.entry class) }
+    ensures unknown { IfNone result (LacksArgument command.now arguments.entry) }
+{
     let Some(word) = arguments.next() else {
         return Some(command.class);
     };

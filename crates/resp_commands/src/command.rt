@@ -51,7 +51,9 @@ pub enum Search {
     Streams,
     /// A key follows the word `STORE`, and another the word `STOREDIST`, as in GEORADIUS.
     Stores,
-    /// The table does not say where the keys are, as in MIGRATE and SORT.
+    /// A key follows the last option `STORE` of SORT.
+    Sort,
+    /// The table does not say where the keys are, as in MIGRATE.
     Unknown,
 }
 

@@ -3,10 +3,13 @@
 ghost use Rattle.std.specs.Prelude.{◌≡◌, ◌+◌, ◌-◌, ◌^◌, ◌<◌, ◌≤◌, ℕ, List, drop, length, codes, if◌then◌else◌, ◌&&◌, ◌==◌, IfNone, IfSome};
 ghost use Rattle.std.specs.Bool.{MatchBool};
 ghost use Rattle.resp_value.specs.Numbers.{IsNumber};
+ghost use Rattle.resp_commands.specs.KeyWords.{is_among, is_among_any};
+ghost use Rattle.resp_commands.specs.Sorts.{IsSortedKey};
 ghost use Rattle.resp_commands.specs.Keys.{AreKeys, HasCount, IsAmong, IsAmongAny, IsCountedKey, IsFixedKey, IsStoreKey, IsStreamKey, TellsNoKeys, words_before};
 
 use crate::command::{Keys, Search};
 use crate::options::{is_word, skip};
+use crate::sorts::last_store;
 use resp_scan::whole::Words;
 
 /// Places at equal distances: the first is next to `after`, and the last is at most `last`.
@@ -42,7 +45,8 @@ impl Places {
     /// Returns whether this is one of the places.
     #[inline]
     pub fn contains(&self, place: usize) -> bool
-        ensures { MatchBool result (IsAmong self.now place) (¬ IsAmong self.now place) }
+        ensures among { MatchBool result (IsAmong self.now place) (¬ IsAmong self.now place) }
+        ensures same { result ≡ is_among self.now place }
     {
         self.after < place
             && place <= self.last
@@ -54,7 +58,8 @@ impl Places {
 impl KeyPlaces {
     /// Returns whether the word at this place is a key.
     pub fn contains(&self, place: usize) -> bool
-        ensures { MatchBool result (IsAmongAny self.now place) (¬ IsAmongAny self.now place) }
+        ensures among { MatchBool result (IsAmongAny self.now place) (¬ IsAmongAny self.now place) }
+        ensures same { result ≡ is_among_any self.now place }
     {
         if self.fixed.contains(place) {
             return true;
@@ -95,6 +100,11 @@ pub fn key_places(keys: &Keys, arguments: Words<'_>) -> Option<KeyPlaces>
         Search::Streams => Some(KeyPlaces {
             fixed,
             further: stream_places(arguments, start, count),
+            other: NOWHERE,
+        }),
+        Search::Sort => Some(KeyPlaces {
+            fixed,
+            further: sort_place(arguments, start, count),
             other: NOWHERE,
         }),
         Search::Stores => {
@@ -240,6 +250,20 @@ fn stream_places(arguments: Words<'_>, skipped: u8, count: usize) -> Places
         after,
         last: after + (count - after) / 2,
         step: 1,
+    }
+}
+
+/// Returns the place of the key that SORT stores, among this many words.
+fn sort_place(mut arguments: Words<'_>, skipped: u8, count: usize) -> Places
+    requires { count ≡ length arguments }
+    ensures { (place : ℕ) →
+        (IsAmong result place → IsSortedKey (skipped + 1) arguments.entry place) ×
+        (IsSortedKey (skipped + 1) arguments.entry place → IsAmong result place) }
+{
+    skip(&mut arguments, skipped);
+    match last_store(arguments) {
+        Some(before) => place_after(before, skipped, count),
+        None => NOWHERE,
     }
 }
 
