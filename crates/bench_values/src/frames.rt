@@ -74,7 +74,7 @@ fn frame_text(frames: &mut Frames, begun: &mut Begun, text: &[u8]) -> Result<u64
             let Some(frame) = frames.next(begun, rest)? else {
                 break;
             };
-            rest = rest.get(frame.used()..).unwrap_or_default();
+            rest = &rest[frame.used()..];
             values = values.wrapping_add(1);
         }
     }
@@ -115,7 +115,7 @@ fn run(rt: &HostRuntime, text: &Text, call: Call, rounds: usize) -> Result<()> {
     let limits = Limits::standard();
     let mut reader = Reader {
         scanner: Scanner::new(Version::Three, &limits),
-        frames: Frames::new(rt.alloc(), Version::Three, &limits),
+        frames: Frames::new(rt.alloc(), Version::Three, &limits)?,
         begun: Begun::new(),
     };
     let start = nanos(rt)?;

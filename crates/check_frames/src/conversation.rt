@@ -48,7 +48,7 @@ fn receive(frames: &mut Frames, begun: &mut Begun, mux: &mut Mux, piece: &[u8]) 
 /// The first client is cut in its commands, and the server in its replies. The second client sends
 /// between the two pieces of the first.
 fn is_right(alloc: Global, cut: usize, server_cut: usize) -> Result<bool> {
-    let mut frames = Frames::new(alloc, Version::Two, &Limits::standard());
+    let mut frames = Frames::new(alloc, Version::Two, &Limits::standard())?;
     let mut mux = Mux::new(alloc, Bounds::standard());
     let (first, second) = (mux.open()?, mux.open()?);
     let (mut of_first, mut of_second, mut of_server) = (Begun::new(), Begun::new(), Begun::new());

@@ -41,7 +41,7 @@ const VALUES: [&[u8]; 12] = [
 
 /// Returns the frames of these pieces.
 pub(crate) fn frames_of(alloc: Global, pieces: &[&[u8]]) -> Result<Vec<Vec<u8>>> {
-    let mut frames = Frames::new(alloc, Version::Three, &Limits::standard());
+    let mut frames = Frames::new(alloc, Version::Three, &Limits::standard())?;
     let mut begun = Begun::new();
     let mut found = Vec::new(alloc);
     for piece in pieces {
@@ -95,7 +95,7 @@ pub(crate) fn all(alloc: Global) -> Result<Tally> {
 /// Returns whether the second piece is rejected at this byte of the value, and whether the next
 /// value of the connection is read.
 fn is_rejected(alloc: Global, text: &[u8], cut: usize, at: u64) -> Result<bool> {
-    let mut frames = Frames::new(alloc, Version::Three, &Limits::standard());
+    let mut frames = Frames::new(alloc, Version::Three, &Limits::standard())?;
     let mut begun = Begun::new();
     let mut rejected = false;
     for piece in [&text[..cut], &text[cut..]] {
@@ -143,7 +143,7 @@ pub(crate) fn others(alloc: Global) -> Result<Tally> {
 }
 
 fn is_no_command(alloc: Global, other: &[u8], cut: usize) -> Result<bool> {
-    let mut frames = Frames::new(alloc, Version::Two, &Limits::standard());
+    let mut frames = Frames::new(alloc, Version::Two, &Limits::standard())?;
     let mut begun = Begun::new();
     let command = b"*1\r\n$4\r\nPING\r\n";
     let is_command = match frames.next_command(&mut begun, command)? {

@@ -22,7 +22,9 @@ fn reads_on(frames: &mut Frames, begun: &mut Begun) -> bool {
 
 /// A value in three pieces. After a failed allocation the connection is between two values.
 pub(crate) fn of_next(alloc: Global) -> Outcome {
-    let mut frames = Frames::new(alloc, Version::Two, &Limits::standard());
+    let Ok(mut frames) = Frames::new(alloc, Version::Two, &Limits::standard()) else {
+        return Outcome::OutOfMemory;
+    };
     let mut begun = Begun::new();
     for piece in PIECES {
         match frames.next(&mut begun, piece) {
@@ -43,7 +45,9 @@ pub(crate) fn of_next(alloc: Global) -> Outcome {
 
 /// A command and its reply. After a failed allocation nobody has the reply.
 pub(crate) fn of_join(alloc: Global) -> Outcome {
-    let mut frames = Frames::new(alloc, Version::Two, &Limits::standard());
+    let Ok(mut frames) = Frames::new(alloc, Version::Two, &Limits::standard()) else {
+        return Outcome::OutOfMemory;
+    };
     let mut mux = Mux::new(alloc, Bounds::standard());
     let (mut of_client, mut of_server) = (Begun::new(), Begun::new());
     let Ok(who) = mux.open() else {

@@ -25,8 +25,8 @@ frame_limits f = f.limits
 pub record IsHeld (rules : Rules) (held : Held) (front : List ℕ) : Type 0 where
   pub bytes : held.bytes.items ≡ front
   pub given : Events
-  pub read : HasRead held.scanner front given
-  pub same_rules : rules_of held.scanner ≡ rules
+  pub read : HasRead held.scanner.value front given
+  pub same_rules : rules_of held.scanner.value ≡ rules
 
 -- a connection has begun a value with these bytes, or none
 abbrev pub HasBegun : Rules → Begun → List ℕ → Type 0
@@ -34,8 +34,8 @@ HasBegun rules b front = MatchOption b.held (front ≡ []) (λ held. IsHeld rule
 
 -- the scanner of these frames is between two values: `new` makes it so, and each call of `next` leaves it so
 pub record IsReady (f : Frames) : Type 0 where
-  pub between : HasRead f.scanner [] []
-  pub same_rules : rules_of f.scanner ≡ frame_rules f
+  pub between : HasRead f.scanner.value [] []
+  pub same_rules : rules_of f.scanner.value ≡ frame_rules f
 
 -- this is true of all bytes of a value that a connection has begun
 abbrev pub WhereBegun : Frames → Begun → (List ℕ → Type 0) → Type 0

@@ -2,4 +2,5 @@
 pub mod Texts
 pub mod Framing
 pub mod Commands
+pub mod Keys
 pub mod Laws

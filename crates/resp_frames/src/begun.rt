@@ -9,7 +9,7 @@ use resp_scan::scanner::Scanner;
 /// The bytes of a value that has begun, and the scanner that has read them.
 #[derive(Drop)]
 pub(crate) struct Held {
-    pub(crate) scanner: Scanner,
+    pub(crate) scanner: Box<Scanner>,
     pub(crate) bytes: Vec<u8>,
 }
 

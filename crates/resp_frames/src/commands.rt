@@ -19,6 +19,7 @@ impl Frames {
     /// # Errors
     ///
     /// Those of [`Frames::next`], and `NotACommand` if the value is no command.
+    #[inline(always)]
     pub fn next_command<'a>(
         &mut self,
         begun: &mut Begun,
@@ -51,7 +52,31 @@ impl Frames {
                 return Ok(Some(found));
             }
         }
-        let found = match self.next(begun, piece) {
+        self.scan_command(begun, piece)
+    }
+
+    /// Does what [`Frames::next_command`] does, with the scanner.
+    #[inline(never)]
+    fn scan_command<'a>(
+        &mut self,
+        begun: &mut Begun,
+        piece: &'a [u8],
+    ) -> Result<Option<CommandFrame<'a>>, FrameError>
+        ensures whole { WhereBegun self.old begun.old (λ front. IfOk result (λ found.
+            IfSome found (λ frame. IsFrameOfWords (frame_limits self.old) front piece.now frame ×
+            HasBegun (frame_rules self.old) begun.new []))) }
+        ensures more { WhereBegun self.old begun.old (λ front. IfOk result (λ found.
+            IfNone found (HasNoValue (front ++ piece.now) ×
+            HasBegun (frame_rules self.old) begun.new (front ++ piece.now)))) }
+        ensures refused { WhereBegun self.old begun.old (λ front. IfErr result (λ error.
+            OnFault error (RejectsByte (frame_rules self.old) front piece.now))) }
+        ensures no_command { WhereBegun self.old begun.old (λ front.
+            IsErrOf result FrameError.NotACommand →
+            EndsOther (frame_rules self.old) (frame_limits self.old) front piece.now) }
+        ensures ready { IsReady self.old → IsReady self.new }
+        ensures same_rules { frame_rules self.new ≡ frame_rules self.old }
+    {
+        let found = match self.next_shared(begun, piece) {
             Ok(found) => found,
             Err(error) => return Err(error),
         };

@@ -3,6 +3,7 @@
 ghost use Rattle.std.specs.Prelude.{◌≡◌, ◌++◌, ◌≤◌, length, take, ℕ, List, None, false, true, [], IfErr, IfNone, IfOk, IfSome, IsErrOf, OnErr, OnOk, ◌≢◌};
 ghost use Rattle.resp_value.specs.Rules.{Rules, rules_under};
 ghost use Rattle.resp_frames.specs.Framing.{EndsWithin, HasBegun, IsFrame, IsHeld, OnFault, RejectsByte};
+ghost use Rattle.resp_frames.specs.Texts.{used_of};
 ghost use Rattle.resp_scan.specs.Kinds.{rules_of};
 ghost use Rattle.resp_scan.specs.Listening.{HearsPiece, HearsRefusal, HearsValue, IfRefused, IfUsedUp, IfWhole};
 ghost use Rattle.resp_scan.specs.Reading.{Events, HasNoValue, HasRead};
@@ -20,30 +21,34 @@ use std::mem;
 
 /// Finds the ends of values, for any number of connections of one version and with the same limits.
 ///
-/// One scanner serves all connections. It moves into a block of a connection only if a piece ends
-/// inside a value.
+/// One scanner serves all connections. A connection gets it only if a piece ends inside a value.
 #[derive(Drop)]
 pub struct Frames {
     alloc: Global,
     pub(crate) version: Version,
     pub(crate) limits: Limits,
-    pub(crate) scanner: Scanner,
+    pub(crate) scanner: Box<Scanner>,
 }
 
 impl Frames {
     ghost use Rattle.resp_frames.specs.Framing.{IsReady, WhereBegun, frame_rules};
 
-    /// Returns frames for values of this version with these limits. Does not allocate.
-    pub fn new(alloc: Global, version: Version, limits: &Limits) -> Frames
-        ensures ready { IsReady result }
-        ensures rules { frame_rules result ≡ rules_under version limits.now }
+    /// Returns frames for values of this version with these limits.
+    ///
+    /// # Errors
+    ///
+    /// Fails if there is no memory for the scanner.
+    pub fn new(alloc: Global, version: Version, limits: &Limits) -> Result<Frames, AllocError>
+        ensures ready { IfOk result (λ frames. IsReady frames) }
+        ensures rules { IfOk result (λ frames. frame_rules frames ≡ rules_under version limits.now) }
     {
-        Frames {
+        let scanner = Box::new(alloc, Scanner::new(version, limits))?;
+        Ok(Frames {
             alloc,
             version,
             limits: *limits,
-            scanner: Scanner::new(version, limits),
-        }
+            scanner,
+        })
     }
 
     /// Finds the end of the value that the connection has begun, or of the value at the beginning of
@@ -77,19 +82,49 @@ impl Frames {
         ensures refused { WhereBegun self.old begun.old (λ front. IfErr result (λ error.
             OnFault error (RejectsByte (frame_rules self.old) front piece.now))) }
         ensures nothing_begun { OnErr result (HasBegun (frame_rules self.old) begun.new []) }
+        ensures within { IfOk result (λ found. IfSome found (λ frame.
+            used_of frame ≤ length piece.now)) }
+        ensures any_value { IsErrOf result FrameError.NotACommand → ⊥ }
+        ensures ready { IsReady self.old → IsReady self.new }
+        ensures same_rules { frame_rules self.new ≡ frame_rules self.old }
+    {
+        if begun.held.is_none() {
+            return self.begin::<false>(begun, piece);
+        }
+        self.next_shared(begun, piece)
+    }
+
+    /// Does what [`Frames::next`] does, with the loop that all other callers share.
+    #[inline(never)]
+    pub(crate) fn next_shared<'a>(
+        &mut self,
+        begun: &mut Begun,
+        piece: &'a [u8],
+    ) -> Result<Option<Frame<'a>>, FrameError>
+        ensures whole { WhereBegun self.old begun.old (λ front. IfOk result (λ found.
+            IfSome found (λ frame. IsFrame (frame_rules self.old) front piece.now frame ×
+            HasBegun (frame_rules self.old) begun.new []))) }
+        ensures more { WhereBegun self.old begun.old (λ front. IfOk result (λ found.
+            IfNone found (HasNoValue (front ++ piece.now) ×
+            HasBegun (frame_rules self.old) begun.new (front ++ piece.now)))) }
+        ensures refused { WhereBegun self.old begun.old (λ front. IfErr result (λ error.
+            OnFault error (RejectsByte (frame_rules self.old) front piece.now))) }
+        ensures nothing_begun { OnErr result (HasBegun (frame_rules self.old) begun.new []) }
+        ensures within { IfOk result (λ found. IfSome found (λ frame.
+            used_of frame ≤ length piece.now)) }
         ensures any_value { IsErrOf result FrameError.NotACommand → ⊥ }
         ensures ready { IsReady self.old → IsReady self.new }
         ensures same_rules { frame_rules self.new ≡ frame_rules self.old }
     {
         match begun.held.take() {
             Some(held) => resume(begun, held, piece),
-            None => self.begin(begun, piece),
+            None => self.begin::<true>(begun, piece),
         }
     }
 
     /// Does what [`Frames::next`] does if no value has begun.
     #[inline(always)]
-    fn begin<'a>(
+    fn begin<'a, const IS_SHARED: bool>(
         &mut self,
         begun: &mut Begun,
         piece: &'a [u8],
@@ -102,11 +137,13 @@ impl Frames {
         ensures refused { IsReady self.old → IfErr result (λ error.
             OnFault error (RejectsByte (frame_rules self.old) [] piece.now)) }
         ensures nothing_begun { OnErr result (begun.new ≡ begun.old) }
+        ensures within { IfOk result (λ found. IfSome found (λ frame.
+            used_of frame ≤ length piece.now)) }
         ensures any_value { IsErrOf result FrameError.NotACommand → ⊥ }
         ensures ready { IsReady self.old → IsReady self.new }
         ensures same_rules { frame_rules self.new ≡ frame_rules self.old }
     {
-        let scanned = match scan(&mut self.scanner, piece) {
+        let scanned = match scan::<IS_SHARED>(&mut self.scanner, piece) {
             Ok(scanned) => scanned,
             Err(error) => {
                 self.restart();
@@ -128,46 +165,81 @@ impl Frames {
         ensures ready { IsReady self.new }
         ensures same_rules { frame_rules self.new ≡ frame_rules self.old }
     {
-        self.scanner = Scanner::new(self.version, &self.limits);
+        *self.scanner = Scanner::new(self.version, &self.limits);
     }
 
-    /// Keeps the scanner and the bytes of the piece that it has read, if there are any.
+    /// Gives the connection the scanner and the bytes of the piece that it has read, if there are any.
     #[inline(never)]
     fn keep(&mut self, begun: &mut Begun, piece: &[u8]) -> Result<(), AllocError>
-        ensures held { (given : Events) → HasRead self.old.scanner piece.now given →
-            rules_of self.old.scanner ≡ frame_rules self.old → begun.old.held ≡ None →
+        ensures held { (given : Events) → HasRead self.old.scanner.value piece.now given →
+            rules_of self.old.scanner.value ≡ frame_rules self.old → begun.old.held ≡ None →
             OnOk result (HasBegun (frame_rules self.old) begun.new piece.now) }
         ensures nothing_begun { OnErr result (begun.new ≡ begun.old) }
         ensures ready { IsReady self.new }
         ensures same_rules { frame_rules self.new ≡ frame_rules self.old }
     {
-        let scanner = mem::replace(&mut self.scanner, Scanner::new(self.version, &self.limits));
         if piece.is_empty() {
+            self.restart();
             return Ok(());
         }
-        begun.held = Some(hold(self.alloc, scanner, piece)?);
-        Ok(())
+        match self.hold(piece) {
+            Ok(held) => {
+                begun.held = Some(held);
+                Ok(())
+            }
+            Err(AllocError) => {
+                self.restart();
+                Err(AllocError)
+            }
+        }
+    }
+
+    /// Copies the bytes that the scanner has read, and returns them with the scanner. A new scanner
+    /// takes its place.
+    fn hold(&mut self, piece: &[u8]) -> Result<Box<Held>, AllocError>
+        ensures scanner { IfOk result (λ held. held.value.scanner ≡ self.old.scanner) }
+        ensures bytes { IfOk result (λ held. held.value.bytes.items ≡ piece.now) }
+        ensures ready { OnOk result (IsReady self.new) }
+        ensures same_rules { frame_rules self.new ≡ frame_rules self.old }
+    {
+        let bytes = copied(self.alloc, piece, self.scanner.needed())?;
+        let unused = Box::new(self.alloc, Scanner::new(self.version, &self.limits))?;
+        let scanner = mem::replace(&mut self.scanner, unused);
+        Ok(Box::new(self.alloc, Held { scanner, bytes })?)
     }
 }
 
+/// Copies the bytes of a piece. Makes room for this many further bytes, but at most for four times as
+/// many as the piece has, since the head of a value may be wrong.
+fn copied(alloc: Global, piece: &[u8], further: u64) -> Result<Vec<u8>, AllocError>
+    ensures bytes { IfOk result (λ bytes. bytes.items ≡ piece.now) }
+{
+    let most = piece.len().saturating_mul(4);
+    let further = usize::try_from(further).unwrap_or(most).min(most);
+    let mut bytes = Vec::with_capacity(alloc, piece.len().saturating_add(further))?;
+    bytes.extend_from_slice(piece)?;
+    Ok(bytes)
+}
+
 /// Reads the piece up to the end of a value.
-///
-/// It is not inlined: both of its callers use the same loop, which is faster as a function of its own.
-#[inline(never)]
-fn scan(scanner: &mut Scanner, piece: &[u8]) -> Result<Scanned, ScanError>
-    ensures value_whole { (front : List ℕ) (given : Events) → HasRead scanner.old front given →
-        IfWhole result (λ used. HearsValue (rules_of scanner.old) scanner.new (λ _. Unit {0})
+#[inline(always)]
+fn scan<const IS_SHARED: bool>(
+    scanner: &mut Box<Scanner>,
+    piece: &[u8],
+) -> Result<Scanned, ScanError>
+    ensures value_whole { (front : List ℕ) (given : Events) → HasRead scanner.old.value front given →
+        IfWhole result (λ used. HearsValue (rules_of scanner.old.value) scanner.new.value (λ _. Unit {0})
         (front ++ take used piece.now)) }
-    ensures used_up { (front : List ℕ) (given : Events) → HasRead scanner.old front given →
-        IfUsedUp result (HearsPiece scanner.new (λ _. Unit {0}) (front ++ piece.now)) }
-    ensures refusal { (front : List ℕ) (given : Events) → HasRead scanner.old front given →
-        IfRefused result (HearsRefusal (rules_of scanner.old) (λ _. Unit {0}) front piece.now) }
+    ensures used_up { (front : List ℕ) (given : Events) → HasRead scanner.old.value front given →
+        IfUsedUp result (HearsPiece scanner.new.value (λ _. Unit {0}) (front ++ piece.now)) }
+    ensures refusal { (front : List ℕ) (given : Events) → HasRead scanner.old.value front given →
+        IfRefused result (HearsRefusal (rules_of scanner.old.value) (λ _. Unit {0}) front piece.now) }
     ensures within_piece { IfOk result (λ scanned. scanned.used ≤ length piece.now) }
     ensures whole_piece { IfOk result (λ scanned.
         scanned.is_whole ≡ false → scanned.used ≡ length piece.now) }
-    ensures same_rules { rules_of scanner.new ≡ rules_of scanner.old }
+    ensures same_rules { rules_of scanner.new.value ≡ rules_of scanner.old.value }
 {
-    scanner.scan(piece, &mut Nobody)
+    scanner.scan(piece, &mut Nobody::<IS_SHARED>)
 }
 
 /// Returns the error of a scan by a listener that never stops.
@@ -179,15 +251,6 @@ fn frame_error(error: ScanError) -> FrameError
         ScanError::Fault(fault) => FrameError::Fault(fault),
         ScanError::Stopped { taken: _ } => FrameError::OutOfMemory,
     }
-}
-
-/// Copies the bytes that a scanner has read.
-fn hold(alloc: Global, scanner: Scanner, piece: &[u8]) -> Result<Box<Held>, AllocError>
-    ensures scanner { IfOk result (λ held. held.value.scanner ≡ scanner) }
-    ensures bytes { IfOk result (λ held. held.value.bytes.items ≡ piece.now) }
-{
-    let bytes = Vec::from_slice(alloc, piece)?;
-    Ok(Box::new(alloc, Held { scanner, bytes })?)
 }
 
 /// Does what [`Frames::next`] does with the bytes that are held. The connection has begun no value.
@@ -206,6 +269,8 @@ fn resume<'a>(
     ensures refused { (rules : Rules) (front : List ℕ) → IsHeld rules held.value front →
         IfErr result (λ error. OnFault error (RejectsByte rules front piece.now)) }
     ensures nothing_begun { OnErr result (begun.new ≡ begun.old) }
+    ensures within { IfOk result (λ found. IfSome found (λ frame.
+        used_of frame ≤ length piece.now)) }
     ensures any_value { IsErrOf result FrameError.NotACommand → ⊥ }
 {
     let mut held = held;
@@ -233,9 +298,10 @@ fn extend(held: &mut Held, piece: &[u8]) -> Result<Scanned, FrameError>
         HasNoValue (front ++ piece.now) × IsHeld rules held.new (front ++ piece.now)) }
     ensures refused { (rules : Rules) (front : List ℕ) → IsHeld rules held.old front →
         IfErr result (λ error. OnFault error (RejectsByte rules front piece.now)) }
+    ensures within { IfOk result (λ scanned. scanned.used ≤ length piece.now) }
     ensures any_value { IsErrOf result FrameError.NotACommand → ⊥ }
 {
-    let scanned = match scan(&mut held.scanner, piece) {
+    let scanned = match scan::<true>(&mut held.scanner, piece) {
         Ok(scanned) => scanned,
         Err(error) => return Err(frame_error(error)),
     };

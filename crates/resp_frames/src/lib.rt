@@ -9,6 +9,7 @@ mod commands;
 mod error;
 mod frame;
 mod frames;
+mod keys;
 pub mod laws;
 mod nobody;
 mod words;

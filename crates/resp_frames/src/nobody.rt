@@ -5,10 +5,13 @@ use resp_scan::listener::Listener;
 use resp_value::kind::OpenKind;
 
 /// Ignores all events, and never stops.
+///
+/// The scanner's loop is compiled for each parameter. [`Frames::next`](crate::Frames::next) has the
+/// loop of one to itself, so the compiler inlines all of it. The other callers share the second loop.
 #[derive(Clone, Copy)]
-pub struct Nobody;
+pub struct Nobody<const IS_SHARED: bool>;
 
-impl Listener for Nobody {
+impl<const IS_SHARED: bool> Listener for Nobody<IS_SHARED> {
     ghost Origin = { Unit {0} };
 
     ghost has_heard = { λ _ _ _. Unit {0} };

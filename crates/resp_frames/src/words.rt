@@ -28,6 +28,7 @@ pub struct CommandFrame<'a> {
 }
 
 /// Returns the number and the class of these words.
+#[inline(always)]
 fn words_by(name: &[u8], arguments: whole::Words<'_>) -> CommandWords
     ensures { HasWords name.now arguments.entry result }
 {
@@ -38,6 +39,7 @@ fn words_by(name: &[u8], arguments: whole::Words<'_>) -> CommandWords
 }
 
 /// Returns the command at the beginning of the piece, if it lies whole in it.
+#[inline(always)]
 pub(crate) fn command_of_piece<'a>(piece: &'a [u8], limits: &Limits) -> Option<CommandFrame<'a>>
     ensures { IfSome result (λ found. IsFrameOfWords limits.now [] piece.now found) }
 {
