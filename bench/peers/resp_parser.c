@@ -27,6 +27,19 @@ static void on_pairs(struct ReplyParser *parser, void *context, size_t pairs, co
 	on_members(parser, context, 2 * pairs, proto);
 }
 
+/* Returns the number of replies in a text, or -1 after a bad reply. It is no part of main, so that its instructions can
+ * be counted. */
+__attribute__((noinline)) long parse_all(ReplyParser *parser, const char *end)
+{
+	long replies = 0;
+	while (parser->curr_location < end) {
+		if (parseReply(parser, NULL))
+			return -1;
+		replies++;
+	}
+	return replies;
+}
+
 int main(void)
 {
 	size_t room = 1 << 28, size = 0, count;
@@ -46,12 +59,9 @@ int main(void)
 	parser.callbacks.array_callback = on_members;
 	parser.callbacks.set_callback = on_members;
 	parser.callbacks.map_callback = on_pairs;
-	unsigned long replies = 0;
-	while (parser.curr_location < text + size) {
-		if (parseReply(&parser, NULL))
-			return 1;
-		replies++;
-	}
-	printf("%lu\n", replies);
+	long replies = parse_all(&parser, text + size);
+	if (replies < 0)
+		return 1;
+	printf("%ld\n", replies);
 	return 0;
 }
