@@ -13,8 +13,8 @@ _resp() {
     --depth | --length | --total | --items | --piece | --clients | --held) return ;;
     esac
     case $command in
-    show | check | canon) options="-2 -3 --proto $limits --doubles --piece --explain -h --help" ;;
-    loop) options="--explain -h --help" ;;
+    show | check | canon) options="-2 -3 --proto $limits --doubles --piece --explain --no-explain -h --help" ;;
+    loop) options="--explain --no-explain -h --help" ;;
     serve) options="$limits --clients --held -h --help" ;;
     tap) options="$limits --clients --time --exit-with-output --keep-going --show-passwords -h --help" ;;
     help) [ "$COMP_CWORD" -ne 2 ] || COMPREPLY=($(compgen -W "$commands" -- "$word")) ;;

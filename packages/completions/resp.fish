@@ -19,6 +19,7 @@ complete -c resp -n $reads -s 3 -d 'Protocol version 3 with doubles'
 complete -c resp -n $reads -l doubles -d 'Accepts RESP3 doubles'
 complete -c resp -n $reads -l piece -x -d 'Maximum bytes of a read, 1 to 65536'
 complete -c resp -n '__fish_seen_subcommand_from show check canon loop' -l explain -d 'Says where an error is, and why'
+complete -c resp -n '__fish_seen_subcommand_from show check canon loop' -l no-explain -d 'Does not explain errors'
 
 set -l limited '__fish_seen_subcommand_from show check canon serve tap'
 complete -c resp -n $limited -l depth -x -d 'Maximum nesting of aggregates, 4 to 128'

@@ -90,8 +90,12 @@ fn run_words<W: LiveSink, F: Sink>(
 ) -> Result<u8, AllocError> {
     match read_words(rt.alloc(), words, writer, faults) {
         Ok(Asked::Stream(options)) => run_task(rt, &options, writer, faults),
-        Ok(Asked::Play { explains, file }) => {
-            let explains = explains || rt.stderr().is_terminal();
+        Ok(Asked::Play {
+            explains,
+            never_explains,
+            file,
+        }) => {
+            let explains = is_explained(rt, explains, never_explains);
             run_script(rt, file, explains, writer, faults)
         }
         Ok(Asked::Serve(serving)) => run_serve(rt, &serving, writer, faults),
@@ -122,8 +126,14 @@ fn run_task<W: LiveSink, F: Sink>(
     }
 }
 
-/// Runs the command on a stream and returns the status. If the options request it, or if standard
-/// error is a terminal, prints an explanation after the line of a fault.
+/// Returns whether errors are explained: if an option requests it, or if standard error is a terminal
+/// and no option forbids it.
+fn is_explained(rt: &HostRuntime, explains: bool, never_explains: bool) -> bool {
+    !never_explains && (explains || rt.stderr().is_terminal())
+}
+
+/// Runs the command on a stream and returns the status. If errors are explained, prints an
+/// explanation after the line of a fault.
 fn run_stream<R: Read + Drop, W: LiveSink, F: Sink>(
     rt: &HostRuntime,
     options: &Options<'_>,
@@ -135,7 +145,7 @@ fn run_stream<R: Read + Drop, W: LiveSink, F: Sink>(
 {
     let alloc = rt.alloc();
     let mut reader = Device::new(stream);
-    if !options.explains && !rt.stderr().is_terminal() {
+    if !is_explained(rt, options.explains, options.never_explains) {
         return run_options(alloc, options, &mut reader, writer, faults);
     }
     let mut watched = Watched::new(alloc, reader, options.version, &options.limits);

@@ -192,7 +192,7 @@ sort_of_word word = if bytes_eq word (codes "loop") then 1 else if bytes_eq word
 
 abbrev pub sort_of : Asked → ℕ
 sort_of (Stream options) = 0
-sort_of (Play explains file) = 1
+sort_of (Play explains never_explains file) = 1
 sort_of (Serve serving) = 2
 sort_of (Tap tapping) = 3
 
@@ -203,7 +203,7 @@ sort_of_task Canon = refl
 
 sort_by_word : (name : Text) (given : List Row) (asked : Asked) → IsAsked name given asked → sort_of_word name ≡ sort_of asked
 sort_by_word name given (Stream options) is = ap sort_of_word is.0 ∙ sort_of_task options.task
-sort_by_word name given (Play explains file) is = ap sort_of_word is.0
+sort_by_word name given (Play explains never_explains file) is = ap sort_of_word is.0
 sort_by_word name given (Serve serving) is = ap sort_of_word is.0
 sort_by_word name given (Tap tapping) is = ap sort_of_word is.0
 
@@ -257,20 +257,20 @@ refused_by_program Ask program words error status (inr kind) helps refuses = (
 
 of_sort : (a b : Asked) → sort_of a ≡ sort_of b → IsOfSort a b
 of_sort (Stream a) (Stream b) same = tt
-of_sort (Play a f) (Play b g) same = tt
+of_sort (Play a f n) (Play b g m) same = tt
 of_sort (Serve a) (Serve b) same = tt
 of_sort (Tap a) (Tap b) same = tt
-of_sort (Stream a) (Play b g) same = absurd (omega (arith, same))
+of_sort (Stream a) (Play b g m) same = absurd (omega (arith, same))
 of_sort (Stream a) (Serve b) same = absurd (omega (arith, same))
 of_sort (Stream a) (Tap b) same = absurd (omega (arith, same))
-of_sort (Play a f) (Stream b) same = absurd (omega (arith, same))
-of_sort (Play a f) (Serve b) same = absurd (omega (arith, same))
-of_sort (Play a f) (Tap b) same = absurd (omega (arith, same))
+of_sort (Play a f n) (Stream b) same = absurd (omega (arith, same))
+of_sort (Play a f n) (Serve b) same = absurd (omega (arith, same))
+of_sort (Play a f n) (Tap b) same = absurd (omega (arith, same))
 of_sort (Serve a) (Stream b) same = absurd (omega (arith, same))
-of_sort (Serve a) (Play b g) same = absurd (omega (arith, same))
+of_sort (Serve a) (Play b g m) same = absurd (omega (arith, same))
 of_sort (Serve a) (Tap b) same = absurd (omega (arith, same))
 of_sort (Tap a) (Stream b) same = absurd (omega (arith, same))
-of_sort (Tap a) (Play b g) same = absurd (omega (arith, same))
+of_sort (Tap a) (Play b g m) same = absurd (omega (arith, same))
 of_sort (Tap a) (Serve b) same = absurd (omega (arith, same))
 
 by_status : (status : ℕ) → IsWordStatus status → (status ≡ 0 → ⊥) → (status ≡ 2 → ⊥) → status ≡ 3

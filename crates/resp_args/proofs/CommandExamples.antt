@@ -1,11 +1,13 @@
 -- What the parser makes of the words of the worked examples.
 use Rattle.std.specs.Str.{bytes_eq}
-use Rattle.std.proofs.Common.{true≢false, option_map, rules, ◌≢◌, Option, ◌≡◌, ◌∙◌, ap, Bool, true, false, List, [], ◌∷◌, None, Some, codes, refl, sym, inl, inr, subst, arith}
+use Rattle.std.proofs.Common.{if◌then◌else◌, true≢false, option_map, rules, ◌≢◌, Option, ◌≡◌, ◌∙◌, ap, Bool, true, false, List, [], ◌∷◌, None, Some, codes, refl, sym, inl, inr, subst, arith}
 use Rattle.std.specs.Borrow.{Bor}
 use Rattle.clap.specs.Words.{App, IsAmong, Row, Text, fault_of, first_of, subcommand_of}
 use Rattle.clap.specs.declared.error.kind.ErrorKind.{ErrorKind}
 use Rattle.clap.specs.declared.error.kind.ErrorKind.TheVariants.{ArgumentConflict, DisplayHelp, DisplayVersion, MissingSubcommand, ValueValidation}
 use Rattle.clap.specs.declared.builder.value_parser.ValueParser.{ValueParser}
+use Rattle.clap.specs.Kinds.{or_else}
+use Rattle.clap.specs.Values.{refused_kind}
 use Rattle.clap.proofs.OnLiterals.{clap_on_literals}
 use Rattle.std.specs.Option.{option_map_or}
 use Rattle.resp_value.specs.Bounds.{Bounds}
@@ -20,7 +22,9 @@ use Rattle.resp_args.specs.Program.{TakesVersions, resp_app}
 
 pub show_alone_is_taken : (versions : ValueParser) → TakesVersions versions → fault_of (resp_app versions) show_alone ≡ []
 unfolding clap_on_literals
-show_alone_is_taken versions takes = rw (takes.two_and_three (codes "2")) refl
+show_alone_is_taken versions takes =
+    subst (λ taken. or_else (or_else (or_else (or_else (if taken then [] else refused_kind versions ∷ []) []) []) []) [] ≡ [])
+    (sym (takes.two_and_three (codes "2"))) refl
 
 pub help_is_asked : (versions : ValueParser) → fault_of (resp_app versions) help_of_show ≡ DisplayHelp ∷ []
 unfolding clap_on_literals
@@ -72,9 +76,9 @@ alone_gives_limits versions = record {
 alone_gives_rest : (versions : ValueParser) → (first_of (codes "proto") (given_alone versions) ≡ Some (codes "2"))
     × HasFlag (given_alone versions) (codes "two") false × HasFlag (given_alone versions) (codes "three") false
     × HasFlag (given_alone versions) (codes "doubles") false × HasNumber (given_alone versions) (codes "piece") 4096
-    × (first_of (codes "file") (given_alone versions) ≡ Some (codes "-")) × HasFlag (given_alone versions) (codes "explain") false
+    × (first_of (codes "file") (given_alone versions) ≡ Some (codes "-")) × HasFlag (given_alone versions) (codes "explain") false × HasFlag (given_alone versions) (codes "no-explain") false
 unfolding clap_on_literals
-alone_gives_rest versions = (refl, refl, refl, refl, (codes "4096", refl, (omega arith, search rules), refl, omega arith), refl, refl)
+alone_gives_rest versions = (refl, refl, refl, refl, (codes "4096", refl, (omega arith, search rules), refl, omega arith), refl, refl, refl)
 
 pub defaults_are_asked : (versions : ValueParser) → TakesVersions versions → (options : Options) →
     AreOptions Show Two default_limits 4096 (codes "-") false options → AskFor (resp_app versions) show_alone (Stream options)
@@ -93,15 +97,16 @@ defaults_are_asked versions takes options are =
         piece = rw are.of_piece (rest.4, omega arith, omega arith);
         file = rest.5 ∙ ap (λ (t : Text). Some t) (sym are.of_file);
         explains = rest.6 ∙ ap (λ b. Some (flag_text b)) (sym are.of_explains);
+        never_explains = rest.7 ∙ ap (λ b. Some (flag_text b)) (sym are.of_never_explains);
       },
     ) in (
       show_alone_is_taken versions takes,
       subst (λ (entered : Option (Text × List Row)). Enters entered (Stream options)) (sym (alone_enters_show versions)) enters,
     )
 
-pub loop_is_asked : (versions : ValueParser) (name : Bor Text) → name.now ≡ codes "-" → AskFor (resp_app versions) explained_loop (Play true name)
+pub loop_is_asked : (versions : ValueParser) (name : Bor Text) → name.now ≡ codes "-" → AskFor (resp_app versions) explained_loop (Play true false name)
 unfolding clap_on_literals
-loop_is_asked versions name is = (refl, (refl, refl, ap (λ (t : Text). Some t) (sym is)))
+loop_is_asked versions name is = (refl, (refl, refl, refl, ap (λ (t : Text). Some t) (sym is)))
 
 pub wrong_of_kind : (program : App) (words : List Text) (kind : ErrorKind) → fault_of program words ≡ kind ∷ [] → kind ≢ DisplayHelp →
     kind ≢ DisplayVersion → AreWrong AskFor program words

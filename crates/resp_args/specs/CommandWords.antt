@@ -99,6 +99,7 @@ pub record HasOptions (given : List Row) (options : Options) : Type 0 where
   pub piece : HasSmallNumber given (codes "piece") options.piece
   pub file : first_of (codes "file") given ≡ Some options.file.now
   pub explains : HasFlag given (codes "explain") options.explains
+  pub never_explains : HasFlag given (codes "no-explain") options.never_explains
 
 -- the options of `serve`, with the text of its address
 pub record HasServeWords (given : List Row) (address : Text) (limits : Bounds) (clients held : ℕ) : Type 0 where
@@ -156,7 +157,8 @@ task_word Canon = codes "canon"
 -- the subcommand with this name asks for this with these options
 abbrev pub IsAsked : Text → List Row → Asked → Type 0
 IsAsked name given (Stream options) = (name ≡ task_word options.task) × HasOptions given options
-IsAsked name given (Play explains file) = (name ≡ codes "loop") × HasFlag given (codes "explain") explains ×
+IsAsked name given (Play explains never_explains file) = (name ≡ codes "loop") ×
+    HasFlag given (codes "explain") explains × HasFlag given (codes "no-explain") never_explains ×
     (first_of (codes "file") given ≡ Some file.now)
 IsAsked name given (Serve serving) = (name ≡ codes "serve") × HasServing given serving
 IsAsked name given (Tap tapping) = (name ≡ codes "tap") × HasTapping given tapping
@@ -173,7 +175,7 @@ AskFor program words asked = (fault_of program words ≡ []) × Enters (subcomma
 -- the size of a read, or the most clients at once, is from 1 to 65,536
 abbrev pub IsInRange : Asked → Type 0
 IsInRange (Stream options) = (1 ≤ options.piece) × (options.piece ≤ 65536)
-IsInRange (Play explains file) = Unit {0}
+IsInRange (Play explains never_explains file) = Unit {0}
 IsInRange (Serve serving) = (1 ≤ serving.clients) × (serving.clients ≤ 65536)
 IsInRange (Tap tapping) = (1 ≤ tapping.clients) × (tapping.clients ≤ 65536)
 
@@ -199,7 +201,7 @@ FindsWords program words (Err error) = HasKind (fault_of program words) error
 -- both are a stream, a script, a server, or a tap
 abbrev pub IsOfSort : Asked → Asked → Type 0
 IsOfSort (Stream a) (Stream b) = Unit {0}
-IsOfSort (Play a file) (Play b file') = Unit {0}
+IsOfSort (Play a b file) (Play c d file') = Unit {0}
 IsOfSort (Serve a) (Serve b) = Unit {0}
 IsOfSort (Tap a) (Tap b) = Unit {0}
 IsOfSort a b = ⊥

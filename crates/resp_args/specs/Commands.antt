@@ -10,7 +10,7 @@ use Rattle.resp_args.specs.declared.asked.Asked.TheVariants.{Stream, Play}
 use Rattle.resp_args.specs.declared.options.Options.{Options}
 use Rattle.resp_args.specs.declared.options.Task.{Task}
 
--- the options have these values, whatever holds the file's name
+-- the options have these values, whatever holds the file's name, and `--no-explain` is not given
 pub record AreOptions (task : Task) (version : Version) (limits : Bounds) (piece : ℕ) (file : Text) (explains : Bool)
     (options : Options) : Type 0 where
   pub of_task : options.task ≡ task
@@ -19,6 +19,7 @@ pub record AreOptions (task : Task) (version : Version) (limits : Bounds) (piece
   pub of_piece : options.piece ≡ piece
   pub of_file : options.file.now ≡ file
   pub of_explains : options.explains ≡ explains
+  pub of_never_explains : options.never_explains ≡ false
 
 -- the words ask for a stream to be read, with these options
 abbrev pub AskForThese : List Text → (Options → Type 0) → Type 0
@@ -28,7 +29,7 @@ AskForThese words These = (program : App) → IsProgram program → (options : O
 -- the words ask for the script in this file to be played; the flag says whether a bad line is explained
 abbrev pub AskToPlay : List Text → Bool → Text → Type 0
 AskToPlay words explains file = (program : App) → IsProgram program → (name : Bor Text) → name.now ≡ file →
-    AskFor program words (Play explains name)
+    AskFor program words (Play explains false name)
 
 -- the words ask for something other than reading a stream
 abbrev pub AskForNoStream : List Text → Type 0

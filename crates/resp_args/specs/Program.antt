@@ -66,11 +66,12 @@ stream_options versions = value_option (codes "proto") versions (codes "2") ∷
     flag_option (codes "doubles") ∷
     number_option (codes "piece") 1 65536 (codes "4096") ∷
     flag_option (codes "explain") ∷
+    flag_option (codes "no-explain") ∷
     file_word ∷ [])
 
 -- the options of `loop`
 abbrev pub loop_options : List Rule
-loop_options = flag_option (codes "explain") ∷ file_word ∷ []
+loop_options = flag_option (codes "explain") ∷ flag_option (codes "no-explain") ∷ file_word ∷ []
 
 -- an address, a required argument without a name
 abbrev pub address_word : Text → Rule

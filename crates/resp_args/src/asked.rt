@@ -23,6 +23,8 @@ pub enum Asked<'a> {
     Play {
         /// Whether `--explain` is given: a bad line is explained.
         explains: bool,
+        /// Whether `--no-explain` is given, which has precedence over `--explain`.
+        never_explains: bool,
         /// The name of the file to read, or [`STANDARD_INPUT`](crate::options::STANDARD_INPUT).
         file: &'a str,
     },
@@ -115,8 +117,14 @@ fn play_of<'a>(given: &ArgMatches<'a>) -> Result<Asked<'a>, NothingAsked<'a>>
     ensures err { OnErr result ((asked : Asked)
         → IsAsked (codes "loop") (rows_of (found_of given.now)) asked → ⊥) }
 {
-    match (flag_of(given, "explain"), text_of(given, "file")) {
-        (Some(explains), Some(file)) => Ok(Asked::Play { explains, file }),
+    let explains = flag_of(given, "explain");
+    let never_explains = flag_of(given, "no-explain");
+    match (explains, never_explains, text_of(given, "file")) {
+        (Some(explains), Some(never_explains), Some(file)) => Ok(Asked::Play {
+            explains,
+            never_explains,
+            file,
+        }),
         _ => Err(NothingAsked::OtherWords),
     }
 }

@@ -40,6 +40,8 @@ pub struct Options<'a> {
     pub file: &'a str,
     /// Whether `--explain` is given: an error in the input is explained.
     pub explains: bool,
+    /// Whether `--no-explain` is given, which has precedence over `--explain`.
+    pub never_explains: bool,
 }
 
 /// Returns the limits in the options; `None` if a number is outside its range.
@@ -184,5 +186,6 @@ pub(crate) fn options_of<'a>(task: Task, matches: &ArgMatches<'a>) -> Option<Opt
         piece,
         file: text_of(matches, "file")?,
         explains: flag_of(matches, "explain")?,
+        never_explains: flag_of(matches, "no-explain")?,
     })
 }

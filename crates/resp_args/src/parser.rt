@@ -18,6 +18,9 @@ const MOST_TOTAL: i64 = 1_099_511_627_776;
 /// The values of `--proto`.
 const VERSIONS: &[&str] = &["2", "3"];
 
+/// The help of `--no-explain`.
+const NO_EXPLAIN: &str = "Does not explain errors";
+
 /// The end of the help of `resp`.
 const EXAMPLES: &str = r"Examples:
   printf '*2\r\n:1\r\n+two\r\n' | resp show
@@ -291,6 +294,7 @@ fn stream_task<'a>(
     let task = with_arg(task, flag(alloc, "doubles", "Accepts RESP3 doubles"));
     let task = with_arg(task, PIECE.option(alloc));
     let task = with_arg(task, flag(alloc, "explain", why));
+    let task = with_arg(task, flag(alloc, "no-explain", NO_EXPLAIN));
     with_arg(task, file(alloc))
 }
 
@@ -304,6 +308,7 @@ fn loop_task<'a>(alloc: Global) -> Result<Command<'a>, clap::Error>
         "Says why a line of the script is wrong;\nthe default if standard error is a terminal";
     let task = bare_task(alloc, "loop", about, LOOP_HELP);
     let task = with_arg(task, flag(alloc, "explain", why));
+    let task = with_arg(task, flag(alloc, "no-explain", NO_EXPLAIN));
     with_arg(task, file(alloc))
 }
 
