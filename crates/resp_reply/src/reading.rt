@@ -36,6 +36,32 @@ pub struct Reading {
 /// more bytes have come, with the bytes that were not used. After [`End::NoNodes`] or [`End::NoTexts`]
 /// call it again with these bytes and the whole arrays, or with larger ones. After [`End::Refused`] no
 /// byte of the connection has a meaning.
+///
+/// # Examples
+///
+/// From [samples](../../samples/src/flat.rt):
+///
+/// ```rust
+/// let mut nodes = [Node::default(); 16];
+/// let mut texts = [0; 64];
+/// let buffer = b"*2\r\n:7\r\n$4\r\nhits\r\n+OK\r\n:1";
+/// let limits = Limits::standard();
+/// let reading = read(Version::Three, &limits, buffer, &mut nodes, &mut texts);
+/// let mut at = 0;
+/// while at < reading.nodes {
+///     println!(rt; "{:?} {}", nodes[at].kind, nodes[at].size)?;
+///     at += nodes[at].size;
+/// }
+/// println!(rt; "{} bytes used: {:?}", reading.used, reading.end)?;
+/// ```
+///
+/// This prints:
+///
+/// ```text
+/// Aggregate(Array) 3
+/// Text(Simple) 1
+/// 23 bytes used: Incomplete
+/// ```
 pub fn read(
     version: Version,
     limits: &Limits,

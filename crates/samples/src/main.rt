@@ -5,6 +5,7 @@
 mod counting;
 mod decoding;
 mod encoding;
+mod flat;
 mod framing;
 mod pipelining;
 mod printing;
@@ -32,5 +33,6 @@ fn main(rt: HostRuntime) -> Result<()> {
     worlds::run(&rt, alloc)?;
     printing::run(&rt, alloc)?;
     tapping::run(&rt, alloc)?;
-    framing::run(&rt, alloc)
+    framing::run(&rt, alloc)?;
+    flat::run(&rt)
 }
