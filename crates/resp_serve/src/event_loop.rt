@@ -245,7 +245,10 @@ impl<C: Drop> Loop<C> {
     fn admit<T: Service<C>>(&mut self, service: &mut T, client: TcpStream) {
         match self.open() {
             Ok(place) => self.fill(service, client, place),
-            Err(OpenError::Full) => refuse(&client, TOO_MANY),
+            Err(OpenError::Full) => {
+                refuse(&client, TOO_MANY);
+                service.reject();
+            }
             Err(OpenError::Stopped | OpenError::OutOfMemory) => service.lose(),
         }
     }

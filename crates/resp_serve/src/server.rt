@@ -101,6 +101,8 @@ impl<S: BuildHasher + Drop> Service<Connection> for Replies<S> {
 
     fn lose(&mut self) {}
 
+    fn reject(&mut self) {}
+
     fn visit(&mut self, connection: &mut Connection, is_at_end: bool) -> Next {
         connection.serve(&mut self.hub, &mut self.room, is_at_end)
     }

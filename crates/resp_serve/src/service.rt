@@ -36,6 +36,9 @@ pub(crate) trait Service<C> {
     /// Notes that an accepted client was closed at once, because an allocation failed.
     fn lose(&mut self);
 
+    /// Notes that an accepted client was closed at once, because the most connections are open.
+    fn reject(&mut self);
+
     /// Reads and writes the sockets of a connection, and says when to do so again. `is_at_end` says
     /// whether an input may have ended.
     fn visit(&mut self, connection: &mut C, is_at_end: bool) -> Next;

@@ -34,6 +34,9 @@ const PATIENCE: u64 = 5;
 /// The end of the line about a client for which memory is out.
 const NOT_CONNECTED: &[u8] = b" not connected";
 
+/// The end of the line about a client over the maximum.
+const REJECTED: &[u8] = b": rejected by --clients";
+
 /// Why the tap does not listen on the address of the server.
 const COMES_BACK: &str = "connections to the server would come back to this address";
 
@@ -407,6 +410,11 @@ impl<R: Net + Clock + Eprint, W: LiveSink> Service<Tapped> for Watching<'_, R, W
         let number = self.view.next_number();
         self.view
             .print_line(number, NOT_CONNECTED, self.rt, self.out);
+    }
+
+    fn reject(&mut self) {
+        let number = self.view.next_number();
+        self.view.print_line(number, REJECTED, self.rt, self.out);
     }
 
     fn visit(&mut self, connection: &mut Tapped, is_at_end: bool) -> Next {
