@@ -90,11 +90,13 @@ fn run_words<W: LiveSink, F: Sink>(
 ) -> Result<u8, AllocError> {
     match read_words(rt.alloc(), words, writer, faults) {
         Ok(Asked::Stream(options)) => run_task(rt, &options, writer, faults),
-        Ok(Asked::Play {
-            explains,
-            never_explains,
-            file,
-        }) => {
+        Ok(
+            Asked::Play {
+                explains,
+                never_explains,
+                file,
+            },
+        ) => {
             let explains = is_explained(rt, explains, never_explains);
             run_script(rt, file, explains, writer, faults)
         }
