@@ -102,7 +102,7 @@ def place_of(name, target):
 
 def kept(name, target):
     """Returns the bytes that this machine keeps of a program or library, or None. The file begins with their sum."""
-    with contextlib.suppress(FileNotFoundError):
+    with contextlib.suppress(OSError):
         total, _, made = content(place_of(name, target)).partition(b"\n")
         if hashlib.sha256(made).hexdigest().encode() == total:
             return made
@@ -110,14 +110,16 @@ def kept(name, target):
 
 
 def keep(place, made):
-    """Keeps the bytes of a program or library in a file, and removes what was kept more than two weeks ago."""
-    os.makedirs(os.path.dirname(place), exist_ok=True)
-    for other in os.scandir(os.path.dirname(place)):
-        if time.time() - other.stat().st_mtime > 14 * 24 * 3600:
-            os.remove(other)
-    with open(f"{place}.{os.getpid()}", "wb") as file:
-        file.write(hashlib.sha256(made).hexdigest().encode() + b"\n" + made)
-    os.replace(f"{place}.{os.getpid()}", place)
+    """Keeps the bytes of a program or library in a file, and removes what was kept more than two weeks ago. Without a
+    folder that it can write to, it keeps nothing."""
+    with contextlib.suppress(OSError):
+        os.makedirs(os.path.dirname(place), exist_ok=True)
+        for other in os.scandir(os.path.dirname(place)):
+            if time.time() - other.stat().st_mtime > 14 * 24 * 3600:
+                os.remove(other)
+        with open(f"{place}.{os.getpid()}", "wb") as file:
+            file.write(hashlib.sha256(made).hexdigest().encode() + b"\n" + made)
+        os.replace(f"{place}.{os.getpid()}", place)
 
 
 def stripped(path, *words, tool="strip"):
