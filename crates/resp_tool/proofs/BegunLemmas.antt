@@ -1,10 +1,11 @@
 -- Where the values of a stream begin, as more of its bytes come.
-use Rattle.std.proofs.Common.{◌≡◌, ◌≤◌, inl, inr, ℕ, ◌+◌, ◌-◌, List, [], ◌∷◌, ◌++◌, length, drop, take, refl, sym, ap, ◌∙◌, arith, append_assoc, append-nil, length-append}
+use Rattle.std.proofs.Common.{◌≡◌, ◌≤◌, inl, inr, ℕ, ◌+◌, ◌-◌, List, [], ◌∷◌, ◌++◌, length, drop, take, refl, sym, ap, ◌∙◌, arith, append_assoc, append-nil, subst, length-append}
 use Rattle.std.proofs.lemmas.List.{take-append-drop}
 use Rattle.resp_value.specs.Devices.{last_count}
-use Rattle.resp_value.specs.Rules.{Rules}
-use Rattle.resp_value.specs.Spellings.{IsSpelling}
+use Rattle.resp_value.specs.Rules.{Rules, WithinTotal}
+use Rattle.resp_value.specs.Spellings.{IsSpelling, IsViable}
 use Rattle.resp_value.specs.TreeValues.{value}
+use Rattle.resp_value.proofs.ViabilityLaws.{fronts_of_viable_texts_are_viable}
 use Rattle.resp_scan.specs.Kinds.{rules_of}
 use Rattle.resp_scan.specs.Listening.{HearsPiece, HearsValue}
 use Rattle.resp_scan.specs.Machine.Tokens.{Place}
@@ -29,13 +30,27 @@ begins_on r bytes more count start b = record {
 }
 
 -- a byte was refused in them, or before
-pub passed_refused : (starts after : Starts) (bytes more : List ℕ) (fault : Fault) → HavePassed starts bytes →
+pub passed_refused : (starts after : Starts) (bytes more : List ℕ) (fault : Fault) (h : HavePassed starts bytes) →
     rules_of after.scanner ≡ rules_of starts.scanner → after.values ≡ starts.values → after.start ≡ starts.start → IsFaulted after.scanner fault →
+    ((given : Events) → HasScanned starts.scanner h.begins.rest given → IsViable (rules_of starts.scanner) WithinTotal (h.begins.rest ++ more) → ⊥) →
     HavePassed after (bytes ++ more)
-passed_refused starts after bytes more fault h same values start faulted = record {
-  begins = rw (same, values, start) (begins_on (rules_of starts.scanner) bytes more starts.values starts.start h.begins);
-  come = inr (fault, faulted);
+passed_refused starts after bytes more fault h same values start faulted refused = record {
+  begins = record {
+    values = h.begins.values;
+    front = h.begins.front;
+    rest = h.begins.rest ++ more;
+    spelled = rw same h.begins.spelled;
+    whole = ap (λ z. z ++ more) h.begins.whole ∙ append_assoc h.begins.front h.begins.rest more;
+    counted = h.begins.counted ∙ sym values;
+    placed = λ small. start ∙ h.begins.placed small;
+  };
+  come = inr (fault, faulted, λ viable. not_viable h.come (subst (λ z. IsViable z WithinTotal (h.begins.rest ++ more)) same viable));
 }
+  where
+    not_viable : HasReadOrRefused starts.scanner h.begins.rest → IsViable (rules_of starts.scanner) WithinTotal (h.begins.rest ++ more) → ⊥
+    not_viable (inl (given, scanned)) viable = refused given scanned viable
+    not_viable (inr (fault, faulted, dead)) viable =
+        dead (fronts_of_viable_texts_are_viable (rules_of starts.scanner) WithinTotal h.begins.rest more viable)
 
 -- no value has ended in them
 pub passed_on : (starts after : Starts) (bytes more : List ℕ) (H : Events → Type 0) (h : HavePassed starts bytes) →
@@ -85,7 +100,13 @@ passed_value starts after bytes more H h same values start hears =
 -- where no fault stands a scanner has read the rest
 pub came : (s : Place) (rest : List ℕ) → HasReadOrRefused s rest → ((fault : Fault) → IsFaulted s fault → ⊥) → (given : Events) × HasScanned s rest given
 came s rest (inl read) sound = read
-came s rest (inr (fault, faulted)) sound = absurd (sound fault faulted)
+came s rest (inr (fault, faulted, dead)) sound = absurd (sound fault faulted)
+
+-- a scanner has read the beginning of a value, and no byte of it was refused
+pub read_if_viable : (s : Place) (rest : List ℕ) → HasReadOrRefused s rest → IsViable (rules_of s) WithinTotal rest →
+    (given : Events) × HasScanned s rest given
+read_if_viable s rest (inl read) viable = read
+read_if_viable s rest (inr (fault, faulted, dead)) viable = absurd (dead viable)
 
 -- the last bytes of a text that is gone through further
 pub last_kept : (bytes more gone held : List ℕ) (beyond : ℕ) → bytes ≡ gone ++ held →

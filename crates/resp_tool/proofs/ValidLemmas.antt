@@ -16,10 +16,12 @@ use Rattle.resp_tool.specs.declared.valid.NextBytes.{NextBytes}
 use Rattle.resp_args.specs.declared.tool_error.ToolError.{ToolError}
 use Rattle.std.proofs.Math.Seq.{drop-append_seam}
 use Rattle.resp_scan.specs.Kinds.{rules_of}
-use Rattle.resp_scan.specs.Listening.{HearsPiece, HearsRefusal, HearsValue}
+use Rattle.resp_scan.specs.Listening.{HearsPiece, HearsRefusal, HearsValue, OnFault, OnStopped, StopsAfter}
 use Rattle.resp_scan.specs.Machine.Tokens.{Place}
 use Rattle.resp_scan.specs.Reading.{Events}
 use Rattle.resp_scan.specs.declared.event.Fault.{Fault}
+use Rattle.resp_scan.specs.declared.event.ScanError.{ScanError}
+use Rattle.resp_scan.specs.declared.event.ScanError.TheVariants as stop
 
 module _ (r : Rules) (H : Events → Type 0) (s : Place) (text : List ℕ) (used : ℕ) where
   -- a value that the whole text spells
@@ -52,14 +54,21 @@ module _ (r : Rules) (H : Events → Type 0) (s : Place) (text : List ℕ) (used
   )
 
 -- a text with a byte that is refused begins no value
-pub refused_is_not_viable : (r : Rules) (H : Events → Type 0) (text : List ℕ) (fault : Fault) → HearsRefusal r H [] text fault →
-    IsViable r WithinTotal text → ⊥
-refused_is_not_viable r H text fault w v =
+pub refused_is_not_viable : (r : Rules) (H : Events → Type 0) (before piece : List ℕ) (fault : Fault) → HearsRefusal r H before piece fault →
+    IsViable r WithinTotal (before ++ piece) → ⊥
+refused_is_not_viable r H before piece fault w v =
+    let text = before ++ piece in
     let front = take (fault.at + 1) text in
     let whole : IsViable r WithinTotal (front ++ drop (fault.at + 1) text) =
     subst (IsViable r WithinTotal) (sym (take-append-drop (fault.at + 1) text)) v in
     w.refused.refused.cause.not_viable
     (viable_under_each r w.refused.refused.rule front (fronts_of_viable_texts_are_viable r WithinTotal front (drop (fault.at + 1) text) whole))
+
+-- if a listener that never stops did not go on, a byte was refused
+pub stop_is_not_viable : (r : Rules) (H : Events → Type 0) (before piece : List ℕ) (e : ScanError) → OnFault e (HearsRefusal r H before piece) →
+    OnStopped e (StopsAfter r (λ (es : Events). ⊥) before piece) → IsViable r WithinTotal (before ++ piece) → ⊥
+stop_is_not_viable r H before piece (stop.Fault fault) refused stopped v = refused_is_not_viable r H before piece fault refused v
+stop_is_not_viable r H before piece (stop.Stopped taken) refused stopped v = stopped.has_stopped
 
 -- the byte is one of those that are looked for, or it is not
 pub goes_on_if_same : (r : Rules) (front : List ℕ) (goes_on begins : Bool) (byte : ℕ) →

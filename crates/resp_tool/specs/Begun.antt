@@ -2,8 +2,8 @@
 use Rattle.std.specs.Prelude.{◌≡◌, ◌⊎◌, ℕ, ◌≤◌, List, ◌++◌, length}
 use Rattle.resp_value.specs.Data.{Datum}
 use Rattle.resp_value.specs.Devices.{last_count}
-use Rattle.resp_value.specs.Rules.{Rules}
-use Rattle.resp_value.specs.Spellings.{AreSpellings}
+use Rattle.resp_value.specs.Rules.{Rules, WithinTotal}
+use Rattle.resp_value.specs.Spellings.{AreSpellings, IsViable}
 use Rattle.resp_scan.specs.Kinds.{rules_of}
 use Rattle.resp_scan.specs.Machine.Tokens.{Place}
 use Rattle.resp_scan.specs.Reading.{Events, IsFaulted}
@@ -21,9 +21,10 @@ pub record BeginsAt (r : Rules) (bytes : List ℕ) (count start : ℕ) : Type 0 
   pub counted : length values ≡ count
   pub placed : length front ≤ last_count → start ≡ length front
 
--- a scanner has read the rest, which contains no complete value, or has rejected a byte
+-- a scanner has read the rest, which contains no complete value, or has rejected a byte of it
 abbrev pub HasReadOrRefused : Place → List ℕ → Type 0
-HasReadOrRefused s rest = ((given : Events) × HasScanned s rest given) ⊎ ((fault : Fault) × IsFaulted s fault)
+HasReadOrRefused s rest = ((given : Events) × HasScanned s rest given) ⊎
+    ((fault : Fault) × IsFaulted s fault × (IsViable (rules_of s) WithinTotal rest → ⊥))
 
 -- the bytes were read, up to the first one that is rejected
 pub record HavePassed (starts : Starts) (bytes : List ℕ) : Type 0 where

@@ -5,14 +5,15 @@ use Rattle.resp_tool.specs.Valid.{AreNext, NamesNext, next_text}
 use Rattle.resp_tool.specs.declared.valid.NextBytes.{NextBytes}
 use Rattle.resp_value.specs.Data.{Datum}
 use Rattle.resp_value.specs.Devices.{Appends, last_count}
-use Rattle.resp_value.specs.Rules.{Rules}
-use Rattle.resp_value.specs.Spellings.{AreSpellings}
+use Rattle.resp_value.specs.Rules.{Rules, WithinTotal}
+use Rattle.resp_value.specs.Spellings.{AreSpellings, IsViable}
 use Rattle.resp_value.specs.declared.cause.Cause.{Cause}
 use Rattle.resp_value.specs.declared.cause.Cause.TheVariants as cause
 use Rattle.resp_value.specs.declared.version.Version.{Version}
 use Rattle.resp_value.specs.declared.version.Version.TheVariants.{Two, Three}
 use Rattle.resp_scan.specs.Kinds.{rules_of}
-use Rattle.resp_tool.specs.Begun.{HavePassed}
+use Rattle.resp_fronts.specs.LeastCompletions.{IsLeast}
+use Rattle.resp_tool.specs.Begun.{HasReadOrRefused, HavePassed}
 use Rattle.resp_print.specs.Shown.{quoted_text}
 use Rattle.resp_args.specs.declared.tool_error.ToolError.{ToolError}
 use Rattle.resp_args.specs.declared.tool_error.ToolError.TheVariants.{Refused, OverLimits, TooManyValues}
@@ -54,6 +55,11 @@ pub record IsPlace (r : Rules) (bytes : List ℕ) (value at start place : ℕ) :
   pub counted : length values + 1 ≡ value
   pub begins : length front ≤ last_count → start ≡ length front
   pub placed : length front + at ≤ last_count → place ≡ length front + at
+
+-- such a place; if all bytes were scanned before, a scanner has read the value up to their end
+pub record FindsPlace {R : Type 0} (old new : Watched R) (bytes : List ℕ) (value at : ℕ) (place : ℕ) : Type 0 where
+  pub is_place : IsPlace (rules_watched old) bytes value at new.starts.start place
+  pub come : old.fresh ≡ 0 → HasReadOrRefused new.starts.scanner is_place.rest
 
 -- the bytes of a value before this byte of it are among the last ones that are in memory
 pub record IsHeld (held : ℕ) (bytes front : List ℕ) (at : ℕ) : Type 0 where
@@ -124,8 +130,25 @@ abbrev pub explanation_lines : List ℕ → List ℕ → List ℕ → List ℕ �
 explanation_lines margin after blank sentence =
     margin ++ (quoted_text after ++ (codes "\n" ++ (blank ++ (codes "^ " ++ (sentence ++ codes "\n")))))
 
--- The place of a byte of a value was written, with some bytes before and after it, and below the place a caret and the
--- sentence. As many of the bytes as `held` says are in memory.
+-- the last bytes of a text, at most this many
+abbrev pub last_of : ℕ → List ℕ → List ℕ
+last_of most text = drop (length text - most) text
+
+-- The 16 bytes before a place, and the 16 bytes from it on, as far as they are among the last bytes that are in memory. If
+-- the place is not among these: no bytes, and two dots.
+pub record AreAround (held : ℕ) (bytes : List ℕ) (place : ℕ) (before after : List ℕ) : Type 0 where
+  pub in_memory : length bytes ≤ place + held → place ≤ length bytes →
+      (before ≡ last_of 16 (drop (length bytes - held) (take place bytes))) × (after ≡ take 16 (drop place bytes))
+  pub elsewhere : (length bytes ≤ place + held → place ≤ length bytes → ⊥) → (before ≡ []) × (after ≡ codes "..")
+
+-- the input ended inside a value
+abbrev pub IsTruncated : ToolError → Type 0
+IsTruncated (Refused value c at) = c ≡ cause.Truncated
+IsTruncated e = ⊥
+
+-- The place of a byte of a value was written, with the bytes before and after it, and below the place a caret and the
+-- sentence. As many of the bytes as `held` says are in memory. If the input ended inside the value, `missing` is the least
+-- number of bytes that complete it.
 pub record ExplainsAt (r options : Rules) (held : ℕ) (bytes : List ℕ) (value at : ℕ) (said said' : Option (List ℕ))
     (error : ToolError) : Type 0 where
   pub start : ℕ
@@ -133,14 +156,16 @@ pub record ExplainsAt (r options : Rules) (held : ℕ) (bytes : List ℕ) (value
   pub is_place : IsPlace r bytes value at start place
   pub before : List ℕ
   pub after : List ℕ
+  pub are_around : length bytes ≤ last_count → AreAround held bytes place before after
   pub missing : ℕ
+  pub counted : IsTruncated error → IsViable r WithinTotal is_place.rest → IsLeast r is_place.rest missing
   pub sentence : List ℕ
   pub says : length bytes ≤ last_count →
       Says options held bytes is_place.front is_place.rest at missing error sentence
   pub told : Appends said said' (explanation_lines (margin_text place before) after
       (replicate (length (margin_text place before)) 32) sentence)
 
--- an error in the input was explained at its place; nothing was written if a device or an allocation failed
+-- an error in the input was explained at its place; nothing was written if a device or an allocation had failed
 abbrev pub Explains : Rules → Rules → ℕ → List ℕ → Option (List ℕ) → Option (List ℕ) → ToolError → Type 0
 Explains r options held bytes said said' (Refused value c at) =
     ExplainsAt r options held bytes value at said said' (Refused value c at)

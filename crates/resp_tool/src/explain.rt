@@ -1,9 +1,10 @@
 //! Explains an error in a stream: the lines of `--explain`.
 
-ghost use Rattle.std.specs.Prelude.{◌≡◌, ℕ, List, IfOk, OnOk, option_map};
-ghost use Rattle.resp_tool.specs.Explained.{Explains, ExplainsAt, HasWatched, IsNextOf, cause_text, double_text, explanation_lines, held_bytes, margin_text, reason_text, rules_watched, sentence_text};
+ghost use Rattle.std.specs.Prelude.{◌≡◌, ◌≢◌, ℕ, [], List, IfErr, IfOk, OnErr, OnOk, option_map};
+ghost use Rattle.resp_tool.specs.Explained.{Explains, ExplainsAt, HasWatched, IsNextOf, IsTruncated, cause_text, double_text, explanation_lines, held_bytes, margin_text, reason_text, rules_watched, sentence_text};
 ghost use Rattle.resp_print.specs.Written.{WritesText};
-ghost use Rattle.resp_value.specs.Devices.{Appends};
+ghost use Rattle.resp_tool.specs.Streams.{failed_to_write};
+ghost use Rattle.resp_value.specs.Devices.{Appends, count_after, failures_after};
 ghost use Rattle.resp_value.specs.Rules.{rules_under};
 
 use crate::valid::NextBytes;
@@ -49,10 +50,14 @@ pub fn explain<R, F: Sink>(
     watched: &mut Watched<R>,
     faults: &mut F,
 ) -> Result<(), ToolError>
-    ensures { (bytes : List ℕ) → HasWatched watched.old bytes →
+    ensures explains { (bytes : List ℕ) → HasWatched watched.old bytes →
         OnOk result (Explains (rules_watched watched.old)
         (rules_under options.now.version options.now.limits) (held_bytes watched.old) bytes
         (F.written faults.old) (F.written faults.new) error.now) }
+    ensures write_failed { F.failures faults.new ≡
+        failures_after (failed_to_write result) (F.failures faults.old) }
+    ensures memory { IfErr result (λ error. error ≢ ToolError.Write → (error ≡ ToolError.Memory) ×
+        Appends (F.written faults.old) (F.written faults.new) []) }
 {
     match error {
         ToolError::Refused { value, cause, at } => {
@@ -75,6 +80,7 @@ fn settle_at_end<R>(cause: Cause, watched: &mut Watched<R>)
         HasWatched watched.new bytes }
     ensures same_rules { rules_watched watched.new ≡ rules_watched watched.old }
     ensures same_size { held_bytes watched.new ≡ held_bytes watched.old }
+    ensures scanned { cause ≡ Cause.Truncated → watched.new.fresh ≡ 0 }
 {
     if cause == Cause::Truncated {
         watched.settle();
@@ -91,10 +97,15 @@ fn explain_at<R, F: Sink>(
     watched: &mut Watched<R>,
     faults: &mut F,
 ) -> Result<(), ToolError>
-    ensures { (bytes : List ℕ) → HasWatched watched.old bytes →
+    ensures explains { (bytes : List ℕ) → HasWatched watched.old bytes →
+        (IsTruncated error.now → watched.old.fresh ≡ 0) →
         OnOk result (ExplainsAt (rules_watched watched.old)
         (rules_under options.now.version options.now.limits) (held_bytes watched.old) bytes value
         at (F.written faults.old) (F.written faults.new) error.now) }
+    ensures write_failed { F.failures faults.new ≡
+        failures_after (failed_to_write result) (F.failures faults.old) }
+    ensures memory { IfErr result (λ error. error ≢ ToolError.Write → (error ≡ ToolError.Memory) ×
+        Appends (F.written faults.old) (F.written faults.new) []) }
 {
     let Some(place) = watched.place_of(value, at) else {
         return Err(ToolError::Memory);
@@ -109,8 +120,7 @@ fn explain_at<R, F: Sink>(
         next,
     };
     let (before, after) = watched.around(place);
-    let mut margin = MemorySink::new(alloc, MOST_IN_MARGIN, MOST_IN_MARGIN)?;
-    write_margin(&mut margin, place, before)?;
+    let margin = margin(alloc, place, before)?;
     let blank = vec![in alloc; b' '; margin.bytes().len()]?;
     write_lines(faults, margin.bytes(), after, blank.as_slice(), &reason)?;
     Ok(())
@@ -136,6 +146,17 @@ fn next_after(
     }
 }
 
+/// Returns the first line up to the place of the error.
+fn margin(alloc: Global, place: u64, before: &[u8]) -> Result<MemorySink, AllocError>
+    ensures { IfOk result (λ margin. margin.held ≡ margin_text place before.now) }
+{
+    let mut margin = MemorySink::new(alloc, MOST_IN_MARGIN, MOST_IN_MARGIN)?;
+    match write_margin(&mut margin, place, before) {
+        Ok(()) => Ok(margin),
+        Err(DeviceFault) => Err(AllocError),
+    }
+}
+
 /// Writes both lines.
 fn write_lines<F: Sink>(
     faults: &mut F,
@@ -144,10 +165,13 @@ fn write_lines<F: Sink>(
     blank: &[u8],
     reason: &Reason<'_>,
 ) -> Result<(), DeviceFault>
-    ensures { OnOk result (Appends (F.written faults.old) (F.written faults.new)
+    ensures lines { OnOk result (Appends (F.written faults.old) (F.written faults.new)
         (explanation_lines margin.now after.now blank.now (reason_text
         (rules_under reason.now.version reason.now.limits.now) reason.now.missing
         reason.now.error.now reason.now.next))) }
+    ensures all_written { OnOk result (F.failures faults.new ≡ F.failures faults.old) }
+    ensures write_failed { OnErr result (F.failures faults.new ≡
+        count_after 1 (F.failures faults.old)) }
 {
     write_text(faults, margin)?;
     write_quoted(faults, after)?;

@@ -2,8 +2,10 @@
 
 ghost use Rattle.std.specs.Prelude.{◌≡◌, ◌≤◌, ◌++◌, ℕ, List, [], true, false};
 ghost use Rattle.resp_scan.specs.Kinds.{rules_of};
-ghost use Rattle.resp_tool.specs.Begun.{BeginsAt, HavePassed};
-ghost use Rattle.resp_value.specs.Rules.{rules_under};
+ghost use Rattle.resp_fronts.specs.LeastCompletions.{IsLeast};
+ghost use Rattle.resp_tool.specs.Begun.{BeginsAt, HasReadOrRefused, HavePassed};
+ghost use Rattle.resp_value.specs.Rules.{WithinTotal, rules_under};
+ghost use Rattle.resp_value.specs.Spellings.{IsViable};
 
 use crate::check::Nobody;
 use resp_scan::scanner::Scanner;
@@ -78,7 +80,11 @@ impl Starts {
 
     /// Returns the least number of bytes that complete the value that was begun. After a rejected
     /// byte the number is unspecified.
-    pub fn needed(&self) -> u64 {
+    pub fn needed(&self) -> u64
+        ensures { (rest : List ℕ) → HasReadOrRefused self.now.scanner rest →
+            IsViable (rules_of self.now.scanner) WithinTotal rest →
+            IsLeast (rules_of self.now.scanner) rest result }
+    {
         self.scanner.needed()
     }
 }

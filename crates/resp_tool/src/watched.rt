@@ -1,11 +1,13 @@
 //! A source that keeps the last bytes of its stream and the place at which its last value begins.
 
 ghost use Rattle.std.specs.Prelude.{◌≡◌, ◌≤◌, ◌+◌, ◌-◌, ◌++◌, ℕ, List, [], length, drop, take, IfOk, IfSome, IsErr, IsSome, false};
-ghost use Rattle.resp_tool.specs.Begun.{HavePassed};
-ghost use Rattle.resp_tool.specs.Explained.{HasWatched, HoldsLast, IsHeld, IsPlace, held_bytes, rules_watched};
+ghost use Rattle.resp_tool.specs.Begun.{HasReadOrRefused, HavePassed};
+ghost use Rattle.resp_tool.specs.Explained.{AreAround, FindsPlace, HasWatched, HoldsLast, IsHeld, held_bytes, rules_watched};
 ghost use Rattle.resp_print.specs.Live.{Records};
 ghost use Rattle.resp_value.specs.Devices.{Reads, count_after, failures_after, last_count, read_fails};
-ghost use Rattle.resp_value.specs.Rules.{rules_under};
+ghost use Rattle.resp_fronts.specs.LeastCompletions.{IsLeast};
+ghost use Rattle.resp_value.specs.Rules.{WithinTotal, rules_under};
+ghost use Rattle.resp_value.specs.Spellings.{IsViable};
 
 use crate::starts::Starts;
 use bytes::BytesMut;
@@ -60,6 +62,7 @@ impl<R> Watched<R> {
         ensures same_rules { rules_watched self.new ≡ rules_watched self.old }
         ensures same_source { self.new.inner ≡ self.old.inner }
         ensures same_size { held_bytes self.new ≡ held_bytes self.old }
+        ensures none_fresh { self.new.fresh ≡ 0 }
     {
         let fresh = last(self.held.as_slice(), self.fresh);
         if !self.starts.pass(fresh, u64::MAX) {
@@ -93,16 +96,19 @@ impl<R> Watched<R> {
     /// Call this once: the bytes after that value are not scanned any more.
     pub(crate) fn place_of(&mut self, value: u64, at: u64) -> Option<u64>
         ensures place { (bytes : List ℕ) → HasWatched self.old bytes →
-            IfSome result (IsPlace (rules_watched self.old) bytes value at self.new.starts.start) }
+            IfSome result (FindsPlace self.old self.new bytes value at) }
         ensures holds { (bytes : List ℕ) → HasWatched self.old bytes →
             IsSome result → HoldsLast self.new bytes }
+        ensures same_rules { rules_watched self.new ≡ rules_watched self.old }
         ensures same_size { held_bytes self.new ≡ held_bytes self.old }
     {
         if self.is_lost || value == 0 {
             return None;
         }
-        let fresh = last(self.held.as_slice(), self.fresh);
-        let _ = self.starts.pass(fresh, value - 1);
+        if self.fresh > 0 {
+            let fresh = last(self.held.as_slice(), self.fresh);
+            let _ = self.starts.pass(fresh, value - 1);
+        }
         if self.starts.values() != value - 1 {
             return None;
         }
@@ -130,13 +136,20 @@ impl<R> Watched<R> {
     }
 
     /// Returns the least number of bytes that complete the value that was begun.
-    pub(crate) fn missing(&self) -> u64 {
+    pub(crate) fn missing(&self) -> u64
+        ensures { (rest : List ℕ) → HasReadOrRefused self.now.starts.scanner rest →
+            IsViable (rules_watched self.now) WithinTotal rest →
+            IsLeast (rules_watched self.now) rest result }
+    {
         self.starts.needed()
     }
 
     /// Returns up to 16 bytes before a place and up to 16 bytes from it on, as far as they were
     /// read. If the bytes at the place are no longer in memory, returns no bytes and `..`.
-    pub(crate) fn around(&self, place: u64) -> (&[u8], &[u8]) {
+    pub(crate) fn around(&self, place: u64) -> (&[u8], &[u8])
+        ensures { (bytes : List ℕ) → HoldsLast self.now bytes → length bytes ≤ last_count →
+            AreAround (held_bytes self.now) bytes place result.0.now result.1.now }
+    {
         let held = self.held.as_slice();
         let first = self.read.saturating_sub(held.len() as u64);
         let index = place.saturating_sub(first);

@@ -1,12 +1,14 @@
 use Rattle.std.proofs.Common.{rules, ◌≡◌, ◌+◌, length, length-append, refl, take, drop, option_map, replicate, subst, sym, ap, arith, ◌∙◌}
-use Rattle.resp_tool.specs.Explained.{IsHeld, explanation_lines, held_bytes, margin_text, reason_text}
+use Rattle.resp_tool.specs.Explained.{AreAround, IsHeld, explanation_lines, held_bytes, reason_text}
+use Rattle.resp_fronts.specs.LeastCompletions.{IsLeast}
 use Rattle.resp_value.specs.Devices.{Appends}
-use Rattle.resp_value.specs.Rules.{rules_under}
+use Rattle.resp_value.specs.Rules.{WithinTotal, rules_under}
+use Rattle.resp_value.specs.Spellings.{IsViable}
 use Rattle.resp_tool.proofs.ValidLemmas.{is_text, of_text, says_reason}
 use Rattle.resp_tool.proofs.explain.explain_at.Goals as goal
 
-pub returns : goal.returns
-returns g c = λ bytes h.
+pub returns-clause-explains : goal.returns-clause-explains
+returns-clause-explains g c = λ bytes h scanned.
     let before = c.around.result.0.now in
     let after = c.around.result.1.now in
     let r = rules_under c.args.options.now.version c.args.options.now.limits in
@@ -15,21 +17,24 @@ returns g c = λ bytes h.
     let sentence = reason_text r missing c.args.error.now next in
     let said = g.F.Sink.written c.args.faults.now in
     let said' = g.F.Sink.written c.write_lines.new.faults in
-    let whole : c.write_margin.new.faults.held ≡ margin_text c.in-Some.place before = search rules in
-    let margin : c.bytes-2.result.now ≡ c.write_margin.new.faults.held = search rules in
     let blank : c.as_slice.result.now ≡ replicate (length c.bytes-2.result.now) 32 = search rules in
-    let place = c.in-Some.ensures.place bytes h in
+    let found = c.in-Some.ensures.place bytes h in
+    let place = found.is_place in
+    let holds = c.in-Some.ensures.holds bytes h refl in
+    let held = held_bytes c.args.watched.now in
+    let same = c.in-Some.ensures.same_rules in
     record {
       start = c.place_of.new.self.starts.start;
       place = c.in-Some.place;
       is_place = place;
       before = before;
       after = after;
+      are_around = λ fits. subst (λ n. AreAround n bytes c.in-Some.place before after) c.in-Some.ensures.same_size (c.around.ensures bytes holds fits);
       missing = missing;
+      counted = λ truncated viable. subst (λ z. IsLeast z place.rest missing) same
+          (c.missing-missing.ensures place.rest (found.come (scanned truncated)) (subst (λ z. IsViable z WithinTotal place.rest) (sym same) viable));
       sentence = sentence;
       says = λ fits.
-          let held = held_bytes c.args.watched.now in
-          let holds = c.in-Some.ensures.holds bytes h refl in
           let size : length bytes ≡ length place.front + length place.rest = ap (λ z. length z) place.whole ∙ length-append place.front place.rest in
           let begins = place.begins (omega (arith, fits, size)) in
           says_reason r held bytes place.front place.rest c.args.at missing c.args.error.now place.whole
@@ -38,6 +43,6 @@ returns g c = λ bytes h.
           (λ is_held. is_text c.front.result (c.front.ensures.none bytes place.front holds begins
           (subst (λ n. IsHeld n bytes place.front c.args.at) (sym c.in-Some.ensures.same_size) is_held)))
           next c.in_ok-next.ensures;
-      told = subst (λ z. Appends said said' (explanation_lines z after (replicate (length z) 32) sentence)) (margin ∙ whole)
-          (subst (λ z. Appends said said' (explanation_lines c.bytes-2.result.now after z sentence)) blank c.in_ok-write_lines.ensures);
+      told = subst (λ z. Appends said said' (explanation_lines z after (replicate (length z) 32) sentence)) (c.bytes-2.ensures ∙ c.in_ok-margin.ensures)
+          (subst (λ z. Appends said said' (explanation_lines c.bytes-2.result.now after z sentence)) blank c.in_ok-write_lines.ensures.lines);
     }

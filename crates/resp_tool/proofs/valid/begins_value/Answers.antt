@@ -1,18 +1,8 @@
-use Rattle.std.proofs.Common.{◌∙◌, List, ℕ, []}
-use Rattle.resp_scan.specs.Listening.{HearsRefusal, OnFault, OnStopped, StopsAfter}
+use Rattle.std.proofs.Common.{◌∙◌, []}
 use Rattle.resp_scan.specs.Reading.{Events}
-use Rattle.resp_scan.specs.declared.event.ScanError.{ScanError}
-use Rattle.resp_scan.specs.declared.event.ScanError.TheVariants as stop
-use Rattle.resp_value.specs.Rules.{Rules, WithinTotal, rules_under}
-use Rattle.resp_value.specs.Spellings.{IsViable}
-use Rattle.resp_tool.proofs.ValidLemmas.{refused_is_not_viable, viable_if_used}
+use Rattle.resp_value.specs.Rules.{rules_under}
+use Rattle.resp_tool.proofs.ValidLemmas.{stop_is_not_viable, viable_if_used}
 use Rattle.resp_tool.proofs.valid.begins_value.Goals as goal
-
--- a listener that never stops leaves a refused byte
-no_value : (r : Rules) (text : List ℕ) (e : ScanError) → OnFault e (HearsRefusal r (λ (es : Events). Unit {0}) [] text) →
-    OnStopped e (StopsAfter r (λ (es : Events). ⊥) [] text) → IsViable r WithinTotal text → ⊥
-no_value r text (stop.Fault fault) refused stopped v = refused_is_not_viable r (λ (es : Events). Unit {0}) text fault refused v
-no_value r text (stop.Stopped taken) refused stopped v = stopped.has_stopped
 
 pub returns-in-Ok : goal.returns-in-Ok
 returns-in-Ok c =
@@ -27,7 +17,7 @@ returns-in-Err c =
     let r = rules_under c.args.version c.args.limits.now in
     let reads = c.new-scanner.ensures.nothing_read in (
       λ e. absurd (cc),
-      λ v. absurd (no_value r c.args.text.now c.in-Err.field-0
+      λ v. absurd (stop_is_not_viable r (λ (es : Events). Unit {0}) [] c.args.text.now c.in-Err.field-0
           (rw c.new-scanner.ensures.rules at c.in-Err.ensures.refusal tt [] [] reads tt)
           (rw c.new-scanner.ensures.rules at c.in-Err.ensures.stopped tt [] [] reads tt) v),
     )

@@ -7,6 +7,7 @@ use Rattle.resp_tool.specs.Begun.{HavePassed}
 use Rattle.resp_tool.specs.declared.starts.Starts.{Starts}
 use Rattle.resp_tool.proofs.BegunLemmas.{begins_on, came, passed_on, passed_refused, passed_value}
 use Rattle.resp_tool.proofs.Rendered.{after_used, done_more, nothing_left}
+use Rattle.resp_tool.proofs.ValidLemmas.{stop_is_not_viable}
 use Rattle.resp_tool.proofs.starts.Starts.pass.Goals as goal
 
 pub loop-self-init : goal.loop-self-init
@@ -26,7 +27,10 @@ returns-in-Err-clause-passed c = λ bytes h is.
     let after : Starts = record { scanner = c.scan.new.self; values = c.loop-self.self.values; start = c.loop-self.self.start } in
     subst (HavePassed after) whole
     (passed_refused c.loop-self.self after (bytes ++ w.done) c.loop-self.rest.now (fault_of c.in-Err.field-0) (w.stands bytes h) c.in-Err.ensures.same_rules refl
-    refl c.in-Err.ensures.fault_is_kept)
+    refl c.in-Err.ensures.fault_is_kept
+    (λ given scanned. stop_is_not_viable (rules_of c.loop-self.self.scanner) (λ (es : Events). Unit {0}) (w.stands bytes h).begins.rest c.loop-self.rest.now
+    c.in-Err.field-0 (c.in-Err.ensures.refusal tt (w.stands bytes h).begins.rest given scanned.reads tt)
+    (c.in-Err.ensures.stopped tt (w.stands bytes h).begins.rest given scanned.reads tt)))
 
 pub returns-in-Err-clause-begins : goal.returns-in-Err-clause-begins
 returns-in-Err-clause-begins c = λ bytes h.
