@@ -194,7 +194,7 @@ text_turns s t rest used out size h =
     let more = whole_text_events h.kind h.bytes in
     record {
       more = more;
-      one = inr (record { kind = h.kind; bytes = h.bytes; tells = h.shows; lent = steps.of_piece; stands_for = refl });
+      one = inr (record { kind = h.kind; bytes = h.bytes; is_text = h.is_text; tells = h.shows; lent = steps.of_piece; stands_for = refl });
       within = steps.of_piece.within;
       rules = steps.same_rules;
       no_fault = steps.no_fault;
@@ -348,6 +348,7 @@ shown_so_far old s t piece rest rest' outs₀ outs index count used slot k more 
     (inr (record {
       kind = h.kind;
       bytes = h.bytes;
+      is_text = h.is_text;
       shows = record { kind_is = h.shows.kind_is; form_is = h.shows.form_is; part_is = h.shows.part_is };
       steps = h.steps;
     }))

@@ -10,7 +10,7 @@ use Rattle.resp_scan.specs.declared.event.Event.{Event}
 use Rattle.resp_scan.specs.declared.event.Event.TheVariants as event
 use Rattle.resp_scan.specs.declared.event.TextKind.{TextKind}
 use Rattle.resp_scan.specs.Kinds.{rules_of}
-use Rattle.resp_scan.specs.Listening.{whole_text_events}
+use Rattle.resp_scan.specs.Listening.{IsTextOf, whole_text_events}
 use Rattle.resp_scan.specs.Machine.Tokens.{Place}
 use Rattle.resp_scan.specs.Parts.{IsPartOf}
 use Rattle.resp_scan.specs.Reading.{AreDue, Events, HasNoValue, HasRead, WhereRead, events_of}
@@ -36,6 +36,7 @@ pub record StandsForEvent (piece : List ℕ) (out : RespEvent) (told : Events) :
 pub record StandsForText (piece : List ℕ) (out : RespEvent) (told : Events) : Type 0 where
   pub kind : TextKind
   pub bytes : List ℕ
+  pub is_text : IsTextOf kind bytes
   pub tells : TellsWhole out kind bytes
   pub lent : IsTextOfPiece piece out.used bytes
   pub stands_for : told ≡ whole_text_events kind bytes

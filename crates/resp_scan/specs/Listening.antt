@@ -48,12 +48,13 @@ Hears HadHeard HasHeard HasStopped more goes_on = (since : _) (given : Events) �
 abbrev pub whole_text_events : TextKind → List ℕ → Events
 whole_text_events kind bytes = e.Text (text_kind_of kind) ∷ (content_events bytes ++ e.TextEnd ∷ [])
 
--- a simple string, a simple error and a double are lines
+-- a simple string, a simple error, a double or a bulk string has these bytes: the first three are lines
 abbrev pub IsTextOf : TextKind → List ℕ → Type 0
 IsTextOf text.Simple bytes = IsLine bytes
 IsTextOf text.Error bytes = IsLine bytes
 IsTextOf text.Double bytes = IsLine bytes
-IsTextOf _ bytes = Unit {0}
+IsTextOf text.Bulk bytes = Unit {0}
+IsTextOf _ bytes = ⊥
 
 -- The results of a call over a piece, for every front that was read and the events that the listener has received of
 -- it.

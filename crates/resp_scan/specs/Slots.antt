@@ -5,7 +5,7 @@ use Rattle.resp_scan.specs.declared.event.Fault.{Fault}
 use Rattle.resp_scan.specs.declared.event.Step.{Step}
 use Rattle.resp_scan.specs.declared.event.TextKind.{TextKind}
 use Rattle.resp_scan.specs.Kinds.{rules_of}
-use Rattle.resp_scan.specs.Listening.{whole_text_events}
+use Rattle.resp_scan.specs.Listening.{IsTextOf, whole_text_events}
 use Rattle.resp_scan.specs.Machine.Tokens.{Place}
 use Rattle.resp_scan.specs.Parts.{IsOfPiece}
 use Rattle.resp_scan.specs.Reading.{AreDue, ComesInTime, EndsValue, Events, HasRead, IfDone, IfNoEvent, IfOtherEvent, IsFaulted, IsRefused, UsesUp, WhereRead, events_of}
@@ -54,6 +54,7 @@ pub record ShowsEvent (Shows : Event → Type 0) (old new : Place) (piece : List
 pub record ShowsText (Shows : TextKind → List ℕ → Type 0) (old new : Place) (piece : List ℕ) (used : ℕ) : Type 0 where
   pub kind : TextKind
   pub bytes : List ℕ
+  pub is_text : IsTextOf kind bytes
   pub shows : Shows kind bytes
   pub steps : StepsOverText old new piece used kind bytes
 

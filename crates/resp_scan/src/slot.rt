@@ -3,6 +3,7 @@
 ghost use Rattle.std.specs.Prelude.{ℕ, List};
 ghost use Rattle.resp_scan.specs.declared.event.Event.{Event};
 ghost use Rattle.resp_scan.specs.declared.event.TextKind.{TextKind};
+ghost use Rattle.resp_scan.specs.Listening.{IsTextOf};
 
 use crate::event::{Event, TextKind};
 
@@ -22,5 +23,6 @@ pub trait Slot {
     /// completely in the piece. This one call replaces [`Event::Text`], [`Event::Part`] and
     /// [`Event::TextEnd`].
     fn text(&mut self, kind: TextKind, bytes: &[u8])
+        requires { IsTextOf kind bytes.now }
         ensures { shows_text self.new kind bytes.now };
 }

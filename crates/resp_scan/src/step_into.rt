@@ -18,6 +18,7 @@ impl Machine {
     ghost use Rattle.resp_scan.specs.Machine.Scan.{out_from};
     ghost use Rattle.resp_scan.specs.Machine.Sound.{IsSound};
     ghost use Rattle.resp_scan.specs.Machine.Slots.{FillsSlot};
+    ghost use Rattle.resp_scan.specs.Listening.{IsTextOf};
     ghost use Rattle.resp_scan.specs.Slots.{IfNotShown};
     ghost use Rattle.resp_scan.specs.Machine.Tokens.{AtStart};
 
@@ -188,6 +189,7 @@ impl Machine {
     ) -> usize
         requires within { head + run + 2 ≤ length piece.now }
         requires few { self.old.taken + head + run + 2 < 2 ^ 64 }
+        requires is_text { IsTextOf kind (take run (drop head piece.now)) }
         ensures machine { self.new ≡ record self.old
             { taken = self.old.taken + (head + run + 2); state = State.Boundary } }
         ensures used { result ≡ head + run + 2 }

@@ -179,6 +179,7 @@ fn word(text: &[u8], most: u64) -> Option<Text<'_>>
 }
 
 /// Returns the bytes after this many bulk strings, each of at most `most` bytes.
+#[inline(always)]
 fn after_words(text: &[u8], count: u64, most: u64) -> Option<&[u8]>
     requires { most < 2 ^ 60 }
     ensures begins { IfSome result (λ rest. (words : List (List ℕ)) × (length words ≡ count) ×
@@ -239,6 +240,17 @@ impl<'a> Words<'a> {
         ensures { result ≡ length self.now }
     {
         self.left
+    }
+
+    /// Returns an iterator over the words that are left.
+    #[inline(always)]
+    pub fn iter(&self) -> Words<'a>
+        ensures { result ≡ self.now }
+    {
+        Words {
+            text: self.text,
+            left: self.left,
+        }
     }
 }
 

@@ -34,7 +34,7 @@ use Rattle.resp_scan.proofs.CallClauses.Faults.{fault_stands}
 use Rattle.resp_scan.proofs.CallClauses.Steps.{if_done, if_in_time, if_no_event, if_other_event, if_refused, stepped_is}
 use Rattle.resp_scan.proofs.CallClauses.Told.{told}
 use Rattle.resp_scan.proofs.CallClauses.Turns.{from_dead, shows}
-use Rattle.resp_scan.proofs.CallClauses.WholeTexts.{content_turn, line_tag, line_turn}
+use Rattle.resp_scan.proofs.CallClauses.WholeTexts.{content_turn, line_tag, line_text_is, line_turn, run_is_line}
 use Rattle.resp_scan.proofs.Soundness.Counted.{IsCounted, counted_out, place_counted, sound_heard}
 use Rattle.resp_scan.proofs.Soundness.Kept.{is_advanced}
 use Rattle.resp_scan.proofs.Soundness.Pieces.{Takes, failed_is, said_kept, used_within}
@@ -122,6 +122,7 @@ pub line_fills : (E : Event → Type 0) (T : TextKind → List ℕ → Type 0) (
 line_fills E T s m m' taken run k p used text sound line out is_line ends run_is machine size shows = inr (record {
   kind = k;
   bytes = take run (drop taken.used p);
+  is_text = line_text_is taken.tag k _ line (run_is_line (drop taken.used p) _ run run_is);
   shows = shows;
   tells = subst (λ n. TellsText s (place_of m') p n k (take run (drop taken.used p))) (sym size)
       (line_tells s m m' taken run k p text sound line out is_line ends run_is machine);
@@ -135,6 +136,7 @@ pub content_fills : (E : Event → Type 0) (T : TextKind → List ℕ → Type 0
 content_fills E T s m m' taken run p used text sound bulk out ends left machine size shows = inr (record {
   kind = kind.Bulk;
   bytes = take run (drop taken.used p);
+  is_text = tt;
   shows = shows;
   tells = subst (λ n. TellsText s (place_of m') p n kind.Bulk (take run (drop taken.used p))) (sym size)
       (content_tells s m m' taken run p text sound bulk out ends left machine);
@@ -221,7 +223,7 @@ pub is_shown : (E : Event → Type 0) (T : TextKind → List ℕ → Type 0) (re
 is_shown E T (Ok (Some used)) s m p text sound (inl h) =
     inl (record { event = h.event; shows = h.shows; steps = steps_are _ s m p text sound h.answers })
 is_shown E T (Ok (Some used)) s m p text sound (inr h) =
-    inr (record { kind = h.kind; bytes = h.bytes; shows = h.shows; steps = steps_over_text s m p used h.kind h.bytes h.tells })
+    inr (record { kind = h.kind; bytes = h.bytes; is_text = h.is_text; shows = h.shows; steps = steps_over_text s m p used h.kind h.bytes h.tells })
 is_shown E T (Ok None) s m p text sound h = tt
 is_shown E T (Err fault) s m p text sound h = tt
 

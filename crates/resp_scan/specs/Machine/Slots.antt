@@ -6,7 +6,7 @@ use Rattle.resp_scan.specs.declared.event.Step.{Step}
 use Rattle.resp_scan.specs.declared.event.TextKind.{TextKind}
 use Rattle.resp_scan.specs.declared.machine.Machine.{Machine}
 use Rattle.resp_scan.specs.Kinds.{rules_of}
-use Rattle.resp_scan.specs.Listening.{whole_text_events}
+use Rattle.resp_scan.specs.Listening.{IsTextOf, whole_text_events}
 use Rattle.resp_scan.specs.Machine.Fields.{place_of}
 use Rattle.resp_scan.specs.Machine.Scan.{out_from}
 use Rattle.resp_scan.specs.Machine.Sound.{IsSound}
@@ -44,6 +44,7 @@ pub record FillsText (Shows : TextKind → List ℕ → Type 0) (s : Place) (m :
     Type 0 where
   pub kind : TextKind
   pub bytes : List ℕ
+  pub is_text : IsTextOf kind bytes
   pub shows : Shows kind bytes
   pub tells : TellsText s (place_of m) piece used kind bytes
 

@@ -1,6 +1,7 @@
-use Rattle.std.proofs.Common.{arith}
+use Rattle.std.proofs.Common.{arith, drop}
 use Rattle.resp_scan.proofs.CallClauses.Calls.{is_text}
 use Rattle.resp_scan.proofs.CallClauses.SlotSteps.{line_fills}
+use Rattle.resp_scan.proofs.CallClauses.WholeTexts.{line_text_is, run_is_line}
 use Rattle.resp_scan.proofs.Soundness.Pieces.{few_taken, taken_within}
 use Rattle.resp_scan.proofs.machine.Machine.show_line.Goals as goal
 
@@ -9,6 +10,11 @@ beyond-after-requires g c = taken_within c.args.taken c.args.self.now c.args.pie
 
 pub show_text-requires-clause-few : goal.show_text-requires-clause-few
 show_text-requires-clause-few g c = omega (arith, c.in-Some.ensures.few, few_taken c.args.taken c.args.self.now c.args.piece.now c.requires.whole)
+
+pub show_text-requires-clause-is_text : goal.show_text-requires-clause-is_text
+show_text-requires-clause-is_text g c =
+    let found = rw c.beyond-after.ensures at c.in-Some.ensures.line in
+    line_text_is c.args.taken.tag c.args.kind _ c.requires.tag (run_is_line (drop c.args.taken.used c.args.piece.now) _ c.in-Some.run' found.2)
 
 pub whole_line-requires : goal.whole_line-requires
 whole_line-requires g c = omega (arith, few_taken c.args.taken c.args.self.now c.args.piece.now c.requires.whole)

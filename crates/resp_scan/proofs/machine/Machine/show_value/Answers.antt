@@ -1,4 +1,4 @@
-use Rattle.std.proofs.Common.{ap, sym, refl, ◌∙◌, arith}
+use Rattle.std.proofs.Common.{ap, sym, refl, ◌∙◌, arith, drop}
 use Rattle.resp_scan.specs.declared.event.TextKind.TheVariants as kind
 use Rattle.resp_scan.specs.declared.machine.EventTag.TheVariants as tag
 use Rattle.resp_scan.specs.Machine.Fields.{place_of}
@@ -6,6 +6,7 @@ use Rattle.resp_scan.specs.Machine.Scan.{scan}
 use Rattle.resp_scan.specs.Machine.Tokens.{AtStart, at}
 use Rattle.resp_scan.proofs.CallClauses.Calls.{is_text}
 use Rattle.resp_scan.proofs.CallClauses.SlotSteps.{content_fills, line_fills}
+use Rattle.resp_scan.proofs.CallClauses.WholeTexts.{line_text_is, run_is_line}
 use Rattle.resp_scan.proofs.Soundness.Pieces.{few_taken}
 use Rattle.resp_scan.proofs.machine.Machine.show_value.Goals as goal
 
@@ -33,6 +34,10 @@ show_text-requires-in-Some-short_line-clause-few g c =
       few_taken (record { used = 1; tag = tag.Simple }) c.short_line.new.self c.args.piece.now
           (c.requires.from.0, c.requires.from.1, begun ∙ sym c.requires.from.2),
     )
+
+pub show_text-requires-in-Some-short_line-clause-is_text : goal.show_text-requires-in-Some-short_line-clause-is_text
+show_text-requires-in-Some-short_line-clause-is_text g c =
+    line_text_is tag.Simple kind.Simple _ refl (run_is_line (drop 1 c.args.piece.now) _ c.in-Some-short_line.run' c.in-Some-short_line.ensures.line.4)
 
 pub returns-in-Some-short_line-clause-fills : goal.returns-in-Some-short_line-clause-fills
 returns-in-Some-short_line-clause-fills g c s sound from =
