@@ -1,8 +1,9 @@
 //! Whole commands.
 
-ghost use Rattle.std.specs.Prelude.{◌≡◌, ◌++◌, [], IfErr, IfNone, IfOk, IfSome, IsErrOf};
+ghost use Rattle.std.specs.Prelude.{◌≡◌, ◌++◌, ◌≤◌, [], length, IfErr, IfNone, IfOk, IfSome, IsErrOf};
 ghost use Rattle.resp_frames.specs.Commands.{EndsOther, IsFrameOfWords};
 ghost use Rattle.resp_frames.specs.Framing.{HasBegun, IsReady, OnFault, RejectsByte, WhereBegun, frame_limits, frame_rules};
+ghost use Rattle.resp_frames.specs.Texts.{used_of};
 ghost use Rattle.resp_scan.specs.Reading.{HasNoValue};
 
 use crate::begun::Begun;
@@ -44,6 +45,8 @@ impl Frames {
         ensures no_command { WhereBegun self.old begun.old (λ front.
             IsErrOf result FrameError.NotACommand →
             EndsOther (frame_rules self.old) (frame_limits self.old) front piece.now) }
+        ensures within { IfOk result (λ found. IfSome found (λ command.
+            used_of command.frame ≤ length piece.now)) }
         ensures ready { IsReady self.old → IsReady self.new }
         ensures same_rules { frame_rules self.new ≡ frame_rules self.old }
     {
@@ -73,6 +76,8 @@ impl Frames {
         ensures no_command { WhereBegun self.old begun.old (λ front.
             IsErrOf result FrameError.NotACommand →
             EndsOther (frame_rules self.old) (frame_limits self.old) front piece.now) }
+        ensures within { IfOk result (λ found. IfSome found (λ command.
+            used_of command.frame ≤ length piece.now)) }
         ensures ready { IsReady self.old → IsReady self.new }
         ensures same_rules { frame_rules self.new ≡ frame_rules self.old }
     {
