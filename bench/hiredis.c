@@ -1,5 +1,5 @@
 /* Measures hiredis' reader on the texts of bench scan. Its object functions build nothing; with the argument `trees`
- * hiredis' own functions build replies, and each reply is freed.
+ * hiredis' own functions build replies, and each reply is freed. With `walk` all values of each reply are counted before.
  *
  * It prints the lines of bench scan, for the same texts in the same pieces. Without another argument it reads short
  * texts. With `times` it reads 32 MiB of each text and prints microseconds; with `once` it reads the text of `times` a
@@ -92,12 +92,29 @@ static void stop(const char *why)
 /* Whether replies are built. */
 static int trees;
 
-/* Counts a reply and its members, without the content of members, and frees it. */
-static void count_built(redisReply *reply)
+/* Whether all values of a reply are counted. */
+static int walks;
+
+/* Counts all values of a reply. */
+static void walk(const redisReply *reply)
 {
-	tally.values += 1 + reply->elements;
+	tally.values++;
 	tally.content += reply->len;
 	tally.sum += reply->integer;
+	for (size_t i = 0; i < reply->elements; i++)
+		walk(reply->element[i]);
+}
+
+/* Counts a reply and its members, without the content of members, or all its values, and frees it. */
+static void count_built(redisReply *reply)
+{
+	if (walks) {
+		walk(reply);
+	} else {
+		tally.values += 1 + reply->elements;
+		tally.content += reply->len;
+		tally.sum += reply->integer;
+	}
 	freeReplyObject(reply);
 }
 
@@ -226,6 +243,8 @@ int main(int argc, char **argv)
 			rounds = 1;
 		if (strcmp(argv[i], "trees") == 0)
 			trees = 1;
+		if (strcmp(argv[i], "walk") == 0)
+			trees = walks = 1;
 	}
 	if (argc > 1 && strcmp(argv[1], "peak") == 0) {
 		read_million();

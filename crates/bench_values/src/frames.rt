@@ -4,9 +4,6 @@
 //! events, with `values` with [`Frames::next`], and with `commands` two commands are read with
 //! [`Frames::next_command`].
 
-mod nobody;
-
-use self::nobody::Nobody;
 use crate::texts::{
     ARRAY_3, BULK_16, BULK_1024, BULK_65536, GET, INTEGER, LINE, MAP, SET, SIMPLE, Text,
 };
@@ -14,6 +11,7 @@ use crate::{has, nanos};
 use anyhow::Result;
 use resp_frames::{Begun, FrameError, Frames};
 use resp_scan::event::ScanError;
+use resp_scan::nobody::Nobody;
 use resp_scan::scanner::Scanner;
 use resp_value::limits::Limits;
 use resp_value::version::Version;
@@ -50,7 +48,7 @@ fn loop_text(scanner: &mut Scanner, text: &[u8]) -> Result<u64, ScanError> {
     for piece in text.chunks(SIZE) {
         let mut rest = piece;
         for _ in 0..u64::MAX {
-            let scanned = scanner.scan(rest, &mut Nobody)?;
+            let scanned = scanner.scan(rest, &mut Nobody::<2>)?;
             rest = &rest[scanned.used..];
             if !scanned.is_whole {
                 break;

@@ -1,12 +1,13 @@
-//! Benchmarks of the encoder, the scanner and the decoder, to be compared with others.
+//! Benchmarks of the encoder, the scanner, the decoder and flat replies, to be compared with others.
 //!
 //! It is a separate program, because the speed of a call depends on the rest of the program. The
-//! arguments name a part, `encode`, `frames` or `scan`, and its options. Without an argument the first
+//! arguments name a part, `encode`, `frames`, `replies` or `scan`, and its options. Without an argument the first
 //! and the last part count their work on short texts, with the same output in every run.
 #![tactic(auto)]
 
 mod encode;
 mod frames;
+mod replies;
 mod scan;
 mod texts;
 
@@ -30,6 +31,9 @@ fn main(rt: HostRuntime) -> Result<()> {
     let words = words.as_slice();
     if has(words, "frames") {
         return frames::bench(&rt, words);
+    }
+    if has(words, "replies") {
+        return replies::bench(&rt, words);
     }
     if !has(words, "scan") {
         encode::bench(&rt, words)?;

@@ -11,13 +11,19 @@ ghost use Rattle.resp_scan.specs.Reading.{Events, HasNoValue, HasRead};
 use crate::begun::{Begun, Held};
 use crate::error::FrameError;
 use crate::frame::Frame;
-use crate::nobody::Nobody;
 use resp_scan::event::{ScanError, Scanned};
+use resp_scan::nobody::Nobody;
 use resp_scan::scanner::Scanner;
 use resp_value::limits::Limits;
 use resp_value::version::Version;
 use std::alloc::{AllocError, Global};
 use std::mem;
+
+/// The scanner's loop of [`Frames::next`].
+const ALONE: usize = 0;
+
+/// The scanner's loop of all other calls.
+const SHARED: usize = 1;
 
 /// Finds the ends of values, for any number of connections of one version and with the same limits.
 ///
@@ -89,7 +95,7 @@ impl Frames {
         ensures same_rules { frame_rules self.new ≡ frame_rules self.old }
     {
         if begun.held.is_none() {
-            return self.begin::<false>(begun, piece);
+            return self.begin::<ALONE>(begun, piece);
         }
         self.next_shared(begun, piece)
     }
@@ -118,13 +124,13 @@ impl Frames {
     {
         match begun.held.take() {
             Some(held) => resume(begun, held, piece),
-            None => self.begin::<true>(begun, piece),
+            None => self.begin::<SHARED>(begun, piece),
         }
     }
 
     /// Does what [`Frames::next`] does if no value has begun.
     #[inline(always)]
-    fn begin<'a, const IS_SHARED: bool>(
+    fn begin<'a, const LOOP: usize>(
         &mut self,
         begun: &mut Begun,
         piece: &'a [u8],
@@ -143,7 +149,7 @@ impl Frames {
         ensures ready { IsReady self.old → IsReady self.new }
         ensures same_rules { frame_rules self.new ≡ frame_rules self.old }
     {
-        let scanned = match scan::<IS_SHARED>(&mut self.scanner, piece) {
+        let scanned = match scan::<LOOP>(&mut self.scanner, piece) {
             Ok(scanned) => scanned,
             Err(error) => {
                 self.restart();
@@ -223,10 +229,7 @@ fn copied(alloc: Global, piece: &[u8], further: u64) -> Result<Vec<u8>, AllocErr
 
 /// Reads the piece up to the end of a value.
 #[inline(always)]
-fn scan<const IS_SHARED: bool>(
-    scanner: &mut Box<Scanner>,
-    piece: &[u8],
-) -> Result<Scanned, ScanError>
+fn scan<const LOOP: usize>(scanner: &mut Box<Scanner>, piece: &[u8]) -> Result<Scanned, ScanError>
     ensures value_whole { (front : List ℕ) (given : Events) → HasRead scanner.old.value front given →
         IfWhole result (λ used. HearsValue (rules_of scanner.old.value) scanner.new.value (λ _. Unit {0})
         (front ++ take used piece.now)) }
@@ -239,7 +242,7 @@ fn scan<const IS_SHARED: bool>(
         scanned.is_whole ≡ false → scanned.used ≡ length piece.now) }
     ensures same_rules { rules_of scanner.new.value ≡ rules_of scanner.old.value }
 {
-    scanner.scan(piece, &mut Nobody::<IS_SHARED>)
+    scanner.scan(piece, &mut Nobody::<LOOP>)
 }
 
 /// Returns the error of a scan by a listener that never stops.
@@ -301,7 +304,7 @@ fn extend(held: &mut Held, piece: &[u8]) -> Result<Scanned, FrameError>
     ensures within { IfOk result (λ scanned. scanned.used ≤ length piece.now) }
     ensures any_value { IsErrOf result FrameError.NotACommand → ⊥ }
 {
-    let scanned = match scan::<true>(&mut held.scanner, piece) {
+    let scanned = match scan::<SHARED>(&mut held.scanner, piece) {
         Ok(scanned) => scanned,
         Err(error) => return Err(frame_error(error)),
     };

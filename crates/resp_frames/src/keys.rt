@@ -28,12 +28,10 @@ impl Frames {
             IfNone result (HasNoKeys name arguments) }
     {
         let text = found.frame.text();
-        let mut command = command_in(text, &self.limits)?;
-        let row = row_of(command.name, command.arguments.next())?;
-        let again = command_in(text, &self.limits)?;
-        let places = key_places(&row.keys, again.arguments)?;
-        let last = command_in(text, &self.limits)?;
-        Some(key_words(places, last.arguments))
+        let command = command_in(text, &self.limits)?;
+        let row = row_of(command.name, command.arguments.iter().next())?;
+        let places = key_places(&row.keys, command.arguments.iter())?;
+        Some(key_words(places, command.arguments))
     }
 }
 

@@ -11,7 +11,6 @@ mod frame;
 mod frames;
 mod keys;
 pub mod laws;
-mod nobody;
 mod words;
 
 pub use begun::Begun;

@@ -22,6 +22,7 @@ pub mod listener;
 mod literals;
 mod machine;
 mod needed;
+pub mod nobody;
 pub mod scanner;
 mod short;
 mod short_arrays;

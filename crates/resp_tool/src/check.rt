@@ -12,71 +12,13 @@ use crate::stream::{MOST_READS, Totals, render_stream};
 use resp_args::tool_error::ToolError;
 use resp_print::live::{LiveSink, LiveSource};
 use resp_print::text::write_number;
-use resp_scan::event::{ScanError, TextKind};
-use resp_scan::listener::Listener;
+use resp_scan::event::ScanError;
+use resp_scan::nobody::Nobody;
 use resp_scan::scanner::Scanner;
 use resp_value::device::{DeviceFault, Sink};
-use resp_value::kind::OpenKind;
 use resp_value::limits::Limits;
 use resp_value::version::Version;
 use std::alloc::Global;
-
-/// A listener that ignores all events and never stops.
-#[derive(Clone, Copy)]
-pub struct Nobody;
-
-impl Listener for Nobody {
-    ghost Origin = { Unit {0} };
-
-    ghost has_heard = { λ _ _ _. Unit {0} };
-
-    ghost has_stopped = { λ _ _ _. ⊥ };
-
-    #[inline]
-    fn null(&mut self) -> bool {
-        true
-    }
-
-    #[inline]
-    fn truth(&mut self, _truth: bool) -> bool {
-        true
-    }
-
-    #[inline]
-    fn int(&mut self, _number: i64) -> bool {
-        true
-    }
-
-    #[inline]
-    fn text(&mut self, _kind: TextKind) -> bool {
-        true
-    }
-
-    #[inline]
-    fn part(&mut self, _part: &[u8]) -> bool {
-        true
-    }
-
-    #[inline]
-    fn text_end(&mut self) -> bool {
-        true
-    }
-
-    #[inline]
-    fn open(&mut self, _kind: OpenKind, _count: Option<u64>) -> bool {
-        true
-    }
-
-    #[inline]
-    fn close(&mut self) -> bool {
-        true
-    }
-
-    #[inline]
-    fn whole_text(&mut self, _kind: TextKind, _bytes: &[u8]) -> bool {
-        true
-    }
-}
 
 /// Writes nothing for a value.
 #[derive(Drop)]
@@ -108,7 +50,7 @@ impl Rendering for Unwritten {
     ghost writes = { ⊥ };
 
     fn take<W: Sink>(&mut self, piece: &[u8], _writer: &mut W) -> Result<Taken, Stop> {
-        match self.scanner.scan(piece, &mut Nobody) {
+        match self.scanner.scan(piece, &mut Nobody::<0>) {
             Ok(scanned) => {
                 // The bytes that were read are viable: this call states it.
                 let _viable = self.scanner.taken();

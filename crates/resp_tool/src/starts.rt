@@ -7,7 +7,7 @@ ghost use Rattle.resp_tool.specs.Begun.{BeginsAt, HasReadOrRefused, HavePassed};
 ghost use Rattle.resp_value.specs.Rules.{WithinTotal, rules_under};
 ghost use Rattle.resp_value.specs.Spellings.{IsViable};
 
-use crate::check::Nobody;
+use resp_scan::nobody::Nobody;
 use resp_scan::scanner::Scanner;
 use resp_value::limits::Limits;
 use resp_value::version::Version;
@@ -47,7 +47,7 @@ impl Starts {
         let mut rest = piece;
         while self.values < most && !rest.is_empty() {
             let taken = self.scanner.taken();
-            let scanned = match self.scanner.scan(rest, &mut Nobody) {
+            let scanned = match self.scanner.scan(rest, &mut Nobody::<0>) {
                 Ok(scanned) => scanned,
                 Err(_) => return true,
             };

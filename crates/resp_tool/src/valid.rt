@@ -6,8 +6,8 @@ ghost use Rattle.resp_tool.specs.Valid.{AreNext, lead_text, name_text, names_tex
 ghost use Rattle.resp_value.specs.Rules.{WithinTotal, rules_under};
 ghost use Rattle.resp_value.specs.Spellings.{IsViable};
 
-use crate::check::Nobody;
 use resp_print::text::{write_quoted, write_text};
+use resp_scan::nobody::Nobody;
 use resp_scan::scanner::Scanner;
 use resp_value::device::{DeviceFault, Sink};
 use resp_value::limits::Limits;
@@ -98,7 +98,7 @@ fn begins_value(text: &[u8], version: Version, limits: &Limits) -> bool
     ensures { (result ≡ true) ↔ IsViable (rules_under version limits.now) WithinTotal text.now }
 {
     let mut scanner = Scanner::new(version, limits);
-    match scanner.scan(text, &mut Nobody) {
+    match scanner.scan(text, &mut Nobody::<0>) {
         Ok(scanned) => scanned.used == text.len(),
         Err(_) => false,
     }

@@ -1,4 +1,4 @@
-use Rattle.std.proofs.Common.{inl, inr, subst, sym}
+use Rattle.std.proofs.Common.{◌∙◌, inl, inr, subst, sym}
 use Rattle.resp_commands.specs.Keys.{AreKeys, TellsNoKeys}
 use Rattle.resp_commands.specs.KeyWords.{AreKeyWords}
 use Rattle.resp_commands.specs.Rows.{HasNoRow, HasRow}
@@ -19,7 +19,7 @@ returns-in_err-row-clause-none c = λ name arguments spelled.
     let words = c.in_ok-command.ensures.words name arguments here in
     on_none c.from_residual-in_err-row.result _ (record {
       first = c.next.result;
-      is_first = subst (λ a. IsFirst a c.next.result) words.1 (first_of c.in_ok-command.command.arguments c.next.new.self c.next.result c.next.ensures.steps);
+      is_first = subst (λ a. IsFirst a c.next.result) (c.iter.ensures ∙ words.1) (first_of c.iter.result c.next.new.self c.next.result c.next.ensures.steps);
       none = inl (subst (λ n. HasNoRow n c.next.result) words.0 c.in_err-row.ensures.unknown);
     })
 
@@ -27,14 +27,13 @@ pub returns-in_err-places-clause-none : goal.returns-in_err-places-clause-none
 returns-in_err-places-clause-none c = λ name arguments spelled.
     let here = subst (λ t. Spells (frame_limits c.args.self.now) t name arguments) (sym c.text-text.ensures) spelled in
     let words = c.in_ok-command.ensures.words name arguments here in
-    let again = c.in_ok-again.ensures.words name arguments here in
     on_none c.from_residual-in_err-places.result _ (record {
       first = c.next.result;
-      is_first = subst (λ a. IsFirst a c.next.result) words.1 (first_of c.in_ok-command.command.arguments c.next.new.self c.next.result c.next.ensures.steps);
+      is_first = subst (λ a. IsFirst a c.next.result) (c.iter.ensures ∙ words.1) (first_of c.iter.result c.next.new.self c.next.result c.next.ensures.steps);
       none = inr (record {
         row = c.in_ok-row.row.now;
         has = subst (λ n. HasRow n c.next.result c.in_ok-row.row.now) words.0 c.in_ok-row.ensures.known;
-        hidden = subst (TellsNoKeys c.in_ok-row.row.now.keys) again.1 c.in_err-places.ensures.none;
+        hidden = subst (TellsNoKeys c.in_ok-row.row.now.keys) (c.iter-2.ensures ∙ words.1) c.in_err-places.ensures.none;
       });
     })
 
@@ -42,25 +41,12 @@ pub returns-clause-keys : goal.returns-clause-keys
 returns-clause-keys c = λ name arguments spelled.
     let here = subst (λ t. Spells (frame_limits c.args.self.now) t name arguments) (sym c.text-text.ensures) spelled in
     let words = c.in_ok-command.ensures.words name arguments here in
-    let again = c.in_ok-again.ensures.words name arguments here in
-    let last = c.in_ok-last.ensures.words name arguments here in
     record {
       first = c.next.result;
-      is_first = subst (λ a. IsFirst a c.next.result) words.1 (first_of c.in_ok-command.command.arguments c.next.new.self c.next.result c.next.ensures.steps);
+      is_first = subst (λ a. IsFirst a c.next.result) (c.iter.ensures ∙ words.1) (first_of c.iter.result c.next.new.self c.next.result c.next.ensures.steps);
       row = c.in_ok-row.row.now;
       has = subst (λ n. HasRow n c.next.result c.in_ok-row.row.now) words.0 c.in_ok-row.ensures.known;
-      keys = subst (λ a. AreKeyWords c.in_ok-row.row.now.keys a c.key_words.result) last.1
+      keys = subst (λ a. AreKeyWords c.in_ok-row.row.now.keys a c.key_words.result) words.1
           (c.key_words.ensures c.in_ok-row.row.now.keys
-          (subst (λ a. AreKeys c.in_ok-row.row.now.keys a c.in_ok-places.places) (sym last.1)
-          (subst (λ a. AreKeys c.in_ok-row.row.now.keys a c.in_ok-places.places) again.1 c.in_ok-places.ensures.keys)));
+          (subst (λ a. AreKeys c.in_ok-row.row.now.keys a c.in_ok-places.places) c.iter-2.ensures c.in_ok-places.ensures.keys));
     }
-
-pub returns-in_err-again-clause-none : goal.returns-in_err-again-clause-none
-returns-in_err-again-clause-none c = λ name arguments spelled.
-    let here = subst (λ t. Spells (frame_limits c.args.self.now) t name arguments) (sym c.text-text.ensures) spelled in
-    on_none c.from_residual-in_err-again.result _ (absurd (c.in_err-again.ensures.found name arguments here))
-
-pub returns-in_err-last-clause-none : goal.returns-in_err-last-clause-none
-returns-in_err-last-clause-none c = λ name arguments spelled.
-    let here = subst (λ t. Spells (frame_limits c.args.self.now) t name arguments) (sym c.text-text.ensures) spelled in
-    on_none c.from_residual-in_err-last.result _ (absurd (c.in_err-last.ensures.found name arguments here))

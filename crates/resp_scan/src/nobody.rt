@@ -1,17 +1,17 @@
-//! A listener without a memory.
+//! A listener that ignores all events.
 
-use resp_scan::event::TextKind;
-use resp_scan::listener::Listener;
+use crate::event::TextKind;
+use crate::listener::Listener;
 use resp_value::kind::OpenKind;
 
 /// Ignores all events, and never stops.
 ///
-/// The scanner's loop is compiled for each parameter. [`Frames::next`](crate::Frames::next) has the
-/// loop of one to itself, so the compiler inlines all of it. The other callers share the second loop.
+/// [`Scanner::scan`](crate::scanner::Scanner::scan) is compiled for each listener, so each number has a
+/// loop of its own. A caller who is alone with a number has a loop that the compiler inlines.
 #[derive(Clone, Copy)]
-pub struct Nobody<const IS_SHARED: bool>;
+pub struct Nobody<const LOOP: usize>;
 
-impl<const IS_SHARED: bool> Listener for Nobody<IS_SHARED> {
+impl<const LOOP: usize> Listener for Nobody<LOOP> {
     ghost Origin = { Unit {0} };
 
     ghost has_heard = { λ _ _ _. Unit {0} };
