@@ -4,7 +4,7 @@ ghost use Rattle.std.specs.Prelude.{◌≡◌, ◌++◌, ◌≤◌, Some, [], le
 ghost use Rattle.resp_frames.specs.Framing.{HasBegun, IsReady, WhereBegun, frame_limits, frame_rules};
 ghost use Rattle.resp_frames.specs.Commands.{IsCommand};
 ghost use Rattle.resp_frames.specs.Texts.{text_of, used_of};
-ghost use Rattle.resp_mux.specs.Multiplexing.{HasPassed, KeepsPassed, WherePassed};
+ghost use Rattle.resp_mux.specs.Multiplexing.{HasPassed, KeepsClients, KeepsPassed, WherePassed};
 ghost use Rattle.resp_mux.specs.Passing.{with_command};
 ghost use Rattle.resp_scan.specs.Reading.{HasNoValue};
 
@@ -40,9 +40,10 @@ pub fn take_command(
         IfOk result (λ found. IfNone found (HasNoValue (front ++ piece.now) ×
         HasBegun (frame_rules frames.old) begun.new (front ++ piece.now) × HasPassed mux.new p)))) }
     ensures unchanged { OnErr result (KeepsPassed mux.old mux.new) }
-    ensures within_piece { WhereBegun frames.old begun.old (λ front.
-        IfOk result (λ found. IfSome found (λ used. used ≤ length piece.now))) }
+    ensures within_piece { IfOk result (λ found. IfSome found (λ used. used ≤ length piece.now)) }
     ensures ready { IsReady frames.old → IsReady frames.new }
+    ensures same_rules { frame_rules frames.new ≡ frame_rules frames.old }
+    ensures same_clients { KeepsClients mux.old mux.new }
 {
     let found = match frames.next_command(begun, piece) {
         Ok(found) => found,
@@ -60,6 +61,7 @@ fn queue(mux: &mut Mux, who: ClientId, frame: &Frame) -> Result<Option<usize>, C
         HasPassed mux.new (with_command who (text_of frame.now) p))) }
     ensures used { IfOk result (λ found. found ≡ Some (used_of frame.now)) }
     ensures unchanged { OnErr result (KeepsPassed mux.old mux.new) }
+    ensures same_clients { KeepsClients mux.old mux.new }
 {
     match mux.forward(who, frame.text()) {
         Ok(()) => Ok(Some(frame.used())),

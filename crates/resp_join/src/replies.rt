@@ -4,7 +4,7 @@ ghost use Rattle.std.specs.Prelude.{◌≡◌, ◌≢◌, ◌++◌, ◌≤◌, S
 ghost use Rattle.std.specs.Str.{byte};
 ghost use Rattle.resp_frames.specs.Framing.{HasBegun, IsReady, WhereBegun, frame_rules};
 ghost use Rattle.resp_frames.specs.Texts.{text_of, used_of};
-ghost use Rattle.resp_mux.specs.Multiplexing.{HasPassed, KeepsPassed, WherePassed};
+ghost use Rattle.resp_mux.specs.Multiplexing.{HasPassed, KeepsClients, KeepsPassed, WherePassed};
 ghost use Rattle.resp_mux.specs.Passing.{with_reply};
 ghost use Rattle.resp_scan.specs.Reading.{HasNoValue, IsSpelled};
 
@@ -41,9 +41,10 @@ pub fn take_reply(
     ensures no_push { WhereBegun frames.old begun.old (λ front. IfOk result (λ found.
         IfSome found (λ used. slice_get (front ++ take used piece.now) 0 ≢ Some (byte ">")))) }
     ensures unchanged { OnErr result (KeepsPassed mux.old mux.new) }
-    ensures within_piece { WhereBegun frames.old begun.old (λ front.
-        IfOk result (λ found. IfSome found (λ used. used ≤ length piece.now))) }
+    ensures within_piece { IfOk result (λ found. IfSome found (λ used. used ≤ length piece.now)) }
     ensures ready { IsReady frames.old → IsReady frames.new }
+    ensures same_rules { frame_rules frames.new ≡ frame_rules frames.old }
+    ensures same_clients { KeepsClients mux.old mux.new }
 {
     let found = match frames.next(begun, piece) {
         Ok(found) => found,
@@ -62,6 +63,7 @@ fn give(mux: &mut Mux, frame: &Frame) -> Result<Option<usize>, ReplyError>
     ensures used { IfOk result (λ found. found ≡ Some (used_of frame.now)) }
     ensures no_push { OnOk result (slice_get (text_of frame.now) 0 ≢ Some (byte ">")) }
     ensures unchanged { OnErr result (KeepsPassed mux.old mux.new) }
+    ensures same_clients { KeepsClients mux.old mux.new }
 {
     if frame.text().first() == Some(&b'>') {
         return Err(ReplyError::Push);
