@@ -1,0 +1,5 @@
+pub mod Takings
+pub mod Holdings
+pub mod Replyings
+pub mod Gives
+pub mod Readings

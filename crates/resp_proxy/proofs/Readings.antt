@@ -1,0 +1,104 @@
+-- How bytes are read.
+use Rattle.std.proofs.Common.{◌≡◌, ◌∙◌, ℕ, true, List, [], ◌++◌, take, drop, Option, None, Some, Ok, Err, ap, refl, sym}
+use Rattle.std.proofs.lemmas.List.{append-nil, take-append-drop}
+use Rattle.resp_frames.specs.declared.begun.Begun.{Begun}
+use Rattle.resp_frames.specs.Framing.{HasBegun}
+use Rattle.resp_mux.specs.declared.client_id.ClientId.{ClientId}
+use Rattle.resp_mux.specs.Multiplexing.{HasPassed, Multiplexed}
+use Rattle.resp_mux.specs.Passing.{Passed, with_sent}
+use Rattle.resp_proxy.specs.Clients.{Holds, is_closing}
+use Rattle.resp_proxy.specs.declared.client.Client.{Client}
+use Rattle.resp_proxy.specs.declared.error.ClientError.TheVariants as error
+use Rattle.resp_proxy.specs.declared.error.ServerError.{ServerError}
+use Rattle.resp_proxy.specs.Replying.{TakesReplies}
+use Rattle.resp_proxy.specs.Visiting.{HaveCome, ReadsClient, ReadsServer, SendsSome}
+use Rattle.resp_proxy.proofs.Gives.{appends-none}
+use Rattle.resp_value.specs.declared.device.DeviceFault.{DeviceFault}
+use Rattle.resp_value.specs.Devices.{Reads}
+use Rattle.resp_value.specs.Rules.{Rules}
+
+-- the first bytes were read
+pub read-bytes : (left left' : Option (List ℕ)) (into : List ℕ) (count : ℕ) → Reads left left' into (Ok count) → HaveCome left left' (take count into)
+read-bytes None left' into count r = tt
+read-bytes (Some left) left' into count r =
+    (drop count left, sym (take-append-drop count left) ∙ ap (λ z. z ++ drop count left) (sym r.bytes), r.beyond)
+
+-- a read failed
+pub read-nothing : (left left' : Option (List ℕ)) (into : List ℕ) (fault : DeviceFault) → Reads left left' into (Err fault) → HaveCome left left' []
+read-nothing None left' into fault r = tt
+read-nothing (Some left) left' into fault r = (left, refl, r)
+
+-- nothing was read
+pub not-read : (left : Option (List ℕ)) → HaveCome left left []
+not-read None = tt
+not-read (Some left) = (left, refl, refl)
+
+-- no byte came from the client
+pub nothing-came : (rules : Rules) (who : ClientId) (left left' : Option (List ℕ)) (held : List ℕ) (c : Client) (m : Multiplexed) → HaveCome left left' [] →
+    Holds rules c held → ReadsClient rules who left left' held c m m
+nothing-came rules who left left' held c m come h = record {
+  came = [];
+  come = come;
+  end = Ok tt;
+  takes = record {
+    taken = [];
+    after = held;
+    last = None;
+    whole = append-nil held;
+    commands = tt;
+    passed = λ p passed. passed;
+    holds = (refl, h);
+    shut = tt;
+  };
+}
+
+-- the client is closing, and what it holds is lost
+pub ended : (rules : Rules) (who : ClientId) (left left' : Option (List ℕ)) (came held : List ℕ) (c : Client) (m : Multiplexed) → HaveCome left left' came →
+    Holds rules c [] → is_closing c ≡ true → ReadsClient rules who left left' held c m m
+ended rules who left left' came held c m come h closing = record {
+  came = came;
+  come = come;
+  end = Err error.Closing;
+  takes = record {
+    taken = [];
+    after = held ++ came;
+    last = None;
+    whole = refl;
+    commands = tt;
+    passed = λ p passed. passed;
+    holds = tt;
+    shut = (h, closing);
+  };
+}
+
+-- no byte came from the server
+pub no-reply-came : (rules : Rules) (left left' : Option (List ℕ)) (front : List ℕ) (b : Begun) (m : Multiplexed) → HaveCome left left' [] →
+    HasBegun rules b front → ReadsServer rules left left' front b (Ok tt) m m
+no-reply-came rules left left' front b m come h = record {
+  came = [];
+  come = come;
+  takes = λ p passed. record { replies = []; after = front; whole = append-nil front; spelled = tt; passed = passed; begun = h };
+}
+
+sent-nothing : (m : Multiplexed) (p : Passed) → HasPassed m p → HasPassed m (with_sent [] p)
+sent-nothing m p s = record {
+  open_commands = s.open_commands;
+  answered = s.answered;
+  whole = s.whole;
+  each_one = s.each_one;
+  in_order = ap (λ text. text ++ m.unsent) (append-nil p.sent) ∙ s.in_order;
+  served = s.served;
+  numbered = s.numbered;
+  seated = s.seated;
+  ungiven = s.ungiven;
+}
+
+-- nothing was written to the server
+pub none-sent : (out : Option (List ℕ)) (m : Multiplexed) → SendsSome out out m m
+none-sent out m = record { gone = []; written = appends-none out; front = (m.unsent, refl); passed = λ p h. sent-nothing m p h }
+
+-- the bytes after an error are lost, whatever is begun
+pub replies-lost : (rules : Rules) (bytes : List ℕ) (b b' : Begun) (e : ServerError) (p : Passed) (m : Multiplexed) → TakesReplies rules bytes b (Err e) p m →
+    TakesReplies rules bytes b' (Err e) p m
+replies-lost rules bytes b b' e p m t =
+    record { replies = t.replies; after = t.after; whole = t.whole; spelled = t.spelled; passed = t.passed; begun = tt }

@@ -1,0 +1,148 @@
+-- How replies are taken, one after another.
+use Rattle.std.proofs.Common.{◌≡◌, ◌∙◌, ℕ, ◌+◌, ◌≤◌, List, [], ◌∷◌, ◌++◌, length, take, drop, Option, None, Some, IfNone, IfSome, OnOk, Result, Ok, Err, ap, append_assoc, arith, refl, subst, sym}
+use Rattle.std.specs.List.{AllByRecursion, concat}
+use Rattle.std.proofs.Math.Seq.{take-add, take-length}
+use Rattle.std.proofs.lemmas.List.{append-nil, take-append-drop}
+use Rattle.std.proofs.lemmas.List.Folds.{concat-append}
+use Rattle.resp_frames.specs.declared.begun.Begun.{Begun}
+use Rattle.resp_frames.specs.declared.frames.Frames.{Frames}
+use Rattle.resp_frames.specs.Framing.{HasBegun, IsReady, WhereBegun, frame_rules}
+use Rattle.resp_mux.specs.Multiplexing.{HasPassed, KeepsClients, KeepsPassed, Multiplexed, WherePassed}
+use Rattle.resp_mux.specs.Passing.{Passed, with_reply}
+use Rattle.resp_proxy.specs.declared.error.ServerError.{ServerError}
+use Rattle.resp_proxy.specs.Replying.{HasReplied, TakesReplies, with_each_reply}
+use Rattle.resp_proxy.proofs.Takings.{kept-clients, rest-of, whole-rest}
+use Rattle.resp_scan.specs.Reading.{HasNoValue, IsSpelled}
+use Rattle.resp_value.specs.Rules.{Rules}
+
+replies-last : (replies : List (List ℕ)) (reply : List ℕ) (p : Passed) → with_each_reply (replies ++ reply ∷ []) p ≡ with_reply reply (with_each_reply replies p)
+replies-last [] reply p = refl
+replies-last (r ∷ replies) reply p = replies-last replies reply (with_reply r p)
+
+all-last : (P : List ℕ → Type 0) (xs : List (List ℕ)) (x : List ℕ) → AllByRecursion P xs → P x → AllByRecursion P (xs ++ x ∷ [])
+all-last P [] x all last = (last, tt)
+all-last P (y ∷ xs) x all last = (all.0, all-last P xs x all.1 last)
+
+-- one reply ends after this many bytes of the piece
+abbrev pub OneReply : Rules → List ℕ → List ℕ → Begun → ℕ → Passed → Multiplexed → Type 0
+OneReply rules front piece b used p new =
+    IsSpelled rules (front ++ take used piece) × HasBegun rules b [] × HasPassed new (with_reply (front ++ take used piece) p)
+
+-- one more reply was taken
+takes-reply : (rules : Rules) (bytes more : List ℕ) (b b' : Begun) (p : Passed) (mid new : Multiplexed) (t : TakesReplies rules bytes b (Ok tt) p mid) →
+    IsSpelled rules (t.after ++ more) × HasBegun rules b' [] × HasPassed new (with_reply (t.after ++ more) (with_each_reply t.replies p)) →
+    TakesReplies rules (bytes ++ more) b' (Ok tt) p new
+takes-reply rules bytes more b b' p mid new t one =
+    let reply = t.after ++ more in
+    record {
+      replies = t.replies ++ reply ∷ [];
+      after = [];
+      whole = ap (λ z. z ++ more) t.whole ∙ append_assoc (concat t.replies) t.after more ∙ ap (λ z. concat t.replies ++ z) (sym (append-nil reply)) ∙
+          sym (concat-append t.replies (reply ∷ [])) ∙ sym (append-nil (concat (t.replies ++ reply ∷ [])));
+      spelled = all-last (IsSpelled rules) t.replies reply t.spelled one.0;
+      passed = subst (HasPassed new) (sym (replies-last t.replies reply p)) one.2;
+      begun = one.1;
+    }
+
+-- more bytes came, and no reply has ended
+takes-more : (rules : Rules) (bytes more : List ℕ) (b b' : Begun) (end : Result (Unit {0}) ServerError) (p : Passed) (mid new : Multiplexed)
+    (t : TakesReplies rules bytes b (Ok tt) p mid) → HasPassed new (with_each_reply t.replies p) → OnOk end (HasBegun rules b' (t.after ++ more)) →
+    TakesReplies rules (bytes ++ more) b' end p new
+takes-more rules bytes more b b' end p mid new t kept begun = record {
+  replies = t.replies;
+  after = t.after ++ more;
+  whole = ap (λ z. z ++ more) t.whole ∙ append_assoc (concat t.replies) t.after more;
+  spelled = t.spelled;
+  passed = kept;
+  begun = begun;
+}
+
+one-reply : (rules : Rules) (front piece : List ℕ) (b : Begun) (found : Option ℕ) (used : ℕ) (p : Passed) (new : Multiplexed) → found ≡ Some used →
+    IfSome found (λ used. OneReply rules front piece b used p new) → OneReply rules front piece b used p new
+one-reply rules front piece b found used p new e one = subst (λ o. IfSome o (λ used. OneReply rules front piece b used p new)) e one
+
+-- the loop has taken one more reply
+pub more-replied : (f f1 f2 : Frames) (b b1 b2 : Begun) (old mid new : Multiplexed) (piece : List ℕ) (used count : ℕ) (found : Option ℕ) →
+    HasReplied f b old piece used f1 b1 mid → found ≡ Some count → used + count ≤ length piece → KeepsClients mid new → (IsReady f1 → IsReady f2) →
+    frame_rules f2 ≡ frame_rules f1 →
+    WhereBegun f1 b1 (λ front. WherePassed mid (λ p. IfSome found (λ n. OneReply (frame_rules f1) front (rest-of used piece) b2 n p new))) →
+    HasReplied f b old piece (used + count) f2 b2 new
+more-replied f f1 f2 b b1 b2 old mid new piece used count found h e within clients ready same taken = record {
+  within = within;
+  ready = λ r. ready (h.ready r);
+  same_rules = same ∙ h.same_rules;
+  clients = kept-clients old mid new h.clients clients;
+  taken = λ r front begun p passed.
+      let t = h.taken r front begun p passed in
+      let q = with_each_reply t.replies p in
+      let one : OneReply (frame_rules f1) t.after (rest-of used piece) b2 count q new =
+      one-reply (frame_rules f1) t.after (rest-of used piece) b2 found count q new e
+      (taken (h.ready r) t.after (subst (λ rules. HasBegun rules b1 t.after) (sym h.same_rules) t.begun) q t.passed) in
+      let here : OneReply (frame_rules f) t.after (drop used piece) b2 count q new =
+      subst (λ rest. OneReply (frame_rules f) t.after rest b2 count q new) (whole-rest used piece)
+      (subst (λ rules. OneReply rules t.after (rest-of used piece) b2 count q new) h.same_rules one) in
+      let joined : (front ++ take used piece) ++ take count (drop used piece) ≡ front ++ take (used + count) piece =
+      append_assoc front (take used piece) (take count (drop used piece)) ∙ ap (λ z. front ++ z) (sym (take-add used count piece)) in
+      subst (λ bytes. TakesReplies (frame_rules f) bytes b2 (Ok tt) p new) joined
+      (takes-reply (frame_rules f) (front ++ take used piece) (take count (drop used piece)) b1 b2 p mid new t here);
+}
+
+-- all bytes came, and no more replies have ended
+pub rest-replied : (f f1 : Frames) (b b1 b2 : Begun) (old mid new : Multiplexed) (piece : List ℕ) (used : ℕ) (end : Result (Unit {0}) ServerError) →
+    HasReplied f b old piece used f1 b1 mid →
+    (IsReady f → (after : List ℕ) (q : Passed) → HasBegun (frame_rules f) b1 after → HasPassed mid q →
+    HasPassed new q × OnOk end (HasBegun (frame_rules f) b2 (after ++ drop used piece))) →
+    WhereBegun f b (λ front. WherePassed old (λ p. TakesReplies (frame_rules f) (front ++ piece) b2 end p new))
+rest-replied f f1 b b1 b2 old mid new piece used end h rest r front begun p passed =
+    let t = h.taken r front begun p passed in
+    let left = rest r t.after (with_each_reply t.replies p) t.begun t.passed in
+    let joined : (front ++ take used piece) ++ drop used piece ≡ front ++ piece =
+    append_assoc front (take used piece) (drop used piece) ∙ ap (λ z. front ++ z) (take-append-drop used piece) in
+    subst (λ bytes. TakesReplies (frame_rules f) bytes b2 end p new) joined
+    (takes-more (frame_rules f) (front ++ take used piece) (drop used piece) b1 b2 end p mid new t left.0 left.1)
+
+no-reply : (rules : Rules) (text : List ℕ) (b : Begun) (found : Option ℕ) (q : Passed) (new : Multiplexed) → found ≡ None →
+    IfNone found (HasNoValue text × HasBegun rules b text × HasPassed new q) → HasPassed new q × HasBegun rules b text
+no-reply rules text b found q new e none =
+    let h = subst (λ o. IfNone o (HasNoValue text × HasBegun rules b text × HasPassed new q)) e none in (h.2, h.1)
+
+-- the last bytes of the piece begin a reply
+pub begun-replied : (f f1 : Frames) (b b1 b2 : Begun) (old mid new : Multiplexed) (piece : List ℕ) (used : ℕ) (found : Option ℕ) →
+    HasReplied f b old piece used f1 b1 mid → found ≡ None →
+    WhereBegun f1 b1 (λ front. WherePassed mid (λ p. IfNone found
+    (HasNoValue (front ++ rest-of used piece) × HasBegun (frame_rules f1) b2 (front ++ rest-of used piece) × HasPassed new p))) →
+    WhereBegun f b (λ front. WherePassed old (λ p. TakesReplies (frame_rules f) (front ++ piece) b2 (Ok tt) p new))
+begun-replied f f1 b b1 b2 old mid new piece used found h e more =
+    rest-replied f f1 b b1 b2 old mid new piece used (Ok tt) h
+    (λ r after q begun passed.
+    let none = no-reply (frame_rules f1) (after ++ rest-of used piece) b2 found q new e
+    (more (h.ready r) after (subst (λ rules. HasBegun rules b1 after) (sym h.same_rules) begun) q passed) in (
+      none.0,
+      subst (λ rest. HasBegun (frame_rules f) b2 (after ++ rest)) (whole-rest used piece)
+          (subst (λ rules. HasBegun rules b2 (after ++ rest-of used piece)) h.same_rules none.1),
+    ))
+
+-- the connection is not usable
+pub end-replied : (f f1 : Frames) (b b1 b2 : Begun) (old mid new : Multiplexed) (piece : List ℕ) (used : ℕ) (e : ServerError) →
+    HasReplied f b old piece used f1 b1 mid → KeepsPassed mid new →
+    WhereBegun f b (λ front. WherePassed old (λ p. TakesReplies (frame_rules f) (front ++ piece) b2 (Err e) p new))
+end-replied f f1 b b1 b2 old mid new piece used e h kept =
+    rest-replied f f1 b b1 b2 old mid new piece used (Err e) h (λ r after q begun passed. (kept q passed, tt))
+
+-- a reply ended where it began
+pub stuck-replied : (f f1 f2 : Frames) (b b1 b2 : Begun) (old mid new : Multiplexed) (piece : List ℕ) (used : ℕ) (found : Option ℕ) (e : ServerError) →
+    HasReplied f b old piece used f1 b1 mid → found ≡ Some 0 → KeepsClients mid new → (IsReady f1 → IsReady f2) → frame_rules f2 ≡ frame_rules f1 →
+    WhereBegun f1 b1 (λ front. WherePassed mid (λ p. IfSome found (λ n. OneReply (frame_rules f1) front (rest-of used piece) b2 n p new))) →
+    WhereBegun f b (λ front. WherePassed old (λ p. TakesReplies (frame_rules f) (front ++ piece) b2 (Err e) p new))
+stuck-replied f f1 f2 b b1 b2 old mid new piece used found e h is clients ready same taken =
+    let none : used + 0 ≡ used = omega arith in
+    let within : used + 0 ≤ length piece = subst (λ n. n ≤ length piece) (sym none) h.within in
+    end-replied f f2 b b2 b2 old new new piece (used + 0) e (more-replied f f1 f2 b b1 b2 old mid new piece used 0 found h is within clients ready same taken)
+    (λ p passed. passed)
+
+-- all bytes were taken
+pub all-replied : (f f1 : Frames) (b b1 : Begun) (old new : Multiplexed) (piece : List ℕ) (used : ℕ) → HasReplied f b old piece used f1 b1 new →
+    length piece ≤ used → WhereBegun f b (λ front. WherePassed old (λ p. TakesReplies (frame_rules f) (front ++ piece) b1 (Ok tt) p new))
+all-replied f f1 b b1 old new piece used h end r front begun p passed =
+    let same : used ≡ length piece = let w = h.within in omega (arith, w, end) in
+    subst (λ z. TakesReplies (frame_rules f) (front ++ z) b1 (Ok tt) p new) (ap (λ n. take n piece) same ∙ take-length piece) (h.taken r front begun p passed)

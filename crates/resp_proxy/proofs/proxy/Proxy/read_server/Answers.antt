@@ -1,0 +1,18 @@
+use Rattle.std.proofs.Common.{take}
+use Rattle.resp_proxy.specs.Proxies.{mux_of, reply_rules_of, server_begun}
+use Rattle.resp_proxy.proofs.Readings.{no-reply-came, read-bytes, read-nothing}
+use Rattle.resp_proxy.proofs.proxy.Proxy.read_server.Goals as goal
+
+pub returns-in-Ok-clause-reads : goal.returns-in-Ok-clause-reads
+returns-in-Ok-clause-reads g c front h = record {
+  came = take c.in-Ok.count c.read.new.into;
+  come = read-bytes (g.R.Source.remaining c.args.reader.now) (g.R.Source.remaining c.read.new.self) c.read.new.into c.in-Ok.count c.in-Ok.ensures.bytes;
+  takes = c.from_server.ensures.taken front h;
+}
+
+pub returns-in-Err-clause-reads : goal.returns-in-Err-clause-reads
+returns-in-Err-clause-reads g c front h =
+    let left = g.R.Source.remaining c.args.reader.now in
+    let left' = g.R.Source.remaining c.read.new.self in
+    no-reply-came (reply_rules_of c.args.self.now) left left' front (server_begun c.args.self.now) (mux_of c.args.self.now)
+    (read-nothing left left' c.read.new.into c.in-Err.field-0 c.in-Err.ensures.bytes) h

@@ -1,0 +1,19 @@
+-- The bytes that came from a client and are not yet a command.
+use Rattle.std.specs.Prelude.{◌≡◌, Bool, List, ℕ, ◌++◌}
+use Rattle.resp_frames.specs.Framing.{HasBegun}
+use Rattle.resp_mux.specs.declared.client_id.ClientId.{ClientId}
+use Rattle.resp_proxy.specs.declared.client.Client.{Client}
+use Rattle.resp_value.specs.Rules.{Rules}
+
+abbrev pub client_id : Client → ClientId
+client_id c = c.id
+
+-- nothing more is taken from the client
+abbrev pub is_closing : Client → Bool
+is_closing c = c.is_closing
+
+-- these bytes came from the client, and are not yet a command
+pub record Holds (rules : Rules) (c : Client) (held : List ℕ) : Type 0 where
+  pub front : List ℕ
+  pub begun : HasBegun rules c.begun front
+  pub whole : held ≡ front ++ c.rest.items

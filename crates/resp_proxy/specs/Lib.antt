@@ -1,0 +1,7 @@
+-- The definitions that callers read.
+pub mod Clients
+pub mod Proxies
+pub mod Replying
+pub mod Room
+pub mod Taking
+pub mod Visiting

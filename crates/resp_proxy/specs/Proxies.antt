@@ -1,0 +1,61 @@
+-- The state of a proxy.
+use Rattle.std.specs.Prelude.{◌≡◌, ℕ, List, None, codes}
+use Rattle.resp_frames.specs.declared.begun.Begun.{Begun}
+use Rattle.resp_frames.specs.declared.frames.Frames.{Frames}
+use Rattle.resp_frames.specs.Framing.{HasBegun, IsReady}
+use Rattle.resp_mux.specs.declared.client_id.ClientId.{ClientId}
+use Rattle.resp_mux.specs.Multiplexing.{Multiplexed, waiting_for}
+use Rattle.resp_proxy.specs.declared.client.Client.{Client}
+use Rattle.resp_proxy.specs.declared.settings.Settings.{Settings}
+use Rattle.resp_proxy.specs.Clients.{Holds}
+use Rattle.resp_value.specs.Rules.{Rules}
+
+pub record Proxied : Type 0 where
+  pub mux : Multiplexed
+  pub settings : Settings
+  -- the rules of commands, and those of replies
+  pub rules : Rules
+  pub reply_rules : Rules
+  -- the reply that the server has begun
+  pub begun : Begun
+
+abbrev pub mux_of : Proxied → Multiplexed
+mux_of p = p.mux
+
+abbrev pub rules_of : Proxied → Rules
+rules_of p = p.rules
+
+abbrev pub reply_rules_of : Proxied → Rules
+reply_rules_of p = p.reply_rules
+
+-- the reply that the server has begun
+abbrev pub server_begun : Proxied → Begun
+server_begun p = p.begun
+
+abbrev pub settings_of : Proxied → Settings
+settings_of p = p.settings
+
+-- no client is open
+abbrev pub HasNoClient : Multiplexed → Type 0
+HasNoClient m = (who : ClientId) → waiting_for m who ≡ None
+
+-- the server has begun a reply with these bytes
+abbrev pub HasBegunBy : Proxied → List ℕ → Type 0
+HasBegunBy p front = HasBegun p.reply_rules p.begun front
+
+-- this is true of the bytes with which the server has begun a reply
+abbrev pub WhereBegunBy : Proxied → (List ℕ → Type 0) → Type 0
+WhereBegunBy p P = (front : List ℕ) → HasBegunBy p front → P front
+
+-- this is true of the bytes that came from a client and are not yet a command
+abbrev pub WhereHeld : Proxied → Client → (List ℕ → Type 0) → Type 0
+WhereHeld p c P = (held : List ℕ) → Holds p.rules c held → P held
+
+-- the answer to each command that waits when the connection to the server is lost
+abbrev pub lost_text : List ℕ
+lost_text = codes "-ERR connection to server lost; the command may have run\r\n"
+
+-- the scanners are between two values
+pub record IsSound (commands replies : Frames) : Type 0 where
+  pub commands_ready : IsReady commands
+  pub replies_ready : IsReady replies

@@ -1,0 +1,36 @@
+-- The replies that are taken from the bytes of the server.
+use Rattle.std.specs.Prelude.{◌≡◌, ℕ, ◌≤◌, List, [], ◌∷◌, ◌++◌, length, take, Ok, OnOk, Result}
+use Rattle.std.specs.List.{AllByRecursion, concat}
+use Rattle.resp_frames.specs.declared.begun.Begun.{Begun}
+use Rattle.resp_frames.specs.declared.frames.Frames.{Frames}
+use Rattle.resp_frames.specs.Framing.{HasBegun, IsReady, WhereBegun, frame_rules}
+use Rattle.resp_mux.specs.Multiplexing.{HasPassed, KeepsClients, Multiplexed, WherePassed}
+use Rattle.resp_mux.specs.Passing.{Passed, with_reply}
+use Rattle.resp_proxy.specs.declared.error.ServerError.{ServerError}
+use Rattle.resp_scan.specs.Reading.{IsSpelled}
+use Rattle.resp_value.specs.Rules.{Rules}
+
+-- the server sent these replies, in order: each is the answer to the first command without one
+abbrev pub with_each_reply : List (List ℕ) → Passed → Passed
+with_each_reply [] p = p
+with_each_reply (reply ∷ replies) p = with_each_reply replies (with_reply reply p)
+
+-- After this had passed, bytes of the server were these whole replies and then other bytes, and each reply went to the
+-- client of its command. The other bytes are begun, or lost after an error.
+pub record TakesReplies (rules : Rules) (bytes : List ℕ) (b : Begun) (end : Result (Unit {0}) ServerError) (p : Passed) (new : Multiplexed) : Type 0 where
+  pub replies : List (List ℕ)
+  pub after : List ℕ
+  pub whole : bytes ≡ concat replies ++ after
+  pub spelled : AllByRecursion (IsSpelled rules) replies
+  pub passed : HasPassed new (with_each_reply replies p)
+  pub begun : OnOk end (HasBegun rules b after)
+
+-- these bytes of a piece were taken
+pub record HasReplied (frames : Frames) (b : Begun) (old : Multiplexed) (piece : List ℕ) (used : ℕ) (frames' : Frames) (b' : Begun)
+    (new : Multiplexed) : Type 0 where
+  pub within : used ≤ length piece
+  pub ready : IsReady frames → IsReady frames'
+  pub same_rules : frame_rules frames' ≡ frame_rules frames
+  pub clients : KeepsClients old new
+  pub taken : WhereBegun frames b (λ front. WherePassed old (λ p.
+      TakesReplies (frame_rules frames) (front ++ take used piece) b' (Ok tt) p new))

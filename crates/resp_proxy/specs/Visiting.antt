@@ -1,0 +1,71 @@
+-- The bytes that a visit reads and writes.
+use Rattle.std.specs.Prelude.{◌≡◌, ℕ, List, [], ◌++◌, Option, None, Some, MatchOption, Result}
+use Rattle.resp_frames.specs.declared.begun.Begun.{Begun}
+use Rattle.resp_mux.specs.declared.client_id.ClientId.{ClientId}
+use Rattle.resp_mux.specs.Multiplexing.{HasPassed, Multiplexed, WherePassed, unsent, waiting_for}
+use Rattle.resp_mux.specs.Passing.{due_to, with_given, with_sent}
+use Rattle.resp_proxy.specs.declared.client.Client.{Client}
+use Rattle.resp_proxy.specs.declared.error.ClientError.{ClientError}
+use Rattle.resp_proxy.specs.declared.error.ServerError.{ServerError}
+use Rattle.resp_proxy.specs.Replying.{TakesReplies}
+use Rattle.resp_proxy.specs.Taking.{TakesIn}
+use Rattle.resp_value.specs.Devices.{Appends}
+use Rattle.resp_value.specs.Rules.{Rules}
+
+-- Bytes were read. If the device's remaining input is known, they are its first bytes.
+abbrev pub HaveCome : Option (List ℕ) → Option (List ℕ) → List ℕ → Type 0
+HaveCome None after came = Unit {0}
+HaveCome (Some left) after came = (rest : List ℕ) × (left ≡ came ++ rest) × (after ≡ Some rest)
+
+-- the bytes are the first of these
+abbrev pub BeginWith : List ℕ → List ℕ → Type 0
+BeginWith text front = (rest : List ℕ) × (text ≡ front ++ rest)
+
+-- The bytes are the first that wait for an open client. With those that it was given, the bytes that wait are the answers to
+-- its own commands in order, up to the first that is missing.
+pub record IsOwed (who : ClientId) (gone text : List ℕ) (m : Multiplexed) : Type 0 where
+  pub front : BeginWith text gone
+  pub answers : WherePassed m (λ p. p.given who ++ text ≡ due_to who p.asked)
+
+-- Bytes were written, and the client was given them. It was owed them.
+pub record GivesSome (out out' : Option (List ℕ)) (who : ClientId) (old new : Multiplexed) : Type 0 where
+  pub gone : List ℕ
+  pub written : Appends out out' gone
+  pub owed : MatchOption (waiting_for old who) (gone ≡ []) (λ text. IsOwed who gone text old)
+  pub passed : WherePassed old (λ p. HasPassed new (with_given who gone p))
+
+-- Bytes were written, and the server was sent them. They are the first that waited for it.
+pub record SendsSome (out out' : Option (List ℕ)) (old new : Multiplexed) : Type 0 where
+  pub gone : List ℕ
+  pub written : Appends out out' gone
+  pub front : BeginWith (unsent old) gone
+  pub passed : WherePassed old (λ p. HasPassed new (with_sent gone p))
+
+-- Bytes were read, and they came from this client.
+pub record ReadsClient (rules : Rules) (who : ClientId) (left left' : Option (List ℕ)) (held : List ℕ) (c : Client)
+    (old new : Multiplexed) : Type 0 where
+  pub came : List ℕ
+  pub come : HaveCome left left' came
+  pub end : Result (Unit {0}) ClientError
+  pub takes : TakesIn rules who (held ++ came) c end old new
+
+-- Bytes were read, and they came from this client. Then bytes were written that this client was owed.
+pub record VisitsClient (rules : Rules) (who : ClientId) (left left' out out' : Option (List ℕ)) (held : List ℕ) (c : Client)
+    (old new : Multiplexed) : Type 0 where
+  pub between : Multiplexed
+  pub reads : ReadsClient rules who left left' held c old between
+  pub gives : GivesSome out out' who between new
+
+-- Bytes were read, and they came from the server.
+pub record ReadsServer (rules : Rules) (left left' : Option (List ℕ)) (front : List ℕ) (b : Begun) (end : Result (Unit {0}) ServerError)
+    (old new : Multiplexed) : Type 0 where
+  pub came : List ℕ
+  pub come : HaveCome left left' came
+  pub takes : WherePassed old (λ p. TakesReplies rules (front ++ came) b end p new)
+
+-- Bytes were read, and they came from the server. Then bytes were written that waited for it.
+pub record VisitsServer (rules : Rules) (left left' out out' : Option (List ℕ)) (front : List ℕ) (b : Begun) (end : Result (Unit {0}) ServerError)
+    (old new : Multiplexed) : Type 0 where
+  pub between : Multiplexed
+  pub reads : ReadsServer rules left left' front b end old between
+  pub sends : SendsSome out out' between new

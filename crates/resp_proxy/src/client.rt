@@ -1,0 +1,54 @@
+//! A client of a proxy.
+
+ghost use Rattle.std.specs.Prelude.{◌≡◌, false, []};
+ghost use Rattle.resp_proxy.specs.Clients.{Holds, client_id, is_closing};
+ghost use Rattle.resp_value.specs.Rules.{Rules};
+
+use bytes::BytesMut;
+use resp_frames::Begun;
+use resp_mux::ClientId;
+use std::alloc::Global;
+
+/// A client of a proxy: its id, and the bytes that came from it and are not yet a command.
+///
+/// It belongs to the proxy that opened it, and to one connection.
+#[derive(Drop)]
+pub struct Client {
+    pub(crate) id: ClientId,
+    /// The command that the client has begun.
+    pub(crate) begun: Begun,
+    /// The bytes after it. They wait until there is room for more commands.
+    pub(crate) rest: BytesMut,
+    pub(crate) is_closing: bool,
+}
+
+impl Client {
+    /// Returns a client that has sent nothing.
+    pub(crate) fn new(alloc: Global, id: ClientId) -> Client
+        ensures id { client_id result ≡ id }
+        ensures nothing { (rules : Rules) → Holds rules result [] }
+        ensures open { is_closing result ≡ false }
+    {
+        Client {
+            id,
+            begun: Begun::new(),
+            rest: BytesMut::new(alloc),
+            is_closing: false,
+        }
+    }
+
+    /// Returns the id of the client.
+    pub fn id(&self) -> ClientId
+        ensures { result ≡ client_id self.now }
+    {
+        self.id
+    }
+
+    /// Returns whether nothing more is taken from this client. Close it when all its replies were
+    /// written.
+    pub fn is_closing(&self) -> bool
+        ensures { result ≡ is_closing self.now }
+    {
+        self.is_closing
+    }
+}

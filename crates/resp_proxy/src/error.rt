@@ -1,0 +1,34 @@
+//! The errors of a proxy.
+
+use resp_frames::FrameError;
+use resp_join::ReplyError;
+use thiserror::Error;
+
+/// Why a client is closed. The client is closing after it: nothing more is taken from it.
+#[derive(Clone, Copy, Debug, PartialEq, Eq, Error)]
+pub enum ClientError {
+    /// A byte was rejected, or a value is no command.
+    #[error(transparent)]
+    Protocol(FrameError),
+    /// The client is closing.
+    #[error("the client is closing")]
+    Closing,
+    /// The proxy does not have this client.
+    #[error("no client with this id is open")]
+    NoClient,
+    /// An allocation failed.
+    #[error("out of memory")]
+    OutOfMemory,
+}
+
+/// Why the connection to the server is not usable. Close it, and call
+/// [`Proxy::lose`](crate::Proxy::lose).
+#[derive(Clone, Copy, Debug, PartialEq, Eq, Error)]
+pub enum ServerError {
+    /// A byte was rejected, a value is a push, no command waits for a reply, or memory ran out.
+    #[error(transparent)]
+    Reply(ReplyError),
+    /// A reply ended before its first byte. This cannot happen, and no clause says so.
+    #[error("a reply has no byte")]
+    NoProgress,
+}

@@ -1,0 +1,236 @@
+//! The proxy.
+
+ghost use Rattle.std.specs.Prelude.{◌≡◌, ◌↔◌, ◌++◌, true, false, [], IfOk, IsErrOf, IsTrue, OnErr, OnOk};
+ghost use Rattle.resp_frames.specs.Framing.{HasBegun};
+ghost use Rattle.resp_mux.specs.Multiplexing.{HasAnsweredSome, HasClosed, HasNoNumberLeft, HasOpened, HasPassed, KeepsClients, KeepsPassed, WherePassed};
+ghost use Rattle.resp_mux.specs.Passing.{nothing_passed, with_loss};
+ghost use Rattle.resp_proxy.specs.Clients.{Holds, client_id, is_closing};
+ghost use Rattle.resp_proxy.specs.Room.{HasRoom};
+ghost use Rattle.resp_proxy.specs.Replying.{TakesReplies};
+ghost use Rattle.resp_proxy.specs.Taking.{TakesIn};
+ghost use Rattle.resp_proxy.specs.Visiting.{GivesSome, SendsSome};
+ghost use Rattle.resp_value.specs.Rules.{Rules};
+ghost use Rattle.resp_proxy.specs.Proxies.{HasBegunBy, HasNoClient, WhereBegunBy, WhereHeld, lost_text, mux_of, reply_rules_of, rules_of, server_begun, settings_of};
+
+use crate::client::Client;
+use crate::error::{ClientError, ServerError};
+use crate::giving::{Written, give, send};
+use crate::replies::take_replies;
+use crate::settings::Settings;
+use crate::taking::{shut, take_in};
+use resp_frames::{Begun, Frames};
+use resp_mux::{Bounds, Mux, OpenError};
+use resp_value::device::Sink;
+use resp_value::version::Version;
+use std::alloc::{AllocError, Global};
+use std::marker::Model;
+
+/// The answer to each command that waits when the connection to the server is lost.
+const LOST: &[u8] = b"-ERR connection to server lost; the command may have run\r\n";
+
+/// A proxy between many clients and one connection to a server.
+#[derive(Drop)]
+pub struct Proxy {
+    alloc: Global,
+    settings: Settings,
+    mux: Mux,
+    /// Finds the commands of all clients.
+    commands: Frames,
+    /// Finds the replies of the server.
+    replies: Frames,
+    /// The reply that the server has begun.
+    begun: Begun,
+}
+
+impl Model for Proxy {
+    ghost use Rattle.resp_frames.specs.Framing.{frame_rules};
+    ghost use Rattle.resp_proxy.specs.Proxies.{IsSound, Proxied};
+
+    ghost Value = { Proxied };
+
+    ghost view = { λ p. record {
+      mux = p.mux;
+      settings = p.settings;
+      rules = frame_rules p.commands;
+      reply_rules = frame_rules p.replies;
+      begun = p.begun;
+    } };
+
+    ghost invariant = { λ p. IsSound p.commands p.replies };
+}
+
+impl Proxy {
+    /// Returns a proxy without clients, before the connection to the server has brought a byte.
+    ///
+    /// # Errors
+    ///
+    /// `AllocError` if an allocation fails.
+    pub fn new(alloc: Global, settings: Settings) -> Result<Proxy, AllocError>
+        ensures passed { IfOk result (λ proxy. HasPassed (mux_of proxy) nothing_passed) }
+        ensures no_clients { IfOk result (λ proxy. HasNoClient (mux_of proxy)) }
+        ensures begun { IfOk result (λ proxy. HasBegunBy proxy []) }
+        ensures settings { IfOk result (λ proxy. settings_of proxy ≡ settings) }
+    {
+        let commands = Frames::new(alloc, Version::Two, &settings.limits)?;
+        let replies = Frames::new(alloc, Version::Two, &settings.limits)?;
+        let bounds = Bounds {
+            waiting: settings.waiting,
+            unsent: usize::MAX,
+        };
+        Ok(Proxy {
+            alloc,
+            settings,
+            mux: Mux::new(alloc, bounds),
+            commands,
+            replies,
+            begun: Begun::new(),
+        })
+    }
+
+    /// Opens a client. No client had its id before.
+    ///
+    /// # Errors
+    ///
+    /// `TooMany` if 2^63 - 1 clients were opened, and otherwise `OutOfMemory` if an allocation
+    /// fails. Nothing changes.
+    pub fn open(&mut self) -> Result<Client, OpenError>
+        ensures opened { IfOk result (λ client.
+            HasOpened (mux_of self.old) (mux_of self.new) (client_id client)) }
+        ensures nothing { IfOk result (λ client. Holds (rules_of self.new) client []) }
+        ensures is_open { IfOk result (λ client. is_closing client ≡ false) }
+        ensures passed { KeepsPassed (mux_of self.old) (mux_of self.new) }
+        ensures too_many { IsErrOf result OpenError.TooMany ↔ HasNoNumberLeft (mux_of self.old) }
+        ensures unchanged { OnErr result (KeepsClients (mux_of self.old) (mux_of self.new)) }
+        ensures same_rules { rules_of self.new ≡ rules_of self.old }
+    {
+        match self.mux.open() {
+            Ok(id) => Ok(Client::new(self.alloc, id)),
+            Err(error) => Err(error),
+        }
+    }
+
+    /// Closes a client. Nobody gets the answers to its commands that are missing. Its commands still
+    /// go to the server.
+    pub fn close(&mut self, client: Client)
+        ensures closed { HasClosed (mux_of self.old) (mux_of self.new) (client_id client) }
+        ensures passed { KeepsPassed (mux_of self.old) (mux_of self.new) }
+        ensures same_rules { rules_of self.new ≡ rules_of self.old }
+    {
+        self.mux.close(client.id);
+    }
+
+    /// Returns whether a command of this client may be taken now.
+    pub fn has_room(&self, client: &Client) -> bool
+        ensures { IsTrue result ↔
+            HasRoom (settings_of self.now) (mux_of self.now) (client_id client.now) }
+    {
+        self.settings.has_room(&self.mux, client.id)
+    }
+
+    /// Takes bytes that a client sent. Each command for which there is room is queued for the server,
+    /// or answered. The bytes after it are held. Call it again without bytes when there is room.
+    ///
+    /// # Errors
+    ///
+    /// A [`ClientError`] if the client is closing or has to be closed. The bytes that are not a whole
+    /// command are lost.
+    pub fn from_client(&mut self, client: &mut Client, piece: &[u8]) -> Result<(), ClientError>
+        ensures taken { WhereHeld self.old client.old (λ held.
+            TakesIn (rules_of self.old) (client_id client.old) (held ++ piece.now) client.new
+            result (mux_of self.old) (mux_of self.new)) }
+        ensures same_client { client_id client.new ≡ client_id client.old }
+        ensures same_clients { KeepsClients (mux_of self.old) (mux_of self.new) }
+        ensures same_rules { rules_of self.new ≡ rules_of self.old }
+    {
+        take_in(
+            self.alloc,
+            &self.settings,
+            &mut self.commands,
+            &mut self.mux,
+            client,
+            piece,
+        )
+    }
+
+    /// Takes nothing more from a client. The bytes that it holds are lost.
+    pub fn shut(&mut self, client: &mut Client)
+        ensures nothing { Holds (rules_of self.new) client.new [] }
+        ensures closing { is_closing client.new ≡ true }
+        ensures same_client { client_id client.new ≡ client_id client.old }
+        ensures same_state { self.new ≡ self.old }
+    {
+        shut(self.alloc, client);
+    }
+
+    /// Takes bytes that the server sent. Each whole reply goes to the client of its command.
+    ///
+    /// # Errors
+    ///
+    /// A [`ServerError`] if the connection to the server is not usable. The replies before the error
+    /// were given. Close the connection, and call [`Proxy::lose`].
+    pub fn from_server(&mut self, piece: &[u8]) -> Result<(), ServerError>
+        ensures taken { WhereBegunBy self.old (λ front. WherePassed (mux_of self.old) (λ p.
+            TakesReplies (reply_rules_of self.old) (front ++ piece.now) (server_begun self.new)
+            result p (mux_of self.new))) }
+        ensures same_clients { KeepsClients (mux_of self.old) (mux_of self.new) }
+        ensures same_rules { rules_of self.new ≡ rules_of self.old }
+        ensures same_reply_rules { reply_rules_of self.new ≡ reply_rules_of self.old }
+        ensures forgotten { OnErr result (HasBegunBy self.new []) }
+    {
+        match take_replies(&mut self.replies, &mut self.begun, &mut self.mux, piece) {
+            Ok(()) => Ok(()),
+            Err(error) => {
+                forget(&mut self.begun);
+                Err(error)
+            }
+        }
+    }
+
+    /// Answers each command that waits by an error, since the connection to the server was lost, and
+    /// forgets the reply that the server had begun. A new connection begins.
+    ///
+    /// # Errors
+    ///
+    /// `AllocError` if an allocation fails. The first commands may be answered, and the others still
+    /// wait. Close the client of the first command, and try again.
+    pub fn lose(&mut self) -> Result<(), AllocError>
+        ensures passed { OnOk result (WherePassed (mux_of self.old) (λ p.
+            HasPassed (mux_of self.new) (with_loss lost_text p))) }
+        ensures some_answered { OnErr result (HasAnsweredSome lost_text (mux_of self.old)
+            (mux_of self.new)) }
+        ensures begun { HasBegunBy self.new [] }
+        ensures same_clients { KeepsClients (mux_of self.old) (mux_of self.new) }
+        ensures same_rules { rules_of self.new ≡ rules_of self.old }
+    {
+        forget(&mut self.begun);
+        self.mux.lose(LOST)
+    }
+
+    /// Writes bytes that wait for a client, with at most one write.
+    pub fn give<W: Sink>(&mut self, client: &Client, writer: &mut W) -> Written
+        ensures gives { GivesSome (W.written writer.old) (W.written writer.new)
+            (client_id client.now) (mux_of self.old) (mux_of self.new) }
+        ensures same_clients { KeepsClients (mux_of self.old) (mux_of self.new) }
+        ensures same_rules { rules_of self.new ≡ rules_of self.old }
+    {
+        give(&mut self.mux, client.id, writer)
+    }
+
+    /// Writes bytes that wait for the server, with at most one write.
+    pub fn send<W: Sink>(&mut self, writer: &mut W) -> Written
+        ensures sends { SendsSome (W.written writer.old) (W.written writer.new)
+            (mux_of self.old) (mux_of self.new) }
+        ensures same_clients { KeepsClients (mux_of self.old) (mux_of self.new) }
+        ensures same_rules { rules_of self.new ≡ rules_of self.old }
+        ensures same_begun { server_begun self.new ≡ server_begun self.old }
+    {
+        send(&mut self.mux, writer)
+    }
+}
+
+/// Forgets the bytes of the value that has begun.
+fn forget(begun: &mut Begun)
+    ensures { (rules : Rules) → HasBegun rules begun.new [] }
+{
+    *begun = Begun::new();
+}

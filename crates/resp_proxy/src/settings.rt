@@ -1,0 +1,46 @@
+//! The settings of a proxy.
+
+ghost use Rattle.std.specs.Prelude.{◌↔◌, IsTrue};
+ghost use Rattle.resp_proxy.specs.Room.{HasRoom};
+
+use resp_mux::{ClientId, Mux};
+use resp_value::limits::Limits;
+
+/// The limits of a proxy.
+#[derive(Clone, Copy, Debug, PartialEq, Eq)]
+pub struct Settings {
+    /// The limits on commands and replies.
+    pub limits: Limits,
+    /// The most commands of one client that wait for replies. 0 lets no command pass.
+    pub waiting: u32,
+    /// No command of a client is taken while more than this number of bytes wait for the client.
+    pub held: usize,
+    /// No command is taken while more than this number of bytes wait for the server.
+    pub unsent: usize,
+}
+
+impl Settings {
+    /// Returns the default settings: the standard limits, 1,024 commands of a client, 1 MiB of
+    /// replies for a client, and 1 MiB of commands for the server.
+    pub fn standard() -> Settings {
+        Settings {
+            limits: Limits::standard(),
+            waiting: 1_024,
+            held: 1_048_576,
+            unsent: 1_048_576,
+        }
+    }
+
+    /// Returns whether a command of this client may be taken now.
+    pub(crate) fn has_room(&self, mux: &Mux, who: ClientId) -> bool
+        ensures { IsTrue result ↔ HasRoom self.now mux.now who }
+    {
+        let Some(count) = mux.waiting_of(who) else {
+            return false;
+        };
+        let Some(text) = mux.to_client(who) else {
+            return false;
+        };
+        count < self.waiting && text.len() <= self.held && mux.to_server().len() <= self.unsent
+    }
+}

@@ -1,0 +1,164 @@
+//! Visits of connections.
+
+ghost use Rattle.std.specs.Prelude.{◌≡◌, ◌<◌, length};
+ghost use Rattle.resp_mux.specs.Multiplexing.{KeepsClients};
+ghost use Rattle.resp_proxy.specs.Clients.{client_id, is_closing};
+ghost use Rattle.resp_proxy.specs.Proxies.{WhereBegunBy, WhereHeld, mux_of, rules_of, reply_rules_of, server_begun};
+ghost use Rattle.resp_proxy.specs.Visiting.{ReadsClient, ReadsServer, VisitsClient, VisitsServer};
+
+use crate::client::Client;
+use crate::error::{ClientError, ServerError};
+use crate::giving::Written;
+use crate::proxy::Proxy;
+use resp_value::device::{DeviceFault, Sink, Source};
+
+/// What a visit read from a client.
+#[derive(Clone, Copy, Debug, PartialEq, Eq)]
+pub enum Read {
+    /// Bytes were taken, and there may be more.
+    Some,
+    /// Nothing was read, since too many bytes or commands of this client wait, or too many bytes for
+    /// the server.
+    Full,
+    /// The read failed, for example because it would block.
+    Failed,
+    /// The input ended.
+    Ended,
+    /// The client is closing.
+    Closing(ClientError),
+}
+
+/// The result of [`Proxy::visit_client`].
+#[derive(Clone, Copy, Debug, PartialEq, Eq)]
+pub struct Visit {
+    /// What was read.
+    pub read: Read,
+    /// What was written.
+    pub written: Written,
+}
+
+/// The result of [`Proxy::visit_server`].
+#[derive(Clone, Copy, Debug, PartialEq, Eq)]
+pub struct ServerVisit {
+    /// The number of bytes that were read, or `None` if the read failed, for example because it would
+    /// block. 0 is the end of the input.
+    pub read: Option<usize>,
+    /// An error if the connection is not usable. Then nothing was written.
+    pub end: Result<(), ServerError>,
+    /// What was written.
+    pub written: Written,
+}
+
+impl Proxy {
+    /// Reads bytes of a client, if there is room for a command of it, and writes bytes that wait for
+    /// it, with at most one read and one write. Bytes that wait for room are taken before anything
+    /// is read.
+    pub fn visit_client<R: Source, W: Sink>(
+        &mut self,
+        client: &mut Client,
+        reader: &mut R,
+        writer: &mut W,
+        buffer: &mut [u8],
+    ) -> Visit
+        requires { 0 < length buffer.old }
+        // What was read came from this client, and what was written is what this client was owed.
+        ensures visited { WhereHeld self.old client.old (λ held. VisitsClient (rules_of self.old)
+            (client_id client.old) (R.remaining reader.old) (R.remaining reader.new)
+            (W.written writer.old) (W.written writer.new) held client.new
+            (mux_of self.old) (mux_of self.new)) }
+        ensures same_client { client_id client.new ≡ client_id client.old }
+        ensures same_clients { KeepsClients (mux_of self.old) (mux_of self.new) }
+        ensures same_rules { rules_of self.new ≡ rules_of self.old }
+    {
+        let read = self.read_client(client, reader, buffer);
+        let written = self.give(client, writer);
+        Visit { read, written }
+    }
+
+    /// Reads bytes of a client, if there is room for a command of it.
+    fn read_client<R: Source>(
+        &mut self,
+        client: &mut Client,
+        reader: &mut R,
+        buffer: &mut [u8],
+    ) -> Read
+        requires { 0 < length buffer.old }
+        ensures reads { WhereHeld self.old client.old (λ held. ReadsClient (rules_of self.old)
+            (client_id client.old) (R.remaining reader.old) (R.remaining reader.new) held client.new
+            (mux_of self.old) (mux_of self.new)) }
+        ensures same_client { client_id client.new ≡ client_id client.old }
+        ensures same_clients { KeepsClients (mux_of self.old) (mux_of self.new) }
+        ensures same_rules { rules_of self.new ≡ rules_of self.old }
+    {
+        if client.is_closing {
+            return Read::Closing(ClientError::Closing);
+        }
+        if !self.has_room(client) {
+            return Read::Full;
+        }
+        if !client.rest.is_empty() {
+            return read_result(self.from_client(client, &[]));
+        }
+        match reader.read(buffer) {
+            Ok(0) => {
+                self.shut(client);
+                Read::Ended
+            }
+            Ok(count) => read_result(self.from_client(client, &buffer[..count])),
+            Err(DeviceFault) => Read::Failed,
+        }
+    }
+
+    /// Reads bytes of the server, and writes bytes that wait for it, with at most one read and one
+    /// write.
+    pub fn visit_server<R: Source, W: Sink>(
+        &mut self,
+        reader: &mut R,
+        writer: &mut W,
+        buffer: &mut [u8],
+    ) -> ServerVisit
+        requires { 0 < length buffer.old }
+        // What was read came from the server, and what was written waited for it.
+        ensures visited { WhereBegunBy self.old (λ front. VisitsServer (reply_rules_of self.old)
+            (R.remaining reader.old) (R.remaining reader.new) (W.written writer.old)
+            (W.written writer.new) front (server_begun self.new) result.end
+            (mux_of self.old) (mux_of self.new)) }
+        ensures same_clients { KeepsClients (mux_of self.old) (mux_of self.new) }
+        ensures same_rules { rules_of self.new ≡ rules_of self.old }
+    {
+        let (read, end) = self.read_server(reader, buffer);
+        let written = if end.is_ok() {
+            self.send(writer)
+        } else {
+            Written::Some
+        };
+        ServerVisit { read, end, written }
+    }
+
+    /// Reads bytes of the server.
+    fn read_server<R: Source>(
+        &mut self,
+        reader: &mut R,
+        buffer: &mut [u8],
+    ) -> (Option<usize>, Result<(), ServerError>)
+        requires { 0 < length buffer.old }
+        ensures reads { WhereBegunBy self.old (λ front. ReadsServer (reply_rules_of self.old)
+            (R.remaining reader.old) (R.remaining reader.new) front (server_begun self.new) result.1
+            (mux_of self.old) (mux_of self.new)) }
+        ensures same_clients { KeepsClients (mux_of self.old) (mux_of self.new) }
+        ensures same_rules { rules_of self.new ≡ rules_of self.old }
+    {
+        match reader.read(buffer) {
+            Ok(count) => (Some(count), self.from_server(&buffer[..count])),
+            Err(DeviceFault) => (None, Ok(())),
+        }
+    }
+}
+
+/// Returns what was read, by what was taken.
+fn read_result(taken: Result<(), ClientError>) -> Read {
+    match taken {
+        Ok(()) => Read::Some,
+        Err(error) => Read::Closing(error),
+    }
+}
