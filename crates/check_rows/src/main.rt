@@ -1,5 +1,5 @@
-//! Reads conversations as rows from the files `scan`, `decode`, `client`, `server`, `wire` and
-//! `tap`, runs each with its texts cut in every way, and prints where the lines printed are not the
+//! Reads conversations as rows from the files `scan`, `decode`, `client`, `server`, `wire`, `tap` and
+//! `proxy`, runs each with its texts cut in every way, and prints where the lines printed are not the
 //! expected lines.
 //!
 //! Conversations are separated by empty lines. The first line of a conversation is its title, `#
@@ -17,6 +17,7 @@ mod conversation;
 mod cut;
 mod decode;
 mod player;
+mod proxy;
 mod scan;
 mod server;
 mod spelling;
@@ -29,6 +30,7 @@ use anyhow::Result;
 use client::Talker;
 use decode::Reader;
 use player::play;
+use proxy::Proxying;
 use scan::Scanners;
 use server::Serving;
 use tap::Tapping;
@@ -40,5 +42,6 @@ fn main(rt: HostRuntime) -> Result<()> {
     play::<Talker>(&rt, "client")?;
     play::<Serving>(&rt, "server")?;
     play::<Talk>(&rt, "wire")?;
-    play::<Tapping>(&rt, "tap")
+    play::<Tapping>(&rt, "tap")?;
+    play::<Proxying>(&rt, "proxy")
 }

@@ -7,7 +7,8 @@ use Rattle.resp_mux.specs.declared.client_id.ClientId.{ClientId}
 use Rattle.resp_mux.specs.Multiplexing.{Multiplexed, waiting_for}
 use Rattle.resp_proxy.specs.declared.client.Client.{Client}
 use Rattle.resp_proxy.specs.declared.settings.Settings.{Settings}
-use Rattle.resp_proxy.specs.Clients.{Holds}
+use Rattle.resp_proxy.specs.Clients.{Holds, client_id}
+use Rattle.resp_proxy.specs.Room.{HasRoom}
 use Rattle.resp_value.specs.Rules.{Rules}
 
 pub record Proxied : Type 0 where
@@ -38,6 +39,10 @@ settings_of p = p.settings
 -- no client is open
 abbrev pub HasNoClient : Multiplexed → Type 0
 HasNoClient m = (who : ClientId) → waiting_for m who ≡ None
+
+-- a command of this client may be taken now
+abbrev pub HasRoomFor : Proxied → Client → Type 0
+HasRoomFor p c = HasRoom p.settings p.mux (client_id c)
 
 -- the server has begun a reply with these bytes
 abbrev pub HasBegunBy : Proxied → List ℕ → Type 0

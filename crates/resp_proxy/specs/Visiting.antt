@@ -1,5 +1,5 @@
 -- The bytes that a visit reads and writes.
-use Rattle.std.specs.Prelude.{◌≡◌, ℕ, List, [], ◌++◌, Option, None, Some, MatchOption, Result}
+use Rattle.std.specs.Prelude.{◌≡◌, ℕ, List, [], ◌++◌, Option, None, Some, IfSome, MatchOption, Result}
 use Rattle.resp_frames.specs.declared.begun.Begun.{Begun}
 use Rattle.resp_mux.specs.declared.client_id.ClientId.{ClientId}
 use Rattle.resp_mux.specs.Multiplexing.{HasPassed, Multiplexed, WherePassed, unsent, waiting_for}
@@ -26,6 +26,10 @@ BeginWith text front = (rest : List ℕ) × (text ≡ front ++ rest)
 pub record IsOwed (who : ClientId) (gone text : List ℕ) (m : Multiplexed) : Type 0 where
   pub front : BeginWith text gone
   pub answers : WherePassed m (λ p. p.given who ++ text ≡ due_to who p.asked)
+
+-- no bytes wait for the client
+abbrev pub HasNothingFor : Multiplexed → ClientId → Type 0
+HasNothingFor m who = IfSome (waiting_for m who) (λ text. text ≡ [])
 
 -- Bytes were written, and the client was given them. It was owed them.
 pub record GivesSome (out out' : Option (List ℕ)) (who : ClientId) (old new : Multiplexed) : Type 0 where

@@ -1,11 +1,194 @@
 //! The proxy's own answers.
 
+use resp_commands::Class;
 use resp_frames::{CommandFrame, FrameError};
+use resp_mux::ClientId;
+use resp_scan::whole;
+use resp_value::limits::Limits;
 use std::alloc::{AllocError, Global};
 
-/// Returns the error for a command that is not sent to the server.
-pub(crate) fn not_served(alloc: Global, command: &CommandFrame) -> Result<Vec<u8>, AllocError> {
-    b"-ERR this proxy does not serve the command\r\n".to_vec(alloc)
+/// The most bytes of a command's name in an error.
+const SHOWN: usize = 64;
+
+/// The words of a command that its answer depends on.
+#[derive(Clone, Copy)]
+struct Asked<'a> {
+    name: &'a [u8],
+    /// The number of words after the name, and the first two of them.
+    count: u64,
+    first: &'a [u8],
+    second: &'a [u8],
+}
+
+/// Returns the proxy's own answer to a command that is not sent to the server, or `None` if the
+/// command is QUIT. `label` is the name that the client has given itself.
+pub(crate) fn own_answer(
+    alloc: Global,
+    limits: &Limits,
+    who: ClientId,
+    label: &mut Vec<u8>,
+    command: &CommandFrame,
+) -> Result<Option<Vec<u8>>, AllocError> {
+    let Some(words) = whole::command(command.frame.text(), limits) else {
+        return some(b"-ERR no command\r\n".to_vec(alloc));
+    };
+    let mut arguments = words.arguments;
+    let asked = Asked {
+        name: words.name,
+        count: command.words.arguments,
+        first: arguments.next().unwrap_or(b""),
+        second: arguments.next().unwrap_or(b""),
+    };
+    if is(asked.name, b"QUIT") {
+        return Ok(None);
+    }
+    some(answer_to(alloc, who, label, asked, command.words.class))
+}
+
+fn some(text: Result<Vec<u8>, AllocError>) -> Result<Option<Vec<u8>>, AllocError> {
+    match text {
+        Ok(text) => Ok(Some(text)),
+        Err(error) => Err(error),
+    }
+}
+
+/// Returns whether a word is this one, in upper or lower case.
+fn is(word: &[u8], wanted: &[u8]) -> bool {
+    word.eq_ignore_ascii_case(wanted)
+}
+
+/// Returns the answer to a command other than QUIT.
+fn answer_to(
+    alloc: Global,
+    who: ClientId,
+    label: &mut Vec<u8>,
+    asked: Asked<'_>,
+    class: Option<Class>,
+) -> Result<Vec<u8>, AllocError> {
+    if is(asked.name, b"CLIENT") && is_own(asked.first) {
+        return answer_to_client(alloc, who, label, asked);
+    }
+    if is(asked.name, b"HELLO") {
+        return answer_to_hello(alloc, who, asked);
+    }
+    if is(asked.name, b"SELECT") && asked.count == 1 && asked.first == b"0".as_slice() {
+        return ok(alloc);
+    }
+    if class == Some(Class::OwnAnswer) {
+        return answer_outside(alloc, asked.name);
+    }
+    refusal(alloc, asked.name, class)
+}
+
+/// Returns whether the proxy answers this subcommand of CLIENT.
+fn is_own(subcommand: &[u8]) -> bool {
+    is(subcommand, b"ID")
+        || is(subcommand, b"GETNAME")
+        || is(subcommand, b"SETNAME")
+        || is(subcommand, b"SETINFO")
+        || is(subcommand, b"NO-EVICT")
+}
+
+/// Returns the answer to a subcommand of CLIENT. The name is that of the client, and no other client
+/// is asked.
+fn answer_to_client(
+    alloc: Global,
+    who: ClientId,
+    label: &mut Vec<u8>,
+    asked: Asked<'_>,
+) -> Result<Vec<u8>, AllocError> {
+    if is(asked.first, b"ID") && asked.count == 1 {
+        return Ok(format!(in alloc; ":{}\r\n", who.number)?.into_bytes());
+    }
+    if is(asked.first, b"GETNAME") && asked.count == 1 {
+        return name_of(alloc, label);
+    }
+    if is(asked.first, b"SETNAME") && asked.count == 2 {
+        return set_name(alloc, label, asked.second);
+    }
+    if is(asked.first, b"SETINFO") && asked.count == 3 {
+        return ok(alloc);
+    }
+    if is(asked.first, b"NO-EVICT") && asked.count == 2 {
+        return ok(alloc);
+    }
+    b"-ERR wrong number of arguments for 'client' command\r\n".to_vec(alloc)
+}
+
+/// Returns the reply with the client's name, or with null if it has no name.
+fn name_of(alloc: Global, label: &[u8]) -> Result<Vec<u8>, AllocError> {
+    if label.is_empty() {
+        return b"$-1\r\n".to_vec(alloc);
+    }
+    let mut text = format!(in alloc; "${}\r\n", label.len())?.into_bytes();
+    text.extend_from_slice(label)?;
+    text.extend_from_slice(b"\r\n")?;
+    Ok(text)
+}
+
+/// Gives the client a name, if each of its bytes is printable and no space.
+fn set_name(alloc: Global, label: &mut Vec<u8>, name: &[u8]) -> Result<Vec<u8>, AllocError> {
+    for byte in name {
+        if *byte < b'!' || *byte > b'~' {
+            return b"-ERR Client names cannot contain spaces, newlines or special characters.\r\n".to_vec(
+                alloc,
+            );
+        }
+    }
+    let answer = ok(alloc)?;
+    let copy = name.to_vec(alloc)?;
+    *label = copy;
+    Ok(answer)
+}
+
+/// Returns the answer to HELLO: the client stays in version 2.
+fn answer_to_hello(alloc: Global, who: ClientId, asked: Asked<'_>) -> Result<Vec<u8>, AllocError> {
+    if asked.count > 1 {
+        return b"-ERR 'HELLO' with options is not served by this proxy yet\r\n".to_vec(alloc);
+    }
+    if asked.count == 1 && asked.first != b"2".as_slice() {
+        return b"-NOPROTO 'HELLO' with another version than 2 is not served by this proxy yet\r\n".to_vec(
+            alloc,
+        );
+    }
+    let mut text =
+        b"*14\r\n$6\r\nserver\r\n$5\r\nredis\r\n$7\r\nversion\r\n$6\r\n7.0.15\r\n$5\r\nproto\r\n:2\r\n".to_vec(
+            alloc,
+        )?;
+    let id = format!(in alloc; "$2\r\nid\r\n:{}\r\n", who.number)?;
+    text.extend_from_slice(id.as_bytes())?;
+    text.extend_from_slice(
+        b"$4\r\nmode\r\n$10\r\nstandalone\r\n$4\r\nrole\r\n$6\r\nmaster\r\n$7\r\nmodules\r\n*0\r\n",
+    )?;
+    Ok(text)
+}
+
+/// Returns the answer to EXEC, DISCARD and UNWATCH outside of a transaction.
+fn answer_outside(alloc: Global, name: &[u8]) -> Result<Vec<u8>, AllocError> {
+    if is(name, b"EXEC") {
+        return b"-ERR EXEC without MULTI\r\n".to_vec(alloc);
+    }
+    if is(name, b"DISCARD") {
+        return b"-ERR DISCARD without MULTI\r\n".to_vec(alloc);
+    }
+    ok(alloc)
+}
+
+fn ok(alloc: Global) -> Result<Vec<u8>, AllocError> {
+    b"+OK\r\n".to_vec(alloc)
+}
+
+/// Returns the error for a command that is not served, with its name and the reason.
+fn refusal(alloc: Global, name: &[u8], class: Option<Class>) -> Result<Vec<u8>, AllocError> {
+    let shown = name[..name.len().min(SHOWN)].escape_ascii();
+    let text = match class {
+        None => format!(in alloc; "-ERR unknown command '{shown}'\r\n")?,
+        Some(Class::Setting | Class::OwnConnection) => {
+            format!(in alloc; "-ERR '{shown}' is not served by this proxy yet\r\n")?
+        }
+        Some(_) => format!(in alloc; "-ERR '{shown}' is not served by this proxy\r\n")?,
+    };
+    Ok(text.into_bytes())
 }
 
 /// Returns the error for a client that sent a byte that no command has, or a value that is no command.

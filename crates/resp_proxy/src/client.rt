@@ -20,6 +20,8 @@ pub struct Client {
     /// The bytes after it. They wait until there is room for more commands.
     pub(crate) rest: BytesMut,
     pub(crate) is_closing: bool,
+    /// The name that the client has given itself.
+    pub(crate) label: Vec<u8>,
 }
 
 impl Client {
@@ -34,6 +36,7 @@ impl Client {
             begun: Begun::new(),
             rest: BytesMut::new(alloc),
             is_closing: false,
+            label: Vec::new(alloc),
         }
     }
 

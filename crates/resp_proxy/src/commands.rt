@@ -7,13 +7,14 @@ ghost use Rattle.resp_mux.specs.Multiplexing.{HasPassed, KeepsClients, KeepsPass
 ghost use Rattle.resp_mux.specs.Passing.{with_command, with_own};
 ghost use Rattle.resp_proxy.specs.Taking.{CarriesOut, TakesOne, TakesSome};
 
-use crate::answer::not_served;
+use crate::answer::own_answer;
 use crate::error::ClientError;
 use crate::settings::Settings;
 use resp_commands::Class;
 use resp_frames::{Begun, CommandFrame, Frames};
 use resp_mux::{ClientId, ForwardError, Mux, OwnError};
-use std::alloc::Global;
+use resp_value::limits::Limits;
+use std::alloc::{AllocError, Global};
 
 /// The result of [`take_commands`].
 #[derive(Clone, Copy)]
@@ -33,6 +34,7 @@ pub(crate) fn take_commands(
     settings: &Settings,
     frames: &mut Frames,
     begun: &mut Begun,
+    label: &mut Vec<u8>,
     mux: &mut Mux,
     who: ClientId,
     piece: &[u8],
@@ -47,7 +49,16 @@ pub(crate) fn take_commands(
 {
     let mut used = 0;
     while used < piece.len() && settings.has_room(mux, who) {
-        match take_one(alloc, frames, begun, mux, who, &piece[used..]) {
+        match take_one(
+            alloc,
+            &settings.limits,
+            frames,
+            begun,
+            label,
+            mux,
+            who,
+            &piece[used..],
+        ) {
             Ok(Some(0)) => {
                 return Taken { used, end: Ok(()) };
             }
@@ -73,8 +84,10 @@ pub(crate) fn take_commands(
 /// or `None` if no command ends in the piece. Then all bytes of the piece are held.
 fn take_one(
     alloc: Global,
+    limits: &Limits,
     frames: &mut Frames,
     begun: &mut Begun,
+    label: &mut Vec<u8>,
     mux: &mut Mux,
     who: ClientId,
     piece: &[u8],
@@ -94,7 +107,7 @@ fn take_one(
     let Some(command) = found else {
         return Ok(None);
     };
-    match carry_out(alloc, mux, who, &command) {
+    match carry_out(alloc, limits, label, mux, who, &command) {
         Ok(()) => Ok(Some(command.frame.used())),
         Err(error) => Err(error),
     }
@@ -104,6 +117,8 @@ fn take_one(
 /// otherwise.
 fn carry_out(
     alloc: Global,
+    limits: &Limits,
+    label: &mut Vec<u8>,
     mux: &mut Mux,
     who: ClientId,
     command: &CommandFrame,
@@ -116,10 +131,11 @@ fn carry_out(
     if command.words.class == Some(Class::Shared) {
         return forward(mux, who, command.frame.text());
     }
-    let Ok(answer) = not_served(alloc, command) else {
-        return Err(ClientError::OutOfMemory);
-    };
-    own(mux, who, &answer)
+    match own_answer(alloc, limits, who, label, command) {
+        Ok(Some(answer)) => own(mux, who, &answer),
+        Ok(None) => Err(ClientError::Quit),
+        Err(AllocError) => Err(ClientError::OutOfMemory),
+    }
 }
 
 /// Queues a command for the server.

@@ -10,6 +10,9 @@ pub enum ClientError {
     /// A byte was rejected, or a value is no command.
     #[error(transparent)]
     Protocol(FrameError),
+    /// The client sent QUIT.
+    #[error("the client sent QUIT")]
+    Quit,
     /// The client is closing.
     #[error("the client is closing")]
     Closing,

@@ -1,8 +1,9 @@
 //! Writes what waits in a multiplexer.
 
-ghost use Rattle.std.specs.Prelude.{◌≡◌};
-ghost use Rattle.resp_mux.specs.Multiplexing.{KeepsClients};
-ghost use Rattle.resp_proxy.specs.Visiting.{GivesSome, SendsSome};
+ghost use Rattle.std.specs.Prelude.{◌≡◌, ◌⊎◌, []};
+ghost use Rattle.resp_mux.specs.Multiplexing.{KeepsClients, unsent};
+ghost use Rattle.resp_proxy.specs.Visiting.{GivesSome, HasNothingFor, SendsSome};
+ghost use Rattle.resp_value.specs.Devices.{count_after};
 
 use resp_mux::{ClientId, Mux};
 use resp_value::device::{DeviceFault, Sink};
@@ -10,7 +11,7 @@ use resp_value::device::{DeviceFault, Sink};
 /// What a visit wrote.
 #[derive(Clone, Copy, Debug, PartialEq, Eq)]
 pub enum Written {
-    /// No bytes wait.
+    /// No bytes wait now.
     All,
     /// Bytes wait: the write failed, for example because it would block, or accepted a part.
     Some,
@@ -19,13 +20,15 @@ pub enum Written {
 /// Writes bytes that wait for a client, with at most one write.
 pub(crate) fn give<W: Sink>(mux: &mut Mux, who: ClientId, writer: &mut W) -> Written
     ensures gives { GivesSome (W.written writer.old) (W.written writer.new) who mux.old mux.new }
+    ensures all { result ≡ Written.All → HasNothingFor mux.new who }
+    ensures once { HasNothingFor mux.old who ⊎
+        (W.calls writer.new ≡ count_after 1 (W.calls writer.old)) }
     ensures same_clients { KeepsClients mux.old mux.new }
 {
     let Some(text) = mux.to_client(who) else {
         return Written::All;
     };
-    let length = text.len();
-    if length == 0 {
+    if text.is_empty() {
         return Written::All;
     }
     let count = match writer.write(text) {
@@ -33,17 +36,29 @@ pub(crate) fn give<W: Sink>(mux: &mut Mux, who: ClientId, writer: &mut W) -> Wri
         Err(DeviceFault) => return Written::Some,
     };
     mux.given(who, count);
-    all_if(count == length)
+    left_for(mux, who)
+}
+
+/// Returns whether bytes wait for a client.
+fn left_for(mux: &Mux, who: ClientId) -> Written
+    ensures { result ≡ Written.All → HasNothingFor mux.now who }
+{
+    match mux.to_client(who) {
+        Some([]) | None => Written::All,
+        Some(_) => Written::Some,
+    }
 }
 
 /// Writes bytes that wait for the server, with at most one write.
 pub(crate) fn send<W: Sink>(mux: &mut Mux, writer: &mut W) -> Written
     ensures sends { SendsSome (W.written writer.old) (W.written writer.new) mux.old mux.new }
+    ensures all { result ≡ Written.All → unsent mux.new ≡ [] }
+    ensures once { (unsent mux.old ≡ []) ⊎
+        (W.calls writer.new ≡ count_after 1 (W.calls writer.old)) }
     ensures same_clients { KeepsClients mux.old mux.new }
 {
     let text = mux.to_server();
-    let length = text.len();
-    if length == 0 {
+    if text.is_empty() {
         return Written::All;
     }
     let count = match writer.write(text) {
@@ -51,10 +66,16 @@ pub(crate) fn send<W: Sink>(mux: &mut Mux, writer: &mut W) -> Written
         Err(DeviceFault) => return Written::Some,
     };
     mux.sent(count);
-    all_if(count == length)
+    left_to_server(mux)
 }
 
-/// Returns whether bytes wait still.
-fn all_if(is_all: bool) -> Written {
-    if is_all { Written::All } else { Written::Some }
+/// Returns whether bytes wait for the server.
+fn left_to_server(mux: &Mux) -> Written
+    ensures { result ≡ Written.All → unsent mux.now ≡ [] }
+{
+    if mux.to_server().is_empty() {
+        Written::All
+    } else {
+        Written::Some
+    }
 }

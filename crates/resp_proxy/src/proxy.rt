@@ -1,14 +1,15 @@
 //! The proxy.
 
-ghost use Rattle.std.specs.Prelude.{◌≡◌, ◌↔◌, ◌++◌, true, false, [], IfOk, IsErrOf, IsTrue, OnErr, OnOk};
+ghost use Rattle.std.specs.Prelude.{◌≡◌, ◌↔◌, ◌⊎◌, ◌++◌, true, false, [], IfOk, IsErrOf, IsTrue, OnErr, OnOk};
 ghost use Rattle.resp_frames.specs.Framing.{HasBegun};
-ghost use Rattle.resp_mux.specs.Multiplexing.{HasAnsweredSome, HasClosed, HasNoNumberLeft, HasOpened, HasPassed, KeepsClients, KeepsPassed, WherePassed};
+ghost use Rattle.resp_mux.specs.Multiplexing.{HasAnsweredSome, HasClosed, HasNoNumberLeft, HasOpened, HasPassed, KeepsClients, KeepsPassed, WherePassed, unsent};
 ghost use Rattle.resp_mux.specs.Passing.{nothing_passed, with_loss};
 ghost use Rattle.resp_proxy.specs.Clients.{Holds, client_id, is_closing};
 ghost use Rattle.resp_proxy.specs.Room.{HasRoom};
 ghost use Rattle.resp_proxy.specs.Replying.{TakesReplies};
 ghost use Rattle.resp_proxy.specs.Taking.{TakesIn};
-ghost use Rattle.resp_proxy.specs.Visiting.{GivesSome, SendsSome};
+ghost use Rattle.resp_proxy.specs.Visiting.{GivesSome, HasNothingFor, SendsSome};
+ghost use Rattle.resp_value.specs.Devices.{count_after};
 ghost use Rattle.resp_value.specs.Rules.{Rules};
 ghost use Rattle.resp_proxy.specs.Proxies.{HasBegunBy, HasNoClient, WhereBegunBy, WhereHeld, lost_text, mux_of, reply_rules_of, rules_of, server_begun, settings_of};
 
@@ -210,6 +211,10 @@ impl Proxy {
     pub fn give<W: Sink>(&mut self, client: &Client, writer: &mut W) -> Written
         ensures gives { GivesSome (W.written writer.old) (W.written writer.new)
             (client_id client.now) (mux_of self.old) (mux_of self.new) }
+        ensures all { result ≡ Written.All →
+            HasNothingFor (mux_of self.new) (client_id client.now) }
+        ensures once { HasNothingFor (mux_of self.old) (client_id client.now) ⊎
+            (W.calls writer.new ≡ count_after 1 (W.calls writer.old)) }
         ensures same_clients { KeepsClients (mux_of self.old) (mux_of self.new) }
         ensures same_rules { rules_of self.new ≡ rules_of self.old }
     {
@@ -220,6 +225,9 @@ impl Proxy {
     pub fn send<W: Sink>(&mut self, writer: &mut W) -> Written
         ensures sends { SendsSome (W.written writer.old) (W.written writer.new)
             (mux_of self.old) (mux_of self.new) }
+        ensures all { result ≡ Written.All → unsent (mux_of self.new) ≡ [] }
+        ensures once { (unsent (mux_of self.old) ≡ []) ⊎
+            (W.calls writer.new ≡ count_after 1 (W.calls writer.old)) }
         ensures same_clients { KeepsClients (mux_of self.old) (mux_of self.new) }
         ensures same_rules { rules_of self.new ≡ rules_of self.old }
         ensures same_begun { server_begun self.new ≡ server_begun self.old }

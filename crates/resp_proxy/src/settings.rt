@@ -1,6 +1,6 @@
 //! The settings of a proxy.
 
-ghost use Rattle.std.specs.Prelude.{◌↔◌, IsTrue};
+ghost use Rattle.std.specs.Prelude.{◌≡◌, ◌↔◌, IsTrue};
 ghost use Rattle.resp_proxy.specs.Room.{HasRoom};
 
 use resp_mux::{ClientId, Mux};
@@ -22,7 +22,11 @@ pub struct Settings {
 impl Settings {
     /// Returns the default settings: the standard limits, 1,024 commands of a client, 1 MiB of
     /// replies for a client, and 1 MiB of commands for the server.
-    pub fn standard() -> Settings {
+    pub fn standard() -> Settings
+        ensures waiting { result.waiting ≡ 1024 }
+        ensures held { result.held ≡ 1048576 }
+        ensures unsent { result.unsent ≡ 1048576 }
+    {
         Settings {
             limits: Limits::standard(),
             waiting: 1_024,

@@ -96,6 +96,7 @@ fn take_piece(
         settings,
         frames,
         &mut client.begun,
+        &mut client.label,
         mux,
         client.id,
         piece,
@@ -144,6 +145,7 @@ fn take_rest(
         settings,
         frames,
         &mut client.begun,
+        &mut client.label,
         mux,
         client.id,
         client.rest.as_slice(),
@@ -182,11 +184,15 @@ fn say_last(alloc: Global, mux: &mut Mux, who: ClientId, error: ClientError)
     ensures said { SaysLast who mux.old mux.new }
     ensures same_clients { KeepsClients mux.old mux.new }
 {
-    let ClientError::Protocol(fault) = error else {
-        return;
-    };
-    let Ok(text) = protocol_error(alloc, fault) else {
-        return;
-    };
-    let _ = own(mux, who, &text);
+    match error {
+        ClientError::Quit => {
+            let _ = own(mux, who, b"+OK\r\n");
+        }
+        ClientError::Protocol(fault) => {
+            if let Ok(text) = protocol_error(alloc, fault) {
+                let _ = own(mux, who, &text);
+            }
+        }
+        _ => {}
+    }
 }

@@ -1,10 +1,11 @@
 //! Visits of connections.
 
-ghost use Rattle.std.specs.Prelude.{◌≡◌, ◌<◌, length};
-ghost use Rattle.resp_mux.specs.Multiplexing.{KeepsClients};
+ghost use Rattle.std.specs.Prelude.{◌≡◌, ◌<◌, [], length};
+ghost use Rattle.resp_mux.specs.Multiplexing.{KeepsClients, unsent};
 ghost use Rattle.resp_proxy.specs.Clients.{client_id, is_closing};
-ghost use Rattle.resp_proxy.specs.Proxies.{WhereBegunBy, WhereHeld, mux_of, rules_of, reply_rules_of, server_begun};
-ghost use Rattle.resp_proxy.specs.Visiting.{ReadsClient, ReadsServer, VisitsClient, VisitsServer};
+ghost use Rattle.resp_proxy.specs.Proxies.{HasRoomFor, WhereBegunBy, WhereHeld, mux_of, rules_of, reply_rules_of, server_begun};
+ghost use Rattle.resp_proxy.specs.Visiting.{HasNothingFor, ReadsClient, ReadsServer, VisitsClient, VisitsServer};
+ghost use Rattle.resp_value.specs.Devices.{count_after};
 
 use crate::client::Client;
 use crate::error::{ClientError, ServerError};
@@ -66,6 +67,9 @@ impl Proxy {
             (client_id client.old) (R.remaining reader.old) (R.remaining reader.new)
             (W.written writer.old) (W.written writer.new) held client.new
             (mux_of self.old) (mux_of self.new)) }
+        ensures nothing_read { (HasRoomFor self.old client.old → ⊥) → reader.new ≡ reader.old }
+        ensures all { result.written ≡ Written.All →
+            HasNothingFor (mux_of self.new) (client_id client.old) }
         ensures same_client { client_id client.new ≡ client_id client.old }
         ensures same_clients { KeepsClients (mux_of self.old) (mux_of self.new) }
         ensures same_rules { rules_of self.new ≡ rules_of self.old }
@@ -86,6 +90,7 @@ impl Proxy {
         ensures reads { WhereHeld self.old client.old (λ held. ReadsClient (rules_of self.old)
             (client_id client.old) (R.remaining reader.old) (R.remaining reader.new) held client.new
             (mux_of self.old) (mux_of self.new)) }
+        ensures nothing_read { (HasRoomFor self.old client.old → ⊥) → reader.new ≡ reader.old }
         ensures same_client { client_id client.new ≡ client_id client.old }
         ensures same_clients { KeepsClients (mux_of self.old) (mux_of self.new) }
         ensures same_rules { rules_of self.new ≡ rules_of self.old }
@@ -123,6 +128,9 @@ impl Proxy {
             (R.remaining reader.old) (R.remaining reader.new) (W.written writer.old)
             (W.written writer.new) front (server_begun self.new) result.end
             (mux_of self.old) (mux_of self.new)) }
+        ensures once { R.calls reader.new ≡ count_after 1 (R.calls reader.old) }
+        ensures all { result.written ≡ Written.All →
+            unsent (mux_of self.new) ≡ [] }
         ensures same_clients { KeepsClients (mux_of self.old) (mux_of self.new) }
         ensures same_rules { rules_of self.new ≡ rules_of self.old }
     {
@@ -145,6 +153,7 @@ impl Proxy {
         ensures reads { WhereBegunBy self.old (λ front. ReadsServer (reply_rules_of self.old)
             (R.remaining reader.old) (R.remaining reader.new) front (server_begun self.new) result.1
             (mux_of self.old) (mux_of self.new)) }
+        ensures once { R.calls reader.new ≡ count_after 1 (R.calls reader.old) }
         ensures same_clients { KeepsClients (mux_of self.old) (mux_of self.new) }
         ensures same_rules { rules_of self.new ≡ rules_of self.old }
     {

@@ -2,7 +2,7 @@ use Rattle.resp_frames.specs.Texts.{text_of}
 use Rattle.resp_proxy.proofs.Takings.{carried-own}
 use Rattle.resp_proxy.proofs.commands.carry_out.Goals as goal
 
-pub returns-clause-carried_out : goal.returns-clause-carried_out
-returns-clause-carried_out c =
+pub returns-in-Ok-Some-clause-carried_out : goal.returns-in-Ok-Some-clause-carried_out
+returns-in-Ok-Some-clause-carried_out c =
     carried-own c.own.result c.args.who (text_of c.args.command.now.frame) c.deref.result.now c.args.command.now.words.class c.args.mux.now c.own.new.mux
     c.own.ensures.passed

@@ -6,8 +6,8 @@ returns-in_default-clause-gives g c =
     let out = g.W.Sink.written c.args.writer.now in
     none-given c.to_client.result out out c.args.who c.args.mux.now c.to_client.ensures.waiting c.to_client.ensures.answered (appends-none out)
 
-pub returns-then-length-eq0-clause-gives : goal.returns-then-length-eq0-clause-gives
-returns-then-length-eq0-clause-gives g c =
+pub returns-then-is_empty-clause-gives : goal.returns-then-is_empty-clause-gives
+returns-then-is_empty-clause-gives g c =
     let out = g.W.Sink.written c.args.writer.now in
     none-given c.to_client.result out out c.args.who c.args.mux.now c.to_client.ensures.waiting c.to_client.ensures.answered (appends-none out)
 

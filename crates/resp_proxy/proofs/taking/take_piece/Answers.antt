@@ -22,5 +22,6 @@ returns-in-Err-clause-taken c ready held h =
       begun = taken.new.begun;
       rest = client.rest;
       is_closing = client.is_closing;
+      label = taken.new.label;
     }) client.id held c.args.piece.now taken.result.used taken.new.begun taken.result.end (Err c.in-Err.error) c.args.mux.now taken.new.mux c.requires ready h
     taken.ensures.taken (λ after begun. tt)

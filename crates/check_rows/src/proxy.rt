@@ -1,0 +1,217 @@
+//! Rows that run on a proxy with some clients and a server.
+
+use crate::cut::{Cut, pieces};
+use crate::subject::Subject;
+use crate::text::{bytes, number, split};
+use anyhow::{Context, Result, bail};
+use resp_proxy::{Client, Proxy, Read, Settings};
+use resp_value::{MemorySink, MemorySource};
+use std::alloc::Global;
+use std::mem;
+
+/// The most bytes of a write.
+const MOST: usize = 65_536;
+
+/// A client, and what it has got in a row.
+#[derive(Drop)]
+struct Seat {
+    number: u64,
+    client: Client,
+    got: Vec<u8>,
+    /// The bytes that the client has sent and that were not read.
+    pending: Vec<u8>,
+    /// Why the client is closing, if the row began to close it.
+    closing: Option<Read>,
+}
+
+/// A proxy, its open clients, and the bytes that the server has got in a row.
+#[derive(Drop)]
+pub(crate) struct Proxying {
+    alloc: Global,
+    proxy: Proxy,
+    seats: Vec<Seat>,
+    sent: Vec<u8>,
+}
+
+impl Subject for Proxying {
+    fn new(alloc: Global) -> Result<Proxying> {
+        Ok(Proxying {
+            alloc,
+            proxy: Proxy::new(alloc, Settings::standard())?,
+            seats: Vec::new(alloc),
+            sent: Vec::new(alloc),
+        })
+    }
+
+    fn is_cut(name: &str) -> bool {
+        name == "client" || name == "server"
+    }
+
+    fn run(&mut self, name: &str, given: &str, cut: Cut, said: &mut String) -> Result<()> {
+        match name {
+            "proxy" => self.renew(given)?,
+            "client" => self.hear_client(given, cut)?,
+            "server" => self.hear_server(given, cut, said)?,
+            "end" => self.end(given)?,
+            "close" => self.close(given)?,
+            "lose" => self.proxy.lose()?,
+            _ => bail!("an unknown row"),
+        }
+        self.settle()?;
+        self.tell(said)
+    }
+}
+
+impl Proxying {
+    /// `proxy WAITING HELD UNSENT` begins a proxy with these bounds.
+    fn renew(&mut self, given: &str) -> Result<()> {
+        let (waiting, rest) = split(given);
+        let (held, unsent) = split(rest);
+        let settings = Settings {
+            waiting: waiting.parse()?,
+            held: held.parse()?,
+            unsent: unsent.parse()?,
+            ..Settings::standard()
+        };
+        self.proxy = Proxy::new(self.alloc, settings)?;
+        self.seats.clear();
+        Ok(())
+    }
+
+    /// Returns the place of a client. The client is opened if it is not open.
+    fn place_of(&mut self, number: u64) -> Result<usize> {
+        for place in 0..self.seats.len() {
+            if self.seats[place].number == number {
+                return Ok(place);
+            }
+        }
+        let client = self.proxy.open()?;
+        self.seats.push(Seat {
+            number,
+            client,
+            got: Vec::new(self.alloc),
+            pending: Vec::new(self.alloc),
+            closing: None,
+        })?;
+        Ok(self.seats.len().saturating_sub(1))
+    }
+
+    /// `client NUMBER TEXT`: the client sends the text, and each piece of it is one visit.
+    fn hear_client(&mut self, given: &str, cut: Cut) -> Result<()> {
+        let (who, text) = split(given);
+        let place = self.place_of(number(who)?)?;
+        let text = bytes(self.alloc, text)?;
+        for piece in pieces(self.alloc, text.as_slice(), cut)? {
+            if !piece.is_empty() {
+                self.visit(place, piece)?;
+            }
+        }
+        Ok(())
+    }
+
+    /// `end NUMBER`: the input of the client ends.
+    fn end(&mut self, given: &str) -> Result<()> {
+        let place = self.place_of(number(given)?)?;
+        self.visit(place, b"")
+    }
+
+    /// Visits a client until it has read this piece. If nothing may be read, the piece is pending.
+    fn visit(&mut self, place: usize, piece: &[u8]) -> Result<()> {
+        let mut reader = MemorySource::new(piece, MOST);
+        let mut writer = MemorySink::new(self.alloc, MOST, MOST)?;
+        let mut buffer = [0; 4_096];
+        let seat = self.seats.get_mut(place).context("no such client")?;
+        for _ in 0..3 {
+            let visit = self.proxy.visit_client(
+                &mut seat.client,
+                &mut reader,
+                &mut writer,
+                buffer.as_mut_slice(),
+            );
+            if matches!(visit.read, Read::Closing(_) | Read::Ended) {
+                if seat.closing.is_none() {
+                    seat.closing = Some(visit.read);
+                }
+                break;
+            }
+            if reader.calls() > 0 {
+                break;
+            }
+        }
+        if reader.calls() == 0 && !seat.client.is_closing() {
+            seat.pending.extend_from_slice(piece)?;
+        }
+        seat.got.extend_from_slice(writer.bytes())?;
+        Ok(())
+    }
+
+    /// `server TEXT`: the server sends the text.
+    fn hear_server(&mut self, given: &str, cut: Cut, said: &mut String) -> Result<()> {
+        let text = bytes(self.alloc, given)?;
+        for piece in pieces(self.alloc, text.as_slice(), cut)? {
+            if let Err(error) = self.proxy.from_server(piece) {
+                writeln!(said, "server: {error}")?;
+                return Ok(());
+            }
+        }
+        Ok(())
+    }
+
+    /// `close NUMBER`: the client goes.
+    fn close(&mut self, given: &str) -> Result<()> {
+        let place = self.place_of(number(given)?)?;
+        let seat = self.seats.remove(place);
+        let Seat { client, .. } = seat;
+        self.proxy.close(client);
+        Ok(())
+    }
+
+    /// Writes all that waits, and takes the bytes for which there is room then.
+    fn settle(&mut self) -> Result<()> {
+        self.write()?;
+        for place in 0..self.seats.len() {
+            let pending = mem::replace(&mut self.seats[place].pending, Vec::new(self.alloc));
+            if !pending.is_empty() {
+                self.visit(place, pending.as_slice())?;
+            }
+            let seat = self.seats.get_mut(place).context("no such client")?;
+            if !seat.client.is_closing() {
+                let _ = self.proxy.from_client(&mut seat.client, b"");
+            }
+        }
+        self.write()
+    }
+
+    fn write(&mut self) -> Result<()> {
+        let mut server = MemorySink::new(self.alloc, MOST, MOST)?;
+        let _ = self.proxy.send(&mut server);
+        self.sent.extend_from_slice(server.bytes())?;
+        for seat in &mut self.seats {
+            let mut writer = MemorySink::new(self.alloc, MOST, MOST)?;
+            let _ = self.proxy.give(&seat.client, &mut writer);
+            seat.got.extend_from_slice(writer.bytes())?;
+        }
+        Ok(())
+    }
+
+    /// Prints what the server and the clients got, and which clients are closing.
+    fn tell(&mut self, said: &mut String) -> Result<()> {
+        if !self.sent.is_empty() {
+            writeln!(said, "server {}", self.sent.escape_ascii())?;
+            self.sent.clear();
+        }
+        for seat in &mut self.seats {
+            if !seat.got.is_empty() {
+                writeln!(said, "client {} {}", seat.number, seat.got.escape_ascii())?;
+                seat.got.clear();
+            }
+            if let Some(read) = seat.closing.take() {
+                match read {
+                    Read::Closing(error) => writeln!(said, "closing {}: {error}", seat.number)?,
+                    _ => writeln!(said, "closing {}", seat.number)?,
+                }
+            }
+        }
+        Ok(())
+    }
+}
