@@ -3,3 +3,4 @@ pub mod Holdings
 pub mod Replyings
 pub mod Gives
 pub mod Readings
+pub mod Others

@@ -1,9 +1,9 @@
 -- The bytes that a visit reads and writes.
-use Rattle.std.specs.Prelude.{◌≡◌, ℕ, List, [], ◌++◌, Option, None, Some, IfSome, MatchOption, Result}
+use Rattle.std.specs.Prelude.{◌≡◌, ℕ, false, List, [], ◌++◌, Option, None, Some, IfSome, MatchOption, Result}
 use Rattle.resp_frames.specs.declared.begun.Begun.{Begun}
 use Rattle.resp_mux.specs.declared.client_id.ClientId.{ClientId}
 use Rattle.resp_mux.specs.Multiplexing.{HasPassed, Multiplexed, WherePassed, unsent, waiting_for}
-use Rattle.resp_mux.specs.Passing.{due_to, with_given, with_sent}
+use Rattle.resp_mux.specs.Passing.{due_to, is_same, with_given, with_sent}
 use Rattle.resp_proxy.specs.declared.client.Client.{Client}
 use Rattle.resp_proxy.specs.declared.error.ClientError.{ClientError}
 use Rattle.resp_proxy.specs.declared.error.ServerError.{ServerError}
@@ -73,3 +73,7 @@ pub record VisitsServer (rules : Rules) (left left' out out' : Option (List ℕ)
   pub between : Multiplexed
   pub reads : ReadsServer rules left left' front b end old between
   pub sends : SendsSome out out' between new
+
+-- each other client has the bytes that it had
+abbrev pub OthersKeep : ClientId → Multiplexed → Multiplexed → Type 0
+OthersKeep who old new = (other : ClientId) → is_same other who ≡ false → waiting_for new other ≡ waiting_for old other

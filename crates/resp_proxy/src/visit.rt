@@ -1,10 +1,10 @@
 //! Visits of connections.
 
 ghost use Rattle.std.specs.Prelude.{◌≡◌, ◌<◌, [], length};
-ghost use Rattle.resp_mux.specs.Multiplexing.{KeepsClients, unsent};
+ghost use Rattle.resp_mux.specs.Multiplexing.{KeepsClients, WherePassed, unsent};
 ghost use Rattle.resp_proxy.specs.Clients.{client_id, is_closing};
 ghost use Rattle.resp_proxy.specs.Proxies.{HasRoomFor, WhereBegunBy, WhereHeld, mux_of, rules_of, reply_rules_of, server_begun};
-ghost use Rattle.resp_proxy.specs.Visiting.{HasNothingFor, ReadsClient, ReadsServer, VisitsClient, VisitsServer};
+ghost use Rattle.resp_proxy.specs.Visiting.{HasNothingFor, OthersKeep, ReadsClient, ReadsServer, VisitsClient, VisitsServer};
 ghost use Rattle.resp_value.specs.Devices.{count_after};
 
 use crate::client::Client;
@@ -67,6 +67,9 @@ impl Proxy {
             (client_id client.old) (R.remaining reader.old) (R.remaining reader.new)
             (W.written writer.old) (W.written writer.new) held client.new
             (mux_of self.old) (mux_of self.new)) }
+        // Each other client has the bytes that it had.
+        ensures others { WhereHeld self.old client.old (λ held. WherePassed (mux_of self.old) (λ p.
+            OthersKeep (client_id client.old) (mux_of self.old) (mux_of self.new))) }
         ensures nothing_read { (HasRoomFor self.old client.old → ⊥) → reader.new ≡ reader.old }
         ensures all { result.written ≡ Written.All →
             HasNothingFor (mux_of self.new) (client_id client.old) }
