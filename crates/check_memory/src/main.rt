@@ -14,6 +14,7 @@ mod given;
 mod multiplexing;
 mod outcome;
 mod pipelining;
+mod proxying;
 mod scheduling;
 mod serving;
 mod worlds;
@@ -63,7 +64,7 @@ fn print(rt: &impl Print, parts: &[Part]) -> Result<()> {
 }
 
 /// Runs each part, and returns their outcomes in order.
-fn parts(alloc: Global) -> [Part; 38] {
+fn parts(alloc: Global) -> [Part; 41] {
     [
         ("decode a piece", decoding::of_one_piece(alloc)),
         ("decode bytes", decoding::of_single_bytes(alloc)),
@@ -99,6 +100,9 @@ fn parts(alloc: Global) -> [Part; 38] {
         ("mux lose", multiplexing::of_lose(alloc)),
         ("frames", frames::of_next(alloc)),
         ("take reply", frames::of_join(alloc)),
+        ("proxy open", proxying::of_open(alloc)),
+        ("proxy client", proxying::of_client(alloc)),
+        ("proxy server", proxying::of_server(alloc)),
         ("world", worlds::of_run(alloc)),
         ("framed values in", framing::of_values_in(alloc)),
         ("framed commands in", framing::of_commands_in(alloc)),

@@ -1,9 +1,10 @@
 -- The bytes that a visit reads and writes.
-use Rattle.std.specs.Prelude.{◌≡◌, ℕ, false, List, [], ◌++◌, Option, None, Some, IfSome, MatchOption, Result}
+use Rattle.std.specs.Prelude.{◌≡◌, ℕ, true, false, List, [], ◌++◌, Option, None, Some, IfSome, MatchOption, Result}
 use Rattle.resp_frames.specs.declared.begun.Begun.{Begun}
 use Rattle.resp_mux.specs.declared.client_id.ClientId.{ClientId}
-use Rattle.resp_mux.specs.Multiplexing.{HasPassed, Multiplexed, WherePassed, unsent, waiting_for}
+use Rattle.resp_mux.specs.Multiplexing.{HasPassed, Multiplexed, WherePassed, unsent, waiting_count, waiting_for}
 use Rattle.resp_mux.specs.Passing.{due_to, is_same, with_given, with_sent}
+use Rattle.resp_proxy.specs.Clients.{client_id, is_closing}
 use Rattle.resp_proxy.specs.declared.client.Client.{Client}
 use Rattle.resp_proxy.specs.declared.error.ClientError.{ClientError}
 use Rattle.resp_proxy.specs.declared.error.ServerError.{ServerError}
@@ -30,6 +31,16 @@ pub record IsOwed (who : ClientId) (gone text : List ℕ) (m : Multiplexed) : Ty
 -- no bytes wait for the client
 abbrev pub HasNothingFor : Multiplexed → ClientId → Type 0
 HasNothingFor m who = IfSome (waiting_for m who) (λ text. text ≡ [])
+
+-- no command of the client waits
+abbrev pub HasNoCommand : Multiplexed → ClientId → Type 0
+HasNoCommand m who = IfSome (waiting_count m who) (λ count. count ≡ 0)
+
+-- the client is closing, and nothing waits for it
+pub record IsDone (m : Multiplexed) (c : Client) : Type 0 where
+  pub closing : is_closing c ≡ true
+  pub bytes : HasNothingFor m (client_id c)
+  pub commands : HasNoCommand m (client_id c)
 
 -- Bytes were written, and the client was given them. It was owed them.
 pub record GivesSome (out out' : Option (List ℕ)) (who : ClientId) (old new : Multiplexed) : Type 0 where

@@ -1,8 +1,8 @@
 //! Writes what waits in a multiplexer.
 
-ghost use Rattle.std.specs.Prelude.{◌≡◌, ◌⊎◌, []};
+ghost use Rattle.std.specs.Prelude.{◌≡◌, ◌⊎◌, [], IsTrue};
 ghost use Rattle.resp_mux.specs.Multiplexing.{KeepsClients, unsent};
-ghost use Rattle.resp_proxy.specs.Visiting.{GivesSome, HasNothingFor, SendsSome};
+ghost use Rattle.resp_proxy.specs.Visiting.{GivesSome, HasNoCommand, HasNothingFor, SendsSome};
 ghost use Rattle.resp_value.specs.Devices.{count_after};
 
 use resp_mux::{ClientId, Mux};
@@ -78,4 +78,14 @@ fn left_to_server(mux: &Mux) -> Written
     } else {
         Written::Some
     }
+}
+
+/// Returns whether no bytes and no commands of a client wait.
+pub(crate) fn has_nothing(mux: &Mux, who: ClientId) -> bool
+    ensures { IsTrue result → HasNothingFor mux.now who × HasNoCommand mux.now who }
+{
+    let (Some(text), Some(count)) = (mux.to_client(who), mux.waiting_of(who)) else {
+        return false;
+    };
+    text.is_empty() && count == 0
 }

@@ -1,26 +1,26 @@
 //! The proxy.
 
-ghost use Rattle.std.specs.Prelude.{◌≡◌, ◌↔◌, ◌⊎◌, ◌++◌, true, false, [], IfOk, IsErrOf, IsTrue, OnErr, OnOk};
+ghost use Rattle.std.specs.Prelude.{◌≡◌, ◌↔◌, ◌⊎◌, ◌++◌, true, false, [], length, slice_get, IfOk, IsErrOf, IsTrue, OnErr, OnOk};
 ghost use Rattle.resp_frames.specs.Framing.{HasBegun};
-ghost use Rattle.resp_mux.specs.Multiplexing.{HasAnsweredSome, HasClosed, HasNoNumberLeft, HasOpened, HasPassed, KeepsClients, KeepsPassed, WherePassed, unsent};
+ghost use Rattle.resp_mux.specs.Multiplexing.{HasAnsweredSome, HasClosed, HasNoNumberLeft, HasOpened, HasPassed, KeepsClients, KeepsPassed, WherePassed, unsent, waiting_clients};
 ghost use Rattle.resp_mux.specs.Passing.{nothing_passed, with_loss};
 ghost use Rattle.resp_proxy.specs.Clients.{Holds, client_id, is_closing};
 ghost use Rattle.resp_proxy.specs.Room.{HasRoom};
 ghost use Rattle.resp_proxy.specs.Replying.{TakesReplies};
 ghost use Rattle.resp_proxy.specs.Taking.{TakesIn};
-ghost use Rattle.resp_proxy.specs.Visiting.{GivesSome, HasNothingFor, SendsSome};
+ghost use Rattle.resp_proxy.specs.Visiting.{GivesSome, HasNothingFor, IsDone, SendsSome};
 ghost use Rattle.resp_value.specs.Devices.{count_after};
 ghost use Rattle.resp_value.specs.Rules.{Rules};
 ghost use Rattle.resp_proxy.specs.Proxies.{HasBegunBy, HasNoClient, WhereBegunBy, WhereHeld, lost_text, mux_of, reply_rules_of, rules_of, server_begun, settings_of};
 
 use crate::client::Client;
 use crate::error::{ClientError, ServerError};
-use crate::giving::{Written, give, send};
+use crate::giving::{Written, give, has_nothing, send};
 use crate::replies::take_replies;
 use crate::settings::Settings;
 use crate::taking::{shut, take_in};
 use resp_frames::{Begun, Frames};
-use resp_mux::{Bounds, Mux, OpenError};
+use resp_mux::{Bounds, ClientId, Mux, OpenError};
 use resp_value::device::Sink;
 use resp_value::version::Version;
 use std::alloc::{AllocError, Global};
@@ -151,6 +151,31 @@ impl Proxy {
             client,
             piece,
         )
+    }
+
+    /// Returns the number of commands that wait for replies.
+    pub fn waiting(&self) -> usize
+        ensures { result ≡ length (waiting_clients (mux_of self.now)) }
+    {
+        self.mux.waiting()
+    }
+
+    /// Returns the client of the first command that waits for a reply.
+    pub fn next_client(&self) -> Option<ClientId>
+        ensures { result ≡ slice_get (waiting_clients (mux_of self.now)) 0 }
+    {
+        self.mux.next_client()
+    }
+
+    /// Returns whether a client is closing, none of its commands waits, and all its replies were
+    /// written. Close it then.
+    pub fn is_done(&self, client: &Client) -> bool
+        ensures { IsTrue result → IsDone (mux_of self.now) client.now }
+    {
+        if !client.is_closing {
+            return false;
+        }
+        has_nothing(&self.mux, client.id)
     }
 
     /// Takes nothing more from a client. The bytes that it holds are lost.

@@ -1,0 +1,93 @@
+//! Parts that test a proxy. After a failed allocation the client or the connection to the server is
+//! closed, and the other clients go on.
+
+use crate::outcome::Outcome;
+use resp_mux::OpenError;
+use resp_proxy::{Client, ClientError, Proxy, Settings};
+use std::alloc::{AllocError, Global};
+
+const PING: &[u8] = b"*1\r\n$4\r\nPING\r\n";
+
+/// Returns a proxy with two clients.
+fn two_clients(alloc: Global) -> Result<(Proxy, Client, Client), AllocError> {
+    let mut proxy = Proxy::new(alloc, Settings::standard())?;
+    let (Ok(first), Ok(second)) = (proxy.open(), proxy.open()) else {
+        return Err(AllocError);
+    };
+    Ok((proxy, first, second))
+}
+
+/// Returns whether a client whose command could not be taken is closing, and whether the other
+/// client goes on.
+fn goes_on(proxy: &mut Proxy, closed: &Client, other: &mut Client) -> bool {
+    let waiting = proxy.waiting();
+    let taken = proxy.from_client(other, PING);
+    closed.is_closing() && taken.is_ok() && proxy.waiting() == waiting + 1
+}
+
+pub(crate) fn of_open(alloc: Global) -> Outcome {
+    let Ok(mut proxy) = Proxy::new(alloc, Settings::standard()) else {
+        return Outcome::OutOfMemory;
+    };
+    for _ in 0..9 {
+        match proxy.open() {
+            Ok(client) => {
+                if client.is_closing() {
+                    return Outcome::Wrong;
+                }
+            }
+            Err(OpenError::OutOfMemory) => return Outcome::refused(proxy.open().is_ok()),
+            Err(_) => return Outcome::Wrong,
+        }
+    }
+    Outcome::Whole
+}
+
+/// A command that is queued, an answer of the proxy's own, an error with a name, and a command that
+/// has begun.
+pub(crate) fn of_client(alloc: Global) -> Outcome {
+    let Ok((mut proxy, mut first, mut second)) = two_clients(alloc) else {
+        return Outcome::OutOfMemory;
+    };
+    let pieces: [&[u8]; 4] = [
+        PING,
+        b"*2\r\n$6\r\nCLIENT\r\n$2\r\nID\r\n",
+        b"*1\r\n$5\r\nMULTI\r\n",
+        b"*1\r\n$4\r\nPI",
+    ];
+    for piece in pieces {
+        match proxy.from_client(&mut first, piece) {
+            Ok(()) => {}
+            Err(ClientError::OutOfMemory | ClientError::Protocol(_)) => {
+                return Outcome::refused(goes_on(&mut proxy, &first, &mut second));
+            }
+            Err(_) => return Outcome::Wrong,
+        }
+    }
+    Outcome::of(proxy.waiting() == 1 && !first.is_closing())
+}
+
+/// A reply, and the loss of the connection while a command waits.
+pub(crate) fn of_server(alloc: Global) -> Outcome {
+    let Ok((mut proxy, mut first, mut second)) = two_clients(alloc) else {
+        return Outcome::OutOfMemory;
+    };
+    for client in [&mut first, &mut second] {
+        if proxy.from_client(client, PING).is_err() {
+            return Outcome::OutOfMemory;
+        }
+    }
+    let mut refused = proxy.from_server(b"+PONG\r\n+P").is_err();
+    if proxy.lose().is_err() {
+        refused = true;
+        if proxy.lose().is_err() {
+            return Outcome::Wrong;
+        }
+    }
+    let holds = proxy.waiting() == 0 && proxy.from_client(&mut first, PING).is_ok();
+    if refused {
+        Outcome::refused(holds)
+    } else {
+        Outcome::of(holds)
+    }
+}
