@@ -43,7 +43,7 @@ pub(crate) fn of_open(alloc: Global) -> Outcome {
     Outcome::Whole
 }
 
-/// A command that is queued, an answer of the proxy's own, an error with a name, and a command that
+/// A command that is queued, a reply of the proxy itself, an error with a name, and a command that
 /// has begun.
 pub(crate) fn of_client(alloc: Global) -> Outcome {
     let Ok((mut proxy, mut first, mut second)) = two_clients(alloc) else {

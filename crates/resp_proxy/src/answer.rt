@@ -1,4 +1,4 @@
-//! The proxy's own answers.
+//! The replies of the proxy itself.
 
 use resp_commands::Class;
 use resp_frames::{CommandFrame, FrameError};
@@ -10,7 +10,7 @@ use std::alloc::{AllocError, Global};
 /// The most bytes of a command's name in an error.
 const SHOWN: usize = 64;
 
-/// The words of a command that its answer depends on.
+/// The words of a command that its reply depends on.
 #[derive(Clone, Copy)]
 struct Asked<'a> {
     name: &'a [u8],
@@ -20,7 +20,7 @@ struct Asked<'a> {
     second: &'a [u8],
 }
 
-/// Returns the proxy's own answer to a command that is not sent to the server, or `None` if the
+/// Returns the reply of the proxy to a command that is not sent to the server, or `None` if the
 /// command is QUIT. `label` is the name that the client has given itself.
 pub(crate) fn own_answer(
     alloc: Global,
@@ -57,7 +57,7 @@ fn is(word: &[u8], wanted: &[u8]) -> bool {
     word.eq_ignore_ascii_case(wanted)
 }
 
-/// Returns the answer to a command other than QUIT.
+/// Returns the reply to a command other than QUIT.
 fn answer_to(
     alloc: Global,
     who: ClientId,
@@ -80,7 +80,7 @@ fn answer_to(
     refusal(alloc, asked.name, class)
 }
 
-/// Returns whether the proxy answers this subcommand of CLIENT.
+/// Returns whether the proxy itself replies to this subcommand of CLIENT.
 fn is_own(subcommand: &[u8]) -> bool {
     is(subcommand, b"ID")
         || is(subcommand, b"GETNAME")
@@ -89,7 +89,7 @@ fn is_own(subcommand: &[u8]) -> bool {
         || is(subcommand, b"NO-EVICT")
 }
 
-/// Returns the answer to a subcommand of CLIENT. The name is that of the client, and no other client
+/// Returns the reply to a subcommand of CLIENT. The name is that of the client, and no other client
 /// is asked.
 fn answer_to_client(
     alloc: Global,
@@ -141,7 +141,7 @@ fn set_name(alloc: Global, label: &mut Vec<u8>, name: &[u8]) -> Result<Vec<u8>, 
     Ok(answer)
 }
 
-/// Returns the answer to HELLO: the client stays in version 2.
+/// Returns the reply to HELLO: the client stays in version 2.
 fn answer_to_hello(alloc: Global, who: ClientId, asked: Asked<'_>) -> Result<Vec<u8>, AllocError> {
     if asked.count > 1 {
         return b"-ERR 'HELLO' with options is not served by this proxy yet\r\n".to_vec(alloc);
@@ -163,7 +163,7 @@ fn answer_to_hello(alloc: Global, who: ClientId, asked: Asked<'_>) -> Result<Vec
     Ok(text)
 }
 
-/// Returns the answer to EXEC, DISCARD and UNWATCH outside of a transaction.
+/// Returns the reply to EXEC, DISCARD and UNWATCH outside of a transaction.
 fn answer_outside(alloc: Global, name: &[u8]) -> Result<Vec<u8>, AllocError> {
     if is(name, b"EXEC") {
         return b"-ERR EXEC without MULTI\r\n".to_vec(alloc);

@@ -113,8 +113,8 @@ fn take_one(
     }
 }
 
-/// Queues a command for the server if clients may share a connection for it, and answers it
-/// otherwise.
+/// Queues a command for the server if clients may share a connection for it. Otherwise the proxy
+/// itself replies.
 fn carry_out(
     alloc: Global,
     limits: &Limits,
@@ -152,7 +152,7 @@ fn forward(mux: &mut Mux, who: ClientId, text: &[u8]) -> Result<(), ClientError>
     }
 }
 
-/// Gives a client an answer of the proxy's own.
+/// Gives a client a reply of the proxy itself.
 pub(crate) fn own(mux: &mut Mux, who: ClientId, text: &[u8]) -> Result<(), ClientError>
     ensures passed { OnOk result (WherePassed mux.old (λ p.
         HasPassed mux.new (with_own who text.now p))) }

@@ -1,4 +1,4 @@
-//! Writes what waits in a multiplexer.
+//! Writes the bytes that wait in a multiplexer.
 
 ghost use Rattle.std.specs.Prelude.{◌≡◌, ◌⊎◌, [], IsTrue};
 ghost use Rattle.resp_mux.specs.Multiplexing.{KeepsClients, unsent};
@@ -8,7 +8,7 @@ ghost use Rattle.resp_value.specs.Devices.{count_after};
 use resp_mux::{ClientId, Mux};
 use resp_value::device::{DeviceFault, Sink};
 
-/// What a visit wrote.
+/// The result of the write of a visit.
 #[derive(Clone, Copy, Debug, PartialEq, Eq)]
 pub enum Written {
     /// No bytes wait now.

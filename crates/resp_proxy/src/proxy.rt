@@ -26,7 +26,7 @@ use resp_value::version::Version;
 use std::alloc::{AllocError, Global};
 use std::marker::Model;
 
-/// The answer to each command that waits when the connection to the server is lost.
+/// The reply to each command that waits when the connection to the server is lost.
 const LOST: &[u8] = b"-ERR connection to server lost; the command may have run\r\n";
 
 /// A proxy between many clients and one connection to a server.
@@ -110,7 +110,7 @@ impl Proxy {
         }
     }
 
-    /// Closes a client. Nobody gets the answers to its commands that are missing. Its commands still
+    /// Closes a client. Nobody gets the replies that are missing. Its commands still
     /// go to the server.
     pub fn close(&mut self, client: Client)
         ensures closed { HasClosed (mux_of self.old) (mux_of self.new) (client_id client) }
@@ -129,7 +129,8 @@ impl Proxy {
     }
 
     /// Takes bytes that a client sent. Each command for which there is room is queued for the server,
-    /// or answered. The bytes after it are held. Call it again without bytes when there is room.
+    /// or the proxy replies to it. The bytes after them are held. Call it again without bytes when
+    /// there is room.
     ///
     /// # Errors
     ///
@@ -167,7 +168,7 @@ impl Proxy {
         self.mux.next_client()
     }
 
-    /// Returns whether a client is closing, none of its commands waits, and all its replies were
+    /// Returns whether a client is closing, no command of it waits, and all its replies were
     /// written. Close it then.
     pub fn is_done(&self, client: &Client) -> bool
         ensures { IsTrue result → IsDone (mux_of self.now) client.now }
@@ -217,7 +218,7 @@ impl Proxy {
     ///
     /// # Errors
     ///
-    /// `AllocError` if an allocation fails. The first commands may be answered, and the others still
+    /// `AllocError` if an allocation fails. The first commands may have their replies, and the others still
     /// wait. Close the client of the first command, and try again.
     pub fn lose(&mut self) -> Result<(), AllocError>
         ensures passed { OnOk result (WherePassed (mux_of self.old) (λ p.

@@ -44,7 +44,7 @@ pub(crate) fn take_in(
     taken
 }
 
-/// As `take_in`, but after an error the client is not shut.
+/// Does what `take_in` does, but after an error the client is not shut.
 fn take_held(
     alloc: Global,
     settings: &Settings,
@@ -72,7 +72,7 @@ fn take_held(
     }
 }
 
-/// As `take_held`, if no bytes wait for room.
+/// Does what `take_held` does, if no bytes wait for room.
 fn take_piece(
     alloc: Global,
     settings: &Settings,
@@ -119,7 +119,7 @@ fn keep(client: &mut Client, bytes: &[u8]) -> Result<(), ClientError>
     }
 }
 
-/// As `take_held`, behind the bytes that wait for room.
+/// Does what `take_held` does, behind the bytes that wait for room.
 fn take_rest(
     alloc: Global,
     settings: &Settings,
@@ -179,7 +179,7 @@ pub(crate) fn shut(alloc: Global, client: &mut Client)
     client.is_closing = true;
 }
 
-/// Gives a client the last answer before it is closed, if the error has one and memory suffices.
+/// Gives a client the last reply before it is closed, if the error has a reply and memory suffices.
 fn say_last(alloc: Global, mux: &mut Mux, who: ClientId, error: ClientError)
     ensures said { SaysLast who mux.old mux.new }
     ensures same_clients { KeepsClients mux.old mux.new }

@@ -13,7 +13,7 @@ use crate::giving::Written;
 use crate::proxy::Proxy;
 use resp_value::device::{DeviceFault, Sink, Source};
 
-/// What a visit read from a client.
+/// The result of the read of a client.
 #[derive(Clone, Copy, Debug, PartialEq, Eq)]
 pub enum Read {
     /// Bytes were taken, and there may be more.
@@ -32,9 +32,9 @@ pub enum Read {
 /// The result of [`Proxy::visit_client`].
 #[derive(Clone, Copy, Debug, PartialEq, Eq)]
 pub struct Visit {
-    /// What was read.
+    /// The result of the read.
     pub read: Read,
-    /// What was written.
+    /// The result of the write.
     pub written: Written,
 }
 
@@ -46,7 +46,7 @@ pub struct ServerVisit {
     pub read: Option<usize>,
     /// An error if the connection is not usable. Then nothing was written.
     pub end: Result<(), ServerError>,
-    /// What was written.
+    /// The result of the write.
     pub written: Written,
 }
 
@@ -62,7 +62,7 @@ impl Proxy {
         buffer: &mut [u8],
     ) -> Visit
         requires { 0 < length buffer.old }
-        // What was read came from this client, and what was written is what this client was owed.
+        // The bytes read came from this client, and the bytes written are those that it was owed.
         ensures visited { WhereHeld self.old client.old (λ held. VisitsClient (rules_of self.old)
             (client_id client.old) (R.remaining reader.old) (R.remaining reader.new)
             (W.written writer.old) (W.written writer.new) held client.new
@@ -126,7 +126,7 @@ impl Proxy {
         buffer: &mut [u8],
     ) -> ServerVisit
         requires { 0 < length buffer.old }
-        // What was read came from the server, and what was written waited for it.
+        // The bytes read came from the server, and the bytes written waited for it.
         ensures visited { WhereBegunBy self.old (λ front. VisitsServer (reply_rules_of self.old)
             (R.remaining reader.old) (R.remaining reader.new) (W.written writer.old)
             (W.written writer.new) front (server_begun self.new) result.end
