@@ -5,7 +5,9 @@ to which the two taps print. It tests that
 
 - redis-cli prints the same with and without the tap, in both versions, and the tap prints its commands and replies;
 - a HELLO 3 in the middle of a pipeline changes the version of the later replies;
-- values after SUBSCRIBE are not paired;
+- SUBSCRIBE and its like are answered by arrays in version 2 and by pushes in version 3, or by an error, and the replies
+  after them are paired;
+- after MONITOR values are not paired, and after RESET they are;
 - an error of the client leaves the replies that are due paired;
 - each command of the server's table but those that end the pairing has one reply;
 - passwords are printed as redis-server prints them for MONITOR and SLOWLOG;
@@ -84,13 +86,68 @@ assert b"\r\n$-1\r\n%" in heard and heard.endswith(b"_\r\n,1.5\r\n"), heard
 waits_for("client 7 reply 2\n  null\nclient 7 reply 3\n  map\n")
 waits_for('client 7 reply 4\n  null\nclient 7 reply 5\n  double "1.5" 3\nclient 7 closed\nclient 7 gone\n')
 
-# Values after SUBSCRIBE are not paired with commands.
-talk(tap, command("PING") + command("SUBSCRIBE", "channel"), b":1\r\n")
-waits_for('client 8 reply 1\n  simple "PONG" 4\nclient 8 value\n  array\n    bulk "subscribe" 9\n')
+def client_of(asked):
+    """Returns the number of the last client with this first command, as it is printed."""
+    waits_for("\n  " + asked + "\n")
+    return re.findall(r"client (\d+) command 1\n  " + re.escape(asked) + "\n", printed())[-1]
+
+
+# In version 2 SUBSCRIBE is answered by arrays, and messages belong to no command.
+with socket.create_connection(("127.0.0.1", tap), 10) as peer:
+    def ask(sent, end):
+        """Sends bytes, and reads up to and including this end."""
+        peer.sendall(sent)
+        heard = b""
+        while not heard.endswith(end):
+            heard += peer.recv(65536)
+
+    ask(command("ECHO", "first two") + command("SUBSCRIBE", "a", "b"), b"$1\r\nb\r\n:2\r\n")
+    cli(server, "PUBLISH", "b", "hi")
+    ask(b"", b"$2\r\nhi\r\n")
+    ask(command("PSUBSCRIBE", "p*"), b":3\r\n")
+    cli(server, "PUBLISH", "pq", "deep")
+    ask(b"", b"$4\r\ndeep\r\n")
+    ask(command("PING") + command("GET", "k") + command("UNSUBSCRIBE"), b":1\r\n")
+    ask(command("PUNSUBSCRIBE") + command("UNSUBSCRIBE") + command("ECHO", "free"), b"free\r\n")
+number = client_of('"ECHO" "first two"')
+for text in ('reply 2\n  array\n    bulk "subscribe" 9\n    bulk "b" 1\n    int 2\n  end 3\n',
+             'value\n  array\n    bulk "message" 7\n    bulk "b" 1\n    bulk "hi" 2\n  end 3\n',
+             'value\n  array\n    bulk "pmessage" 8\n', 'reply 4\n  array\n    bulk "pong" 4\n',
+             'reply 5\n  error "ERR Can', 'reply 6\n  array\n    bulk "unsubscribe" 11\n',
+             'reply 7\n  array\n    bulk "punsubscribe" 12\n', 'reply 8\n  array\n    bulk "unsubscribe" 11\n    null\n',
+             'reply 9\n  bulk "free" 4\n'):
+    waits_for(f"client {number} {text}")
+
+# In version 3 SUBSCRIBE is answered by pushes, or by an error.
+cli(server, "ACL", "SETUSER", "bob", "on", "nopass", "+@all", "~*", "resetchannels", "&a*")
+talk(tap, command("ECHO", "first three") + command("HELLO", "3", "AUTH", "bob", "x") + command("SUBSCRIBE", "a1", "a2") +
+     command("SUBSCRIBE", "b") + command("PUBLISH", "a1", "hi") + command("SSUBSCRIBE", "a3") + command("UNSUBSCRIBE") +
+     command("MULTI") + command("SUBSCRIBE", "a4") + command("DISCARD") + command("SUNSUBSCRIBE") +
+     command("UNSUBSCRIBE") + command("ECHO", "free"), b"free\r\n")
+number = client_of('"ECHO" "first three"')
+for text in ('push\n  push\n    bulk "subscribe" 9\n    bulk "a2" 2\n', 'reply 4\n  error "NOPERM',
+             'push\n  push\n    bulk "message" 7\n', 'reply 5\n  int 1\n', 'push\n  push\n    bulk "ssubscribe" 10\n',
+             'push\n  push\n    bulk "unsubscribe" 11\n', 'reply 8\n  simple "OK" 2\n',
+             'reply 9\n  simple "QUEUED" 6\n', 'reply 10\n  simple "OK" 2\n', 'reply 13\n  bulk "free" 4\n'):
+    waits_for(f"client {number} {text}")
+cli(server, "ACL", "DELUSER", "bob")
+
+# After MONITOR values are paired with no command. Pairing begins again with the reply to RESET.
+talk(tap, command("ECHO", "first of all") + command("MONITOR") + command("PING") + command("RESET") +
+     command("ECHO", "paired"), b"paired\r\n")
+number = client_of('"ECHO" "first of all"')
+waits_for(f'client {number} value\n  simple "OK" 2\nclient {number} value\n  simple "')
+waits_for(f'client {number} reply 4\n  simple "RESET" 5\nclient {number} reply 5\n  bulk "paired" 6\n')
+talk(tap, command("ECHO", "first of none") + command("CLIENT", "REPLY", "OFF") + command("PING") + command("RESET") +
+     command("ECHO", "paired"), b"paired\r\n")
+number = client_of('"ECHO" "first of none"')
+waits_for(f'client {number} reply 4\n  simple "RESET" 5\nclient {number} reply 5\n  bulk "paired" 6\n')
 
 # An inline command is forwarded, and the tap prints its reply as a value.
 assert talk(tap, b"PING\r\n", b"\r\n") == b"+PONG\r\n"
-waits_for('client 9 refused Syntax at byte 0 of command 1\nclient 9 value\n  simple "PONG" 4\n')
+waits_for("refused Syntax at byte 0 of command 1\n")
+number = re.findall(r"client (\d+) refused Syntax at byte 0 of command 1\n", printed())[-1]
+waits_for(f'client {number} value\n  simple "PONG" 4\n')
 
 # A reply of 16 MiB, in many pieces, is forwarded unchanged.
 cli(server, "SETRANGE", "large", str((1 << 24) - 1), "x")
@@ -139,17 +196,16 @@ waits_for('reply 2\n  simple "RESET" 5\n')
 number = re.findall(r"client (\d+) reply 2\n  simple \"RESET\" 5\n", printed())[-1]
 waits_for(f"client {number} reply 3\n  null\n")
 
-# These commands have no reply in each of these forms, and values after them are not paired.
-for words in (["REPLCONF", "ACK", "1"], ["REPLCONF", "GETACK", "*"], ["REPLCONF", "listening-port", "1", "ACK", "5"]):
+# These commands have no reply. After the last one values are not paired.
+for words, told in ((["REPLCONF", "ACK", "1"], "reply 2"), (["REPLCONF", "GETACK", "*"], "reply 2"),
+                    (["REPLCONF", "listening-port", "1", "ACK", "5"], "value")):
     assert talk(tap, command(*words) + command("ECHO", "mark"), b"mark\r\n") == b"$4\r\nmark\r\n", words
-    asked = "\n  " + " ".join(f'"{word}"' for word in words) + "\n"
-    waits_for(asked)
-    number = re.findall(r"client (\d+) command 1" + re.escape(asked), printed())[-1]
-    waits_for(f'client {number} value\n  bulk "mark" 4\n')
+    asked = " ".join(f'"{word}"' for word in words)
+    waits_for(f'client {client_of(asked)} {told}\n  bulk "mark" 4\n')
 
 # Each other command has one reply: that to an ECHO after it is paired with the ECHO.
 unpaired = {"subscribe", "unsubscribe", "psubscribe", "punsubscribe", "ssubscribe", "sunsubscribe", "monitor", "sync",
-            "psync", "replconf"}
+            "psync"}
 ends = {"quit", "shutdown", "replicaof", "slaveof", "failover", "reset", "multi", "debug", "save", "flushall", "flushdb"}
 with socket.create_connection(("127.0.0.1", server), 10) as peer:
     lines = peer.makefile("rb")

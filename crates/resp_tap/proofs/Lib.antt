@@ -1,6 +1,7 @@
-pub mod Pairings
-pub mod Replies
 pub mod SecretWords
-pub mod TimeLemmas
 pub mod Visits
+pub mod NoticeMembers
+pub mod LineLemmas
+pub mod TimeLemmas
 pub mod Streams
+pub mod Counting

@@ -1,37 +1,34 @@
 -- What is told of both sides of a connection, piece by piece.
-use Rattle.std.proofs.Common.{◌≡◌, ◌≢◌, inl, inr, ℕ, ◌+◌, Bool, true, false, not, cond, List, [], ◌∷◌, ◌++◌, length, take, drop, Option, refl, sym, ap, subst, ◌∙◌, arith, append_assoc}
+use Rattle.std.proofs.Common.{◌≡◌, ◌⊎◌, inl, inr, ℕ, ◌+◌, ◌≤◌, ◌||◌, Bool, true, false, List, [], ◌∷◌, ◌++◌, length, take, drop, Option, refl, sym, ap, subst, ◌∙◌, arith, append_assoc}
 use Rattle.std.specs.Prelude.{Result, if◌then◌else◌}
 use Rattle.std.specs.List.{AllByRecursion}
 use Rattle.std.proofs.lemmas.List.{append-nil, length-append, take-append-drop, take-append-le, take_all, take_at}
 use Rattle.std.proofs.lemmas.List.Elements.{filter-append}
 use Rattle.resp_value.specs.Bounds.{Bounds}
 use Rattle.resp_value.specs.Data.{Datum}
-use Rattle.resp_value.specs.Rules.{Rules}
-use Rattle.resp_value.specs.Spellings.{AreSpellings, IsSpelling}
+use Rattle.resp_value.specs.Laws.{VersionThreeSpellsWhatTwoDoes}
+use Rattle.resp_value.specs.Rules.{Rules, WithinTotal, rules_under}
+use Rattle.resp_value.specs.Spellings.{AreSpellings, IsSpelling, IsViable}
 use Rattle.resp_value.specs.Trees.{Spells}
 use Rattle.resp_value.specs.Values.{datum_of}
 use Rattle.resp_value.specs.declared.value.Value.TheVariants as value
 use Rattle.resp_value.specs.declared.version.Version.{Version}
-use Rattle.resp_value.specs.declared.version.Version.TheVariants.{Two}
 use Rattle.resp_scan.specs.Reading.{HasNoValue}
 use Rattle.resp_decode.proofs.Feeding.{no_value_at_start}
 use Rattle.resp_session.specs.Answers.{BeginsNoValue}
 use Rattle.resp_session.specs.Commands.{Call, Nothing, meaning_of}
-use Rattle.resp_session.specs.Heard.{is_push, numbered_replies, pushes_of, replies_of}
-use Rattle.resp_session.specs.Reading.{MayGoOn, ReadsAs, Waiting}
-use Rattle.resp_session.specs.ReadingLaws.{HearingGoesOn, ReadingsGoOn, ReadingsStay}
+use Rattle.resp_session.specs.Heard.{is_push, pushes_of}
 use Rattle.resp_session.proofs.TextsInPieces.{spellings-append}
 use Rattle.resp_print.specs.declared.print_error.PrintError.{PrintError}
 use Rattle.resp_tap.specs.Kinds.{command_kind}
-use Rattle.resp_tap.specs.Streams.{Arrival, Arrive, IsNoError, IsRest, NoError, Numbered, TellsTheConnection, ask_of, asking, asks_of, by_side, client_bytes, command_in, commands_of, each, numbered_commands, push_in, reply_in, server_bytes, told, words_of}
-use Rattle.resp_tap.specs.Taps.{TapState, asks_after, at_front, is_over, new_tap, pairing_after, settled_pairing, tap_state, with_command}
+use Rattle.resp_tap.specs.Lines.{LineState, ReadsLine, asking, due_of, is_listening, is_unasked, line_after, line_sent, line_with, new_line, next_version, number_for, numbered, open_after, paired, settled, version_by}
+use Rattle.resp_tap.specs.Streams.{Arrival, Arrive, IsNoError, IsRest, NoError, Numbered, TellsTheConnection, by_side, client_bytes, command_in, commands_of, each, numbered_commands, push_in, reply_in, server_bytes, told, words_of}
+use Rattle.resp_tap.specs.Taps.{TapState, at_front, new_tap, tap_state, with_command, with_value}
 use Rattle.resp_tap.specs.Watches.{KeepsOther, SeesFirst, WatchesAll}
-use Rattle.resp_tap.specs.Watching.{ByPairing, HasTakenRequest, HasTakenValue, SeesRequest, SeesValue, request_rules}
+use Rattle.resp_tap.specs.Watching.{HasTakenRequest, HasTakenValue, HearsValue, SeesRequest, SeesValue, request_rules}
 use Rattle.resp_tap.specs.declared.kind.CommandKind.{CommandKind}
-use Rattle.resp_tap.specs.declared.kind.CommandKind.TheVariants.{Plain, Hello, Unpairing}
+use Rattle.resp_tap.specs.declared.line.Due.{Due}
 use Rattle.resp_tap.specs.declared.moment.Moment.{Moment}
-use Rattle.resp_tap.specs.declared.pairing.Pairing.{Pairing}
-use Rattle.resp_tap.specs.declared.pairing.Pairing.TheVariants.{Paired, Ending, Unpaired}
 use Rattle.resp_tap.specs.declared.print.Printing.{Printing}
 use Rattle.resp_tap.specs.declared.seen.Seen.{Seen}
 use Rattle.resp_tap.specs.declared.seen.Seen.TheVariants as seen
@@ -39,36 +36,9 @@ use Rattle.resp_tap.specs.declared.tap.Tap.{Tap}
 use Rattle.resp_tap.specs.declared.timed.TimedTap.{TimedTap}
 use Rattle.resp_tap.specs.declared.watch.Side.{Side}
 use Rattle.resp_tap.specs.declared.watch.Side.TheVariants.{Client, Server}
-use Rattle.resp_tap.proofs.Pairings.{while_paired}
-use Rattle.resp_tap.proofs.TimeLemmas.{is_no_push}
+use Rattle.resp_tap.proofs.LineLemmas.{after_open, asking_more, at_least_by, longer, next_is, paired_go_on, paired_longer, reads_go_on, reads_longer, sent_is, spells_at_least, was_found}
 
 -- ---- commands
-
-asks_added : (kind : CommandKind) (p : Pairing) (asks : List (Option Version)) → asks_after kind p asks ≡ asks ++ ask_of kind p
-asks_added Unpairing p asks = sym (append-nil asks)
-asks_added Plain Paired asks = refl
-asks_added Plain Ending asks = sym (append-nil asks)
-asks_added Plain Unpaired asks = sym (append-nil asks)
-asks_added (Hello version) Paired asks = refl
-asks_added (Hello version) Ending asks = sym (append-nil asks)
-asks_added (Hello version) Unpaired asks = sym (append-nil asks)
-
--- the pairing after these commands
-abbrev pairings : Pairing → List (List (List ℕ)) → Pairing
-pairings p [] = p
-pairings p (words ∷ more) = pairings (pairing_after (command_kind words) p) more
-
-pairings_more : (p : Pairing) (words : List (List ℕ)) (all : List (List (List ℕ))) →
-    pairings p (all ++ words ∷ []) ≡ pairing_after (command_kind words) (pairings p all)
-pairings_more p words [] = refl
-pairings_more p words (first ∷ all) = pairings_more (pairing_after (command_kind first) p) words all
-
-asks_more : (p : Pairing) (words : List (List ℕ)) (all : List (List (List ℕ))) →
-    asks_of p (all ++ words ∷ []) ≡ asks_of p all ++ ask_of (command_kind words) (pairings p all)
-asks_more p words [] = append-nil (ask_of (command_kind words) p)
-asks_more p words (first ∷ all) =
-    ap (λ l. ask_of (command_kind first) p ++ l) (asks_more (pairing_after (command_kind first) p) words all) ∙
-    sym (append_assoc (ask_of (command_kind first) p) _ _)
 
 commands_more : (xs : List Datum) (x : Datum) → commands_of (xs ++ x ∷ []) ≡ commands_of xs ++ words_of (meaning_of x)
 commands_more [] x = append-nil (words_of (meaning_of x))
@@ -81,25 +51,26 @@ numbered_more first (x ∷ all) words =
     ap (λ l. (first, x) ∷ l) (numbered_more (first + 1) all words ∙
     ap (λ n. numbered_commands (first + 1) all ++ (n, words) ∷ []) (let e : first + 1 + length all ≡ first + length (x ∷ all) = omega arith in e))
 
--- ---- the pairing of a value that begins
+-- ---- the state before a value
 
-not_over : (b : Bool) (p : Pairing) → (if b then Unpaired else p) ≢ Unpaired → (if b then Unpaired else p) ≡ p
-not_over true p paired = absurd (paired refl)
-not_over false p paired = refl
+found_of_two : (a b : Bool) → (a || b) ≡ false → (a ≡ false) × (b ≡ false)
+found_of_two true b e = absurd (cc)
+found_of_two false b e = (refl, e)
 
-stays_settled : (p : Pairing) (asks : List (Option Version)) (piece : List ℕ) → settled_pairing p asks piece ≢ Unpaired → settled_pairing p asks piece ≡ p
-stays_settled p [] piece paired = not_over (is_over p piece) p paired
-stays_settled p (ask ∷ asks) piece paired = refl
+-- a line that is not lost at the first byte of a value is the same as before
+settled_is : (piece : List ℕ) (l : LineState) → (settled piece l).is_lost ≡ false → settled piece l ≡ l
+settled_is piece l found =
+    let both = found_of_two l.is_lost (is_unasked l.due (is_listening l) piece) found in
+    ap (λ b. record l { is_lost = b }) (found ∙ sym both.0)
 
--- while replies are paired, the state is the same at the first byte of a value
-stays_at_front : (front piece : List ℕ) (s : TapState) → (at_front front piece s).pairing ≢ Unpaired → at_front front piece s ≡ s
-stays_at_front [] piece s paired = ap (λ p. record s { pairing = p }) (stays_settled s.pairing s.waiting.asks piece paired)
-stays_at_front (byte ∷ front) piece s paired = refl
+line_at_front : (front piece : List ℕ) (s : TapState) → (at_front front piece s).line.is_lost ≡ false → (at_front front piece s).line ≡ s.line
+line_at_front [] piece s found = settled_is piece s.line found
+line_at_front (byte ∷ front) piece s found = refl
 
--- at the first byte of a value nothing but the pairing changes
-same_but_pairing : (front piece : List ℕ) (s : TapState) → (p : Pairing) × (at_front front piece s ≡ record s { pairing = p })
-same_but_pairing [] piece s = (settled_pairing s.pairing s.waiting.asks piece, refl)
-same_but_pairing (byte ∷ front) piece s = (s.pairing, refl)
+-- at the first byte of a value nothing but the line and the version changes
+same_but_line : (front piece : List ℕ) (s : TapState) → (line : LineState) × (reading : Version) × (at_front front piece s ≡ record s { line = line; reading = reading })
+same_but_line [] piece s = (settled piece s.line, next_version (settled piece s.line), refl)
+same_but_line (byte ∷ front) piece s = (s.line, s.reading, refl)
 
 -- ---- what was told so far
 
@@ -119,17 +90,21 @@ told_more x side bytes commands replies pushes = record {
   pushes = x.pushes ++ pushes;
 }
 
+-- the version in which a value is read of which these bytes have arrived
+abbrev IsReading : Bounds → TapState → List ℕ → Type 0
+IsReading limits s rest = (rest ≡ []) ⊎ ((n : ℕ) × (n ≤ length s.line.due) × (s.reading ≡ next_version (record s.line { due = take n s.line.due })) ×
+    HasNoValue rest × IsViable (rules_under s.reading limits) WithinTotal rest)
+
 -- what is told of the server
 record Replies (limits : Bounds) (x : Told) (commands : List (List (List ℕ))) (s : TapState) (rest : List ℕ) : Type 0 where
   values : List Datum
   front : List ℕ
   whole : x.server ≡ front ++ rest
-  reads : ReadsAs limits (asking commands) values front s.waiting
-  no_more : IsRest limits s.waiting rest
-  replies : x.replies ≡ numbered_replies 1 values
+  reads : ReadsLine limits (asking commands) values front s.line
+  reading : IsReading limits s rest
+  replies : x.replies ≡ paired (asking commands) values
   pushes : x.pushes ≡ pushes_of values
-  count : s.answered ≡ length (replies_of values)
-  pairing : s.pairing ≡ pairings Paired commands
+  opened : s.line.is_open ≡ (asking commands).is_open
 
 -- what is told of both, where these bytes of each were read of a value that is not whole
 record SoFar (limits : Bounds) (x : Told) (s : TapState) (request rest : List ℕ) : Type 0 where
@@ -143,22 +118,20 @@ record SoFar (limits : Bounds) (x : Told) (s : TapState) (request rest : List �
   same_limits : s.limits ≡ limits
   reads_commands : s.reads_commands ≡ true
   reads_replies : s.reads_replies ≡ true
-  replies : s.pairing ≢ Unpaired → Replies limits x (commands_of values) s rest
+  replies : s.line.is_lost ≡ false → Replies limits x (commands_of values) s rest
 
 same_replies : (limits : Bounds) (x y : Told) (commands : List (List (List ℕ))) (s t : TapState) (rest : List ℕ) → y.server ≡ x.server → y.replies ≡ x.replies →
-    y.pushes ≡ x.pushes → t.waiting ≡ s.waiting → t.answered ≡ s.answered → t.pairing ≡ s.pairing → Replies limits x commands s rest →
-    Replies limits y commands t rest
-same_replies limits x y commands s t rest server replies pushes waiting answered pairing r = record {
+    y.pushes ≡ x.pushes → t ≡ s → Replies limits x commands s rest → Replies limits y commands t rest
+same_replies limits x y commands s t rest server replies pushes same r = subst (λ z. Replies limits y commands z rest) (sym same) (record {
   values = r.values;
   front = r.front;
   whole = server ∙ r.whole;
-  reads = subst (λ w. ReadsAs limits (asking commands) r.values r.front w) (sym waiting) r.reads;
-  no_more = subst (λ w. IsRest limits w rest) (sym waiting) r.no_more;
+  reads = r.reads;
+  reading = r.reading;
   replies = replies ∙ r.replies;
   pushes = pushes ∙ r.pushes;
-  count = answered ∙ r.count;
-  pairing = pairing ∙ r.pairing;
-}
+  opened = r.opened;
+})
 
 -- ---- the client's side
 
@@ -184,62 +157,64 @@ client_ignored limits x s t request rest bytes h same v spelled means =
       same_limits = ap (λ (z : TapState). z.limits) same ∙ h.same_limits;
       reads_commands = ap (λ (z : TapState). z.reads_commands) same ∙ h.reads_commands;
       reads_replies = ap (λ (z : TapState). z.reads_replies) same ∙ h.reads_replies;
-      replies = λ paired. subst (λ c. Replies limits (told_more x Client bytes [] [] []) c t rest) (sym commands)
+      replies = λ found. subst (λ c. Replies limits (told_more x Client bytes [] [] []) c t rest) (sym commands)
           (same_replies limits x (told_more x Client bytes [] [] []) (commands_of h.values) s t rest (append-nil x.server) (append-nil x.replies) (append-nil x.pushes)
-          (ap (λ (z : TapState). z.waiting) same) (ap (λ (z : TapState). z.answered) same) (ap (λ (z : TapState). z.pairing) same)
-          (h.replies (λ u. paired (ap (λ (z : TapState). z.pairing) same ∙ u))));
+          same (h.replies (ap (λ (z : TapState). z.line.is_lost) (sym same) ∙ found)));
     }
 
 -- the replies so far stay what they are when a command is sent
-rest_on : (limits : Bounds) (w : Waiting) (more : List (Option Version)) (rest : List ℕ) → IsRest limits w rest →
-    IsRest limits (record w { asks = w.asks ++ more }) rest
-rest_on limits w more rest (inl none) = inl none
-rest_on limits w more rest (inr (n, within, on)) =
-    let longer = length-append w.asks more in
+reading_on : (limits : Bounds) (s : TapState) (more : List Due) (o : Bool) (rest : List ℕ) → IsReading limits s rest →
+    IsReading limits (record s { line = longer s.line more o }) rest
+reading_on limits s more o rest (inl none) = inl none
+reading_on limits s more o rest (inr (n, within, reading, none, viable)) =
+    let long = length-append s.line.due more in
     inr (
       n,
-      omega (arith, within, longer),
-      subst (λ asks. MayGoOn limits (record { version = w.version; asks = asks }) rest) (sym (take-append-le n w.asks more within)) on,
+      omega (arith, within, long),
+      reading ∙ ap (λ due. next_version (record s.line { due = due })) (sym (take-append-le n s.line.due more within)),
+      none,
+      viable,
     )
 
-replies_on : ReadingsStay → (limits : Bounds) (x y : Told) (all : List (List (List ℕ))) (words : List (List ℕ)) (s : TapState) (rest : List ℕ) →
-    y.server ≡ x.server → y.replies ≡ x.replies → y.pushes ≡ x.pushes → Replies limits x all s rest →
+replies_on : VersionThreeSpellsWhatTwoDoes → (limits : Bounds) (x y : Told) (all : List (List (List ℕ))) (words : List (List ℕ)) (s : TapState) (rest : List ℕ) →
+    y.server ≡ x.server → y.replies ≡ x.replies → y.pushes ≡ x.pushes → s.commands ≡ length all → s.line.is_lost ≡ false → Replies limits x all s rest →
     Replies limits y (all ++ words ∷ []) (with_command (command_kind words) s) rest
-replies_on stay limits x y all words s rest server replies pushes r =
+replies_on three limits x y all words s rest server replies pushes count found r =
     let kind = command_kind words in
-    let more = ask_of kind (pairings Paired all) in
-    let asks : asks_after kind s.pairing s.waiting.asks ≡ s.waiting.asks ++ more =
-    asks_added kind s.pairing s.waiting.asks ∙ ap (λ p. s.waiting.asks ++ ask_of kind p) r.pairing in
-    let now : (with_command kind s).waiting ≡ record s.waiting { asks = s.waiting.asks ++ more } = ap (λ l. record { version = s.waiting.version; asks = l }) asks in
-    let sent : asking (all ++ words ∷ []) ≡ record (asking all) { asks = (asking all).asks ++ more } =
-    ap (λ l. record { version = Two; asks = l }) (asks_more Paired words all) in
-    record {
+    let n = s.commands + 1 in
+    let more = due_of n kind s.line.is_open in
+    let o = open_after kind s.line.is_open in
+    let here : line_sent n kind s.line ≡ longer s.line more o = sent_is n kind s.line found in
+    let numbers : 1 + length all ≡ n = omega (arith, count) in
+    let sent : asking (all ++ words ∷ []) ≡ longer (asking all) more o =
+    asking_more 1 new_line all words ∙ ap (λ k. line_with k kind (asking all)) numbers ∙
+    ap (λ b. longer (asking all) (due_of n kind b) (open_after kind b)) (sym r.opened) in
+    let now : with_command kind s ≡ record s { commands = n; line = longer s.line more o } = ap (λ l. record s { commands = n; line = l }) here in
+    subst (λ z. Replies limits y (all ++ words ∷ []) z rest) (sym now) (record {
       values = r.values;
       front = r.front;
       whole = server ∙ r.whole;
-      reads = subst (λ w. ReadsAs limits w r.values r.front (with_command kind s).waiting) (sym sent)
-          (subst (λ w. ReadsAs limits (record (asking all) { asks = (asking all).asks ++ more }) r.values r.front w) (sym now)
-          (stay limits (asking all) s.waiting more r.values r.front r.reads));
-      no_more = subst (λ w. IsRest limits w rest) (sym now) (rest_on limits s.waiting more rest r.no_more);
-      replies = replies ∙ r.replies;
+      reads = subst (λ l. ReadsLine limits l r.values r.front (longer s.line more o)) (sym sent)
+          (reads_longer three limits (asking all) s.line more o r.values r.front r.reads found);
+      reading = reading_on limits s more o rest r.reading;
+      replies = replies ∙ r.replies ∙ sym (ap (λ l. paired l r.values) sent ∙ paired_longer limits (asking all) s.line more o r.values r.front r.reads found);
       pushes = pushes ∙ r.pushes;
-      count = r.count;
-      pairing = ap (pairing_after kind) r.pairing ∙ sym (pairings_more Paired words all);
-    }
+      opened = sym (ap (λ (l : LineState). l.is_open) sent);
+    })
 
-still_paired : (kind : CommandKind) (p : Pairing) → pairing_after kind p ≢ Unpaired → p ≢ Unpaired
-still_paired kind Paired paired = λ e. absurd (cc)
-still_paired kind Ending paired = λ e. absurd (cc)
-still_paired Plain Unpaired paired = paired
-still_paired (Hello version) Unpaired paired = paired
-still_paired Unpairing Unpaired paired = paired
+-- a line that is not lost after a command was not lost before it
+sent_found : (b : Bool) (n : ℕ) (kind : CommandKind) (l : LineState) → l.is_lost ≡ b → (line_sent n kind l).is_lost ≡ false → b ≡ false
+sent_found false n kind l is found = refl
+sent_found true n kind l is found = absurd (
+    let same : (line_sent n kind l).is_lost ≡ true = ap (λ b. (if b then l else line_with n kind l).is_lost) is ∙ is in
+    let e : true ≡ false = sym same ∙ found in cc)
 
 -- one more command
-client_command : ReadingsStay → (limits : Bounds) (x : Told) (s t : TapState) (request rest bytes : List ℕ) (number : ℕ) (name : List ℕ) (arguments : List (List ℕ)) →
+client_command : VersionThreeSpellsWhatTwoDoes → (limits : Bounds) (x : Told) (s t : TapState) (request rest bytes : List ℕ) (number : ℕ) (name : List ℕ) (arguments : List (List ℕ)) →
     SoFar limits x s request rest → t ≡ with_command (command_kind (name ∷ arguments)) s → (v : Datum) → IsSpelling (request_rules s.limits) v (request ++ bytes) →
     meaning_of v ≡ Call name arguments → number ≡ s.commands + 1 →
     SoFar limits (told_more x Client bytes ((number, name ∷ arguments) ∷ []) [] []) t [] rest
-client_command stay limits x s t request rest bytes number name arguments h same v spelled means numbered =
+client_command three limits x s t request rest bytes number name arguments h same v spelled means numbered =
     let words = name ∷ arguments in
     let y = told_more x Client bytes ((number, words) ∷ []) [] [] in
     let commands : commands_of (h.values ++ v ∷ []) ≡ commands_of h.values ++ words ∷ [] =
@@ -260,9 +235,12 @@ client_command stay limits x s t request rest bytes number name arguments h same
       same_limits = ap (λ (z : TapState). z.limits) same ∙ h.same_limits;
       reads_commands = ap (λ (z : TapState). z.reads_commands) same ∙ h.reads_commands;
       reads_replies = ap (λ (z : TapState). z.reads_replies) same ∙ h.reads_replies;
-      replies = λ paired. subst (λ c. Replies limits y c t rest) (sym commands) (subst (λ z. Replies limits y (commands_of h.values ++ words ∷ []) z rest) (sym same)
-          (replies_on stay limits x y (commands_of h.values) words s rest (append-nil x.server) (append-nil x.replies) (append-nil x.pushes)
-          (h.replies (still_paired (command_kind words) s.pairing (λ u. paired (ap (λ (z : TapState). z.pairing) same ∙ u))))));
+      replies = λ found.
+          let was : s.line.is_lost ≡ false = sent_found s.line.is_lost (s.commands + 1) (command_kind words) s.line refl
+          (ap (λ (z : TapState). z.line.is_lost) (sym same) ∙ found) in
+          subst (λ c. Replies limits y c t rest) (sym commands) (subst (λ z. Replies limits y (commands_of h.values ++ words ∷ []) z rest) (sym same)
+          (replies_on three limits x y (commands_of h.values) words s rest (append-nil x.server) (append-nil x.replies) (append-nil x.pushes) h.count was
+          (h.replies was)));
     }
 
 -- more bytes of a value
@@ -279,9 +257,8 @@ client_awaits limits x s t request rest bytes h same none = record {
   same_limits = ap (λ (z : TapState). z.limits) same ∙ h.same_limits;
   reads_commands = ap (λ (z : TapState). z.reads_commands) same ∙ h.reads_commands;
   reads_replies = ap (λ (z : TapState). z.reads_replies) same ∙ h.reads_replies;
-  replies = λ paired. same_replies limits x (told_more x Client bytes [] [] []) (commands_of h.values) s t rest (append-nil x.server) (append-nil x.replies)
-      (append-nil x.pushes) (ap (λ (z : TapState). z.waiting) same) (ap (λ (z : TapState). z.answered) same) (ap (λ (z : TapState). z.pairing) same)
-      (h.replies (λ u. paired (ap (λ (z : TapState). z.pairing) same ∙ u)));
+  replies = λ found. same_replies limits x (told_more x Client bytes [] [] []) (commands_of h.values) s t rest (append-nil x.server) (append-nil x.replies)
+      (append-nil x.pushes) same (h.replies (ap (λ (z : TapState). z.line.is_lost) (sym same) ∙ found));
 }
 
 -- one more result of a side, and the bytes that were read of its value that is not whole
@@ -289,29 +266,29 @@ abbrev Next : Side → Bounds → Told → Tap → List ℕ → List ℕ → Typ
 Next Client limits x t request rest = (request' : List ℕ) × HasTakenRequest t request' × SoFar limits x (tap_state t) request' rest
 Next Server limits x t request rest = (rest' : List ℕ) × HasTakenValue t rest' × SoFar limits x (tap_state t) request rest'
 
-client_tells : ReadingsStay → (limits : Bounds) (x : Told) (s : TapState) (new : Tap) (request rest piece : List ℕ) (used : ℕ) (what : Seen) →
+client_tells : VersionThreeSpellsWhatTwoDoes → (limits : Bounds) (x : Told) (s : TapState) (new : Tap) (request rest piece : List ℕ) (used : ℕ) (what : Seen) →
     SoFar limits x s request rest → SeesRequest s new request piece used what → IsNoError what →
     Next Client limits (told_more x Client (take used piece) (command_in what) (reply_in what) (push_in what)) new request rest
-client_tells stay limits x s new request rest piece used seen.Nothing h sees fine =
+client_tells three limits x s new request rest piece used seen.Nothing h sees fine =
     let bytes = used_whole piece used sees.whole_piece in (
       request ++ piece,
       sees.takes,
       subst (λ b. SoFar limits (told_more x Client b [] [] []) (tap_state new) (request ++ piece) rest) (sym bytes)
           (client_awaits limits x s (tap_state new) request rest piece h sees.after sees.no_value),
     )
-client_tells stay limits x s new request rest piece used seen.Passed h sees fine =
+client_tells three limits x s new request rest piece used seen.Passed h sees fine =
     ([], sees.takes, client_ignored limits x s (tap_state new) request rest (take used piece) h sees.after sees.value sees.spelled sees.means)
-client_tells stay limits x s new request rest piece used (seen.Command number []) h sees fine = absurd (let some = sees.some in omega (arith, some))
-client_tells stay limits x s new request rest piece used (seen.Command number (name ∷ arguments)) h sees fine = (
+client_tells three limits x s new request rest piece used (seen.Command number []) h sees fine = absurd (let some = sees.some in omega (arith, some))
+client_tells three limits x s new request rest piece used (seen.Command number (name ∷ arguments)) h sees fine = (
   [],
   sees.takes,
-  client_command stay limits x s (tap_state new) request rest (take used piece) number name arguments h sees.after sees.value sees.spelled sees.means sees.numbered,
+  client_command three limits x s (tap_state new) request rest (take used piece) number name arguments h sees.after sees.value sees.spelled sees.means sees.numbered,
 )
-client_tells stay limits x s new request rest piece used (seen.NotCommand number) h sees fine = absurd fine
-client_tells stay limits x s new request rest piece used (seen.Refused cause at where') h sees fine = absurd fine
-client_tells stay limits x s new request rest piece used (seen.Reply number v) h sees fine = absurd sees
-client_tells stay limits x s new request rest piece used (seen.Push items) h sees fine = absurd sees
-client_tells stay limits x s new request rest piece used (seen.Value v) h sees fine = absurd sees
+client_tells three limits x s new request rest piece used (seen.NotCommand number) h sees fine = absurd fine
+client_tells three limits x s new request rest piece used (seen.Refused cause at where') h sees fine = absurd fine
+client_tells three limits x s new request rest piece used (seen.Reply number v) h sees fine = absurd sees
+client_tells three limits x s new request rest piece used (seen.Push items) h sees fine = absurd sees
+client_tells three limits x s new request rest piece used (seen.Value v) h sees fine = absurd sees
 
 -- ---- the server's side
 
@@ -319,7 +296,7 @@ client_tells stay limits x s new request rest piece used (seen.Value v) h sees f
 server_on : (limits : Bounds) (x : Told) (s t : TapState) (request rest rest' bytes : List ℕ) (replies : List (ℕ × Datum)) (pushes : List Datum) →
     (h : SoFar limits x s request rest) → t.commands ≡ s.commands → t.limits ≡ s.limits → t.reads_commands ≡ s.reads_commands →
     t.reads_replies ≡ s.reads_replies →
-    (t.pairing ≢ Unpaired → Replies limits (told_more x Server bytes [] replies pushes) (commands_of h.values) t rest') →
+    (t.line.is_lost ≡ false → Replies limits (told_more x Server bytes [] replies pushes) (commands_of h.values) t rest') →
     SoFar limits (told_more x Server bytes [] replies pushes) t request rest'
 server_on limits x s t request rest rest' bytes replies pushes h commands same reads reads' told = record {
   values = h.values;
@@ -335,139 +312,160 @@ server_on limits x s t request rest rest' bytes replies pushes h commands same r
   replies = told;
 }
 
--- one more reply or push
-value_told : ReadingsGoOn → HearingGoesOn → (limits : Bounds) (x : Told) (all : List (List (List ℕ))) (s t : TapState) (rest bytes : List ℕ) (v : Datum)
-    (numbered : List (ℕ × Datum)) (pushed : List Datum) → Replies limits x all s rest → ReadsAs limits s.waiting (v ∷ []) (rest ++ bytes) t.waiting →
-    numbered_replies (s.answered + 1) (v ∷ []) ≡ numbered → pushes_of (v ∷ []) ≡ pushed → t.answered ≡ s.answered + length (replies_of (v ∷ [])) →
-    t.pairing ≡ s.pairing → Replies limits (told_more x Server bytes [] numbered pushed) all t []
-value_told go_on hears limits x all s t rest bytes v numbered pushed r reads number push answered pairing =
-    let first : s.answered + 1 ≡ 1 + length (replies_of r.values) = let c = r.count in omega (arith, c) in
-    let both = hears 1 r.values (v ∷ []) in
-    let size = ap length (filter-append (λ x. not (is_push x)) r.values (v ∷ [])) ∙ length-append (replies_of r.values) (replies_of (v ∷ [])) in
+-- the version in which a value was read is at most that of the line
+read_in : (limits : Bounds) (s : TapState) (rest piece : List ℕ) → s.line.is_lost ≡ false → (at_front rest piece s).line ≡ s.line → IsReading limits s rest →
+    (n : ℕ) × (n ≤ length s.line.due) × ((at_front rest piece s).reading ≡ next_version (record s.line { due = take n s.line.due }))
+read_in limits s [] piece found same reading = (
+  length s.line.due,
+  omega arith,
+  ap next_version same ∙ ap (λ due. next_version (record s.line { due = due })) (sym (take_all (length s.line.due) s.line.due (omega arith))),
+)
+read_in limits s (byte ∷ rest) piece found same (inl none) = absurd (cc)
+read_in limits s (byte ∷ rest) piece found same (inr (n, within, reading, none, viable)) = (n, within, reading)
+
+spelled_on : VersionThreeSpellsWhatTwoDoes → (limits : Bounds) (l : LineState) (n : ℕ) (x : Datum) (text : List ℕ) → l.is_lost ≡ false →
+    IsSpelling (rules_under (next_version (record l { due = take n l.due })) limits) x text → IsSpelling (rules_under (next_version l) limits) x text
+spelled_on three limits l n x text found s =
+    let first = subst (λ v. IsSpelling (rules_under v limits) x text) (next_is (record l { due = take n l.due }) found) s in
+    let grown = spells_at_least three limits (version_by l.version (take n l.due)) (version_by l.version (take n l.due ++ drop n l.due)) x text
+    (at_least_by l.version (take n l.due) (drop n l.due)) first in
+    subst (λ v. IsSpelling (rules_under v limits) x text) (sym (next_is l found))
+    (subst (λ due. IsSpelling (rules_under (version_by l.version due) limits) x text) (take-append-drop n l.due) grown)
+
+told_in : Option ℕ → Datum → List (ℕ × Datum)
+told_in number x = numbered number x
+
+-- one more value
+value_told : VersionThreeSpellsWhatTwoDoes → (limits : Bounds) (x : Told) (all : List (List (List ℕ))) (s t : TapState) (rest piece bytes : List ℕ) (v : Datum)
+    (replied : List (ℕ × Datum)) (pushed : List Datum) → Replies limits x all s rest → s.limits ≡ limits → t.line.is_lost ≡ false →
+    IsSpelling (rules_under (at_front rest piece s).reading (at_front rest piece s).limits) v (rest ++ bytes) → t ≡ with_value v (at_front rest piece s) →
+    numbered (number_for (at_front rest piece s).line v) v ≡ replied → pushes_of (v ∷ []) ≡ pushed →
+    Replies limits (told_more x Server bytes [] replied pushed) all t []
+value_told three limits x all s t rest piece bytes v replied pushed r within found spelled after number push =
+    let u = at_front rest piece s in
+    let line : t.line ≡ line_after u.line v = ap (λ (z : TapState). z.line) after in
+    let begun' : u.line.is_lost ≡ false = was_found u.line v (ap (λ (l : LineState). l.is_lost) (sym line) ∙ found) in
+    let same : u.line ≡ s.line = line_at_front rest piece s begun' in
+    let was : s.line.is_lost ≡ false = ap (λ (l : LineState). l.is_lost) (sym same) ∙ begun' in
+    let now : t.line ≡ line_after s.line v = line ∙ ap (λ l. line_after l v) same in
+    let (n, few, reading) = read_in limits s rest piece was same r.reading in
+    let (l', v', front) = same_but_line rest piece s in
+    let bounds : u.limits ≡ limits = ap (λ (z : TapState). z.limits) front ∙ within in
+    let text = rest ++ bytes in
+    let here : IsSpelling (rules_under (next_version s.line) limits) v text = spelled_on three limits s.line n v text was
+    (subst (λ version. IsSpelling (rules_under version limits) v text) reading (subst (λ b. IsSpelling (rules_under u.reading b) v text) bounds spelled)) in
+    let one : ReadsLine limits s.line (v ∷ []) text t.line = (text, [], here, (refl, now), sym (append-nil text)) in
+    let told : paired s.line (v ∷ []) ≡ replied =
+    append-nil (numbered (number_for s.line v) v) ∙ ap (λ l. numbered (number_for l v) v) (sym same) ∙ number in
     record {
       values = r.values ++ v ∷ [];
-      front = r.front ++ (rest ++ bytes);
-      whole = ap (λ l. l ++ bytes) r.whole ∙ append_assoc r.front rest bytes ∙ sym (append-nil (r.front ++ (rest ++ bytes)));
-      reads = go_on limits (asking all) s.waiting t.waiting r.values (v ∷ []) r.front (rest ++ bytes) r.reads reads;
-      no_more = inl refl;
-      replies = ap (λ l. l ++ numbered) r.replies ∙ ap (λ l. numbered_replies 1 r.values ++ l) (sym number) ∙
-          ap (λ n. numbered_replies 1 r.values ++ numbered_replies n (v ∷ [])) first ∙ sym both.0;
-      pushes = ap (λ l. l ++ pushed) r.pushes ∙ ap (λ l. pushes_of r.values ++ l) (sym push) ∙ sym both.1;
-      count = let c = r.count in omega (arith, answered, c, size);
-      pairing = pairing ∙ r.pairing;
+      front = r.front ++ text;
+      whole = ap (λ l. l ++ bytes) r.whole ∙ append_assoc r.front rest bytes ∙ sym (append-nil (r.front ++ text));
+      reads = reads_go_on limits (asking all) s.line t.line r.values (v ∷ []) r.front text r.reads one;
+      reading = inl refl;
+      replies = ap (λ l. l ++ replied) r.replies ∙ ap (λ l. paired (asking all) r.values ++ l) (sym told) ∙
+          sym (paired_go_on limits (asking all) s.line r.values (v ∷ []) r.front r.reads);
+      pushes = ap (λ l. l ++ pushed) r.pushes ∙ ap (λ l. pushes_of r.values ++ l) (sym push) ∙ sym (filter-append is_push r.values (v ∷ []));
+      opened = ap (λ (l : LineState). l.is_open) now ∙ after_open s.line v ∙ r.opened;
     }
 
 -- more bytes of a value
-value_awaits : (limits : Bounds) (x : Told) (all : List (List (List ℕ))) (s t : TapState) (rest bytes : List ℕ) → Replies limits x all s rest → t ≡ s →
-    MayGoOn limits s.waiting (rest ++ bytes) → Replies limits (told_more x Server bytes [] [] []) all t (rest ++ bytes)
-value_awaits limits x all s t rest bytes r same on =
-    let asks : take (length s.waiting.asks) s.waiting.asks ≡ s.waiting.asks = take_all (length s.waiting.asks) s.waiting.asks (omega arith) in
-    let no_more : IsRest limits s.waiting (rest ++ bytes) = inr (
-      length s.waiting.asks,
-      omega arith,
-      subst (λ l. MayGoOn limits (record { version = s.waiting.version; asks = l }) (rest ++ bytes)) (sym asks) on,
-    ) in
-    let waiting = ap (λ (z : TapState). z.waiting) same in
+value_awaits : (limits : Bounds) (x : Told) (all : List (List (List ℕ))) (s t : TapState) (rest piece : List ℕ) → Replies limits x all s rest →
+    s.limits ≡ limits → t.line.is_lost ≡ false → t ≡ at_front rest piece s → HasNoValue (rest ++ piece) →
+    IsViable (rules_under (at_front rest piece s).reading (at_front rest piece s).limits) WithinTotal (rest ++ piece) →
+    Replies limits (told_more x Server piece [] [] []) all t (rest ++ piece)
+value_awaits limits x all s t rest piece r bounded found is none viable =
+    let u = at_front rest piece s in
+    let begun' : u.line.is_lost ≡ false = ap (λ (z : TapState). z.line.is_lost) (sym is) ∙ found in
+    let same : u.line ≡ s.line = line_at_front rest piece s begun' in
+    let was : s.line.is_lost ≡ false = ap (λ (l : LineState). l.is_lost) (sym same) ∙ begun' in
+    let (n, few, reading) = read_in limits s rest piece was same r.reading in
+    let (l', v', front) = same_but_line rest piece s in
+    let bounds : u.limits ≡ limits = ap (λ (z : TapState). z.limits) front ∙ bounded in
+    let now : t.line ≡ s.line = ap (λ (z : TapState). z.line) is ∙ same in
+    let version : t.reading ≡ u.reading = ap (λ (z : TapState). z.reading) is in
     record {
       values = r.values;
       front = r.front;
-      whole = ap (λ l. l ++ bytes) r.whole ∙ append_assoc r.front rest bytes;
-      reads = subst (λ w. ReadsAs limits (asking all) r.values r.front w) (sym waiting) r.reads;
-      no_more = subst (λ w. IsRest limits w (rest ++ bytes)) (sym waiting) no_more;
+      whole = ap (λ l. l ++ piece) r.whole ∙ append_assoc r.front rest piece;
+      reads = subst (λ l. ReadsLine limits (asking all) r.values r.front l) (sym now) r.reads;
+      reading = inr (
+        n,
+        subst (λ (l : LineState). n ≤ length l.due) (sym now) few,
+        version ∙ reading ∙ ap (λ (l : LineState). next_version (record l { due = take n l.due })) (sym now),
+        none,
+        subst (λ version. IsViable (rules_under version limits) WithinTotal (rest ++ piece)) (sym version)
+            (subst (λ b. IsViable (rules_under u.reading b) WithinTotal (rest ++ piece)) bounds viable),
+      );
       replies = append-nil x.replies ∙ r.replies;
       pushes = append-nil x.pushes ∙ r.pushes;
-      count = ap (λ (z : TapState). z.answered) same ∙ r.count;
-      pairing = ap (λ (z : TapState). z.pairing) same ∙ r.pairing;
+      opened = ap (λ (l : LineState). l.is_open) now ∙ r.opened;
     }
 
--- while replies are paired after a result, the state before it is that at the first byte of the value
-paired_before : (s u t : TapState) (rest piece : List ℕ) → u ≡ at_front rest piece s → t.pairing ≡ u.pairing → t.pairing ≢ Unpaired → u ≡ s
-paired_before s u t rest piece is same paired =
-    is ∙ stays_at_front rest piece s (λ e. paired (same ∙ ap (λ (z : TapState). z.pairing) is ∙ e))
+-- a line that is not lost after a value was not lost before it
+found_before : (s : TapState) (t : TapState) (rest piece : List ℕ) (v : Datum) → t ≡ with_value v (at_front rest piece s) → t.line.is_lost ≡ false →
+    s.line.is_lost ≡ false
+found_before s t rest piece v after found =
+    let u = at_front rest piece s in
+    let begun' = was_found u.line v (ap (λ (z : TapState). z.line.is_lost) (sym after) ∙ found) in
+    ap (λ (l : LineState). l.is_lost) (sym (line_at_front rest piece s begun')) ∙ begun'
 
-server_tells : ReadingsGoOn → HearingGoesOn → (limits : Bounds) (x : Told) (s u : TapState) (new : Tap) (request rest piece : List ℕ) (used : ℕ) (what : Seen) →
-    SoFar limits x s request rest → u ≡ at_front rest piece s → SeesValue u new rest piece used what → IsNoError what →
+found_waiting : (s : TapState) (t : TapState) (rest piece : List ℕ) → t ≡ at_front rest piece s → t.line.is_lost ≡ false → s.line.is_lost ≡ false
+found_waiting s t rest piece after found =
+    let begun' = ap (λ (z : TapState). z.line.is_lost) (sym after) ∙ found in
+    ap (λ (l : LineState). l.is_lost) (sym (line_at_front rest piece s begun')) ∙ begun'
+
+-- one more value of the server, told in this way
+one_value : VersionThreeSpellsWhatTwoDoes → (limits : Bounds) (x : Told) (s : TapState) (new : Tap) (request rest piece bytes : List ℕ) (v : Datum)
+    (replied : List (ℕ × Datum)) (pushed : List Datum) → SoFar limits x s request rest → HearsValue (at_front rest piece s) new (rest ++ bytes) v →
+    numbered (number_for (at_front rest piece s).line v) v ≡ replied → pushes_of (v ∷ []) ≡ pushed →
+    Next Server limits (told_more x Server bytes [] replied pushed) new request rest
+one_value three limits x s new request rest piece bytes v replied pushed h hears number push =
+    let t = tap_state new in
+    let (l', v', front) = same_but_line rest piece s in
+    let from : t ≡ with_value v (record s { line = l'; reading = v' }) = hears.after ∙ ap (with_value v) front in (
+      [],
+      hears.takes,
+      server_on limits x s t request rest [] bytes replied pushed h (ap (λ (z : TapState). z.commands) from)
+          (ap (λ (z : TapState). z.limits) from) (ap (λ (z : TapState). z.reads_commands) from) (ap (λ (z : TapState). z.reads_replies) from) (λ found.
+          value_told three limits x (commands_of h.values) s t rest piece bytes v replied pushed (h.replies (found_before s t rest piece v hears.after found))
+          h.same_limits found hears.spelled hears.after number push),
+    )
+
+-- a numbered value is no push in version 3, and is told as a reply alone
+pushes_by : (b : Bool) (v : Datum) → is_push v ≡ b → b ≡ false → pushes_of (v ∷ []) ≡ []
+pushes_by false v is none = ap (λ b. if b then v ∷ [] else []) is
+pushes_by true v is none = absurd (cc)
+
+server_tells : VersionThreeSpellsWhatTwoDoes → (limits : Bounds) (x : Told) (s : TapState) (new : Tap) (request rest piece : List ℕ) (used : ℕ) (what : Seen) →
+    SoFar limits x s request rest → SeesValue (at_front rest piece s) new rest piece used what → IsNoError what →
     Next Server limits (told_more x Server (take used piece) (command_in what) (reply_in what) (push_in what)) new request rest
-server_tells go_on hears limits x s u new request rest piece used seen.Nothing h is sees fine =
+server_tells three limits x s new request rest piece used seen.Nothing h sees fine =
     let t = tap_state new in
     let bytes = used_whole piece used sees.whole_piece in
-    let (p, front) = same_but_pairing rest piece s in
-    let from = sees.after ∙ is ∙ front in (
+    let (l', v', front) = same_but_line rest piece s in
+    let from = sees.after ∙ front in (
       rest ++ piece,
       sees.takes,
       subst (λ b. SoFar limits (told_more x Server b [] [] []) t request (rest ++ piece)) (sym bytes)
           (server_on limits x s t request rest (rest ++ piece) piece [] [] h (ap (λ (z : TapState). z.commands) from) (ap (λ (z : TapState). z.limits) from)
-          (ap (λ (z : TapState). z.reads_commands) from) (ap (λ (z : TapState). z.reads_replies) from) (λ paired.
-          let same = paired_before s u t rest piece is (ap (λ (z : TapState). z.pairing) sees.after) paired in
-          let was : s.pairing ≢ Unpaired = λ e. paired (ap (λ (z : TapState). z.pairing) (sees.after ∙ same) ∙ e) in
-          let on = while_paired _ _ u.pairing (λ e. paired (ap (λ (z : TapState). z.pairing) sees.after ∙ e)) sees.may_go_on in
-          value_awaits limits x (commands_of h.values) s t rest piece (h.replies was) (sees.after ∙ same)
-          (subst (λ l. MayGoOn l s.waiting (rest ++ piece)) h.same_limits (subst (λ (z : TapState). MayGoOn z.limits z.waiting (rest ++ piece)) same on)))),
+          (ap (λ (z : TapState). z.reads_commands) from) (ap (λ (z : TapState). z.reads_replies) from) (λ found.
+          value_awaits limits x (commands_of h.values) s t rest piece (h.replies (found_waiting s t rest piece sees.after found)) h.same_limits found sees.after
+          sees.no_value sees.viable)),
     )
-server_tells go_on hears limits x s u new request rest piece used (seen.Reply number y) h is sees fine =
-    let t = tap_state new in
-    let v = datum_of y in
-    let (p, front) = same_but_pairing rest piece s in
-    let gives = given u.pairing sees in
-    let from = is ∙ front in (
-      [],
-      gives.takes,
-      server_on limits x s t request rest [] (take used piece) ((number, v) ∷ []) [] h
-          (ap (λ (z : TapState). z.commands) gives.after ∙ ap (λ (z : TapState). z.commands) from)
-          (ap (λ (z : TapState). z.limits) gives.after ∙ ap (λ (z : TapState). z.limits) from)
-          (ap (λ (z : TapState). z.reads_commands) gives.after ∙ ap (λ (z : TapState). z.reads_commands) from)
-          (ap (λ (z : TapState). z.reads_replies) gives.after ∙ ap (λ (z : TapState). z.reads_replies) from) (λ paired.
-          let pairing = ap (λ (z : TapState). z.pairing) gives.after in
-          let same = paired_before s u t rest piece is pairing paired in
-          let was : s.pairing ≢ Unpaired = λ e. paired (pairing ∙ ap (λ (z : TapState). z.pairing) same ∙ e) in
-          let reads = subst (λ l. ReadsAs l s.waiting (v ∷ []) (rest ++ take used piece) t.waiting) h.same_limits
-          (subst (λ (z : TapState). ReadsAs z.limits z.waiting (v ∷ []) (rest ++ take used piece) t.waiting) same gives.reads) in
-          let numbered = subst (λ (z : TapState). numbered_replies (z.answered + 1) (v ∷ []) ≡ (number, v) ∷ []) same gives.numbered in
-          let no_push = is_no_push (s.answered + 1) number v numbered in
-          let one : length (replies_of (v ∷ [])) ≡ 1 = ap (λ b. length (cond (not b) (v ∷ []) [])) no_push in
-          let answered : t.answered ≡ s.answered + 1 = ap (λ (z : TapState). z.answered) gives.after ∙ ap (λ (z : TapState). z.answered + 1) same in
-          value_told go_on hears limits x (commands_of h.values) s t rest (take used piece) v ((number, v) ∷ []) [] (h.replies was) reads numbered
-          (ap (λ b. cond b (v ∷ []) []) no_push) (omega (arith, answered, one)) (pairing ∙ ap (λ (z : TapState). z.pairing) same)),
-    ) where
-      given : {P : Type 0} (q : Pairing) → ByPairing q P ⊥ → P
-      given Paired gives = gives
-      given Ending gives = gives
-      given Unpaired gives = absurd gives
-server_tells go_on hears limits x s u new request rest piece used (seen.Push items) h is sees fine =
-    let t = tap_state new in
-    let v = datum_of (value.Push items) in
-    let (p, front) = same_but_pairing rest piece s in
-    let from = sees.after ∙ is ∙ front in (
-      [],
-      sees.takes,
-      server_on limits x s t request rest [] (take used piece) [] (v ∷ []) h (ap (λ (z : TapState). z.commands) from)
-          (ap (λ (z : TapState). z.limits) from) (ap (λ (z : TapState). z.reads_commands) from) (ap (λ (z : TapState). z.reads_replies) from) (λ paired.
-          let pairing = ap (λ (z : TapState). z.pairing) sees.after in
-          let same = paired_before s u t rest piece is pairing paired in
-          let was : s.pairing ≢ Unpaired = λ e. paired (pairing ∙ ap (λ (z : TapState). z.pairing) same ∙ e) in
-          let read = while_paired _ _ u.pairing (λ e. paired (pairing ∙ e)) sees.reads in
-          let after : u.waiting ≡ t.waiting = sym (ap (λ (z : TapState). z.waiting) sees.after) in
-          let reads = subst (λ l. ReadsAs l s.waiting (v ∷ []) (rest ++ take used piece) t.waiting) h.same_limits
-          (subst (λ (z : TapState). ReadsAs z.limits z.waiting (v ∷ []) (rest ++ take used piece) t.waiting) same
-          (subst (λ w. ReadsAs u.limits u.waiting (v ∷ []) (rest ++ take used piece) w) after read)) in
-          let answered : t.answered ≡ s.answered = ap (λ (z : TapState). z.answered) (sees.after ∙ same) in
-          value_told go_on hears limits x (commands_of h.values) s t rest (take used piece) v [] (v ∷ []) (h.replies was) reads refl refl
-          (omega (arith, answered)) (pairing ∙ ap (λ (z : TapState). z.pairing) same)),
-    )
-server_tells go_on hears limits x s u new request rest piece used (seen.Value y) h is sees fine =
-    let t = tap_state new in
-    let (p, front) = same_but_pairing rest piece s in
-    let from = sees.2.after ∙ is ∙ front in (
-      [],
-      sees.2.takes,
-      server_on limits x s t request rest [] (take used piece) [] [] h (ap (λ (z : TapState). z.commands) from)
-          (ap (λ (z : TapState). z.limits) from) (ap (λ (z : TapState). z.reads_commands) from) (ap (λ (z : TapState). z.reads_replies) from)
-          (λ paired. absurd (paired (ap (λ (z : TapState). z.pairing) sees.2.after ∙ sees.0))),
-    )
-server_tells go_on hears limits x s u new request rest piece used (seen.Refused cause at where') h is sees fine = absurd fine
-server_tells go_on hears limits x s u new request rest piece used (seen.NotCommand number) h is sees fine = absurd fine
-server_tells go_on hears limits x s u new request rest piece used seen.Passed h is sees fine = absurd sees
-server_tells go_on hears limits x s u new request rest piece used (seen.Command number words) h is sees fine = absurd sees
+server_tells three limits x s new request rest piece used (seen.Reply number y) h sees fine =
+    one_value three limits x s new request rest piece (take used piece) (datum_of y) ((number, datum_of y) ∷ []) [] h sees.0
+    (ap (λ n. numbered n (datum_of y)) sees.1) (pushes_by (is_push (datum_of y)) (datum_of y) refl sees.2)
+server_tells three limits x s new request rest piece used (seen.Push items) h sees fine =
+    one_value three limits x s new request rest piece (take used piece) (datum_of (value.Push items)) [] (datum_of (value.Push items) ∷ []) h sees.0
+    (ap (λ n. numbered n (datum_of (value.Push items))) sees.1) refl
+server_tells three limits x s new request rest piece used (seen.Value y) h sees fine =
+    one_value three limits x s new request rest piece (take used piece) (datum_of y) [] [] h sees.0
+    (ap (λ n. numbered n (datum_of y)) sees.2) (pushes_by (is_push (datum_of y)) (datum_of y) refl sees.1)
+server_tells three limits x s new request rest piece used (seen.Refused cause at where') h sees fine = absurd fine
+server_tells three limits x s new request rest piece used (seen.NotCommand number) h sees fine = absurd fine
+server_tells three limits x s new request rest piece used seen.Passed h sees fine = absurd sees
+server_tells three limits x s new request rest piece used (seen.Command number words) h sees fine = absurd sees
 
 -- ---- a piece of either side
 
@@ -482,27 +480,20 @@ record Tells (side : Side) (limits : Bounds) (x : Told) (t : Tap) (other : List 
   taken : Taken side t own
   so_far : SoFar limits x (tap_state t) (by_side side own other) (by_side side other own)
 
--- the laws of a client's reading
-record Laws : Type 0 where
-  go_on : ReadingsGoOn
-  stay : ReadingsStay
-  hears : HearingGoesOn
-
-result_tells : Laws → (side : Side) (limits : Bounds) (x : Told) (now : Option Moment) (old new : TimedTap) (piece : List ℕ) (used : ℕ) (what : Seen)
+result_tells : VersionThreeSpellsWhatTwoDoes → (side : Side) (limits : Bounds) (x : Told) (now : Option Moment) (old new : TimedTap) (piece : List ℕ) (used : ℕ) (what : Seen)
     (other : List ℕ) → Tells side limits x old.tap other → SeesFirst side now old new piece used what → IsNoError what →
     Tells side limits (told_more x side (take used piece) (command_in what) (reply_in what) (push_in what)) new.tap other
 result_tells laws Client limits x now old new piece used what other h sees fine =
     let first = sees.read h.so_far.reads_commands h.own h.taken in
     elim first.0 [
       | inl told ↦
-          let (request, taken, so_far) = client_tells laws.stay limits x (tap_state old.tap) new.tap h.own other piece used what h.so_far told fine in
+          let (request, taken, so_far) = client_tells laws limits x (tap_state old.tap) new.tap h.own other piece used what h.so_far told fine in
           record { own = request; taken = taken; so_far = so_far }
       | inr lacks ↦ absurd (subst IsNoError lacks.1.told fine)
     ]
 result_tells laws Server limits x now old new piece used what other h sees fine =
     let first = sees.read h.so_far.reads_replies h.own h.taken in
-    let (rest, taken, so_far) = server_tells laws.go_on laws.hears limits x (tap_state old.tap) (at_front h.own piece (tap_state old.tap)) new.tap other h.own
-    piece used what h.so_far refl first.0 fine in
+    let (rest, taken, so_far) = server_tells laws limits x (tap_state old.tap) new.tap other h.own piece used what h.so_far first.0 fine in
     record { own = rest; taken = taken; so_far = so_far }
 
 both_client : (side : Side) (a b : List ℕ) → by_side side a [] ++ by_side side b [] ≡ by_side side (a ++ b) []
@@ -547,7 +538,7 @@ told_twice x side a b whole c d p q u v is =
 abbrev all_told : Told → Side → List ℕ → List Seen → Told
 all_told x side piece what = told_more x side piece (each command_in what) (each reply_in what) (each push_in what)
 
-piece_tells : Laws → (side : Side) (limits : Bounds) (printing : Printing) (now : Option Moment) (what : List Seen) (x : Told) (old new : TimedTap)
+piece_tells : VersionThreeSpellsWhatTwoDoes → (side : Side) (limits : Bounds) (printing : Printing) (now : Option Moment) (what : List Seen) (x : Told) (old new : TimedTap)
     (piece : List ℕ) (before after : Option (List ℕ)) (failures failures' : ℕ) (result : Result (Unit {0}) PrintError) (other : List ℕ) →
     Tells side limits x old.tap other → WatchesAll printing side now what old new piece before after failures failures' result →
     AllByRecursion IsNoError what → Tells side limits (all_told x side piece what) new.tap other
@@ -573,7 +564,7 @@ record TellsBoth (limits : Bounds) (x : Told) (t : Tap) : Type 0 where
   answered : HasTakenValue t rest
   so_far : SoFar limits x (tap_state t) request rest
 
-arrival_tells : Laws → (side : Side) (limits : Bounds) (printing : Printing) (now : Option Moment) (what : List Seen) (x : Told) (old new : TimedTap)
+arrival_tells : VersionThreeSpellsWhatTwoDoes → (side : Side) (limits : Bounds) (printing : Printing) (now : Option Moment) (what : List Seen) (x : Told) (old new : TimedTap)
     (piece : List ℕ) (before after : Option (List ℕ)) (failures failures' : ℕ) (result : Result (Unit {0}) PrintError) → TellsBoth limits x old.tap →
     WatchesAll printing side now what old new piece before after failures failures' result → KeepsOther side old.tap new.tap →
     AllByRecursion IsNoError what → TellsBoth limits (all_told x side piece what) new.tap
@@ -607,7 +598,7 @@ with_first x a arrivals = λ i. record {
   pushes = append_assoc x.pushes (each push_in a.told) (told push_in arrivals) i;
 }
 
-arrivals_tell : Laws → (limits : Bounds) (arrivals : List Arrival) (x : Told) (old new : TimedTap) → TellsBoth limits x old.tap → Arrive old new arrivals → NoError arrivals →
+arrivals_tell : VersionThreeSpellsWhatTwoDoes → (limits : Bounds) (arrivals : List Arrival) (x : Told) (old new : TimedTap) → TellsBoth limits x old.tap → Arrive old new arrivals → NoError arrivals →
     TellsBoth limits (with_all x arrivals) new.tap
 arrivals_tell laws limits [] x old new h same fine =
     subst (λ z. TellsBoth limits z new.tap) (sym (with_none x)) (subst (λ (t : TimedTap). TellsBoth limits x t.tap) (sym same) h)
@@ -632,16 +623,15 @@ begins limits = record {
   same_limits = refl;
   reads_commands = refl;
   reads_replies = refl;
-  replies = λ paired. record {
+  replies = λ found. record {
     values = [];
     front = [];
     whole = refl;
     reads = (refl, refl);
-    no_more = inl refl;
+    reading = inl refl;
     replies = refl;
     pushes = refl;
-    count = refl;
-    pairing = refl;
+    opened = refl;
   };
 }
 
@@ -650,9 +640,15 @@ no_value_begins : (r : Rules) (text : List ℕ) → HasNoValue text → BeginsNo
 no_value_begins r text none x next beyond s whole =
     none (length next) s.tree (subst (Spells s.tree) (sym (ap (take (length next)) whole ∙ take_at next beyond (length next) refl)) s.spells)
 
-pub tells_the_connection : ReadingsGoOn → ReadingsStay → HearingGoesOn → TellsTheConnection
-tells_the_connection go_on stay hears limits old new arrivals fresh requested answered arrive fine =
-    let m = arrivals_tell (record { go_on = go_on; stay = stay; hears = hears }) limits arrivals nothing_told old new (record {
+-- the version of a rest is that of the first of the commands that wait, or of none
+rest_is : (limits : Bounds) (s : TapState) (rest : List ℕ) → IsReading limits s rest → IsRest limits s.line rest
+rest_is limits s rest (inl none) = inl none
+rest_is limits s rest (inr (n, within, reading, none, viable)) =
+    inr (n, within, none, subst (λ version. IsViable (rules_under version limits) WithinTotal rest) reading viable)
+
+pub tells_the_connection : VersionThreeSpellsWhatTwoDoes → TellsTheConnection
+tells_the_connection three limits old new arrivals fresh requested answered arrive fine =
+    let m = arrivals_tell three limits arrivals nothing_told old new (record {
       request = [];
       rest = [];
       requested = requested;
@@ -666,14 +662,14 @@ tells_the_connection go_on stay hears limits old new arrivals fresh requested an
         cut = record { front = h.front; spelled = h.spelled; whole = h.whole; no_more = no_value_begins (request_rules limits) m.request h.no_more };
         commands = h.commands;
       },
-      λ paired. let r = h.replies paired in record {
+      λ found. let r = h.replies found in record {
         values = r.values;
         front = r.front;
         rest = m.rest;
-        after = (tap_state new.tap).waiting;
+        after = (tap_state new.tap).line;
         whole = r.whole;
         reads = r.reads;
-        no_more = r.no_more;
+        no_more = rest_is limits (tap_state new.tap) m.rest r.reading;
         replies = r.replies;
         pushes = r.pushes;
       },

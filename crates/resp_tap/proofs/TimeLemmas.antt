@@ -1,39 +1,26 @@
--- What becomes of the times of the commands that wait.
-use Rattle.std.proofs.Common.{arith, inl, inr, ◌≡◌, ◌≢◌, ◌⊎◌, ◌≤◌, ℕ, zero, suc, ◌+◌, Bool, true, false, not, cond, List, [], ◌∷◌, ◌++◌, length, drop, Option, refl, sym, ap, subst, ◌∙◌}
-use Rattle.std.proofs.lemmas.List.{drop-append-le, drop-drop, length_push, take_at}
-use Rattle.std.specs.Prelude.{IsSome, None, Some, slice_get, take}
+-- The times of the commands that wait.
+use Rattle.std.proofs.Common.{arith, inl, inr, ◌≡◌, ◌≢◌, ◌⊎◌, ◌≤◌, ℕ, ◌+◌, ◌-◌, Bool, true, false, List, [], ◌∷◌, ◌++◌, length, drop, nat_lt, Option, refl, sym, ap, subst, ◌∙◌}
+use Rattle.std.proofs.lemmas.List.{append-nil, length-drop, length_push, take_at}
+use Rattle.std.specs.Prelude.{if◌then◌else◌, IsSome, None, Some, is_some, take}
 use Rattle.std.specs.Option.{option_to_list}
+use Rattle.resp_tap.specs.Kinds.{command_kind}
+use Rattle.resp_tap.specs.Lines.{LineState, after_confirmation, after_due, after_reply, confirms, due_confirmed, due_of, has_all, is_free, is_reset, line_after, line_sent, line_with, resumed, subscriptions_by}
+use Rattle.resp_tap.specs.Taps.{TapState, at_front, tap_state}
+use Rattle.resp_tap.specs.Times.{HasTimes, KeepsTimes, is_heard, times_after, waits_in}
+use Rattle.resp_tap.specs.Notices.{notice_of}
+use Rattle.resp_tap.specs.Watching.{SeesRequest, SeesValue}
+use Rattle.resp_tap.specs.declared.kind.CommandKind.{CommandKind}
+use Rattle.resp_tap.specs.declared.kind.CommandKind.TheVariants.{Plain, Hello, Reset, Silent, Subscribing, Unpairing}
+use Rattle.resp_tap.specs.declared.line.Due.{Due}
+use Rattle.resp_tap.specs.declared.moment.Moment.{Moment}
+use Rattle.resp_tap.specs.declared.notice.Notice.{Notice}
 use Rattle.resp_value.specs.Data.{Datum}
 use Rattle.resp_value.specs.Values.{datum_of}
-use Rattle.resp_value.specs.declared.version.Version.{Version}
-use Rattle.resp_session.specs.Heard.{is_push, numbered_from, numbered_replies}
-use Rattle.resp_session.specs.Reading.{waiting_after_reply}
-use Rattle.resp_tap.specs.Kinds.{command_kind}
-use Rattle.resp_tap.specs.Taps.{TapState, asks_after, at_front, tap_state, version_of_kind, with_refused_command}
-use Rattle.resp_tap.specs.Times.{HasTimes, KeepsTimes, is_reply}
-use Rattle.resp_tap.specs.Watching.{ByPairing, GivesReplyTo, SeesRequest, SeesValue}
-use Rattle.resp_tap.specs.declared.kind.CommandKind.{CommandKind}
-use Rattle.resp_tap.specs.declared.kind.CommandKind.TheVariants.{Plain, Hello, Unpairing}
-use Rattle.resp_tap.specs.declared.moment.Moment.{Moment}
-use Rattle.resp_tap.specs.declared.pairing.Pairing.{Pairing}
-use Rattle.resp_tap.specs.declared.pairing.Pairing.TheVariants.{Paired, Ending, Unpaired}
+use Rattle.resp_value.specs.declared.value.Value.TheVariants as value
 use Rattle.resp_tap.specs.declared.seen.Seen.{Seen}
 use Rattle.resp_tap.specs.declared.seen.Seen.TheVariants as seen
 use Rattle.resp_tap.specs.declared.tap.Tap.{Tap}
 use Rattle.resp_tap.specs.declared.timed.TimedTap.{TimedTap}
-
--- the first of a rest is the one that stands there
-pub first_of_rest : (xs : List ℕ) (n : ℕ) → slice_get (drop n xs) 0 ≡ slice_get xs n
-first_of_rest [] zero = refl
-first_of_rest [] (suc n) = refl
-first_of_rest (x ∷ xs) zero = refl
-first_of_rest (x ∷ xs) (suc n) = first_of_rest xs n
-
--- what is known at every moment
-pub keeps_times : (now : Option Moment) (old new : TimedTap) →
-    ((steady : ℕ) (times : List ℕ) → HasTimes old times → HasTimes new times ⊎ HasTimes new (times ++ steady ∷ [])) → KeepsTimes now old new
-keeps_times None old new keeps = tt
-keeps_times (Some now) old new keeps = keeps now.steady
 
 -- what was put at the end was taken away
 pub snoc_same : (xs zs : List ℕ) (x : ℕ) (r : Option ℕ) → xs ++ x ∷ [] ≡ zs ++ option_to_list r → IsSome r → zs ≡ xs
@@ -44,149 +31,185 @@ snoc_same xs zs x (Some y) e some =
 
 -- ---- what the client sends
 
--- as many replies have come, and as many commands wait or one more
-abbrev pub WaitsOneMore : TapState → TapState → Type 0
-WaitsOneMore old new = (new.answered ≡ old.answered) ×
-    ((length new.waiting.asks ≡ length old.waiting.asks) ⊎ (length new.waiting.asks ≡ length old.waiting.asks + 1))
+-- as many commands wait, or one more
+abbrev pub WaitsOneMore : LineState → LineState → Type 0
+WaitsOneMore old new = (length new.due ≡ length old.due) ⊎ (length new.due ≡ length old.due + 1)
 
-asks_more : (kind : CommandKind) (p : Pairing) (asks : List (Option Version)) →
-    (length (asks_after kind p asks) ≡ length asks) ⊎ (length (asks_after kind p asks) ≡ length asks + 1)
-asks_more Unpairing p asks = inl refl
-asks_more Plain Paired asks = inr (length_push asks (version_of_kind Plain))
-asks_more Plain Ending asks = inl refl
-asks_more Plain Unpaired asks = inl refl
-asks_more (Hello version) Paired asks = inr (length_push asks (version_of_kind (Hello version)))
-asks_more (Hello version) Ending asks = inl refl
-asks_more (Hello version) Unpaired asks = inl refl
+one_more : (number : ℕ) (kind : CommandKind) (is_open : Bool) (due : List Due) →
+    (length (due ++ due_of number kind is_open) ≡ length due) ⊎ (length (due ++ due_of number kind is_open) ≡ length due + 1)
+one_more number Silent is_open due = inl (ap length (append-nil due))
+one_more number Plain true due = inr (length_push due (record { number = number; kind = Plain }))
+one_more number (Hello version) true due = inr (length_push due (record { number = number; kind = Hello version }))
+one_more number Reset true due = inr (length_push due (record { number = number; kind = Reset }))
+one_more number (Subscribing verb channels) true due = inr (length_push due (record { number = number; kind = Subscribing verb channels }))
+one_more number Unpairing true due = inr (length_push due (record { number = number; kind = Unpairing }))
+one_more number Plain false due = inl (ap length (append-nil due))
+one_more number (Hello version) false due = inl (ap length (append-nil due))
+one_more number Reset false due = inr (length_push due (record { number = number; kind = Reset }))
+one_more number (Subscribing verb channels) false due = inl (ap length (append-nil due))
+one_more number Unpairing false due = inl (ap length (append-nil due))
 
-waits_as : (s t : TapState) → t.answered ≡ s.answered → t.waiting ≡ s.waiting → WaitsOneMore s t
-waits_as s t answered waiting = (answered, inl (ap (λ w. length w.asks) waiting))
+sent_by : (b : Bool) (number : ℕ) (kind : CommandKind) (l : LineState) → l.is_lost ≡ b → WaitsOneMore l (line_sent number kind l)
+sent_by true number kind l lost = inl (ap (λ b. length (if b then l else line_with number kind l).due) lost)
+sent_by false number kind l found =
+    subst (λ (t : LineState). WaitsOneMore l t) (sym (ap (λ b. if b then l else line_with number kind l) found)) (one_more number kind l.is_open l.due)
+
+waits_as : (s t : TapState) → t.line ≡ s.line → WaitsOneMore s.line t.line
+waits_as s t line = inl (ap (λ (l : LineState). length l.due) line)
 
 request_waits : (s : TapState) (new : Tap) (front piece : List ℕ) (used : ℕ) (what : Seen) → SeesRequest s new front piece used what →
-    WaitsOneMore s (tap_state new)
-request_waits s new front piece used seen.Nothing h = waits_as s (tap_state new) (ap (λ (z : TapState). z.answered) h.after) (ap (λ (z : TapState). z.waiting) h.after)
-request_waits s new front piece used seen.Passed h = waits_as s (tap_state new) (ap (λ (z : TapState). z.answered) h.after) (ap (λ (z : TapState). z.waiting) h.after)
-request_waits s new front piece used (seen.Command number words) h = (
-  ap (λ (z : TapState). z.answered) h.after,
-  subst (λ (asks : List (Option Version)). (length asks ≡ length s.waiting.asks) ⊎ (length asks ≡ length s.waiting.asks + 1))
-      (sym (ap (λ (z : TapState). z.waiting.asks) h.after)) (asks_more (command_kind words) s.pairing s.waiting.asks),
-)
-request_waits s new front piece used (seen.NotCommand number) h = waits_as s (tap_state new) (ap (λ (z : TapState). z.answered) h.after) (ap (λ (z : TapState). z.waiting) h.after)
-request_waits s new front piece used (seen.Refused cause at where') h =
-    waits_as s (tap_state new) (ap (λ (z : TapState). z.answered) h.after) (ap (λ (z : TapState). z.waiting) h.after)
+    WaitsOneMore s.line (tap_state new).line
+request_waits s new front piece used seen.Nothing h = waits_as s (tap_state new) (ap (λ (z : TapState). z.line) h.after)
+request_waits s new front piece used seen.Passed h = waits_as s (tap_state new) (ap (λ (z : TapState). z.line) h.after)
+request_waits s new front piece used (seen.Command number words) h =
+    subst (λ (l : LineState). WaitsOneMore s.line l) (sym (ap (λ (z : TapState). z.line) h.after))
+    (sent_by s.line.is_lost (s.commands + 1) (command_kind words) s.line refl)
+request_waits s new front piece used (seen.NotCommand number) h = waits_as s (tap_state new) (ap (λ (z : TapState). z.line) h.after)
+request_waits s new front piece used (seen.Refused cause at where') h = waits_as s (tap_state new) (ap (λ (z : TapState). z.line) h.after)
 request_waits s new front piece used (seen.Reply number x) h = absurd h
 request_waits s new front piece used (seen.Push items) h = absurd h
 request_waits s new front piece used (seen.Value x) h = absurd h
 
-times_on : (old new : TimedTap) (steady : ℕ) → WaitsOneMore (tap_state old.tap) (tap_state new.tap) →
-    (length (tap_state new.tap).waiting.asks ≡ length (tap_state old.tap).waiting.asks → new.times.items ≡ old.times.items) →
-    (length (tap_state new.tap).waiting.asks ≢ length (tap_state old.tap).waiting.asks → new.times.items ≡ old.times.items ++ steady ∷ []) →
-    (times : List ℕ) → HasTimes old times → HasTimes new times ⊎ HasTimes new (times ++ steady ∷ [])
-times_on old new steady (answered, inl same) without with' times h = inl (record {
-  kept = without same ∙ h.kept ∙ ap (λ n. drop n times) (sym answered);
-  each = omega (arith, h.each, answered, same);
-})
-times_on old new steady (answered, inr more) without with' times h =
-    let within : (tap_state old.tap).answered ≤ length times = omega (arith, h.each) in
-    inr (record {
-      kept = with' (λ e. absurd (omega (arith, e, more))) ∙ ap (λ z. z ++ steady ∷ []) h.kept ∙
-          sym (drop-append-le (tap_state old.tap).answered times (steady ∷ []) within) ∙
-          ap (λ n. drop n (times ++ steady ∷ [])) (sym answered);
-      each = length_push times steady ∙ omega (arith, h.each, answered, more);
+-- the times where as many commands wait
+same_after : (now n : ℕ) (times : List ℕ) → times_after now n n times ≡ times
+same_after now n times =
+    ap (λ b. if b then times ++ now ∷ [] else drop (n - n) times) (let e : nat_lt n n ≡ false = grind arith in e) ∙
+    ap (λ k. drop k times) (let e : n - n ≡ 0 = omega arith in e)
+
+more_after : (now n : ℕ) (times : List ℕ) → times_after now n (n + 1) times ≡ times ++ now ∷ []
+more_after now n times =
+    ap (λ b. if b then times ++ now ∷ [] else drop (n - (n + 1)) times) (let e : nat_lt n (n + 1) ≡ true = grind arith in e)
+
+pub times_stay : (old new : TimedTap) (now : ℕ) → waits_in new ≡ waits_in old → new.times.items ≡ old.times.items → (times : List ℕ) → HasTimes old times →
+    HasTimes new (times_after now (waits_in old) (waits_in new) times)
+times_stay old new now same kept times h =
+    subst (HasTimes new) (sym (ap (λ n. times_after now (waits_in old) n times) same ∙ same_after now (waits_in old) times))
+    (record { kept = kept ∙ h.kept; each = h.each ∙ sym same })
+
+pub times_grow : (old new : TimedTap) (now : ℕ) → waits_in new ≡ waits_in old + 1 → new.times.items ≡ old.times.items ++ now ∷ [] → (times : List ℕ) →
+    HasTimes old times → HasTimes new (times_after now (waits_in old) (waits_in new) times)
+times_grow old new now more kept times h =
+    subst (HasTimes new) (sym (ap (λ n. times_after now (waits_in old) n times) more ∙ more_after now (waits_in old) times)) (record {
+      kept = kept ∙ ap (λ z. z ++ now ∷ []) h.kept;
+      each = length_push times now ∙ ap (λ n. n + 1) h.each ∙ sym more;
     })
 
--- where the time of what came was kept only if a command came that waits, the times go on
-pub times_go_on : (old new : TimedTap) (steady : ℕ) (front piece : List ℕ) (used : ℕ) (what : Seen) →
+-- where the time was kept only if a command came that waits
+pub times_go_on : (old new : TimedTap) (now : ℕ) (front piece : List ℕ) (used : ℕ) (what : Seen) →
     SeesRequest (tap_state old.tap) new.tap front piece used what →
-    (length (tap_state new.tap).waiting.asks ≡ length (tap_state old.tap).waiting.asks → new.times.items ≡ old.times.items) →
-    (length (tap_state new.tap).waiting.asks ≢ length (tap_state old.tap).waiting.asks → new.times.items ≡ old.times.items ++ steady ∷ []) →
-    (times : List ℕ) → HasTimes old times → HasTimes new times ⊎ HasTimes new (times ++ steady ∷ [])
-times_go_on old new steady front piece used what sees =
-    times_on old new steady (request_waits (tap_state old.tap) new.tap front piece used what sees)
-
--- and where nothing more is read they stand
-pub times_refused : (old new : TimedTap) (steady : ℕ) → tap_state new.tap ≡ with_refused_command (tap_state old.tap) → new.times.items ≡ old.times.items →
-    (times : List ℕ) → HasTimes old times → HasTimes new times ⊎ HasTimes new (times ++ steady ∷ [])
-times_refused old new steady after same times h = inl (record {
-  kept = same ∙ h.kept ∙ ap (λ (z : TapState). drop z.answered times) (sym after);
-  each = h.each ∙ ap (λ (z : TapState). z.answered + length z.waiting.asks) (sym after);
-})
+    (waits_in new ≡ waits_in old → new.times.items ≡ old.times.items) →
+    (waits_in new ≢ waits_in old → new.times.items ≡ old.times.items ++ now ∷ []) →
+    (times : List ℕ) → HasTimes old times → HasTimes new (times_after now (waits_in old) (waits_in new) times)
+times_go_on old new now front piece used what sees without with' times h =
+    elim (request_waits (tap_state old.tap) new.tap front piece used what sees) [
+      | inl same ↦ times_stay old new now same (without same) times h
+      | inr more ↦ times_grow old new now more (with' (λ e. absurd (omega (arith, e, more)))) times h
+    ]
 
 -- ---- what the server sends
 
--- a reply answers one command that waits, and what is none answers none
-abbrev pub AnswersOne : Bool → TapState → TapState → Type 0
-AnswersOne true old new = (new.answered ≡ old.answered + 1) × (length new.waiting.asks + 1 ≡ length old.waiting.asks)
-AnswersOne false old new = (new.answered ≡ old.answered) × (length new.waiting.asks ≡ length old.waiting.asks)
+-- no more commands wait than before
+abbrev WaitsNoMore : LineState → ℕ → Type 0
+WaitsNoMore l n = length l.due ≤ n
 
-replied : (P : Type 0) (p : Pairing) → ByPairing p P ⊥ → P
-replied P Paired h = h
-replied P Ending h = h
-replied P Unpaired h = absurd h
+either_waits : (b : Bool) (a c : LineState) (n : ℕ) → WaitsNoMore a n → WaitsNoMore c n → WaitsNoMore (if b then a else c) n
+either_waits true a c n first other = first
+either_waits false a c n first other = other
 
-numbered_push : (b : Bool) (first number : ℕ) (x : Datum) → numbered_from first (cond (not b) (x ∷ []) []) ≡ (number, x) ∷ [] → b ≡ true → ⊥
-numbered_push true first number x numbered e = cc
-numbered_push false first number x numbered e = cc
+confirmed_waits : (b : Bool) (first : Due) (due : List Due) → length (due_confirmed b first due) ≤ length (first ∷ due)
+confirmed_waits true first due = omega arith
+confirmed_waits false first due = omega arith
 
-not_pushed : (b : Bool) (first number : ℕ) (x : Datum) → numbered_from first (cond (not b) (x ∷ []) []) ≡ (number, x) ∷ [] → b ≡ false
-not_pushed true first number x numbered = absurd (cc)
-not_pushed false first number x numbered = refl
+resumed_waits : (l : LineState) (first : Due) (due : List Due) → l.due ≡ first ∷ due → WaitsNoMore (resumed l due) (length l.due)
+resumed_waits l first [] is = omega arith
+resumed_waits l first (reset ∷ due) is = let e = ap length is in omega (arith, e)
 
--- a value that has a number is no push
-pub is_no_push : (first number : ℕ) (x : Datum) → numbered_replies first (x ∷ []) ≡ (number, x) ∷ [] → is_push x ≡ false
-is_no_push first number x numbered = not_pushed (is_push x) first number x numbered
+reply_waits : (l : LineState) (first : Due) (due : List Due) (kind : CommandKind) (what : Notice) (x : Datum) → l.due ≡ first ∷ due →
+    WaitsNoMore (after_reply l kind due what x) (length l.due)
+reply_waits l first due Plain what x is = let e = ap length is in omega (arith, e)
+reply_waits l first due (Hello version) what x is = let e = ap length is in omega (arith, e)
+reply_waits l first due Reset what x is = let e = ap length is in omega (arith, e)
+reply_waits l first due Silent what x is = let e = ap length is in omega (arith, e)
+reply_waits l first due (Subscribing verb channels) what x is = let e = ap length is in omega (arith, e)
+reply_waits l first due Unpairing what x is =
+    either_waits (is_reset what) (resumed l due) l (length l.due) (resumed_waits l first due is) (omega arith)
 
--- one command less waits after a reply
-one_less : (version : Version) (asks : List (Option Version)) (x : Datum) → (asks ≡ [] → ⊥) →
-    length (waiting_after_reply version asks x).asks + 1 ≡ length asks
-one_less version [] x some = absurd (some refl)
-one_less version (ask ∷ asks) x some = omega arith
+due_waits : (l : LineState) (due : List Due) (what : Notice) (free : Bool) (x : Datum) → l.due ≡ due → WaitsNoMore (after_due l due what free x) (length l.due)
+due_waits l [] what free x is = omega arith
+due_waits l (first ∷ due) what free x is =
+    let e = ap length is in
+    let whole = has_all first.kind l.heard (subscriptions_by what l.subscriptions) in
+    let fewer = confirmed_waits whole first due in
+    either_waits (confirms first.kind what) (after_confirmation l first due what) _ (length l.due) (omega (arith, e, fewer))
+    (either_waits free l (after_reply l first.kind due what x) (length l.due) (omega arith) (reply_waits l first due first.kind what x is))
 
-gives_reply : (s : TapState) (new : Tap) (written : List ℕ) (number : ℕ) (x : Datum) → GivesReplyTo s new written number x →
-    AnswersOne true s (tap_state new)
-gives_reply s new written number x gives =
-    let waits : s.waiting.asks ≡ [] → ⊥ = λ none. numbered_push (is_push x) (s.answered + 1) number x gives.numbered (gives.reads.3 none) in (
-      ap (λ (z : TapState). z.answered) gives.after,
-      ap (λ (z : TapState). length z.waiting.asks + 1) gives.after ∙ one_less s.waiting.version s.waiting.asks x waits,
-    )
+value_waits : (l : LineState) (x : Datum) → WaitsNoMore (line_after l x) (length l.due)
+value_waits l x = either_waits l.is_lost l (after_due l l.due (notice_of x) (is_free l x) x) (length l.due) (omega arith)
+    (due_waits l l.due (notice_of x) (is_free l x) x refl)
 
-answers_none : (s t : TapState) → t.answered ≡ s.answered → t.waiting ≡ s.waiting → AnswersOne false s t
-answers_none s t answered waiting = (answered, ap (λ w. length w.asks) waiting)
+same_waits : (s t : TapState) → t.line ≡ s.line → WaitsNoMore t.line (length s.line.due)
+same_waits s t same = let e = ap (λ (l : LineState). length l.due) same in omega (arith, e)
 
-value_answers : (s : TapState) (new : Tap) (front piece : List ℕ) (used : ℕ) (what : Seen) → SeesValue s new front piece used what →
-    AnswersOne (is_reply what) s (tap_state new)
-value_answers s new front piece used seen.Nothing h = answers_none s (tap_state new) (ap (λ (z : TapState). z.answered) h.after) (ap (λ (z : TapState). z.waiting) h.after)
-value_answers s new front piece used (seen.Reply number x) h = gives_reply s new _ number (datum_of x) (replied _ s.pairing h)
-value_answers s new front piece used (seen.Push items) h = answers_none s (tap_state new) (ap (λ (z : TapState). z.answered) h.after) (ap (λ (z : TapState). z.waiting) h.after)
-value_answers s new front piece used (seen.Value x) h = answers_none s (tap_state new) (ap (λ (z : TapState). z.answered) h.2.after) (ap (λ (z : TapState). z.waiting) h.2.after)
-value_answers s new front piece used (seen.Refused cause at where') h =
-    answers_none s (tap_state new) (ap (λ (z : TapState). z.answered) h.after) (ap (λ (z : TapState). z.waiting) h.after)
-value_answers s new front piece used seen.Passed h = absurd h
-value_answers s new front piece used (seen.Command number words) h = absurd h
-value_answers s new front piece used (seen.NotCommand number) h = absurd h
+value_seen_waits : (s t : TapState) (x : Datum) → t.line ≡ line_after s.line x → WaitsNoMore t.line (length s.line.due)
+value_seen_waits s t x after = subst (λ (l : LineState). WaitsNoMore l (length s.line.due)) (sym after) (value_waits s.line x)
+
+answer_waits : (s : TapState) (new : Tap) (front piece : List ℕ) (used : ℕ) (what : Seen) → SeesValue s new front piece used what →
+    WaitsNoMore (tap_state new).line (length s.line.due)
+answer_waits s new front piece used seen.Nothing h = same_waits s (tap_state new) (ap (λ (z : TapState). z.line) h.after)
+answer_waits s new front piece used (seen.Reply number x) h = value_seen_waits s (tap_state new) (datum_of x) (ap (λ (z : TapState). z.line) h.0.after)
+answer_waits s new front piece used (seen.Push items) h = value_seen_waits s (tap_state new) (datum_of (value.Push items)) (ap (λ (z : TapState). z.line) h.0.after)
+answer_waits s new front piece used (seen.Value x) h = value_seen_waits s (tap_state new) (datum_of x) (ap (λ (z : TapState). z.line) h.0.after)
+answer_waits s new front piece used (seen.Refused cause at where') h = same_waits s (tap_state new) (ap (λ (z : TapState). z.line) h.after)
+answer_waits s new front piece used seen.Passed h = absurd h
+answer_waits s new front piece used (seen.Command number words) h = absurd h
+answer_waits s new front piece used (seen.NotCommand number) h = absurd h
 
 -- the same of what it is read as before its first byte
-pub answers_at_front : (s : TapState) (new : Tap) (front piece : List ℕ) (used : ℕ) (what : Seen) →
-    SeesValue (at_front front piece s) new front piece used what → AnswersOne (is_reply what) s (tap_state new)
-answers_at_front s new [] piece used what h = by_kind (is_reply what) (value_answers (at_front [] piece s) new [] piece used what h)
-  where
-    by_kind : (b : Bool) → AnswersOne b (at_front [] piece s) (tap_state new) → AnswersOne b s (tap_state new)
-    by_kind true answers = answers
-    by_kind false answers = answers
-answers_at_front s new (byte ∷ front) piece used what h = value_answers s new (byte ∷ front) piece used what h
+pub answer_waits_at_front : (s : TapState) (new : Tap) (front piece : List ℕ) (used : ℕ) (what : Seen) →
+    SeesValue (at_front front piece s) new front piece used what → WaitsNoMore (tap_state new).line (length s.line.due)
+answer_waits_at_front s new [] piece used what h = answer_waits (at_front [] piece s) new [] piece used what h
+answer_waits_at_front s new (byte ∷ front) piece used what h = answer_waits s new (byte ∷ front) piece used what h
 
--- where the first time was dropped at a reply, the times stand
-pub times_stand : (old new : TimedTap) (steady : ℕ) → AnswersOne true (tap_state old.tap) (tap_state new.tap) →
-    new.times.items ≡ drop 1 old.times.items → (times : List ℕ) → HasTimes old times → HasTimes new times ⊎ HasTimes new (times ++ steady ∷ [])
-times_stand old new steady (answered, less) dropped times h = inl (record {
-  kept = dropped ∙ ap (drop 1) h.kept ∙ drop-drop 1 (tap_state old.tap).answered times ∙ ap (λ n. drop n times) (sym answered);
-  each = omega (arith, h.each, answered, less);
-})
+not_more : (now n m : ℕ) (times : List ℕ) → m ≤ n → times_after now n m times ≡ drop (n - m) times
+not_more now n m times less =
+    ap (λ b. if b then times ++ now ∷ [] else drop (n - m) times) (let e : nat_lt n m ≡ false = grind (arith, less) in e)
 
--- and where nothing was answered
-pub times_same : (old new : TimedTap) (steady : ℕ) → AnswersOne false (tap_state old.tap) (tap_state new.tap) →
-    new.times.items ≡ old.times.items → (times : List ℕ) → HasTimes old times → HasTimes new times ⊎ HasTimes new (times ++ steady ∷ [])
-times_same old new steady (answered, same) kept times h = inl (record {
-  kept = kept ∙ h.kept ∙ ap (λ n. drop n times) (sym answered);
-  each = omega (arith, h.each, answered, same);
-})
+-- where the times of commands that wait no more were dropped
+pub times_dropped : (old new : TimedTap) (now : ℕ) → waits_in new ≤ waits_in old →
+    new.times.items ≡ drop (length old.times.items - waits_in new) old.times.items → (times : List ℕ) → HasTimes old times →
+    HasTimes new (times_after now (waits_in old) (waits_in new) times)
+times_dropped old new now less dropped times h =
+    let k = waits_in old - waits_in new in
+    let long : length old.times.items ≡ waits_in old = ap length h.kept ∙ h.each in
+    subst (HasTimes new) (sym (not_more now (waits_in old) (waits_in new) times less)) (record {
+      kept = dropped ∙ ap (λ n. drop (n - waits_in new) old.times.items) long ∙ ap (drop k) h.kept;
+      each = length-drop k times ∙ ap (λ n. n - k) h.each ∙ (let e : waits_in old - k ≡ waits_in new = omega (arith, less) in e);
+    })
+
+-- what is known at every moment
+pub keeps_times : (now : Option Moment) (old new : TimedTap) →
+    ((steady : ℕ) (times : List ℕ) → HasTimes old times → HasTimes new (times_after steady (waits_in old) (waits_in new) times)) → KeepsTimes now old new
+keeps_times None old new keeps = tt
+keeps_times (Some now) old new keeps = keeps now.steady
+
+-- where no value was heard, as many commands wait
+unheard_waits : (s : TapState) (new : Tap) (front piece : List ℕ) (used : ℕ) (what : Seen) → SeesValue s new front piece used what → is_heard what ≡ false →
+    length (tap_state new).line.due ≡ length s.line.due
+unheard_waits s new front piece used seen.Nothing h un = ap (λ (z : TapState). length z.line.due) h.after
+unheard_waits s new front piece used (seen.Reply number x) h un = absurd (cc)
+unheard_waits s new front piece used (seen.Push items) h un = absurd (cc)
+unheard_waits s new front piece used (seen.Value x) h un = absurd (cc)
+unheard_waits s new front piece used (seen.Refused cause at where') h un = ap (λ (z : TapState). length z.line.due) h.after
+unheard_waits s new front piece used seen.Passed h un = absurd h
+unheard_waits s new front piece used (seen.Command number words) h un = absurd h
+unheard_waits s new front piece used (seen.NotCommand number) h un = absurd h
+
+pub unheard_waits_at_front : (s : TapState) (new : Tap) (front piece : List ℕ) (used : ℕ) (what : Seen) →
+    SeesValue (at_front front piece s) new front piece used what → is_heard what ≡ false → length (tap_state new).line.due ≡ length s.line.due
+unheard_waits_at_front s new [] piece used what h un = unheard_waits (at_front [] piece s) new [] piece used what h un
+unheard_waits_at_front s new (byte ∷ front) piece used what h un = unheard_waits s new (byte ∷ front) piece used what h un
+
+-- and without a moment
+pub keeps_none : (now : Option Moment) (old new : TimedTap) → is_some now ≡ false → KeepsTimes now old new
+keeps_none None old new none = tt
+keeps_none (Some now) old new none = absurd (cc)

@@ -1,4 +1,7 @@
 pub mod Kinds
+pub mod Notices
+pub mod Lines
+pub mod LinesOf
 pub mod Taps
 pub mod Watching
 pub mod Ways

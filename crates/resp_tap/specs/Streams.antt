@@ -1,26 +1,24 @@
 -- The results that `watch` reports for a whole connection, however the bytes of both sides were cut into pieces.
-use Rattle.std.specs.Prelude.{◌≡◌, ◌≢◌, ◌⊎◌, ℕ, ◌+◌, ◌≤◌, List, [], ◌∷◌, ◌++◌, length, take, Option, Result}
+use Rattle.std.specs.Prelude.{◌≡◌, ◌⊎◌, ℕ, ◌+◌, ◌≤◌, false, List, [], ◌∷◌, ◌++◌, length, take, Option, Result}
 use Rattle.std.specs.List.{AllByRecursion}
 use Rattle.resp_value.specs.Bounds.{Bounds}
 use Rattle.resp_value.specs.Data.{Datum}
-use Rattle.resp_value.specs.Spellings.{Cut}
+use Rattle.resp_value.specs.Rules.{WithinTotal, rules_under}
+use Rattle.resp_value.specs.Spellings.{Cut, IsViable}
 use Rattle.resp_value.specs.Values.{datum_of}
 use Rattle.resp_value.specs.declared.value.Value.TheVariants as value
-use Rattle.resp_value.specs.declared.version.Version.{Version}
-use Rattle.resp_value.specs.declared.version.Version.TheVariants.{Two}
+use Rattle.resp_scan.specs.Reading.{HasNoValue}
 use Rattle.resp_session.specs.Commands.{Call, Meaning, meaning_of}
 use Rattle.resp_session.specs.Heard.{numbered_replies, pushes_of}
-use Rattle.resp_session.specs.Reading.{MayGoOn, ReadsAs, Waiting}
 use Rattle.resp_print.specs.declared.print_error.PrintError.{PrintError}
 use Rattle.resp_tap.specs.Kinds.{command_kind}
-use Rattle.resp_tap.specs.Taps.{new_tap, pairing_after, tap_state, version_of_kind}
+use Rattle.resp_tap.specs.Lines.{LineState, ReadsLine, asking, next_version, paired}
+use Rattle.resp_tap.specs.Taps.{new_tap, tap_state}
 use Rattle.resp_tap.specs.Watches.{KeepsOther, WatchesAll}
 use Rattle.resp_tap.specs.Watching.{HasTakenRequest, HasTakenValue, request_rules}
 use Rattle.resp_tap.specs.declared.kind.CommandKind.{CommandKind}
-use Rattle.resp_tap.specs.declared.kind.CommandKind.TheVariants.{Unpairing}
+use Rattle.resp_tap.specs.declared.kind.CommandKind.TheVariants.{Plain, Hello, Reset}
 use Rattle.resp_tap.specs.declared.moment.Moment.{Moment}
-use Rattle.resp_tap.specs.declared.pairing.Pairing.{Pairing}
-use Rattle.resp_tap.specs.declared.pairing.Pairing.TheVariants.{Paired, Unpaired}
 use Rattle.resp_tap.specs.declared.print.Printing.{Printing}
 use Rattle.resp_tap.specs.declared.seen.Seen.{Seen}
 use Rattle.resp_tap.specs.declared.seen.Seen.TheVariants as seen
@@ -114,24 +112,11 @@ abbrev pub numbered_commands : ℕ → List (List (List ℕ)) → List Numbered
 numbered_commands first [] = []
 numbered_commands first (words ∷ more) = (first, words) ∷ numbered_commands (first + 1) more
 
--- what a command of this kind asks for, if its reply is paired with it
-abbrev pub ask_of : CommandKind → Pairing → List (Option Version)
-ask_of Unpairing pairing = []
-ask_of kind Paired = version_of_kind kind ∷ []
-ask_of kind _ = []
-
--- what the commands ask for whose replies are paired with them
-abbrev pub asks_of : Pairing → List (List (List ℕ)) → List (Option Version)
-asks_of pairing [] = []
-asks_of pairing (words ∷ more) = ask_of (command_kind words) pairing ++ asks_of (pairing_after (command_kind words) pairing) more
-
--- the client that has sent these commands
-abbrev pub asking : List (List (List ℕ)) → Waiting
-asking commands = record { version = Two; asks = asks_of Paired commands }
-
--- The rest of the bytes, which does not begin with a value that was asked for by the first of the commands that wait.
-abbrev pub IsRest : Bounds → Waiting → List ℕ → Type 0
-IsRest limits w rest = (rest ≡ []) ⊎ ((n : ℕ) × (n ≤ length w.asks) × MayGoOn limits (record w { asks = take n w.asks }) rest)
+-- A rest that does not begin with a value, and with whose bytes a value can begin: in the version of the first of the
+-- commands that wait, or of none of them.
+abbrev pub IsRest : Bounds → LineState → List ℕ → Type 0
+IsRest limits l rest = (rest ≡ []) ⊎ ((n : ℕ) × (n ≤ length l.due) × HasNoValue rest ×
+    IsViable (rules_under (next_version (record l { due = take n l.due })) limits) WithinTotal rest)
 
 -- The commands that were told are those of the client's bytes, which are cut into values, numbered from 1.
 pub record TellsCommands (limits : Bounds) (arrivals : List Arrival) : Type 0 where
@@ -140,22 +125,40 @@ pub record TellsCommands (limits : Bounds) (arrivals : List Arrival) : Type 0 wh
   pub cut : Cut (request_rules limits) (client_bytes arrivals) values rest
   pub commands : told command_in arrivals ≡ numbered_commands 1 (commands_of values)
 
--- The replies and the pushes that were told are those of the server's bytes, as a client reads them that has sent these
--- commands. The nth reply has the number n.
+-- The replies and the pushes that were told are those of the server's bytes, which are read while all of these commands
+-- wait. Each reply has the number of the command that it belongs to.
 pub record TellsReplies (limits : Bounds) (arrivals : List Arrival) (commands : List (List (List ℕ))) : Type 0 where
   pub values : List Datum
   pub front : List ℕ
   pub rest : List ℕ
-  pub after : Waiting
+  pub after : LineState
   pub whole : server_bytes arrivals ≡ front ++ rest
-  pub reads : ReadsAs limits (asking commands) values front after
+  pub reads : ReadsLine limits (asking commands) values front after
   pub no_more : IsRest limits after rest
-  pub replies : told reply_in arrivals ≡ numbered_replies 1 values
+  pub replies : told reply_in arrivals ≡ paired (asking commands) values
   pub pushes : told push_in arrivals ≡ pushes_of values
 
--- Of a new connection: if no error was told, the commands are told. If replies are paired at the end, they are told too.
+-- Of a new connection: if no error was told, the commands are told. If no value has arrived that no command asked for,
+-- the replies are told too.
 abbrev pub TellsTheConnection : Type 0
 TellsTheConnection = (limits : Bounds) (old new : TimedTap) (arrivals : List Arrival) → tap_state old.tap ≡ new_tap limits →
     HasTakenRequest old.tap [] → HasTakenValue old.tap [] → Arrive old new arrivals → NoError arrivals →
     (commands : TellsCommands limits arrivals) ×
-    ((tap_state new.tap).pairing ≢ Unpaired → TellsReplies limits arrivals (commands_of commands.values))
+    ((tap_state new.tap).line.is_lost ≡ false → TellsReplies limits arrivals (commands_of commands.values))
+
+-- a kind of commands with exactly one reply
+abbrev pub IsAnswered : CommandKind → Type 0
+IsAnswered Plain = Unit {0}
+IsAnswered (Hello version) = Unit {0}
+IsAnswered Reset = Unit {0}
+IsAnswered kind = ⊥
+
+-- whether a command has exactly one reply
+abbrev pub HasOneReply : List (List ℕ) → Type 0
+HasOneReply words = IsAnswered (command_kind words)
+
+-- If each command has exactly one reply, the nth reply has the number n, whatever it is, and only pushes are no replies.
+abbrev pub CountsReplies : Type 0
+CountsReplies = (limits : Bounds) (commands : List (List (List ℕ))) (values : List Datum) (text : List ℕ) (after : LineState) →
+    AllByRecursion HasOneReply commands → ReadsLine limits (asking commands) values text after → after.is_lost ≡ false →
+    paired (asking commands) values ≡ numbered_replies 1 values

@@ -1,5 +1,5 @@
--- The times of the commands that a tap pairs with replies.
-use Rattle.std.specs.Prelude.{◌≡◌, ◌⊎◌, ℕ, ◌+◌, ◌-◌, Bool, true, false, List, [], ◌∷◌, ◌++◌, length, drop, Option, None, Some}
+-- The times of the commands that wait.
+use Rattle.std.specs.Prelude.{◌≡◌, ℕ, ◌-◌, Bool, true, false, List, [], ◌∷◌, ◌++◌, length, drop, nat_lt, if◌then◌else◌, Option, None, Some}
 use Rattle.resp_tap.specs.Taps.{tap_state}
 use Rattle.resp_tap.specs.declared.moment.Moment.{Moment}
 use Rattle.resp_tap.specs.declared.stamp.Stamp.{Stamp}
@@ -7,21 +7,32 @@ use Rattle.resp_tap.specs.declared.seen.Seen.{Seen}
 use Rattle.resp_tap.specs.declared.seen.Seen.TheVariants as seen
 use Rattle.resp_tap.specs.declared.timed.TimedTap.{TimedTap}
 
--- These are the times of all commands that are paired with replies, in order. The times of the commands that wait are
--- kept.
-pub record HasTimes (t : TimedTap) (times : List ℕ) : Type 0 where
-  pub kept : t.times.items ≡ drop (tap_state t.tap).answered times
-  pub each : length times ≡ (tap_state t.tap).answered + length (tap_state t.tap).waiting.asks
+-- the number of commands that wait
+abbrev pub waits_in : TimedTap → ℕ
+waits_in t = length (tap_state t.tap).line.due
 
--- If a moment is given, the times stay the same, or the time of one new command is added.
+-- these are the times of the commands that wait, in order
+pub record HasTimes (t : TimedTap) (times : List ℕ) : Type 0 where
+  pub kept : t.times.items ≡ times
+  pub each : length times ≡ waits_in t
+
+-- The times after a step, if so many commands waited before and after it: the time of a new command is added, and those
+-- of commands that wait no more are removed.
+abbrev pub times_after : ℕ → ℕ → ℕ → List ℕ → List ℕ
+times_after now before after times = if nat_lt before after then times ++ now ∷ [] else drop (before - after) times
+
+-- if a moment is given, the times of the commands that wait are kept
 abbrev pub KeepsTimes : Option Moment → TimedTap → TimedTap → Type 0
 KeepsTimes None old new = Unit {0}
 KeepsTimes (Some now) old new = (times : List ℕ) → HasTimes old times →
-    HasTimes new times ⊎ HasTimes new (times ++ now.steady ∷ [])
+    HasTimes new (times_after now.steady (waits_in old) (waits_in new) times)
 
-abbrev pub is_reply : Seen → Bool
-is_reply (seen.Reply number x) = true
-is_reply _ = false
+-- whether a value of the server was heard
+abbrev pub is_heard : Seen → Bool
+is_heard (seen.Reply number x) = true
+is_heard (seen.Push items) = true
+is_heard (seen.Value x) = true
+is_heard _ = false
 
 -- how long the command with this time waited, if this is its reply
 abbrev pub waited_of : Moment → Option ℕ → Seen → Option ℕ

@@ -2,6 +2,7 @@
 use Rattle.std.specs.Prelude.{◌≡◌, ℕ, Bool, true, false, List, [], ◌∷◌, length, drop, slice_get, Option, Result, Ok, Err}
 use Rattle.resp_print.specs.Printed.{Prints}
 use Rattle.resp_print.specs.declared.print_error.PrintError.{PrintError}
+use Rattle.resp_tap.specs.Lines.{asked_at}
 use Rattle.resp_tap.specs.Taps.{TapState, at_front, tap_state}
 use Rattle.resp_tap.specs.Texts.{levels_of, seen_text}
 use Rattle.resp_tap.specs.Times.{HasTimes, KeepsTimes, stamp_of}
@@ -47,7 +48,7 @@ pub record SeesFirst (side : Side) (now : Option Moment) (old new : TimedTap) (p
 pub record PrintsSeen (printing : Printing) (now : Option Moment) (old : TimedTap) (what : Seen) (before after : Option (List ℕ))
     (failures failures' : ℕ) (printed : Result (Unit {0}) PrintError) : Type 0 where
   pub asked : Option ℕ
-  pub of_command : (times : List ℕ) → HasTimes old times → asked ≡ slice_get times (tap_state old.tap).answered
+  pub of_command : (times : List ℕ) → HasTimes old times → asked ≡ slice_get times (asked_at (tap_state old.tap).line.due)
   pub text : Prints before after failures failures' printed (seen_text printing (stamp_of now asked what) what) (levels_of what)
 
 -- the first of two results of printing that is an error

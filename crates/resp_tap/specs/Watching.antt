@@ -1,5 +1,5 @@
 -- The results that a tap reports for the bytes of either side, in terms of texts and values.
-use Rattle.std.specs.Prelude.{◌≡◌, ◌≢◌, ◌⊎◌, ℕ, ◌+◌, ◌<◌, ◌≤◌, ◌^◌, false, Option, Some, IsSome, List, [], ◌∷◌, ◌++◌, length, take}
+use Rattle.std.specs.Prelude.{◌≡◌, ◌≢◌, ◌⊎◌, ℕ, ◌+◌, ◌≤◌, ◌<◌, ◌^◌, false, if◌then◌else◌, Option, None, Some, IsSome, List, [], ◌∷◌, ◌++◌, length, take}
 use Rattle.resp_value.specs.Bounds.{Bounds}
 use Rattle.resp_value.specs.Data.{Datum}
 use Rattle.resp_value.specs.Rules.{Rules, WithinTotal, rules_under}
@@ -8,50 +8,42 @@ use Rattle.resp_value.specs.Values.{datum_of}
 use Rattle.resp_value.specs.declared.cause.Cause.{Cause}
 use Rattle.resp_value.specs.declared.cause.Cause.TheVariants as causes
 use Rattle.resp_value.specs.declared.value.Value.TheVariants as value
-use Rattle.resp_value.specs.declared.version.Version.TheVariants.{Two, Three}
+use Rattle.resp_value.specs.declared.version.Version.TheVariants.{Two}
 use Rattle.resp_scan.specs.Reading.{HasNoValue}
 use Rattle.resp_scan.specs.declared.event.Fault.{Fault}
 use Rattle.resp_decode.specs.Decoding as decode
 use Rattle.resp_decode.specs.Decoding.{LacksMemory, RefusesByte}
 use Rattle.resp_session.specs.Commands.{NoCommand, Nothing, array_meaning, meaning_of}
-use Rattle.resp_session.specs.Heard.{is_push, numbered_replies}
-use Rattle.resp_session.specs.Reading.{MayGoOn, ReadsAs}
-use Rattle.resp_client.specs.Clients.{ClientState}
-use Rattle.resp_client.specs.Hearing as client
+use Rattle.resp_session.specs.Heard.{is_push}
 use Rattle.resp_tap.specs.Kinds.{command_kind}
-use Rattle.resp_tap.specs.Taps.{TapState, tap_state, with_command, with_refused_command, with_refused_reply, with_reply}
+use Rattle.resp_tap.specs.Lines.{LineState, due_of, number_for}
+use Rattle.resp_tap.specs.Taps.{TapState, tap_state, with_command, with_refused_command, with_refused_reply, with_value}
+use Rattle.resp_tap.specs.declared.kind.CommandKind.{CommandKind}
+use Rattle.resp_tap.specs.declared.kind.CommandKind.TheVariants.{Unpairing}
+use Rattle.resp_tap.specs.declared.line.Due.{Due}
 use Rattle.resp_tap.specs.declared.seen.Place.{Place}
 use Rattle.resp_tap.specs.declared.seen.Place.TheVariants as place
 use Rattle.resp_tap.specs.declared.seen.Seen.{Seen}
 use Rattle.resp_tap.specs.declared.seen.Seen.TheVariants as seen
-use Rattle.resp_tap.specs.declared.kind.CommandKind.TheVariants.{Unpairing}
 use Rattle.resp_tap.specs.declared.moment.Moment.{Moment}
-use Rattle.resp_tap.specs.declared.pairing.Pairing.{Pairing}
-use Rattle.resp_tap.specs.declared.pairing.Pairing.TheVariants.{Paired, Ending, Unpaired}
 use Rattle.resp_tap.specs.declared.tap.Tap.{Tap}
 
 -- the rules for the client's bytes, in either version
 abbrev pub request_rules : Bounds → Rules
 request_rules limits = rules_under Two limits
 
--- the rules for values that are paired with no command
-abbrev pub unpaired_rules : Bounds → Rules
-unpaired_rules limits = rules_under Three limits
+-- the rules for the server's last value
+abbrev pub value_rules : TapState → Rules
+value_rules s = rules_under s.reading s.limits
 
 -- The bytes that a tap has read of the client's incomplete value. Callers do not need the definition: `new` establishes
 -- this relation and the next one, and each call preserves them until the first error.
 abbrev pub HasTakenRequest : Tap → List ℕ → Type 0
 HasTakenRequest t front = decode.HasTaken t.requests front
 
--- P while replies are paired, and Q after that
-abbrev pub ByPairing : Pairing → Type 0 → Type 0 → Type 0
-ByPairing Paired P Q = P
-ByPairing Ending P Q = P
-ByPairing Unpaired P Q = Q
-
 -- the bytes that a tap has read of the server's incomplete value
 abbrev pub HasTakenValue : Tap → List ℕ → Type 0
-HasTakenValue t front = ByPairing t.pairing (client.HasTaken t.replies front) (decode.HasTaken t.values front)
+HasTakenValue t front = decode.HasTaken t.values front
 
 -- P holds of all bytes that were read of the client's incomplete value
 abbrev pub WhereRequested : Tap → (List ℕ → Type 0) → Type 0
@@ -105,11 +97,12 @@ pub record AwaitsRequest (s : TapState) (new : Tap) (written piece : List ℕ) (
   pub takes : HasTakenRequest new written
 
 -- Why a command with these words is rejected: too many commands wait, all numbers are used, or an allocation failed. An
--- allocation is needed only if the command waits for its reply.
+-- allocation is needed only if the command waits.
 abbrev pub IsLeftOut : TapState → List (List ℕ) → Cause → Type 0
 IsLeftOut s words cause =
-    ((cause ≡ causes.TooMany) × ((2 ^ 20 ≤ length s.waiting.asks) ⊎ (2 ^ 63 ≤ s.commands))) ⊎
-    ((cause ≡ causes.OutOfMemory) × (s.pairing ≡ Paired) × (command_kind words ≢ Unpairing))
+    ((cause ≡ causes.TooMany) × ((2 ^ 20 ≤ length s.line.due) ⊎ (2 ^ 63 ≤ s.commands))) ⊎
+    ((cause ≡ causes.OutOfMemory) × (s.line.is_lost ≡ false) ×
+    (due_of (s.commands + 1) (command_kind words) s.line.is_open ≢ []))
 
 -- the client's text is a command, which is rejected at its end
 pub record LeavesOut (s : TapState) (written : List ℕ) (cause : Cause) : Type 0 where
@@ -156,48 +149,41 @@ abbrev pub SeesTimed : Option Moment → TapState → Tap → List ℕ → List 
 SeesTimed now s new front piece used what =
     SeesRequest s new front piece used what ⊎ (IsSome now × LacksTime s new piece used what)
 
--- the server's text is the reply to the first command that waits, and has its number
-pub record GivesReplyTo (s : TapState) (new : Tap) (written : List ℕ) (number : ℕ) (x : Datum) : Type 0 where
-  pub reads : ReadsAs s.limits s.waiting (x ∷ []) written (tap_state new).waiting
-  pub numbered : numbered_replies (s.answered + 1) (x ∷ []) ≡ (number, x) ∷ []
-  pub after : tap_state new ≡ with_reply x s
-  pub takes : HasTakenValue new []
-
--- The server's text is this value, which does not change the state. While replies are paired it is read as a client
--- reads it.
-pub record LeavesAll (s : TapState) (new : Tap) (written : List ℕ) (x : Datum) : Type 0 where
-  pub reads : ByPairing s.pairing (ReadsAs s.limits s.waiting (x ∷ []) written s.waiting)
-      (IsSpelling (unpaired_rules s.limits) x written)
-  pub after : tap_state new ≡ s
+-- the server's text is this value, which changes the line
+pub record HearsValue (s : TapState) (new : Tap) (written : List ℕ) (x : Datum) : Type 0 where
+  pub spelled : IsSpelling (value_rules s) x written
+  pub after : tap_state new ≡ with_value x s
   pub takes : HasTakenValue new []
 
 -- the whole piece was read: the server's value is incomplete, and a valid value can begin with its bytes
 pub record AwaitsValue (s : TapState) (new : Tap) (written piece : List ℕ) (used : ℕ) : Type 0 where
   pub whole_piece : used ≡ length piece
-  pub may_go_on : ByPairing s.pairing (MayGoOn s.limits s.waiting written)
-      (HasNoValue written × IsViable (unpaired_rules s.limits) WithinTotal written)
+  pub no_value : HasNoValue written
+  pub viable : IsViable (value_rules s) WithinTotal written
   pub after : tap_state new ≡ s
   pub takes : HasTakenValue new written
 
--- the state of the tap's client
-abbrev pub client_of : TapState → ClientState
-client_of s = record { limits = s.limits; waiting = s.waiting; answered = s.answered; out = [] }
-
--- why the server's bytes are rejected: for the reasons of a client while replies are paired, and after that by the
--- grammar or because an allocation failed
+-- why the server's bytes are rejected: by the grammar, or because an allocation failed
 abbrev pub RefusesOfValue : TapState → List ℕ → List ℕ → Fault → Type 0
-RefusesOfValue s front piece fault = ByPairing s.pairing (client.Refuses (client_of s) front piece fault)
-    (RefusesByte (unpaired_rules s.limits) front piece fault ⊎
-    LacksMemory (unpaired_rules s.limits) front piece fault)
+RefusesOfValue s front piece fault =
+    RefusesByte (value_rules s) front piece fault ⊎ LacksMemory (value_rules s) front piece fault
 
-abbrev pub place_by : Pairing → ℕ → Place
-place_by Paired number = place.Reply number
-place_by Ending number = place.Reply number
-place_by Unpaired number = place.Value
+-- a value that may be the reply to a command of this kind and number
+abbrev pub place_by_kind : ℕ → CommandKind → Place
+place_by_kind number Unpairing = place.Value
+place_by_kind number kind = place.Reply number
+
+abbrev pub place_by_due : List Due → Place
+place_by_due [] = place.Value
+place_by_due (first ∷ due) = place_by_kind first.number first.kind
+
+-- the place of a value that begins in this state
+abbrev pub place_on : LineState → Place
+place_on l = if l.is_lost then place.Value else place_by_due l.due
 
 -- the reply or value that contains a wrong byte of the server
 abbrev pub place_of_value : TapState → Place
-place_of_value s = place_by s.pairing (s.answered + 1)
+place_of_value s = place_on s.line
 
 -- the server's bytes are rejected
 pub record RefusesValueAt (s : TapState) (new : Tap) (front piece : List ℕ) (cause : Cause) (at : ℕ) (where' : Place) :
@@ -210,10 +196,13 @@ pub record RefusesValueAt (s : TapState) (new : Tap) (front piece : List ℕ) (c
 abbrev pub SeesValue : TapState → Tap → List ℕ → List ℕ → ℕ → Seen → Type 0
 SeesValue s new front piece used seen.Nothing = AwaitsValue s new (front ++ piece) piece used
 SeesValue s new front piece used (seen.Reply number x) =
-    ByPairing s.pairing (GivesReplyTo s new (front ++ take used piece) number (datum_of x)) ⊥
+    HearsValue s new (front ++ take used piece) (datum_of x) × (number_for s.line (datum_of x) ≡ Some number) ×
+    (is_push (datum_of x) ≡ false)
 SeesValue s new front piece used (seen.Push items) =
-    LeavesAll s new (front ++ take used piece) (datum_of (value.Push items))
-SeesValue s new front piece used (seen.Value x) = (s.pairing ≡ Unpaired) × (is_push (datum_of x) ≡ false) ×
-    LeavesAll s new (front ++ take used piece) (datum_of x)
+    HearsValue s new (front ++ take used piece) (datum_of (value.Push items)) ×
+    (number_for s.line (datum_of (value.Push items)) ≡ None)
+SeesValue s new front piece used (seen.Value x) =
+    HearsValue s new (front ++ take used piece) (datum_of x) × (is_push (datum_of x) ≡ false) ×
+    (number_for s.line (datum_of x) ≡ None)
 SeesValue s new front piece used (seen.Refused cause at where') = RefusesValueAt s new front piece cause at where'
 SeesValue s new front piece used _ = ⊥

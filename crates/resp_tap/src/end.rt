@@ -7,7 +7,6 @@ ghost use Rattle.resp_tap.specs.Taps.{tap_state};
 ghost use Rattle.resp_tap.specs.Watching.{WhereAnswered, WhereRequested, place_of_value};
 ghost use Rattle.resp_tap.specs.declared.seen.Place.TheVariants as place;
 
-use crate::pairing::Pairing;
 use crate::print::write_client_line;
 use crate::seen::Place;
 use crate::stamp::{Stamp, write_ending};
@@ -62,13 +61,7 @@ impl Tap {
         if !self.reads_replies {
             return None;
         }
-        match self.pairing {
-            Pairing::Unpaired => cut_at(Place::Value, self.values.taken()),
-            Pairing::Paired | Pairing::Ending => cut_at(
-                Place::Reply(self.replies.answered().saturating_add(1)),
-                self.replies.taken(),
-            ),
-        }
+        cut_at(self.line.place(), self.values.taken())
     }
 }
 

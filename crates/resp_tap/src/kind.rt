@@ -1,24 +1,46 @@
-//! The effect of a command on the pairing of replies with commands.
+//! How a command is answered.
 
-ghost use Rattle.std.specs.Prelude.{◌≡◌, ◌<◌, drop, length, map};
+ghost use Rattle.std.specs.Prelude.{◌≡◌, ◌-◌, ◌<◌, drop, length, map};
 ghost use Rattle.std.specs.Char.{to_ascii_lowercase};
 ghost use Rattle.std.specs.List.{list_any};
 ghost use Rattle.resp_session.specs.Operations.{is_name};
-ghost use Rattle.resp_tap.specs.Kinds.{begins_with_name, command_kind, ends_pairing, has_word, unpairing_names, version_worded};
+ghost use Rattle.resp_tap.specs.Kinds.{are_unanswered, begins_with_name, command_kind, ends_pairing, has_word, kind_by_verb, unpairing_names, verb_named, version_worded};
 
 use resp_session::words::Words;
 use resp_value::version::Version;
 
-/// The effect of a command on the pairing of replies with commands.
+/// The commands that subscribe and unsubscribe. The server confirms each of their channels by a
+/// message with the command's name.
+#[derive(Clone, Copy, Debug, PartialEq, Eq)]
+pub enum Verb {
+    Subscribe,
+    Unsubscribe,
+    Psubscribe,
+    Punsubscribe,
+    Ssubscribe,
+    Sunsubscribe,
+}
+
+/// How a command is answered.
 #[derive(Clone, Copy, Debug, PartialEq, Eq)]
 pub enum CommandKind {
     /// The command has exactly one reply.
     Plain,
-    /// The command is HELLO with this version, or RESET for version 2. It has exactly one reply. If
-    /// the reply is not an error, the connection continues in this version.
+    /// The command is HELLO with this version. It has exactly one reply. If the reply is not an
+    /// error, the connection continues in this version.
     Hello(Version),
-    /// The command has no reply or several: SUBSCRIBE, PSUBSCRIBE, SSUBSCRIBE and their UN- forms,
-    /// MONITOR, SYNC, PSYNC, CLIENT REPLY, SCRIPT DEBUG, and REPLCONF with ACK or GETACK.
+    /// The command is RESET. It has exactly one reply. If the reply is not an error, the connection
+    /// continues in version 2 and without subscriptions.
+    Reset,
+    /// The command has no reply: REPLCONF with ACK or GETACK.
+    Silent,
+    /// The command is SUBSCRIBE, PSUBSCRIBE, SSUBSCRIBE or one of their UN- forms. It has a
+    /// confirmation for each channel that it names, or an error. If it names no channel, it has a
+    /// confirmation for each channel of its class that the connection subscribes to, or for none.
+    Subscribing { verb: Verb, channels: u64 },
+    /// The values after the replies to the commands before this command are paired with no command:
+    /// MONITOR, SYNC, PSYNC, CLIENT REPLY, SCRIPT DEBUG, and REPLCONF with ACK or GETACK after another
+    /// option.
     Unpairing,
 }
 
@@ -38,19 +60,11 @@ pub(crate) fn has_subcommand(words: &Words, name: &[u8]) -> bool
     words.len() > 1 && is_name(words.word(1), name)
 }
 
-/// Returns whether a command of this name does not have exactly one reply.
+/// Returns whether values are paired with no command after a command of this name.
 fn is_unpairing_name(name: &[u8]) -> bool
     ensures { result ≡ list_any (λ other. is_name other name.now) unpairing_names }
 {
-    is_name(name, b"subscribe")
-        || is_name(name, b"unsubscribe")
-        || is_name(name, b"psubscribe")
-        || is_name(name, b"punsubscribe")
-        || is_name(name, b"ssubscribe")
-        || is_name(name, b"sunsubscribe")
-        || is_name(name, b"monitor")
-        || is_name(name, b"sync")
-        || is_name(name, b"psync")
+    is_name(name, b"monitor") || is_name(name, b"sync") || is_name(name, b"psync")
 }
 
 /// Returns whether one of the words after the name of a command is `name`, which is in lower case.
@@ -68,7 +82,16 @@ fn has_argument(words: &Words, name: &[u8]) -> bool
     false
 }
 
-/// Returns whether a command with this name does not have exactly one reply.
+/// Returns whether the words after the name are those of a REPLCONF that has no reply.
+fn are_unanswered(words: &Words) -> bool
+    requires { 0 < length words.now }
+    ensures { result ≡ are_unanswered (drop 1 words.now) }
+{
+    (has_subcommand(words, b"ack") || has_subcommand(words, b"getack"))
+        && (words.len() - 1) % 2 == 0
+}
+
+/// Returns whether values are paired with no command after a command with this name.
 fn ends_pairing(words: &Words, name: &[u8]) -> bool
     ensures { result ≡ ends_pairing name.now (drop 1 words.now) }
 {
@@ -92,7 +115,38 @@ fn version_worded(word: &[u8]) -> CommandKind
     CommandKind::Plain
 }
 
-/// Returns the effect of a command. Its first word is its name, in upper, lower or mixed case.
+/// Returns the confirmations that answer a command of this name.
+pub(crate) fn verb_named(name: &[u8]) -> Option<Verb>
+    ensures { result ≡ verb_named name.now }
+{
+    if is_name(name, b"subscribe") {
+        Some(Verb::Subscribe)
+    } else if is_name(name, b"unsubscribe") {
+        Some(Verb::Unsubscribe)
+    } else if is_name(name, b"psubscribe") {
+        Some(Verb::Psubscribe)
+    } else if is_name(name, b"punsubscribe") {
+        Some(Verb::Punsubscribe)
+    } else if is_name(name, b"ssubscribe") {
+        Some(Verb::Ssubscribe)
+    } else if is_name(name, b"sunsubscribe") {
+        Some(Verb::Sunsubscribe)
+    } else {
+        None
+    }
+}
+
+/// Returns the kind of a command with these confirmations, if there are any.
+fn kind_by_verb(verb: Option<Verb>, channels: u64) -> CommandKind
+    ensures { result ≡ kind_by_verb verb channels }
+{
+    match verb {
+        Some(verb) => CommandKind::Subscribing { verb, channels },
+        None => CommandKind::Plain,
+    }
+}
+
+/// Returns how a command is answered. Its first word is its name, in upper, lower or mixed case.
 pub fn command_kind(words: &Words) -> CommandKind
     requires { 0 < length words.now }
     ensures { result ≡ command_kind words.now }
@@ -105,10 +159,13 @@ pub fn command_kind(words: &Words) -> CommandKind
         return version_worded(words.word(1));
     }
     if is_name(name, b"reset") {
-        return CommandKind::Hello(Version::Two);
+        return CommandKind::Reset;
+    }
+    if is_name(name, b"replconf") && are_unanswered(words) {
+        return CommandKind::Silent;
     }
     if ends_pairing(words, name) {
         return CommandKind::Unpairing;
     }
-    CommandKind::Plain
+    kind_by_verb(verb_named(name), (words.len() - 1) as u64)
 }

@@ -1,11 +1,11 @@
 //! Facts about the definitions. Each function does nothing; its contract states the fact.
 
 ghost use Rattle.resp_tap.specs.SecretLaws.{SecretsAreRedactedSo};
-ghost use Rattle.resp_tap.specs.Streams.{TellsTheConnection};
+ghost use Rattle.resp_tap.specs.Streams.{CountsReplies, TellsTheConnection};
 ghost use Rattle.resp_tap.specs.TimeLaws.{PrintsAsPlayed, TimesAreToldSo};
 ghost use Rattle.resp_tap.specs.Ways.{VisitsAddUp};
 
-use resp_session::laws as session;
+use resp_value::laws as grammar;
 
 /// Successive visits of a [`Way`](crate::way::Way) forward what one visit of all their bytes would
 /// forward: the bytes written, followed by the bytes that wait, are the bytes read, in order.
@@ -29,12 +29,16 @@ pub fn secrets_are_redacted_so()
 {}
 
 /// However the bytes of both sides are cut into pieces, [`watch`](crate::watch::watch) reports the
-/// commands of the client, numbered from 1, and the replies and pushes that a client reads after it
-/// has sent these commands. The nth reply has the number n.
+/// commands of the client, numbered from 1, and the replies and pushes of the server, each reply with
+/// the number of the command that it belongs to.
 pub fn pieces_tell_the_connection()
     ensures { TellsTheConnection }
 {
-    session::readings_go_on();
-    session::readings_stay();
-    session::hearing_goes_on();
+    grammar::version_three_spells_what_two_does();
 }
+
+/// If each command has exactly one reply, the nth value that is not a push is the reply to the nth
+/// command.
+pub fn replies_are_counted()
+    ensures { CountsReplies }
+{}

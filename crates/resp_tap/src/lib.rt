@@ -10,8 +10,9 @@
 pub mod end;
 pub mod kind;
 pub mod laws;
+mod line;
 pub mod moment;
-pub mod pairing;
+mod notice;
 pub mod print;
 pub mod screen;
 pub mod secrets;

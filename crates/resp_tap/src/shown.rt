@@ -22,10 +22,11 @@ impl Tap {
         self.reads_replies
     }
 
-    /// Returns the number of commands that wait for their replies.
+    /// Returns the number of commands that wait for their replies. MONITOR and other commands after
+    /// which values belong to no command wait for a RESET.
     pub fn waiting(&self) -> u64
-        ensures { result ≡ length (tap_state self.now).waiting.asks }
+        ensures { result ≡ length (tap_state self.now).line.due }
     {
-        self.replies.waiting()
+        self.line.waiting()
     }
 }

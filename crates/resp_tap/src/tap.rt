@@ -1,19 +1,15 @@
 //! The tap: reads the traffic of one connection.
 
-ghost use Rattle.std.specs.Prelude.{◌≡◌, ◌+◌, ◌≢◌, ◌<◌, ◌≤◌, ◌^◌, ◌++◌, ℕ, List, true, false, [], length, take, IfErr, OnOk, OnErr};
+ghost use Rattle.std.specs.Prelude.{◌≡◌, ◌+◌, ◌<◌, ◌≤◌, ◌^◌, ◌++◌, ℕ, List, None, true, false, [], length, take, IfErr, OnOk, OnErr};
 ghost use Rattle.resp_value.specs.Rules.{rules_under};
-ghost use Rattle.resp_value.specs.declared.version.Version.TheVariants.{Two, Three};
+ghost use Rattle.resp_value.specs.declared.version.Version.TheVariants.{Two};
 ghost use Rattle.resp_decode.specs.Decoding.{rules_of};
-ghost use Rattle.resp_client.specs.Clients.{queued, state_of};
-ghost use Rattle.resp_tap.specs.declared.pairing.Pairing.TheVariants.{Paired, Unpaired};
 ghost use Rattle.resp_tap.specs.declared.seen.Place.TheVariants as place;
 
-use crate::kind::{CommandKind, command_kind};
-use crate::pairing::{Pairing, is_over};
+use crate::kind::command_kind;
+use crate::line::Line;
 use crate::seen::{Place, Seen, Step};
-use resp_client::{Client, What};
 use resp_decode::Decoder;
-use resp_scan::event::Fault;
 use resp_session::words::{Asked, Words, asked_by};
 use resp_value::cause::Cause;
 use resp_value::limits::Limits;
@@ -30,17 +26,23 @@ const MOST_COMMANDS: u64 = 9_223_372_036_854_775_808;
 /// Reads the traffic of one proxied connection. It receives the bytes that both sides send, in
 /// pieces of any size, and reports each command, reply and push.
 ///
-/// The client's bytes are read as commands, which are arrays of bulk strings. The server's bytes
-/// are read as [`Client`] reads them: the version is 2 at first, and it changes when the reply to a
-/// HELLO that asks for another version arrives and is not an error. After a command that does not
-/// have exactly one reply, and after the replies to the commands before it, values are read in
-/// version 3, which contains version 2, and are paired with no command. The same holds from a value
-/// on that no command asked for.
+/// The client's bytes are read as commands, which are arrays of bulk strings. Each value of the
+/// server that is not a push belongs to the first command that waits. The version is 2 at first. It
+/// changes when the reply to a HELLO that asks for another version arrives and is not an error, and
+/// it is 2 after the reply to RESET.
+///
+/// A command that subscribes or unsubscribes is answered by a confirmation for each channel, or by an
+/// error. The confirmations are pushes in version 3, and arrays in version 2. In version 2, messages
+/// to channels are arrays too, and belong to no command. REPLCONF with ACK or GETACK has no reply.
+///
+/// After MONITOR, SYNC, PSYNC, CLIENT REPLY and SCRIPT DEBUG, and after the replies to the commands
+/// before it, values are read in version 3, which contains version 2, and belong to no command, until
+/// the reply to the next RESET. The same holds without an end from a value on that no command asked
+/// for.
 ///
 /// After an error in the bytes of a side, nothing more of that side is read. After an error of the
-/// client, the replies to the commands before it are still paired, and the values after them are
-/// paired with no command. A tap holds at most one incomplete value of each side, and one byte for
-/// each command that waits for its reply, at most 1,048,576 of them.
+/// client, the replies to the commands before it are still paired. A tap holds at most one incomplete
+/// value of each side, and 32 bytes for each command that waits, at most 1,048,576 of them.
 ///
 /// # Examples
 ///
@@ -62,27 +64,22 @@ const MOST_COMMANDS: u64 = 9_223_372_036_854_775_808;
 /// line.
 #[derive(Drop)]
 pub struct Tap {
-    alloc: Global,
     /// Reads the bytes of the client.
     pub(crate) requests: Decoder,
     /// The number of commands that were read.
     pub(crate) commands: u64,
-    /// Reads the bytes of the server while replies are paired with commands.
-    pub(crate) replies: Client,
-    /// Reads the bytes of the server after that.
+    /// Reads the bytes of the server.
     pub(crate) values: Decoder,
-    pub(crate) pairing: Pairing,
+    /// The commands that wait.
+    pub(crate) line: Line,
     /// Whether the bytes of the client are still read.
     pub(crate) reads_commands: bool,
     /// Whether the bytes of the server are still read.
     pub(crate) reads_replies: bool,
     pub(crate) limits: Limits,
     ghost in_range: { commands ≤ 2 ^ 63 },
-    ghost same_limits: { (state_of replies).limits ≡ limits },
     ghost request_rules: { rules_of requests ≡ rules_under Two limits },
-    ghost value_rules: { rules_of values ≡ rules_under Three limits },
-    /// The commands with a reply and those that wait for one are all commands of the connection.
-    ghost numbered: { pairing ≡ Paired → commands ≡ queued (state_of replies) },
+    ghost value_limits: { (rules_of values).limits ≡ limits },
 }
 
 impl Step {
@@ -98,34 +95,28 @@ impl Step {
 }
 
 ghost use Rattle.resp_value.specs.Values.{datum_of};
-ghost use Rattle.resp_tap.specs.SeenOf.{TellsUnpaired, heard_as};
+ghost use Rattle.resp_session.specs.Heard.{is_push};
+ghost use Rattle.resp_tap.specs.SeenOf.{ToldAs};
 
-/// Converts the result of a client.
-fn heard_as(what: What) -> Seen
-    ensures { result ≡ heard_as what }
+/// Converts a value of the server, which belongs to the command with this number. A push has no
+/// number.
+fn told_as(number: Option<u64>, value: Value) -> Seen
+    requires { is_push (datum_of value) ≡ true → number ≡ None }
+    ensures { ToldAs number (datum_of value) result }
 {
-    match what {
-        What::Reply { number, value } => Seen::Reply { number, value },
-        What::Push(items) => Seen::Push(items),
-        What::Shown | What::More => Seen::Nothing,
-    }
-}
-
-/// Converts a value that is paired with no command.
-fn unpaired_as(value: Value) -> Seen
-    ensures { TellsUnpaired (datum_of value) result }
-{
-    match value {
-        Value::Push(items) => Seen::Push(items),
-        value => Seen::Value(value),
+    match (number, value) {
+        (_, Value::Push(items)) => Seen::Push(items),
+        (Some(number), value) => Seen::Reply { number, value },
+        (None, value) => Seen::Value(value),
     }
 }
 
 impl Tap {
     ghost use Rattle.resp_value.specs.Spellings.{IsSpelling};
     ghost use Rattle.resp_tap.specs.Kinds.{command_kind};
-    ghost use Rattle.resp_tap.specs.Taps.{at_front, new_tap, tap_state, with_command, with_refused_command, with_refused_reply};
-    ghost use Rattle.resp_tap.specs.Watching.{HasTakenRequest, HasTakenValue, IsLeftOut, KeepsRequest, KeepsValue, LacksTime, SeesRequest, SeesValue, WhereAnswered, WhereRequested, request_rules};
+    ghost use Rattle.resp_tap.specs.Lines.{number_for};
+    ghost use Rattle.resp_tap.specs.Taps.{at_front, new_tap, tap_state, with_command, with_refused_command, with_refused_reply, with_value};
+    ghost use Rattle.resp_tap.specs.Watching.{HasTakenRequest, HasTakenValue, IsLeftOut, KeepsRequest, KeepsValue, LacksTime, SeesRequest, SeesValue, WhereAnswered, WhereRequested, place_of_value, request_rules};
 
     /// Returns a tap of a new connection, which is read within these limits. It allocates nothing.
     pub fn new(alloc: Global, limits: &Limits) -> Tap
@@ -134,12 +125,10 @@ impl Tap {
         ensures nothing_answered { HasTakenValue result [] }
     {
         Tap {
-            alloc,
             requests: Decoder::new(alloc, Version::Two, limits),
             commands: 0,
-            replies: Client::new(alloc, limits),
-            values: Decoder::new(alloc, Version::Three, limits),
-            pairing: Pairing::Paired,
+            values: Decoder::new(alloc, Version::Two, limits),
+            line: Line::new(alloc),
             reads_commands: true,
             reads_replies: true,
             limits: *limits,
@@ -202,9 +191,6 @@ impl Tap {
         ensures same_value { KeepsValue self.old self.new }
     {
         self.reads_commands = false;
-        if self.pairing == Pairing::Paired {
-            self.pairing = Pairing::Ending;
-        }
     }
 
     /// Stops reading the client's bytes, and reports an error in the next command.
@@ -225,16 +211,16 @@ impl Tap {
     }
 
     /// Stops reading the server's bytes, and reports an error.
-    fn refuse_reply(&mut self, cause: Cause, at: u64, place: Place, piece: &[u8]) -> Step
+    fn refuse_reply(&mut self, cause: Cause, at: u64, piece: &[u8]) -> Step
         ensures after { tap_state self.new ≡ with_refused_reply (tap_state self.old) }
         ensures same_request { self.new.requests ≡ self.old.requests }
         ensures step { result ≡ record {
           used = length piece.now;
-          seen = Seen.Refused cause at place;
+          seen = Seen.Refused cause at (place_of_value (tap_state self.old));
         } }
     {
+        let place = self.line.place();
         self.reads_replies = false;
-        self.pairing = Pairing::Unpaired;
         Step {
             used: piece.len(),
             seen: Seen::Refused { cause, at, place },
@@ -271,7 +257,7 @@ impl Tap {
         }
     }
 
-    /// Counts a command. If a reply is paired with it, it waits for its reply.
+    /// Counts a command, and records it if it waits.
     fn take_command(&mut self, words: &Words) -> Result<(), Cause>
         requires { 0 < length words.now }
         ensures counted { OnOk result (tap_state self.new ≡
@@ -281,24 +267,14 @@ impl Tap {
         ensures same_request { self.new.requests ≡ self.old.requests }
         ensures same_value { KeepsValue self.old self.new }
     {
-        if self.commands >= MOST_COMMANDS || self.replies.waiting() >= MOST_WAITING {
+        if self.commands >= MOST_COMMANDS || self.line.waiting() >= MOST_WAITING {
             return Err(Cause::TooMany);
         }
-        if self.pairing == Pairing::Paired {
-            let asked = match command_kind(words) {
-                CommandKind::Plain => None,
-                CommandKind::Hello(version) => Some(version),
-                CommandKind::Unpairing => {
-                    self.pairing = Pairing::Ending;
-                    self.commands += 1;
-                    return Ok(());
-                }
-            };
-            if self.replies.expect(asked).is_err() {
-                return Err(Cause::OutOfMemory);
-            }
+        let number = self.commands + 1;
+        if self.line.send(number, command_kind(words)).is_err() {
+            return Err(Cause::OutOfMemory);
         }
-        self.commands += 1;
+        self.commands = number;
         Ok(())
     }
 
@@ -307,9 +283,9 @@ impl Tap {
     ///
     /// # Errors
     ///
-    /// Reports [`Seen::Refused`]: while replies are paired, with the error of [`Client::feed`];
-    /// later, for a byte that no value of version 3 can contain at its place, or with `OutOfMemory`
-    /// if an allocation fails. After an error the bytes of the server are skipped.
+    /// Reports [`Seen::Refused`] with the error of a [`Decoder`] in the version in which the value is
+    /// read, and with `OutOfMemory` if an allocation fails. After an error the bytes of the server are
+    /// skipped.
     pub fn from_server(&mut self, piece: &[u8]) -> Step
         ensures seen { (tap_state self.old).reads_replies ≡ true → WhereAnswered self.old (λ front.
             SeesValue (at_front front piece.now (tap_state self.old)) self.new front piece.now
@@ -323,53 +299,24 @@ impl Tap {
         if !self.reads_replies {
             return Step::nothing(piece);
         }
-        self.settle(piece);
-        match self.pairing {
-            Pairing::Unpaired => self.unpaired_value(piece),
-            Pairing::Paired | Pairing::Ending => self.reply(piece),
-        }
+        self.begin(piece);
+        self.read_value(piece)
     }
 
-    /// Ends the pairing between two values, if no command waits any more, and a command has ended
-    /// it or a value comes that no command asked for.
-    fn settle(&mut self, piece: &[u8])
-        ensures settled { WhereAnswered self.old (λ front.
-            HasTakenValue self.new front ×
+    /// Decides how a value is read, if the piece begins it.
+    fn begin(&mut self, piece: &[u8])
+        ensures begun { WhereAnswered self.old (λ front. HasTakenValue self.new front ×
             (tap_state self.new ≡ at_front front piece.now (tap_state self.old))) }
         ensures same_request { self.new.requests ≡ self.old.requests }
     {
-        let is_between = self.replies.taken() == 0;
-        if is_over(self.pairing, piece) && self.replies.waiting() == 0 && is_between {
-            self.pairing = Pairing::Unpaired;
-            self.values = Decoder::new(self.alloc, Version::Three, &self.limits);
+        if self.values.taken() == 0 {
+            self.line.settle(piece);
+            let _ = self.values.set_version(self.line.next_version());
         }
     }
 
-    /// Reads bytes of a reply or a push.
-    fn reply(&mut self, piece: &[u8]) -> Step
-        requires { self.old.pairing ≢ Unpaired }
-        ensures seen { WhereAnswered self.old (λ front. SeesValue (tap_state self.old) self.new
-            front piece.now result.used result.seen) }
-        ensures same_request { self.new.requests ≡ self.old.requests }
-        ensures within_piece { result.used ≤ length piece.now }
-        ensures uses_bytes { 0 < length piece.now → 0 < result.used }
-    {
-        let heard = match self.replies.feed(piece) {
-            Ok(heard) => heard,
-            Err(fault) => {
-                let place = Place::Reply(self.replies.answered().saturating_add(1));
-                return self.refuse_reply(fault.cause, fault.at, place, piece);
-            }
-        };
-        Step {
-            used: heard.used,
-            seen: heard_as(heard.what),
-        }
-    }
-
-    /// Reads bytes of a value that is paired with no command.
-    fn unpaired_value(&mut self, piece: &[u8]) -> Step
-        requires { self.old.pairing ≡ Unpaired }
+    /// Reads bytes of a value, in the version that was decided.
+    fn read_value(&mut self, piece: &[u8]) -> Step
         ensures seen { WhereAnswered self.old (λ front. SeesValue (tap_state self.old) self.new
             front piece.now result.used result.seen) }
         ensures same_request { self.new.requests ≡ self.old.requests }
@@ -378,9 +325,7 @@ impl Tap {
     {
         let fed = match self.values.feed(piece) {
             Ok(fed) => fed,
-            Err(fault) => {
-                return self.refuse_reply(fault.cause, fault.at, Place::Value, piece);
-            }
+            Err(fault) => return self.refuse_reply(fault.cause, fault.at, piece),
         };
         let used = fed.used;
         match fed.value {
@@ -390,8 +335,21 @@ impl Tap {
             },
             Some(value) => Step {
                 used,
-                seen: unpaired_as(value),
+                seen: self.value_of(value),
             },
         }
+    }
+
+    /// Records a value of the server, and returns what it is.
+    #[tactic(auto, using(crate::proofs::LineLemmas::no_number_of_a_push))]
+    fn value_of(&mut self, value: Value) -> Seen
+        ensures told { ToldAs (number_for (tap_state self.old).line (datum_of value))
+            (datum_of value) result }
+        ensures after { tap_state self.new ≡ with_value (datum_of value) (tap_state self.old) }
+        ensures same_values { self.new.values ≡ self.old.values }
+        ensures same_request { self.new.requests ≡ self.old.requests }
+    {
+        let number = self.line.hear(&value);
+        told_as(number, value)
     }
 }

@@ -1,6 +1,7 @@
 //! A tap that measures how long commands wait for their replies.
 
-ghost use Rattle.std.specs.Prelude.{◌≡◌, ◌<◌, ◌≤◌, true, false, ℕ, List, [], Some, length, slice_get};
+ghost use Rattle.std.specs.Prelude.{◌≡◌, ◌-◌, ◌<◌, ◌≤◌, true, false, ℕ, List, [], Some, drop, length, slice_get};
+ghost use Rattle.resp_tap.specs.Lines.{asked_at};
 ghost use Rattle.resp_tap.specs.Taps.{at_front, new_tap, tap_state};
 ghost use Rattle.resp_tap.specs.Watching.{HasTakenRequest, HasTakenValue, KeepsRequest, KeepsValue, SeesTimed, SeesValue, WhereAnswered, WhereRequested};
 
@@ -38,13 +39,13 @@ pub struct TimedTap {
     pub(crate) times: VecDeque<u64>,
 }
 
-ghost use Rattle.resp_tap.specs.Times.{HasTimes, KeepsTimes, is_reply};
+ghost use Rattle.resp_tap.specs.Times.{HasTimes, KeepsTimes, is_heard, waits_in};
 
-/// Returns whether this is a reply.
-fn is_reply(seen: &Seen) -> bool
-    ensures { result ≡ is_reply seen.now }
+/// Returns whether a value of the server was heard.
+fn is_heard(seen: &Seen) -> bool
+    ensures { result ≡ is_heard seen.now }
 {
-    matches!(seen, Seen::Reply { .. })
+    matches!(seen, Seen::Reply { .. } | Seen::Push(_) | Seen::Value(_))
 }
 
 impl TimedTap {
@@ -73,9 +74,9 @@ impl TimedTap {
     /// them only, the time may be missing, or that of another command.
     pub fn asked(&self) -> Option<u64>
         ensures { (times : List ℕ) → HasTimes self.now times →
-            result ≡ slice_get times (tap_state self.now.tap).answered }
+            result ≡ slice_get times (asked_at (tap_state self.now.tap).line.due) }
     {
-        self.times.get(0).copied()
+        self.times.get(self.tap.line.asked_at()).copied()
     }
 
     /// Reads bytes that the client sent, which arrived at this moment, as [`Tap::from_client`]
@@ -132,7 +133,7 @@ impl TimedTap {
     }
 
     /// Reads bytes that the server sent, as [`Tap::from_server`] does. The time of a command is
-    /// dropped when its reply arrives.
+    /// dropped when it waits no more.
     ///
     /// # Errors
     ///
@@ -151,9 +152,21 @@ impl TimedTap {
             (result ≡ record { used = length piece.now; seen = Seen.Nothing }) }
     {
         let step = self.tap.from_server(piece);
-        if now.is_some() && is_reply(&step.seen) {
-            let _ = self.times.pop_front();
+        if now.is_some() && is_heard(&step.seen) {
+            self.drop_times();
         }
         step
+    }
+
+    /// Drops the times of the commands that wait no more.
+    fn drop_times(&mut self)
+        ensures times { self.new.times.items ≡
+            drop (length self.old.times.items - waits_in self.old) self.old.times.items }
+        ensures same_tap { self.new.tap ≡ self.old.tap }
+    {
+        let waiting = self.tap.waiting();
+        while self.times.len() as u64 > waiting {
+            let _ = self.times.pop_front();
+        }
     }
 }

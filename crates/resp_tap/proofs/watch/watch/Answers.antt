@@ -1,12 +1,16 @@
-use Rattle.std.proofs.Common.{rules, ◌≡◌, ◌∙◌, [], ◌∷◌, Result, Ok, Err, ap, refl, subst, sym}
+use Rattle.std.proofs.Common.{rules, ◌≡◌, ◌∙◌, ℕ, List, [], ◌∷◌, length, Result, Ok, Err, ap, refl, subst, sym}
 use Rattle.std.proofs.lemmas.List.{take_rest}
-use Rattle.resp_client.proofs.Fronts.{no_bytes}
 use Rattle.resp_print.specs.declared.print_error.PrintError.{PrintError}
 use Rattle.resp_tap.specs.Watches.{KeepsOther, WatchesAll, first_error}
 use Rattle.resp_tap.specs.declared.tap.Tap.{Tap}
 use Rattle.resp_tap.specs.declared.watch.Side.{Side}
 use Rattle.resp_tap.specs.declared.watch.Side.TheVariants.{Client, Server}
 use Rattle.resp_tap.proofs.watch.watch.Goals as goal
+
+-- a list without a length is empty
+no_bytes : (bytes : List ℕ) → length bytes ≡ 0 → bytes ≡ []
+no_bytes [] none = refl
+no_bytes (byte ∷ bytes) none = absurd (cc)
 
 keeps_on : (side : Side) (first next last : Tap) → KeepsOther side first next → KeepsOther side next last → KeepsOther side first last
 keeps_on Client first next last keeps more = λ front taken. more front (keeps front taken)
