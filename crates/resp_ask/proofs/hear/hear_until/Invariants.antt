@@ -1,0 +1,15 @@
+use Rattle.std.proofs.Common.{◌≡◌, ◌++◌, List, ℕ}
+use Rattle.resp_client.specs.Clients.{state_of}
+use Rattle.resp_client.specs.Hearing.{WhereTaken}
+use Rattle.resp_wire.specs.Turns.{WereRead}
+use Rattle.resp_ask.specs.Hearing.{Tells}
+use Rattle.resp_ask.proofs.hear.hear_until.Given as goal
+
+abbrev pub invariant-loop-turn : goal.invariant-loop-turn
+invariant-loop-turn g l = record {
+  told : (came : List ℕ) × WereRead (g.R.Source.remaining l.fn.reader) (g.R.Source.remaining l.reader) came ×
+      WhereTaken l.fn.client (λ front. Tells l.fn.telling l.telling (state_of l.fn.client) l.client (g.O.Sink.written l.fn.output)
+      (g.O.Sink.written l.output) (front ++ came));
+  reads : g.R.Source.failures l.reader ≡ g.R.Source.failures l.fn.reader;
+  prints : g.O.Sink.failures l.output ≡ g.O.Sink.failures l.fn.output;
+}

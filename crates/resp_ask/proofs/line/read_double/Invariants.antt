@@ -1,0 +1,13 @@
+use Rattle.std.proofs.Common.{◌≡◌, ◌≤◌, ◌++◌, List, ℕ, length}
+use Rattle.resp_ask.specs.Lines.{ReadsDouble}
+use Rattle.resp_ask.proofs.line.read_double.Given as goal
+
+abbrev pub invariant-loop-byte : goal.invariant-loop-byte
+invariant-loop-byte l = record {
+  read : (content : List ℕ) × (l.word.items ≡ l.fn.word.items ++ content) ×
+      ((more rest : List ℕ) → ReadsDouble more l.rest rest → ReadsDouble (content ++ more) l.fn.text rest);
+  short : length l.rest ≤ length l.fn.text;
+}
+
+abbrev pub decreases-loop-byte : goal.decreases-loop-byte
+decreases-loop-byte l = length l.rest

@@ -1,0 +1,43 @@
+use Rattle.std.proofs.Common.{rules, ◌++◌, arith, subst, sym}
+use Rattle.resp_value.specs.Words.{texts_of}
+use Rattle.resp_ask.specs.Lines.{AreWords, IfEnded, IsWord}
+use Rattle.resp_ask.proofs.WordLines.{shorter_word, spaces_shorter, word_more, words_end}
+use Rattle.resp_ask.proofs.line.words_of.Goals as goal
+
+pub loop-rest-init : goal.loop-rest-init
+loop-rest-init c = record {
+  read = (
+    c.args.line.now,
+    c.without_spaces-rest.ensures.spaces,
+    λ more given. subst (λ z. AreWords (texts_of z ++ more) c.args.line.now) (sym c.new-words.ensures.items) given,
+  );
+  starts = c.without_spaces-rest.ensures.starts;
+}
+
+pub loop-rest-smaller : goal.loop-rest-smaller
+loop-rest-smaller c =
+    let starts = c.loop-rest.invariant.starts (search rules) in
+    let word = shorter_word _ c.loop-rest.rest.now c.in-Ok-Ended.after.now
+    (subst (IfEnded (IsWord c.read_word.new.word.items c.loop-rest.rest.now)) c.in-Ok-Ended.field-0-is c.in-Ok-Ended.ensures.ended) starts in
+    let spaces = spaces_shorter c.in-Ok-Ended.after.now c.without_spaces-rest-in-loop-rest.result.now c.without_spaces-rest-in-loop-rest.ensures.spaces in
+    omega (arith, word, spaces)
+
+pub loop-rest-preserved : goal.loop-rest-preserved
+loop-rest-preserved c =
+    let (after, spaces, so_far) = c.loop-rest.invariant.read in
+    let word = c.read_word.new.word in
+    let pushed = word_more c.args.line.now after c.loop-rest.rest.now c.in-Ok-Ended.after.now word.items (texts_of c.loop-rest.words.items) spaces so_far
+    (subst (IfEnded (IsWord word.items c.loop-rest.rest.now)) c.in-Ok-Ended.field-0-is c.in-Ok-Ended.ensures.ended) in
+    record {
+      read = (
+        c.in-Ok-Ended.after.now,
+        c.without_spaces-rest-in-loop-rest.ensures.spaces,
+        λ more given. subst (λ z. AreWords (z ++ more) c.args.line.now) (sym c.in_default.ensures) (pushed more given),
+      );
+      starts = c.without_spaces-rest-in-loop-rest.ensures.starts;
+    }
+
+pub returns : goal.returns
+returns c =
+    let (after, spaces, so_far) = c.loop-rest.invariant.read in
+    record { words = words_end c.args.line.now after c.loop-rest.rest.now (texts_of c.loop-rest.words.items) spaces (search rules) so_far }

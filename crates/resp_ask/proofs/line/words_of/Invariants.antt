@@ -1,0 +1,13 @@
+use Rattle.std.proofs.Common.{◌<◌, ◌++◌, List, ℕ, length}
+use Rattle.resp_value.specs.Words.{texts_of}
+use Rattle.resp_ask.specs.Lines.{AreWords, FollowsSpaces, StartsWord}
+use Rattle.resp_ask.proofs.line.words_of.Given as goal
+
+abbrev pub invariant-loop-rest : goal.invariant-loop-rest
+invariant-loop-rest l = record {
+  read : (after : List ℕ) × FollowsSpaces after l.rest × ((more : List (List ℕ)) → AreWords more after → AreWords (texts_of l.words.items ++ more) l.line);
+  starts : 0 < length l.rest → StartsWord l.rest;
+}
+
+abbrev pub decreases-loop-rest : goal.decreases-loop-rest
+decreases-loop-rest l = length l.rest

@@ -1,0 +1,4 @@
+pub mod Tellings
+pub mod Hearing
+pub mod Exchanging
+pub mod Lines

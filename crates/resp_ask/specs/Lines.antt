@@ -1,0 +1,98 @@
+-- The words of a line, with the quoting of redis-cli.
+use Rattle.std.specs.Prelude.{◌≡◌, ◌≢◌, ◌⊎◌, ◌+◌, ◌*◌, ◌-◌, ℕ, Bool, true, false, not, ◌==◌, ◌&&◌, ◌||◌, nat_le, if◌then◌else◌, List, [], ◌∷◌, ◌++◌, length, ◌<◌, Option, None, Some}
+use Rattle.std.specs.List.{AllByRecursion}
+use Rattle.resp_ask.specs.declared.line.WordEnd.{WordEnd}
+use Rattle.resp_ask.specs.declared.line.WordEnd.TheVariants.{Ended}
+
+-- a byte that separates words: a space, a tab or a CR
+abbrev pub is_space : ℕ → Bool
+is_space b = b == 32 || (b == 9 || b == 13)
+
+-- a byte that stands for itself outside quotes: no space and no quote
+abbrev pub is_bare : ℕ → Bool
+is_bare b = not (is_space b) && (not (b == 34) && not (b == 39))
+
+-- the value of a hexadecimal digit
+abbrev pub hex_value : ℕ → Option ℕ
+hex_value b = if nat_le 48 b && nat_le b 57 then Some (b - 48) else
+    if nat_le 97 b && nat_le b 102 then Some (b - 97 + 10) else
+    if nat_le 65 b && nat_le b 70 then Some (b - 65 + 10) else None
+
+-- the text begins with `xHH`, which are the digits of this byte
+abbrev pub IsHexPair : List ℕ → ℕ → Type 0
+IsHexPair (x ∷ h ∷ l ∷ rest) byte = (high : ℕ) × (low : ℕ) × (x ≡ 120) × (hex_value h ≡ Some high) ×
+    (hex_value l ≡ Some low) × (byte ≡ high * 16 + low)
+IsHexPair _ byte = ⊥
+
+-- the byte for a backslash and this byte
+abbrev pub escaped : ℕ → ℕ
+escaped b = if b == 110 then 10 else if b == 114 then 13 else if b == 116 then 9 else if b == 98 then 8 else
+    if b == 97 then 7 else b
+
+-- In double quotes the text begins with this byte: the byte itself, `\xHH`, or a backslash and another byte. The rest
+-- follows.
+abbrev pub ReadsDoubleByte : ℕ → List ℕ → List ℕ → Type 0
+ReadsDoubleByte b text rest = ((text ≡ b ∷ rest) × (b ≢ 34) × (b ≢ 92))
+    ⊎ ((x : ℕ) × (h : ℕ) × (l : ℕ) × (text ≡ 92 ∷ x ∷ h ∷ l ∷ rest) × IsHexPair (x ∷ h ∷ l ∷ rest) b)
+    ⊎ ((c : ℕ) × (text ≡ 92 ∷ c ∷ rest) × ((byte : ℕ) → IsHexPair (c ∷ rest) byte → ⊥) × (b ≡ escaped c))
+
+-- the text is this content up to the closing double quote, and the rest follows
+abbrev pub ReadsDouble : List ℕ → List ℕ → List ℕ → Type 0
+ReadsDouble [] text rest = text ≡ 34 ∷ rest
+ReadsDouble (b ∷ content) text rest = (mid : List ℕ) × ReadsDoubleByte b text mid × ReadsDouble content mid rest
+
+-- in single quotes the text begins with this byte: the byte itself, or `\'`
+abbrev pub ReadsSingleByte : ℕ → List ℕ → List ℕ → Type 0
+ReadsSingleByte b text rest = ((text ≡ 92 ∷ 39 ∷ rest) × (b ≡ 39))
+    ⊎ ((text ≡ b ∷ rest) × (b ≢ 39) × ((beyond : List ℕ) → text ≡ 92 ∷ 39 ∷ beyond → ⊥))
+
+abbrev pub ReadsSingle : List ℕ → List ℕ → List ℕ → Type 0
+ReadsSingle [] text rest = text ≡ 39 ∷ rest
+ReadsSingle (b ∷ content) text rest = (mid : List ℕ) × ReadsSingleByte b text mid × ReadsSingle content mid rest
+
+-- the text is a quoted text with this content, and the rest follows
+abbrev pub ReadsQuoted : List ℕ → List ℕ → List ℕ → Type 0
+ReadsQuoted content text rest = (inside : List ℕ) × (((text ≡ 34 ∷ inside) × ReadsDouble content inside rest)
+    ⊎ ((text ≡ 39 ∷ inside) × ReadsSingle content inside rest))
+
+-- a word ends before this rest: it is empty or begins with a space
+abbrev pub EndsWord : List ℕ → Type 0
+EndsWord [] = Unit {0}
+EndsWord (b ∷ rest) = is_space b ≡ true
+
+-- the text begins with a byte that is no space
+abbrev pub StartsWord : List ℕ → Type 0
+StartsWord [] = ⊥
+StartsWord (b ∷ rest) = is_space b ≡ false
+
+-- the text is empty or begins with a byte that does not stand for itself outside quotes
+abbrev pub EndsBare : List ℕ → Type 0
+EndsBare [] = Unit {0}
+EndsBare (b ∷ rest) = is_bare b ≡ false
+
+-- the rest follows spaces at the beginning of the text
+abbrev pub FollowsSpaces : List ℕ → List ℕ → Type 0
+FollowsSpaces text rest = (spaces : List ℕ) × (text ≡ spaces ++ rest) × AllByRecursion (λ b. is_space b ≡ true) spaces
+
+-- The text begins with this word: bytes that stand for themselves, at least one, or a quoted text, which may follow
+-- such bytes. Then it ends or a space follows.
+pub record IsWord (word text rest : List ℕ) : Type 0 where
+  pub bare : List ℕ
+  pub quoted : List ℕ
+  pub mid : List ℕ
+  pub parts : word ≡ bare ++ quoted
+  pub are_bare : AllByRecursion (λ b. is_bare b ≡ true) bare
+  pub begins : text ≡ bare ++ mid
+  pub read : ((quoted ≡ []) × (rest ≡ mid) × (length rest < length text)) ⊎ ReadsQuoted quoted mid rest
+  pub ends : EndsWord rest
+
+-- the line is these words, between spaces
+abbrev pub AreWords : List (List ℕ) → List ℕ → Type 0
+AreWords [] text = AllByRecursion (λ b. is_space b ≡ true) text
+AreWords (word ∷ words) text = (spaces : List ℕ) × (mid : List ℕ) × (rest : List ℕ) × (text ≡ spaces ++ mid) ×
+    AllByRecursion (λ b. is_space b ≡ true) spaces × IsWord word mid rest × AreWords words rest
+
+-- if a word is complete, this holds of the bytes after it
+abbrev pub IfEnded : (List ℕ → Type 0) → WordEnd → Type 0
+IfEnded P (Ended rest) = P rest.now
+IfEnded P _ = Unit {0}

@@ -1,0 +1,134 @@
+//! Reading replies and pushes, and printing them.
+
+ghost use Rattle.std.specs.Prelude.{◌≡◌, ◌≤◌, ◌<◌, ◌++◌, ℕ, List, drop, false, length, take, IsErrOf, OnOk, IfErr};
+ghost use Rattle.resp_value.specs.Devices.{failures_after};
+ghost use Rattle.resp_client.specs.Clients.{state_of};
+ghost use Rattle.resp_client.specs.Hearing.{WhereTaken};
+ghost use Rattle.resp_wire.specs.Turns.{TellsEnd, WereRead};
+ghost use Rattle.resp_ask.specs.Hearing.{IsOfConnection, StopsHearing, StopsTelling, Tells, error_of, failed_to_print, failed_to_read, failed_to_write};
+
+use crate::error::AskError;
+use crate::tell::tell;
+use crate::telling::Telling;
+use resp_client::Client;
+use resp_scan::event::Fault;
+use resp_session::laws;
+use resp_value::cause::Cause;
+use resp_value::device::{Sink, Source};
+
+/// The most reads of one call.
+const MOST_READS: u64 = 4_000_000_000;
+
+/// Returns the error for a client's fault.
+fn stop(fault: Fault) -> AskError
+    ensures { result ≡ error_of fault }
+{
+    match fault.cause {
+        Cause::OutOfMemory => AskError::Memory,
+        _ => AskError::Fault(fault),
+    }
+}
+
+/// Feeds a whole piece to the client, and prints the replies and pushes received.
+pub(crate) fn tell_piece<O: Sink>(
+    client: &mut Client,
+    piece: &[u8],
+    telling: &mut Telling,
+    output: &mut O,
+) -> Result<(), AskError>
+    ensures told { WhereTaken client.old (λ front. OnOk result (Tells telling.old telling.new
+        (state_of client.old) client.new (O.written output.old) (O.written output.new)
+        (front ++ piece.now))) }
+    ensures refusal { WhereTaken client.old (λ front. IfErr result (StopsTelling telling.old
+        telling.new (state_of client.old) (O.written output.old) (O.written output.new)
+        (front ++ piece.now))) }
+    ensures failures { O.failures output.new ≡
+        failures_after (failed_to_print result) (O.failures output.old) }
+    ensures not_read { failed_to_read result ≡ false }
+    ensures not_ended { IsErrOf result AskError.Ended → ⊥ }
+    ensures not_written { failed_to_write result ≡ false }
+    ensures never_refuses { IfErr result IsOfConnection }
+{
+    laws::readings_go_on();
+    // The contract of the loop needs the range of this number.
+    let _errors = telling.errors;
+    let mut rest = piece;
+    // Each turn uses at least one byte.
+    for turn in 0..piece.len() {
+        if rest.is_empty() {
+            return Ok(());
+        }
+        let heard = match client.feed(rest) {
+            Ok(heard) => heard,
+            Err(fault) => return Err(stop(fault)),
+        };
+        if let Err(error) = tell(&heard.what, telling, output) {
+            return Err(error);
+        }
+        rest = beyond(rest, heard.used);
+    }
+    Ok(())
+}
+
+/// Returns the bytes from this index on.
+#[inline]
+fn beyond(piece: &[u8], from: usize) -> &[u8]
+    requires { from ≤ length piece.now }
+    ensures { result.now ≡ drop from piece.now }
+{
+    &piece[from..]
+}
+
+/// Reads until at most `left` commands wait for a reply, and prints the replies and pushes received.
+pub fn hear_until<R: Source, O: Sink>(
+    reader: &mut R,
+    client: &mut Client,
+    left: u64,
+    telling: &mut Telling,
+    output: &mut O,
+    buffer: &mut [u8],
+) -> Result<(), AskError>
+    requires { 0 < length buffer.now }
+    ensures told { (came : List ℕ) × WereRead (R.remaining reader.old) (R.remaining reader.new)
+        came × WhereTaken client.old (λ front. OnOk result (Tells telling.old telling.new
+        (state_of client.old) client.new (O.written output.old) (O.written output.new)
+        (front ++ came)) × IfErr result (StopsHearing telling.old telling.new
+        (state_of client.old) client.new (O.written output.old) (O.written output.new)
+        (front ++ came))) }
+    ensures few_wait { OnOk result (length (state_of client.new).waiting.asks ≤ left) }
+    ensures read_failures { R.failures reader.new ≡
+        failures_after (failed_to_read result) (R.failures reader.old) }
+    ensures print_failures { O.failures output.new ≡
+        failures_after (failed_to_print result) (O.failures output.old) }
+    ensures end { IsErrOf result AskError.Ended →
+        TellsEnd (R.remaining reader.old) (R.remaining reader.new) }
+    ensures not_written { failed_to_write result ≡ false }
+    ensures never_refuses { IfErr result IsOfConnection }
+{
+    laws::readings_go_on();
+    // The contract of the loop needs the range of this number.
+    let _errors = telling.errors;
+    for _turn in 0..MOST_READS {
+        if client.waiting() <= left {
+            return Ok(());
+        }
+        let count = match reader.read(buffer) {
+            Ok(0) => return Err(AskError::Ended),
+            Ok(count) => count,
+            Err(_) => return Err(AskError::Read),
+        };
+        if let Err(error) = tell_piece(client, front(buffer, count), telling, output) {
+            return Err(error);
+        }
+    }
+    Err(AskError::TooManyTurns)
+}
+
+/// Returns the first `count` bytes of a piece.
+#[inline]
+fn front(piece: &[u8], count: usize) -> &[u8]
+    requires { count ≤ length piece.now }
+    ensures { result.now ≡ take count piece.now }
+{
+    &piece[..count]
+}

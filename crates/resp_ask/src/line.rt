@@ -1,0 +1,294 @@
+//! Reads the words of a line, with the quoting of redis-cli.
+
+ghost use Rattle.std.specs.Prelude.{◌≡◌, ◌≤◌, ◌<◌, ◌++◌, [], ◌∷◌, ℕ, List, true, length, IfNone, IfOk, IfSome, IsSome, OnOk};
+ghost use Rattle.std.specs.List.{AllByRecursion};
+ghost use Rattle.resp_value.specs.Words.{texts_of};
+ghost use Rattle.resp_ask.specs.Lines.{AreWords, EndsBare, EndsWord, FollowsSpaces, IfEnded, IsHexPair, IsWord, ReadsDouble, ReadsDoubleByte, ReadsSingle, ReadsSingleByte, StartsWord, escaped, hex_value, is_bare, is_space};
+
+use std::alloc::{AllocError, Global};
+use thiserror::Error;
+
+/// Why a line has no words.
+#[derive(Clone, Copy, Debug, PartialEq, Eq, Error)]
+pub enum LineError {
+    /// The quote at this byte of the line, counted from 0, is not closed.
+    #[error("the quote at byte {at} is not closed")]
+    Open { at: usize },
+    /// A closing quote stands before this byte of the line, counted from 0, which is no space.
+    #[error("no space after the closing quote, at byte {at}")]
+    NoSpace { at: usize },
+    /// An allocation failed.
+    #[error("out of memory")]
+    Memory,
+}
+
+/// Returns whether a byte separates words: a space, a tab or a CR.
+fn is_space(byte: u8) -> bool
+    ensures { result ≡ is_space byte }
+{
+    byte == b' ' || byte == b'\t' || byte == b'\r'
+}
+
+/// Returns whether a byte stands for itself outside quotes: it is no space and no quote.
+fn is_bare(byte: u8) -> bool
+    ensures { result ≡ is_bare byte }
+{
+    !is_space(byte) && byte != b'"' && byte != b'\''
+}
+
+/// Returns a text without the spaces at its beginning.
+fn without_spaces(text: &[u8]) -> &[u8]
+    ensures spaces { FollowsSpaces text.now result.now }
+    ensures starts { 0 < length result.now → StartsWord result.now }
+{
+    let mut rest = text;
+    while let Some((byte, beyond)) = rest.split_first() {
+        if !is_space(*byte) {
+            return rest;
+        }
+        rest = beyond;
+    }
+    rest
+}
+
+/// Appends the bytes at the beginning of a text that stand for themselves outside quotes, and returns
+/// the bytes after them.
+fn read_bare<'a>(text: &'a [u8], word: &mut Vec<u8>) -> Result<&'a [u8], AllocError>
+    ensures bare { IfOk result (λ rest. (bare : List ℕ) × (word.new.items ≡ word.old.items ++ bare) ×
+        AllByRecursion (λ b. is_bare b ≡ true) bare × (text.now ≡ bare ++ rest.now)) }
+    ensures ends { IfOk result (λ rest. EndsBare rest.now) }
+{
+    let mut rest = text;
+    while let Some((byte, beyond)) = rest.split_first() {
+        if !is_bare(*byte) {
+            return Ok(rest);
+        }
+        word.push(*byte)?;
+        rest = beyond;
+    }
+    Ok(rest)
+}
+
+/// Returns the value of a hexadecimal digit.
+fn hex_value(byte: u8) -> Option<u8>
+    ensures value { result ≡ hex_value byte }
+    ensures small { IfSome result (λ value. value < 16) }
+{
+    match byte {
+        b'0'..=b'9' => Some(byte - b'0'),
+        b'a'..=b'f' => Some(byte - b'a' + 10),
+        b'A'..=b'F' => Some(byte - b'A' + 10),
+        _ => None,
+    }
+}
+
+/// Returns the byte for a backslash and this byte.
+fn escaped(byte: u8) -> u8
+    ensures { result ≡ escaped byte }
+{
+    match byte {
+        b'n' => b'\n',
+        b'r' => b'\r',
+        b't' => b'\t',
+        b'b' => 8,
+        b'a' => 7,
+        _ => byte,
+    }
+}
+
+/// Returns the byte after `\` that is written as `xHH`.
+fn hex_byte(text: &[u8]) -> Option<u8>
+    ensures some { IfSome result (λ byte. IsHexPair text.now byte) }
+    ensures none { IfNone result ((byte : ℕ) → IsHexPair text.now byte → ⊥) }
+    ensures three { IsSome result → 3 ≤ length text.now }
+{
+    if text.len() < 3 || text[0] != b'x' {
+        return None;
+    }
+    let high = hex_value(text[1])?;
+    let low = hex_value(text[2])?;
+    Some(high * 16 + low)
+}
+
+/// Returns the byte with which a text in double quotes begins, and the bytes after it. Returns `None`
+/// at the closing quote, at the end of the text, and at a backslash that ends the text.
+fn double_byte(text: &[u8]) -> Option<(u8, &[u8])>
+    ensures read { IfSome result (λ read. ReadsDoubleByte read.0 text.now read.1.now) }
+    ensures shorter { IfSome result (λ read. length read.1.now < length text.now) }
+{
+    let (byte, beyond) = text.split_first()?;
+    if *byte == b'"' {
+        return None;
+    }
+    if *byte != b'\\' {
+        return Some((*byte, beyond));
+    }
+    if let Some(value) = hex_byte(beyond) {
+        return Some((value, &beyond[3..]));
+    }
+    let (escape, after) = beyond.split_first()?;
+    Some((escaped(*escape), after))
+}
+
+/// Returns the byte with which a text in single quotes begins, and the bytes after it. Returns `None`
+/// at the closing quote and at the end of the text.
+fn single_byte(text: &[u8]) -> Option<(u8, &[u8])>
+    ensures read { IfSome result (λ read. ReadsSingleByte read.0 text.now read.1.now) }
+    ensures shorter { IfSome result (λ read. length read.1.now < length text.now) }
+{
+    let (byte, beyond) = text.split_first()?;
+    if *byte == b'\'' {
+        return None;
+    }
+    if *byte == b'\\' && !beyond.is_empty() && beyond[0] == b'\'' {
+        return Some((b'\'', &beyond[1..]));
+    }
+    Some((*byte, beyond))
+}
+
+/// Appends the text in double quotes up to the closing quote, and returns the bytes after the quote,
+/// or `None` if the quote is not closed.
+fn read_double<'a>(text: &'a [u8], word: &mut Vec<u8>) -> Result<Option<&'a [u8]>, AllocError>
+    ensures closed { IfOk result (λ after. IfSome after (λ rest. (content : List ℕ) ×
+        (word.new.items ≡ word.old.items ++ content) ×
+        ReadsDouble content text.now rest.now)) }
+    ensures shorter { IfOk result (λ after. IfSome after (λ rest.
+        length rest.now < length text.now)) }
+{
+    let mut rest = text;
+    while let Some((byte, after)) = double_byte(rest) {
+        word.push(byte)?;
+        rest = after;
+    }
+    match rest.split_first() {
+        Some((b'"', after)) => Ok(Some(after)),
+        _ => Ok(None),
+    }
+}
+
+/// Appends the text in single quotes up to the closing quote, and returns the bytes after the quote,
+/// or `None` if the quote is not closed.
+fn read_single<'a>(text: &'a [u8], word: &mut Vec<u8>) -> Result<Option<&'a [u8]>, AllocError>
+    ensures closed { IfOk result (λ after. IfSome after (λ rest. (content : List ℕ) ×
+        (word.new.items ≡ word.old.items ++ content) ×
+        ReadsSingle content text.now rest.now)) }
+    ensures shorter { IfOk result (λ after. IfSome after (λ rest.
+        length rest.now < length text.now)) }
+{
+    let mut rest = text;
+    while let Some((byte, after)) = single_byte(rest) {
+        word.push(byte)?;
+        rest = after;
+    }
+    match rest.split_first() {
+        Some((b'\'', after)) => Ok(Some(after)),
+        _ => Ok(None),
+    }
+}
+
+/// The end of a word.
+#[derive(Clone, Copy)]
+enum WordEnd<'a> {
+    /// The word is complete, and these bytes follow.
+    Ended(&'a [u8]),
+    /// A quote is not closed. Before it are this many bytes.
+    Open(usize),
+    /// A byte that is no space follows a closing quote. These bytes follow the quote.
+    NoSpace(&'a [u8]),
+}
+
+/// Reads the word at the beginning of a text into `word`, which is empty. The text begins with a byte
+/// that is no space.
+fn read_word<'a>(text: &'a [u8], word: &mut Vec<u8>) -> Result<WordEnd<'a>, AllocError>
+    requires empty { word.old.items ≡ [] }
+    requires begins { StartsWord text.now }
+    ensures ended { IfOk result (IfEnded (IsWord word.new.items text.now)) }
+{
+    let rest = read_bare(text, word)?;
+    let open = text.len().saturating_sub(rest.len());
+    let Some((byte, inside)) = rest.split_first() else {
+        return Ok(WordEnd::Ended(rest));
+    };
+    if *byte == b'"' {
+        let after = read_double(inside, word)?;
+        return Ok(word_end(after, open));
+    }
+    if *byte == b'\'' {
+        let after = read_single(inside, word)?;
+        return Ok(word_end(after, open));
+    }
+    Ok(WordEnd::Ended(rest))
+}
+
+/// Returns the end of a word whose quote opens after `open` bytes, with the bytes after the closing
+/// quote if there is one.
+fn word_end(after: Option<&[u8]>, open: usize) -> WordEnd<'_>
+    ensures closed { IfSome after.entry (λ bytes. IfEnded (λ rest. (rest ≡ bytes.now) × EndsWord rest)
+        result) }
+    ensures open { IfNone after.entry (IfEnded (λ _. ⊥) result) }
+{
+    let Some(after) = after else {
+        return WordEnd::Open(open);
+    };
+    match after.split_first() {
+        Some((byte, _)) => {
+            if is_space(*byte) {
+                WordEnd::Ended(after)
+            } else {
+                WordEnd::NoSpace(after)
+            }
+        }
+        None => WordEnd::Ended(after),
+    }
+}
+
+/// Appends a word.
+fn push_word(words: &mut Vec<Vec<u8>>, word: Vec<u8>) -> Result<(), LineError>
+    ensures { OnOk result (texts_of words.new.items ≡ texts_of words.old.items ++ word.items ∷ []) }
+{
+    match words.push(word) {
+        Ok(()) => Ok(()),
+        Err(_) => Err(LineError::Memory),
+    }
+}
+
+/// Returns the words of a line without its LF. A line of spaces has no words.
+///
+/// Words are separated by spaces, tabs and CR. A word may end with a text in quotes. In double quotes
+/// `\n`, `\r`, `\t`, `\b`, `\a` and `\xHH` stand for bytes, and a backslash before any other byte for
+/// that byte. In single quotes `\'` stands for a quote.
+///
+/// # Errors
+///
+/// - [`LineError::Open`] if a quote is not closed.
+/// - [`LineError::NoSpace`] if a byte other than a space follows a closing quote.
+/// - [`LineError::Memory`] if an allocation fails.
+pub fn words_of(alloc: Global, line: &[u8]) -> Result<Vec<Vec<u8>>, LineError>
+    ensures words { IfOk result (λ words. AreWords (texts_of words.items) line.now) }
+{
+    let mut words = Vec::new(alloc);
+    let mut rest = without_spaces(line);
+    while !rest.is_empty() {
+        let at = line.len().saturating_sub(rest.len());
+        let mut word = Vec::new(alloc);
+        let after = match read_word(rest, &mut word) {
+            Ok(WordEnd::Ended(after)) => after,
+            Ok(WordEnd::Open(count)) => {
+                return Err(LineError::Open {
+                    at: at.saturating_add(count),
+                });
+            }
+            Ok(WordEnd::NoSpace(after)) => {
+                return Err(LineError::NoSpace {
+                    at: line.len().saturating_sub(after.len()),
+                });
+            }
+            Err(_) => return Err(LineError::Memory),
+        };
+        if let Err(error) = push_word(&mut words, word) {
+            return Err(error);
+        }
+        rest = without_spaces(after);
+    }
+    Ok(words)
+}

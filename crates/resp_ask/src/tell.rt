@@ -1,0 +1,102 @@
+//! Printing one reply or push.
+
+ghost use Rattle.std.specs.Prelude.{◌≡◌, ℕ, List, Option};
+ghost use Rattle.resp_print.specs.Printed.{Prints};
+ghost use Rattle.resp_session.specs.Reading.{is_refusal};
+ghost use Rattle.resp_value.specs.Values.{datum_of};
+ghost use Rattle.resp_ask.specs.Tellings.{TellsText, counted_after, errors_of, push_text, reply_text, text_of};
+
+use crate::error::AskError;
+use crate::telling::{Form, Telling};
+use resp_client::What;
+use resp_print::print_error::PrintError;
+use resp_print::text::write_number;
+use resp_print::value::{write_push_value, write_value};
+use resp_value::device::Sink;
+use resp_value::value::{Members, Value};
+
+/// Returns whether a reply is an error, with or without attributes in front of it.
+fn is_refusal(value: &Value) -> bool
+    ensures { result ≡ is_refusal (datum_of value.now) }
+{
+    match value.without_attributes() {
+        Value::Error(_) | Value::BulkError(_) => true,
+        _ => false,
+    }
+}
+
+/// Returns 1 for a reply that is an error, and otherwise 0.
+fn errors_of(what: &What) -> u64
+    ensures { result ≡ errors_of what.now }
+{
+    match what {
+        What::Reply { value, .. } => { if is_refusal(value) { 1 } else { 0 } }
+        What::Push(_) | What::Shown | What::More => 0,
+    }
+}
+
+/// Prints a reply or a push, and counts the reply if it is an error.
+pub(crate) fn tell<O: Sink>(
+    what: &What,
+    telling: &mut Telling,
+    output: &mut O,
+) -> Result<(), AskError>
+    ensures told { TellsText (O.written output.old) (O.written output.new)
+        (O.failures output.old) (O.failures output.new) result (text_of telling.old what.now) }
+    ensures counted { telling.new ≡ counted_after (errors_of what.now) telling.old }
+{
+    let before = *telling;
+    telling.errors = telling.errors.saturating_add(errors_of(what));
+    match what {
+        What::Reply { number, value } => write_reply(before, *number, value, output),
+        What::Push(items) => write_push(before.form, items, output),
+        What::Shown | What::More => Ok(()),
+    }
+}
+
+/// Prints the reply to the client's command with this number.
+fn write_reply<O: Sink>(
+    telling: Telling,
+    number: u64,
+    value: &Value,
+    output: &mut O,
+) -> Result<(), AskError>
+    ensures { TellsText (O.written output.old) (O.written output.new) (O.failures output.old)
+        (O.failures output.new) result (reply_text telling number (datum_of value.now)) }
+{
+    match telling.form {
+        Form::Alone => told(write_value(value, 0, output)),
+        Form::Numbered => {
+            let number = number.saturating_sub(telling.before);
+            match write_number(output, b"reply ", number, b"\n") {
+                Ok(()) => told(write_value(value, 1, output)),
+                Err(_) => Err(AskError::Output),
+            }
+        }
+        Form::Counted => Ok(()),
+    }
+}
+
+/// Prints a push, as `resp show` prints it.
+fn write_push<O: Sink>(form: Form, items: &Members, output: &mut O) -> Result<(), AskError>
+    ensures { TellsText (O.written output.old) (O.written output.new) (O.failures output.old)
+        (O.failures output.new) result (push_text form (datum_of (Value.Push items.now))) }
+{
+    match form {
+        Form::Alone | Form::Numbered => told(write_push_value(items, 0, output)),
+        Form::Counted => Ok(()),
+    }
+}
+
+/// Returns the result of printing as the result of asking.
+fn told(printed: Result<(), PrintError>) -> Result<(), AskError>
+    ensures { (before after : Option (List ℕ)) (failures failures' : ℕ) (text : List ℕ)
+        (levels : ℕ) → Prints before after failures failures' printed text levels →
+        TellsText before after failures failures' result text }
+{
+    match printed {
+        Ok(()) => Ok(()),
+        Err(PrintError::Write) => Err(AskError::Output),
+        Err(PrintError::TooDeep) => Err(AskError::Memory),
+    }
+}
