@@ -6,10 +6,11 @@ complete -c resp -n __fish_use_subcommand -a canon -d 'Writes the canonical text
 complete -c resp -n __fish_use_subcommand -a loop -d 'Plays a script of clients of one server'
 complete -c resp -n __fish_use_subcommand -a serve -d 'Serves PING, ECHO, GET, SET, DEL and HELLO to many clients at once'
 complete -c resp -n __fish_use_subcommand -a tap -d 'Forwards connections to a server and prints the traffic'
+complete -c resp -n __fish_use_subcommand -a ask -d 'Sends commands to a server and prints the replies'
 complete -c resp -n __fish_use_subcommand -a help -d 'Prints the help of a command'
 complete -c resp -n __fish_use_subcommand -s V -l version -d 'Prints version'
 complete -c resp -s h -l help -d 'Prints help'
-complete -c resp -n '__fish_seen_subcommand_from help' -a 'show check canon loop serve tap help'
+complete -c resp -n '__fish_seen_subcommand_from help' -a 'show check canon loop serve tap ask help'
 
 set -l reads '__fish_seen_subcommand_from show check canon'
 complete -c resp -n $reads -F
@@ -21,7 +22,7 @@ complete -c resp -n $reads -l piece -x -d 'Maximum bytes of a read, 1 to 65536'
 complete -c resp -n '__fish_seen_subcommand_from show check canon loop' -l explain -d 'Says where an error is, and why'
 complete -c resp -n '__fish_seen_subcommand_from show check canon loop' -l no-explain -d 'Does not explain errors'
 
-set -l limited '__fish_seen_subcommand_from show check canon serve tap'
+set -l limited '__fish_seen_subcommand_from show check canon serve tap ask'
 complete -c resp -n $limited -l depth -x -d 'Maximum nesting of aggregates, 4 to 128'
 complete -c resp -n $limited -l length -x -d 'Maximum bytes of a string or line, 64 to 1073741824'
 complete -c resp -n $limited -l total -x -d 'Maximum bytes of a value, 256 to 1099511627776'
@@ -34,3 +35,8 @@ complete -c resp -n '__fish_seen_subcommand_from tap' -l time -d 'Prints the tim
 complete -c resp -n '__fish_seen_subcommand_from tap' -l exit-with-output -d 'Ends at once if the output fails'
 complete -c resp -n '__fish_seen_subcommand_from tap' -l keep-going -d 'Accepts clients after the output has failed'
 complete -c resp -n '__fish_seen_subcommand_from tap' -l show-passwords -d 'Prints the passwords in commands'
+
+complete -c resp -n '__fish_seen_subcommand_from ask' -s 3 -d 'Sends HELLO 3 first, and accepts doubles'
+complete -c resp -n '__fish_seen_subcommand_from ask' -l user -x -d 'Name of the user whose password is in RESP_PASSWORD'
+complete -c resp -n '__fish_seen_subcommand_from ask' -l window -x -d 'Maximum commands that wait for a reply, 1 to 65536'
+complete -c resp -n '__fish_seen_subcommand_from ask' -l count -d 'Prints only the numbers of replies and errors, and the time'

@@ -3,12 +3,16 @@
 //! and a server.
 #![tactic(auto)]
 
+mod asking;
 mod input;
+mod lines;
 mod listening;
 mod output;
+mod talk;
 
 ghost use Rattle.std.specs.Prelude.{◌≤◌};
 
+use asking::run_ask;
 use input::read_input;
 use listening::{run_serve, run_tap};
 use output::Output;
@@ -102,6 +106,7 @@ fn run_words<W: LiveSink, F: Sink>(
         }
         Ok(Asked::Serve(serving)) => run_serve(rt, &serving, writer, faults),
         Ok(Asked::Tap(tapping)) => run_tap(rt, &tapping, writer, faults),
+        Ok(Asked::Ask(asking)) => run_ask(rt, &asking, writer, faults),
         Err(status) => Ok(status),
     }
 }

@@ -10,7 +10,7 @@ use Rattle.clap.specs.declared.parser.matches.ArgMatches.{ArgMatches}
 use Rattle.clap.specs.declared.parser.matches.Found.{Found}
 use Rattle.clap.proofs.OnLiterals.{clap_on_literals}
 use Rattle.clap.proofs.WalkLemmas.{one_text-rows}
-use Rattle.resp_args.specs.CommandWords.{AnswersSort, AnswersStatus, AskFor, Enters, IsOfSort, FindsWords, HasFlag, HasNumber, HasPort, HasReading, HasServing, HasTapping, IsAddressText, IsAsked, IsLocalPort, flag_text, task_word}
+use Rattle.resp_args.specs.CommandWords.{AnswersSort, AnswersStatus, AskFor, Enters, IsOfSort, FindsWords, HasAsking, HasFlag, HasNumber, HasPort, HasReading, HasServing, HasTapping, IsAddressText, IsAsked, IsLocalPort, flag_text, task_word}
 use Rattle.resp_args.specs.Faults.{IsWordStatus}
 use Rattle.std.specs.Str.{bytes_eq}
 use Rattle.std.specs.Prelude.{if◌then◌else◌}
@@ -22,7 +22,8 @@ use Rattle.std.specs.declared.net.socket_addr.SocketAddr.{SocketAddr}
 use Rattle.clap.specs.declared.builder.value_parser.ValueParser.TheVariants as vp
 use Rattle.resp_value.specs.declared.version.Version.{Version}
 use Rattle.resp_args.specs.declared.asked.Asked.{Asked}
-use Rattle.resp_args.specs.declared.asked.Asked.TheVariants.{Stream, Play, Serve, Tap}
+use Rattle.resp_args.specs.declared.asked.Asked.TheVariants.{Stream, Play, Serve, Tap, Ask}
+use Rattle.resp_args.specs.declared.asking.Asking.{Asking}
 use Rattle.resp_args.specs.declared.options.Task.{Task}
 use Rattle.resp_args.specs.declared.options.Task.TheVariants.{Show, Check, Canon}
 use Rattle.resp_args.specs.declared.serving.Serving.{Serving}
@@ -137,6 +138,12 @@ no_server given text is none tapping has =
     let same = same_text text server (first_of (codes "server") given) is words.server_text in
     none tapping.server (subst (λ z. IsAddressText z tapping.server) (sym same) to)
 
+pub no_asking : (given : List Row) (text : Text) → first_of (codes "server") given ≡ Some text →
+    ((address : SocketAddr) → IsAddressText text address → ⊥) → (asking : Asking) → HasAsking given asking → ⊥
+no_asking given text is none asking has =
+    let same = same_text text asking.server_text.now (first_of (codes "server") given) is has.text in
+    none asking.server (subst (λ z. IsAddressText z asking.server) (sym same) has.address)
+
 pub on_err : {X E : Type 0} (r : Result X E) (P : Type 0) → P → OnErr r P
 on_err (Ok x) P p = tt
 on_err (Err e) P p = p
@@ -179,22 +186,29 @@ module _ (program : App) (words : List Text) (found : Result ArgMatches Error) (
       subst (λ (entered : Option (Text × List Row)). Enters entered asked) (sym all.1) asks.1
 
   -- and words that enter nothing are wrong
-  pub asked_for_nothing : ((asked : Asked) → Enters (subcommand_rows_of m) asked → ⊥) → AnswersStatus AskFor program words (Err 2)
-  asked_for_nothing none =
-      (λ two. absurd (omega arith), λ two. inr ((rw is at finds).0, λ asked asks. none asked (entered_if_asks asked asks)))
+  pub asked_for_nothing : (status : ℕ) → (status ≡ 2) ⊎ (status ≡ 3) →
+      (status ≡ 2 → (asked : Asked) → Enters (subcommand_rows_of m) asked → ⊥) → AnswersStatus AskFor program words (Err status)
+  asked_for_nothing status range none = (
+    λ zero'. absurd (elim range [
+      | inl two ↦ omega (arith, zero', two)
+      | inr three ↦ omega (arith, zero', three)
+    ]),
+    λ two. inr ((rw is at finds).0, λ asked asks. none two asked (entered_if_asks asked asks)),
+  )
 
 -- ---- subcommands
 
 -- whether it is that of a task, or which of the others, by its name and by what it is asked for
 abbrev sort_of_word : Text → ℕ
 sort_of_word word = if bytes_eq word (codes "loop") then 1 else if bytes_eq word (codes "serve") then 2 else
-    if bytes_eq word (codes "tap") then 3 else 0
+    if bytes_eq word (codes "tap") then 3 else if bytes_eq word (codes "ask") then 4 else 0
 
 abbrev pub sort_of : Asked → ℕ
 sort_of (Stream options) = 0
 sort_of (Play explains never_explains file) = 1
 sort_of (Serve serving) = 2
 sort_of (Tap tapping) = 3
+sort_of (Ask asking) = 4
 
 sort_of_task : (task : Task) → sort_of_word (task_word task) ≡ 0
 sort_of_task Show = refl
@@ -206,6 +220,7 @@ sort_by_word name given (Stream options) is = ap sort_of_word is.0 ∙ sort_of_t
 sort_by_word name given (Play explains never_explains file) is = ap sort_of_word is.0
 sort_by_word name given (Serve serving) is = ap sort_of_word is.0
 sort_by_word name given (Tap tapping) is = ap sort_of_word is.0
+sort_by_word name given (Ask asking) is = ap sort_of_word is.0
 
 -- where `tap` can't be asked for what is tapped it can't be asked for anything
 pub no_tapping : (given : List Row) → ((tapping : Tapping) → HasTapping given tapping → ⊥) → (asked : Asked) →
@@ -214,6 +229,15 @@ no_tapping given none asked is = go asked is (sort_by_word (codes "tap") given a
   where
     go : (asked : Asked) → IsAsked (codes "tap") given asked → 3 ≡ sort_of asked → ⊥
     go (Tap tapping) is sort = none tapping is.1
+    go other is sort = omega arith
+
+-- where `ask` can't be asked for what is sent it can't be asked for anything
+pub nothing_to_ask : (given : List Row) → ((asking : Asking) → HasAsking given asking → ⊥) → (asked : Asked) →
+    IsAsked (codes "ask") given asked → ⊥
+nothing_to_ask given none asked is = go asked is (sort_by_word (codes "ask") given asked is)
+  where
+    go : (asked : Asked) → IsAsked (codes "ask") given asked → 4 ≡ sort_of asked → ⊥
+    go (Ask asking) is sort = none asking is.1
     go other is sort = omega arith
 
 -- what was entered is of one sort
@@ -234,18 +258,18 @@ among : (k k' : ErrorKind) (kinds : List ErrorKind) → k ≡ k' → IsAmong k k
 among k k' kinds is h = rw is at h
 
 -- the status of what the parser refuses or helps with
-pub refused_by_program : {X : Type 0} (Ask : App → List Text → X → Type 0) (program : App) (words : List Text) (error : Error) (status : ℕ) →
+pub refused_by_program : {X : Type 0} (Asks : App → List Text → X → Type 0) (program : App) (words : List Text) (error : Error) (status : ℕ) →
     HasKind (fault_of program words) error → (status ≡ 0 → (kind_of error ≡ DisplayHelp) ⊎ (kind_of error ≡ DisplayVersion)) →
     (status ≡ 2 → (kind_of error ≢ OutOfMemory) × (kind_of error ≢ DisplayHelp) × (kind_of error ≢ DisplayVersion)) →
-    AnswersStatus Ask program words (Err status)
-refused_by_program Ask program words error status (inl memory) helps refuses = (
+    AnswersStatus Asks program words (Err status)
+refused_by_program Asks program words error status (inl memory) helps refuses = (
   λ none. elim (helps none) [
     | inl help ↦ let bad : OutOfMemory ≡ DisplayHelp = sym memory ∙ help in cc
     | inr version ↦ let bad : OutOfMemory ≡ DisplayVersion = sym memory ∙ version in cc
   ],
   λ two. absurd ((refuses two).0 memory),
 )
-refused_by_program Ask program words error status (inr kind) helps refuses = (
+refused_by_program Asks program words error status (inr kind) helps refuses = (
   λ none. elim (helps none) [
     | inl help ↦ inl (among _ _ _ help kind)
     | inr version ↦ inr (among _ _ _ version kind)
@@ -260,18 +284,27 @@ of_sort (Stream a) (Stream b) same = tt
 of_sort (Play a f n) (Play b g m) same = tt
 of_sort (Serve a) (Serve b) same = tt
 of_sort (Tap a) (Tap b) same = tt
+of_sort (Ask a) (Ask b) same = tt
 of_sort (Stream a) (Play b g m) same = absurd (omega (arith, same))
 of_sort (Stream a) (Serve b) same = absurd (omega (arith, same))
 of_sort (Stream a) (Tap b) same = absurd (omega (arith, same))
+of_sort (Stream a) (Ask b) same = absurd (omega (arith, same))
 of_sort (Play a f n) (Stream b) same = absurd (omega (arith, same))
 of_sort (Play a f n) (Serve b) same = absurd (omega (arith, same))
 of_sort (Play a f n) (Tap b) same = absurd (omega (arith, same))
+of_sort (Play a f n) (Ask b) same = absurd (omega (arith, same))
 of_sort (Serve a) (Stream b) same = absurd (omega (arith, same))
 of_sort (Serve a) (Play b g m) same = absurd (omega (arith, same))
 of_sort (Serve a) (Tap b) same = absurd (omega (arith, same))
+of_sort (Serve a) (Ask b) same = absurd (omega (arith, same))
 of_sort (Tap a) (Stream b) same = absurd (omega (arith, same))
 of_sort (Tap a) (Play b g m) same = absurd (omega (arith, same))
 of_sort (Tap a) (Serve b) same = absurd (omega (arith, same))
+of_sort (Tap a) (Ask b) same = absurd (omega (arith, same))
+of_sort (Ask a) (Stream b) same = absurd (omega (arith, same))
+of_sort (Ask a) (Play b g m) same = absurd (omega (arith, same))
+of_sort (Ask a) (Serve b) same = absurd (omega (arith, same))
+of_sort (Ask a) (Tap b) same = absurd (omega (arith, same))
 
 by_status : (status : ℕ) → IsWordStatus status → (status ≡ 0 → ⊥) → (status ≡ 2 → ⊥) → status ≡ 3
 by_status status (inl zero') none two = absurd (none zero')

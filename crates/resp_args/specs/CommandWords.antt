@@ -1,13 +1,13 @@
 -- The meaning of the words of a command line.
 use Rattle.std.specs.Prelude.{◌≡◌, ◌≢◌, ◌⊎◌, ◌≤◌, ◌<◌, ◌^◌, ℕ, Bool, false, true, not, if◌then◌else◌, codes}
-use Rattle.std.specs.Prelude.{List, [], ◌∷◌, ◌++◌, Option, Some, None, Result, Ok, Err}
+use Rattle.std.specs.Prelude.{List, [], ◌∷◌, ◌++◌, map, option_map, unwrap_or, Option, Some, None, Result, Ok, Err}
 use Rattle.std.specs.Net.Addr.{ipv4_octets}
 use Rattle.std.specs.Net.Socket.{v4_ip, v4_port}
 use Rattle.std.specs.declared.net.socket_addr.SocketAddr.{SocketAddr}
 use Rattle.std.specs.declared.net.socket_addr.SocketAddr.TheVariants as Socket
 use Rattle.std.specs.Net.Grammar.{IsSocketText}
 use Rattle.std.specs.Str.Parse.{IsNumeral, digits_value, without_leading_plus}
-use Rattle.clap.specs.Words.{App, HasKind, IsAmong, Row, Text, fault_of, first_of, one_of, subcommand_of}
+use Rattle.clap.specs.Words.{App, HasKind, IsAmong, Row, Text, all_of, fault_of, first_of, one_of, subcommand_of}
 use Rattle.clap.specs.Words.{subcommand_rows_of}
 use Rattle.clap.specs.declared.error.Error.{Error}
 use Rattle.clap.specs.declared.error.kind.ErrorKind.{ErrorKind}
@@ -17,7 +17,9 @@ use Rattle.resp_value.specs.Bounds.{AreBounds, Bounds}
 use Rattle.resp_value.specs.declared.version.Version.{Version}
 use Rattle.resp_value.specs.declared.version.Version.TheVariants.{Two, Three}
 use Rattle.resp_args.specs.declared.asked.Asked.{Asked}
-use Rattle.resp_args.specs.declared.asked.Asked.TheVariants.{Stream, Play, Serve, Tap}
+use Rattle.resp_args.specs.declared.asked.Asked.TheVariants.{Stream, Play, Serve, Tap, Ask}
+use Rattle.resp_args.specs.declared.asking.AskOptions.{AskOptions}
+use Rattle.resp_args.specs.declared.asking.Asking.{Asking}
 use Rattle.resp_args.specs.declared.options.Options.{Options}
 use Rattle.resp_args.specs.declared.options.Task.{Task}
 use Rattle.resp_args.specs.declared.options.Task.TheVariants.{Show, Check, Canon}
@@ -147,6 +149,22 @@ HasTapping given tapping = (server_text : Text) ×
     HasTapWords given tapping.address_text.now server_text (tap_options_of tapping) ×
     IsAddressText tapping.address_text.now tapping.address × IsAddressText server_text tapping.server
 
+-- the options of `ask` that are neither the address nor the words
+pub record HasAskOptions (given : List Row) (options : AskOptions) : Type 0 where
+  pub three : HasFlag given (codes "three") options.is_three
+  pub named : option_map (λ name. name.now) options.user ≡ first_of (codes "user") given
+  pub in_flight : HasSmallNumber given (codes "window") options.window
+  pub counted : HasFlag given (codes "count") options.counts
+  pub in_limits : HasLimits given options.limits
+  pub with_doubles : options.limits.doubles ≡ options.is_three
+
+-- the options of `ask`, with its address and the words of the command
+pub record HasAsking (given : List Row) (asking : Asking) : Type 0 where
+  pub has : HasAskOptions given asking.options
+  pub text : first_of (codes "server") given ≡ Some asking.server_text.now
+  pub address : IsAddressText asking.server_text.now asking.server
+  pub words : map (λ word. word.now) asking.words.items ≡ unwrap_or (all_of (codes "words") given) []
+
 abbrev pub task_word : Task → Text
 task_word Show = codes "show"
 task_word Check = codes "check"
@@ -162,6 +180,7 @@ IsAsked name given (Play explains never_explains file) = (name ≡ codes "loop")
     (first_of (codes "file") given ≡ Some file.now)
 IsAsked name given (Serve serving) = (name ≡ codes "serve") × HasServing given serving
 IsAsked name given (Tap tapping) = (name ≡ codes "tap") × HasTapping given tapping
+IsAsked name given (Ask asking) = (name ≡ codes "ask") × HasAsking given asking
 
 -- the subcommand that was given asks for this
 abbrev pub Enters : Option (Text × List Row) → Asked → Type 0
@@ -172,12 +191,13 @@ Enters (Some entered) asked = IsAsked entered.0 entered.1 asked
 abbrev pub AskFor : App → List Text → Asked → Type 0
 AskFor program words asked = (fault_of program words ≡ []) × Enters (subcommand_of program words) asked
 
--- the size of a read, or the most clients at once, is from 1 to 65,536
+-- the size of a read, the most clients at once, or the most commands that wait is from 1 to 65,536
 abbrev pub IsInRange : Asked → Type 0
 IsInRange (Stream options) = (1 ≤ options.piece) × (options.piece ≤ 65536)
 IsInRange (Play explains never_explains file) = Unit {0}
 IsInRange (Serve serving) = (1 ≤ serving.clients) × (serving.clients ≤ 65536)
 IsInRange (Tap tapping) = (1 ≤ tapping.clients) × (tapping.clients ≤ 65536)
+IsInRange (Ask asking) = (1 ≤ asking.options.window) × (asking.options.window ≤ 65536)
 
 -- the words ask for help, or for the version of the program
 abbrev pub AskForHelp : App → List Text → Type 0
@@ -186,9 +206,9 @@ AskForHelp program words =
 
 -- the program rejects the words, or it accepts them and they ask for nothing of this sort
 abbrev pub AreWrong : {X : Type 0} → (App → List Text → X → Type 0) → App → List Text → Type 0
-AreWrong {X} Ask program words =
+AreWrong {X} Asks program words =
     ((kind : ErrorKind) × IsAmong kind (fault_of program words) × (kind ≢ DisplayHelp) × (kind ≢ DisplayVersion))
-    ⊎ ((fault_of program words ≡ []) × ((x : X) → Ask program words x → ⊥))
+    ⊎ ((fault_of program words ≡ []) × ((x : X) → Asks program words x → ⊥))
 
 -- ---- results
 
@@ -198,12 +218,13 @@ FindsWords program words (Ok found) =
     (fault_of program words ≡ []) × (subcommand_rows_of found ≡ subcommand_of program words)
 FindsWords program words (Err error) = HasKind (fault_of program words) error
 
--- both are a stream, a script, a server, or a tap
+-- both are a stream, a script, a server, a tap, or commands to be sent
 abbrev pub IsOfSort : Asked → Asked → Type 0
 IsOfSort (Stream a) (Stream b) = Unit {0}
 IsOfSort (Play a b file) (Play c d file') = Unit {0}
 IsOfSort (Serve a) (Serve b) = Unit {0}
 IsOfSort (Tap a) (Tap b) = Unit {0}
+IsOfSort (Ask a) (Ask b) = Unit {0}
 IsOfSort a b = ⊥
 
 -- words that ask for this are answered by something of its sort, or by status 3
@@ -213,6 +234,6 @@ AnswersSort asked (Err status) = status ≡ 3
 
 -- what the words ask for, or a status: 0 if they ask for help, and 2 if they are wrong
 abbrev pub AnswersStatus : {X : Type 0} → (App → List Text → X → Type 0) → App → List Text → Result X ℕ → Type 0
-AnswersStatus Ask program words (Ok x) = Ask program words x
-AnswersStatus Ask program words (Err status) =
-    (status ≡ 0 → AskForHelp program words) × (status ≡ 2 → AreWrong Ask program words)
+AnswersStatus Asks program words (Ok x) = Asks program words x
+AnswersStatus Asks program words (Err status) =
+    (status ≡ 0 → AskForHelp program words) × (status ≡ 2 → AreWrong Asks program words)

@@ -5,6 +5,7 @@ use Rattle.std.specs.Int.{saturate_unsigned, w64}
 use Rattle.std.specs.List.{list_any}
 use Rattle.std.specs.Ordering.{nat_cmp, ord_max}
 use Rattle.std.specs.Str.{bytes_eq}
+use Rattle.clap.specs.Lexer.{usize_max}
 use Rattle.clap.specs.Simple.{on_top}
 use Rattle.clap.specs.Values.{unsigned_up_to}
 use Rattle.clap.specs.ValueTests.{accepts}
@@ -92,6 +93,24 @@ tap_options = listening_options
     (flag_option (codes "time") ∷ flag_option (codes "exit-with-output") ∷ flag_option (codes "keep-going") ∷
     flag_option (codes "show-passwords") ∷ address_word (codes "listen") ∷ address_word (codes "server") ∷ [])
 
+-- `--name VALUE`, an option with any value and without a default
+abbrev pub name_option : Text → Rule
+name_option name = record (new_rule name) { long = Some name; value_names = 1 }
+
+-- the words of a command: an argument without a name, to which all words after its first one belong
+abbrev pub command_word : Rule
+command_word = record (new_rule (codes "words")) {
+  range = Some (record { start_inclusive = 1; end_inclusive = usize_max });
+  value_names = 1;
+  trailing_var_arg = true;
+}
+
+-- the options of `ask`
+abbrev pub ask_options : List Rule
+ask_options = short_flag_option (codes "three") 51 ∷ name_option (codes "user") ∷
+    number_option (codes "window") 1 65536 (codes "1000") ∷ flag_option (codes "count") ∷ (limit_options ++
+    address_word (codes "server") ∷ command_word ∷ [])
+
 -- ---- subcommands
 
 -- a subcommand with these options added after those that it has
@@ -109,13 +128,14 @@ bare_app = on_top (λ top. record top { has_version = true; subcommand_required 
 -- the whole program, with these versions for `--proto`
 abbrev pub resp_app : ValueParser → App
 resp_app versions = with_subcommand (with_subcommand (with_subcommand (with_subcommand (with_subcommand
-    (with_subcommand bare_app
+    (with_subcommand (with_subcommand bare_app
     (task_shape (codes "show") (stream_options versions)))
     (task_shape (codes "check") (stream_options versions)))
     (task_shape (codes "canon") (stream_options versions)))
     (task_shape (codes "loop") loop_options))
     (task_shape (codes "serve") serve_options))
-    (task_shape (codes "tap") tap_options)
+    (task_shape (codes "tap") tap_options))
+    (task_shape (codes "ask") ask_options)
 
 -- the versions are 2 and 3, and nothing else
 pub record TakesVersions (versions : ValueParser) : Type 0 where

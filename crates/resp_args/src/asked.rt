@@ -1,21 +1,23 @@
 //! The meaning of a command line: a subcommand with its options.
 
-ghost use Rattle.std.specs.Prelude.{IfOk, OnErr, codes};
+ghost use Rattle.std.specs.Prelude.{◌≢◌, IfErr, IfOk, OnErr, codes};
 ghost use Rattle.clap.specs.Words.{found_of, rows_of, subcommand_rows_of};
 ghost use Rattle.resp_args.specs.CommandWords.{Enters, IsAsked, task_word};
 
+use crate::asking::{Asking, asking_of};
 use crate::options::{Options, Task, flag_of, options_of, text_of};
 use crate::serving::{Serving, serving_of};
 use crate::tapping::{Tapping, tapping_of};
 use clap::ArgMatches;
 use resp_print::text::write_text;
 use resp_value::device::{DeviceFault, Sink};
+use std::alloc::Global;
 
 /// The line for words that ask for something that is not done here.
 pub(crate) const OTHER_WORDS: &[u8] = b"error: these words ask for nothing here\n";
 
 /// What a command line asks for.
-#[derive(Clone, Copy, Debug)]
+#[derive(Debug, Drop)]
 pub enum Asked<'a> {
     /// Read a stream: `show`, `check` or `canon`.
     Stream(Options<'a>),
@@ -32,6 +34,8 @@ pub enum Asked<'a> {
     Serve(Serving<'a>),
     /// Forward connections: `tap`.
     Tap(Tapping<'a>),
+    /// Send commands: `ask`.
+    Ask(Asking<'a>),
 }
 
 /// Why a command line asks for nothing that can be done.
@@ -45,6 +49,8 @@ pub(crate) enum NothingAsked<'a> {
         /// The name of the argument.
         name: &'a str,
     },
+    /// An allocation failed.
+    Memory,
 }
 
 impl NothingAsked<'_> {
@@ -52,6 +58,7 @@ impl NothingAsked<'_> {
     pub(crate) fn write<F: Sink>(self, faults: &mut F) -> Result<(), DeviceFault> {
         match self {
             Self::OtherWords => write_text(faults, OTHER_WORDS),
+            Self::Memory => write_text(faults, b"out of memory\n"),
             Self::BadAddress { text, name } => write_bad_address(text, name, faults),
         }
     }
@@ -71,21 +78,28 @@ fn write_bad_address<F: Sink>(text: &str, name: &str, faults: &mut F) -> Result<
 }
 
 /// Returns what the words ask for, or why they ask for nothing.
-pub(crate) fn asked_of<'a>(matches: &ArgMatches<'a>) -> Result<Asked<'a>, NothingAsked<'a>>
+pub(crate) fn asked_of<'a>(
+    alloc: Global,
+    matches: &ArgMatches<'a>,
+) -> Result<Asked<'a>, NothingAsked<'a>>
     ensures ok { IfOk result (Enters (subcommand_rows_of matches.now)) }
-    ensures err { OnErr result ((asked : Asked)
+    ensures err { IfErr result (λ nothing. nothing ≢ NothingAsked.Memory → (asked : Asked)
         → Enters (subcommand_rows_of matches.now) asked → ⊥) }
 {
     match matches.subcommand() {
-        Some((name, given)) => asked_by(name, given),
+        Some((name, given)) => asked_by(alloc, name, given),
         None => Err(NothingAsked::OtherWords),
     }
 }
 
 /// Returns what a subcommand with these options asks for.
-fn asked_by<'a>(name: &str, given: &ArgMatches<'a>) -> Result<Asked<'a>, NothingAsked<'a>>
+fn asked_by<'a>(
+    alloc: Global,
+    name: &str,
+    given: &ArgMatches<'a>,
+) -> Result<Asked<'a>, NothingAsked<'a>>
     ensures ok { IfOk result (IsAsked name.now (rows_of (found_of given.now))) }
-    ensures err { OnErr result ((asked : Asked)
+    ensures err { IfErr result (λ nothing. nothing ≢ NothingAsked.Memory → (asked : Asked)
         → IsAsked name.now (rows_of (found_of given.now)) asked → ⊥) }
 {
     match name {
@@ -95,6 +109,7 @@ fn asked_by<'a>(name: &str, given: &ArgMatches<'a>) -> Result<Asked<'a>, Nothing
         "loop" => play_of(given),
         "serve" => serve_of(given),
         "tap" => tap_of(given),
+        "ask" => ask_of(alloc, given),
         _ => Err(NothingAsked::OtherWords),
     }
 }
@@ -149,6 +164,18 @@ fn tap_of<'a>(given: &ArgMatches<'a>) -> Result<Asked<'a>, NothingAsked<'a>>
 {
     match tapping_of(given) {
         Ok(tapping) => Ok(Asked::Tap(tapping)),
+        Err(nothing) => Err(nothing),
+    }
+}
+
+/// Returns what `ask` with these options asks for.
+fn ask_of<'a>(alloc: Global, given: &ArgMatches<'a>) -> Result<Asked<'a>, NothingAsked<'a>>
+    ensures ok { IfOk result (IsAsked (codes "ask") (rows_of (found_of given.now))) }
+    ensures err { IfErr result (λ nothing. nothing ≢ NothingAsked.Memory → (asked : Asked)
+        → IsAsked (codes "ask") (rows_of (found_of given.now)) asked → ⊥) }
+{
+    match asking_of(alloc, given) {
+        Ok(asking) => Ok(Asked::Ask(asking)),
         Err(nothing) => Err(nothing),
     }
 }

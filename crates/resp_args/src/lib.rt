@@ -5,6 +5,7 @@
 #![tactic(auto)]
 
 pub mod asked;
+pub mod asking;
 pub mod laws;
 pub mod options;
 mod parser;

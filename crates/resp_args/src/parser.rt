@@ -5,7 +5,7 @@ ghost use Rattle.std.specs.Prelude.{◌≡◌, false, [], ◌∷◌, codes, map}
 ghost use Rattle.clap.specs.Words.{App, Rule, new_app, rule_of, with_rule, with_subcommand};
 ghost use Rattle.clap.specs.declared.builder.value_parser.ValueParser.TheVariants as vp;
 ghost use Rattle.resp_args.specs.CommandWords.{FindsWords};
-ghost use Rattle.resp_args.specs.Program.{IsProgram, MakesTask, address_word, bare_app, file_word, flag_option, limit_options, loop_options, numbers_between, resp_app, serve_options, short_flag_option, stream_options, tap_options, value_option, with_options};
+ghost use Rattle.resp_args.specs.Program.{IsProgram, MakesTask, address_word, ask_options, bare_app, command_word, file_word, flag_option, limit_options, loop_options, name_option, numbers_between, resp_app, serve_options, short_flag_option, stream_options, tap_options, value_option, with_options};
 
 use crate::options::STANDARD_INPUT;
 use clap::{Arg, ArgAction, ArgMatches, Command};
@@ -78,6 +78,23 @@ client, and ends when the last connection closes.
 Exit status:
   2  Usage error
   3  Listening or a write failed, or memory is out";
+
+/// The end of the help of `ask`.
+const ASK_HELP: &str = r#"Examples:
+  resp ask 127.0.0.1:6379 GET a
+  resp ask -3 6379 HGETALL h
+  printf 'SET a "1 2"\nGET a\n' | resp ask 6379
+  resp ask --count 6379 <commands.txt
+
+Without WORD, commands are read from standard input, one a line. Words are
+separated by spaces and may be quoted, as in redis-cli. If the environment has
+RESP_PASSWORD, AUTH is sent first, with the name of --user if it is given.
+
+Exit status:
+  0  All replies were received, and no reply is an error
+  1  A reply is an error, or a command or a reply is wrong
+  2  Usage error
+  3  The connection, a read or a write failed, or memory is out"#;
 
 /// An option with a number in a range.
 #[derive(Clone, Copy)]
@@ -160,6 +177,16 @@ const HELD: NumberOption = NumberOption {
     hides_default: false,
 };
 
+/// `--window`: the most commands of `ask` that wait for a reply.
+const WINDOW: NumberOption = NumberOption {
+    name: "window",
+    help: "Maximum commands that wait for a reply,\n1 to 65536",
+    least: 1,
+    most: 65_536,
+    default: "1000",
+    hides_default: false,
+};
+
 impl NumberOption {
     /// Returns the option for the parser, which rejects a number outside the range.
     fn option<'a>(self, alloc: Global) -> Arg<'a>
@@ -216,7 +243,8 @@ fn program<'a>(alloc: Global, versions: &'a [&'a str]) -> Result<Command<'a>, cl
     let program = with_subcommand(program, stream_task(alloc, "canon", canon, versions));
     let program = with_subcommand(program, loop_task(alloc));
     let program = with_subcommand(program, serve_task(alloc));
-    with_subcommand(program, tap_task(alloc))
+    let program = with_subcommand(program, tap_task(alloc));
+    with_subcommand(program, ask_task(alloc))
 }
 
 /// Adds a subcommand to the program. Returns the first error if one of them is an error.
@@ -345,6 +373,49 @@ fn tap_task<'a>(alloc: Global) -> Result<Command<'a>, clap::Error>
     let task = with_arg(task, flag(alloc, "show-passwords", passwords));
     let task = with_arg(task, address(alloc, "listen", "LISTEN", listen));
     with_arg(task, address(alloc, "server", "SERVER", server))
+}
+
+/// Returns the subcommand `ask`.
+fn ask_task<'a>(alloc: Global) -> Result<Command<'a>, clap::Error>
+    ensures { MakesTask (with_options (new_app (codes "ask")) ask_options) result }
+{
+    let about = "Sends commands to a server and prints the replies";
+    let three = "Sends HELLO 3 first, and accepts doubles";
+    let user = "Name of the user whose password is in\nRESP_PASSWORD";
+    let count = "Prints only the numbers of replies and errors, and\nthe time";
+    let server = "Address of the server, such as 127.0.0.1:6379";
+    let task = bare_task(alloc, "ask", about, ASK_HELP);
+    let task = with_arg(task, short_flag(alloc, "three", '3', three));
+    let task = with_arg(task, name(alloc, "user", user));
+    let task = with_arg(task, WINDOW.option(alloc));
+    let task = with_arg(task, flag(alloc, "count", count));
+    let task = with_limits(alloc, task);
+    let task = with_arg(task, address(alloc, "server", "SERVER", server));
+    with_arg(task, command(alloc))
+}
+
+/// Returns an option with a name, which has no default.
+fn name<'a>(alloc: Global, name: &'a str, help: &'static str) -> Arg<'a>
+    ensures rule { rule_of result ≡ name_option name.entry.now }
+    ensures here { result.global ≡ false }
+{
+    Arg::new(alloc, name)
+        .long(name)
+        .value_name("NAME")
+        .help(help)
+}
+
+/// Returns the argument for the words of a command. All words after the first belong to it, even if
+/// they begin with a dash.
+fn command<'a>(alloc: Global) -> Arg<'a>
+    ensures rule { rule_of result ≡ command_word }
+    ensures here { result.global ≡ false }
+{
+    Arg::new(alloc, "words")
+        .value_name("WORD")
+        .help("Command with its arguments")
+        .num_args(1..)
+        .trailing_var_arg(true)
 }
 
 /// Returns a required argument that is an address.

@@ -8,7 +8,7 @@ ghost use Rattle.resp_args.specs.Program.{IsProgram};
 ghost use Rattle.resp_args.specs.Tried.{TriesText, WritesSome};
 ghost use Rattle.resp_print.specs.Written.{WritesText};
 
-use crate::asked::{Asked, OTHER_WORDS, asked_of};
+use crate::asked::{Asked, NothingAsked, OTHER_WORDS, asked_of};
 use crate::parser::matches_of;
 use crate::tool_error::ToolError;
 use clap::error::ErrorKind;
@@ -149,6 +149,24 @@ fn write_open_failed<F: Sink>(name: &[u8], why: &[u8], faults: &mut F) -> Result
     write_text(faults, b"\n")
 }
 
+/// Writes why the words ask for nothing. Returns the exit status: 3 if an allocation failed, and
+/// otherwise 2.
+fn refuse_nothing<F: Sink>(nothing: NothingAsked<'_>, faults: &mut F) -> u8
+    ensures status { (result ≡ 2) ⊎ (result ≡ 3) }
+    ensures not_memory { result ≡ 2 → nothing.entry ≢ NothingAsked.Memory }
+    ensures told_without_memory { result ≡ 3 → TriesText (F.written faults.old)
+        (F.written faults.new) (F.failures faults.old) (F.failures faults.new)
+        (fault_line ToolError.Memory) }
+{
+    match nothing {
+        NothingAsked::Memory => stop(&ToolError::Memory, faults),
+        NothingAsked::OtherWords | NothingAsked::BadAddress { .. } => {
+            let _ = nothing.write(faults);
+            BAD_ARGUMENTS
+        }
+    }
+}
+
 /// Reads a command line, of which the first word is the name of the program, and returns what it
 /// asks for.
 ///
@@ -182,11 +200,8 @@ pub fn read_words<'a, S: AsStr, W: Sink, F: Sink>(
         Ok(matches) => matches,
         Err(error) => return Err(explain(alloc, &error, writer, faults)),
     };
-    match asked_of(&matches) {
+    match asked_of(alloc, &matches) {
         Ok(asked) => Ok(asked),
-        Err(nothing) => {
-            let _ = nothing.write(faults);
-            Err(BAD_ARGUMENTS)
-        }
+        Err(nothing) => Err(refuse_nothing(nothing, faults)),
     }
 }

@@ -1,5 +1,6 @@
-use Rattle.std.proofs.Common.{arith, inr, Err, Ok, map}
+use Rattle.std.proofs.Common.{arith, inl, inr, Err, Ok, map}
 use Rattle.resp_args.specs.CommandWords.{AskFor}
+use Rattle.resp_args.specs.Faults.{IsWordStatus}
 use Rattle.resp_args.proofs.AskingLemmas.{answers_sort, asked_for_nothing, asks_if_entered, refused_by_program}
 use Rattle.resp_args.proofs.words.read_words.Goals as goal
 
@@ -22,5 +23,11 @@ pub returns-clause-asked : goal.returns-clause-asked
 returns-clause-asked g c =
     let finds = c.matches_of.ensures.finds in
     let words = map g.S.AsStr.text c.args.words.now in
-    let answers = asked_for_nothing finds.0 words _ _ finds.2 c.in-Ok.is c.in-Err-asked_of.ensures.err in
-    (finds.0, finds.1, answers, answers_sort finds.0 words (Err 2) answers (inr (omega arith, omega arith)))
+    let refused = c.refuse_nothing.ensures in
+    let answers = asked_for_nothing finds.0 words _ _ finds.2 c.in-Ok.is c.refuse_nothing.result refused.status
+    (λ two. c.in-Err-asked_of.ensures.err (refused.not_memory two)) in
+    let range : IsWordStatus c.refuse_nothing.result = elim refused.status [
+      | inl two ↦ inr (omega (arith, two), omega (arith, two))
+      | inr three ↦ inr (omega (arith, three), omega (arith, three))
+    ] in
+    (finds.0, finds.1, answers, answers_sort finds.0 words (Err c.refuse_nothing.result) answers range)

@@ -1,0 +1,181 @@
+//! The command `ask`, which sends commands to a server.
+
+use crate::lines::Lines;
+use crate::talk::{Failure, Talk};
+use resp_args::asking::Asking;
+use resp_args::words::refuse_file;
+use resp_ask::Form;
+use resp_print::live::LiveSink;
+use resp_print::text::{write_number, write_text};
+use resp_value::device::{Device, DeviceFault, Sink, Source};
+use std::alloc::AllocError;
+use std::net::TcpStream;
+use std::time::Instant;
+use std::{env, io};
+
+/// The exit status after a reply that is an error, or an error in the input.
+const ERROR: u8 = 1;
+
+/// The exit status of a usage error.
+const BAD_ARGUMENTS: u8 = 2;
+
+/// The exit status after a device or an allocation failed.
+const FAILED: u8 = 3;
+
+/// The environment variable with the password.
+const PASSWORD: &str = "RESP_PASSWORD";
+
+/// Sends the command in the words, or the commands of standard input, and prints the replies.
+/// Returns the exit status.
+pub fn run_ask<O: LiveSink, F: Sink>(
+    rt: &HostRuntime,
+    asking: &Asking<'_>,
+    output: &mut O,
+    faults: &mut F,
+) -> Result<u8, AllocError> {
+    let alloc = rt.alloc();
+    let password = env::var(rt, PASSWORD);
+    if asking.options.user.is_some() && password.is_err() {
+        let _ = write_text(faults, b"error: --user needs the variable RESP_PASSWORD\n");
+        return Ok(BAD_ARGUMENTS);
+    }
+    let stream = match TcpStream::connect(rt, asking.server) {
+        Ok(stream) => stream,
+        Err(error) => {
+            let why = format!(in alloc; "{error}")?;
+            return Ok(refuse_file(asking.server_text, why.as_str(), faults));
+        }
+    };
+    let _ = stream.set_nodelay(true);
+    let mut reader = Device::new(&stream);
+    let mut writer = Device::new(&stream);
+    let password = match &password {
+        Ok(password) => Some(password.as_str()),
+        Err(_) => None,
+    };
+    Ok(ask_over(
+        rt,
+        asking,
+        password,
+        &mut reader,
+        &mut writer,
+        output,
+        faults,
+    ))
+}
+
+/// Sends the commands over an open connection, after AUTH and HELLO if the options ask for them.
+/// Returns the exit status.
+fn ask_over<R: Source, W: Sink, O: LiveSink, F: Sink>(
+    rt: &HostRuntime,
+    asking: &Asking<'_>,
+    password: Option<&str>,
+    reader: &mut R,
+    writer: &mut W,
+    output: &mut O,
+    faults: &mut F,
+) -> u8 {
+    let form = match asking.words.is_empty() {
+        _ if asking.options.counts => Form::Counted,
+        true => Form::Numbered,
+        false => Form::Alone,
+    };
+    let mut talk = Talk::new(rt.alloc(), &asking.options.limits, reader, writer);
+    match ask_with(rt, &mut talk, asking, password, form, output) {
+        Ok(()) if talk.errors() == 0 => 0,
+        Ok(()) => ERROR,
+        Err(failure) => {
+            let _ = failure.write(talk.next_reply(), faults);
+            failure.status()
+        }
+    }
+}
+
+/// Sends AUTH and HELLO, and the commands if they were accepted.
+fn ask_with<R: Source, W: Sink, O: LiveSink>(
+    rt: &HostRuntime,
+    talk: &mut Talk<'_, R, W>,
+    asking: &Asking<'_>,
+    password: Option<&str>,
+    form: Form,
+    output: &mut O,
+) -> Result<(), Failure> {
+    if !talk.greet(rt.alloc(), &asking.options, password, output)? {
+        return Ok(());
+    }
+    talk.begin(form);
+    if form == Form::Counted {
+        return count(rt, talk, asking, output);
+    }
+    send_commands(rt, talk, asking, output)
+}
+
+/// Sends the commands, and prints the numbers of replies and errors and the time.
+fn count<R: Source, W: Sink, O: LiveSink>(
+    rt: &HostRuntime,
+    talk: &mut Talk<'_, R, W>,
+    asking: &Asking<'_>,
+    output: &mut O,
+) -> Result<(), Failure> {
+    let start = Instant::now(rt);
+    send_commands(rt, talk, asking, output)?;
+    let micros = micros_since(rt, start);
+    match write_totals(talk.replies(), talk.errors(), micros, output) {
+        Ok(()) => Ok(()),
+        Err(_) => Err(Failure::Output),
+    }
+}
+
+/// Returns the microseconds since this instant, or 0 if the clock cannot be read.
+fn micros_since(rt: &HostRuntime, start: io::Result<Instant>) -> u64 {
+    let (Ok(start), Ok(end)) = (start, Instant::now(rt)) else {
+        return 0;
+    };
+    let passed = end.saturating_duration_since(start);
+    passed
+        .as_secs()
+        .saturating_mul(1_000_000)
+        .saturating_add(u64::from(passed.subsec_micros()))
+}
+
+/// Sends the command in the words, or the commands of standard input.
+fn send_commands<R: Source, W: Sink, O: LiveSink>(
+    rt: &HostRuntime,
+    talk: &mut Talk<'_, R, W>,
+    asking: &Asking<'_>,
+    output: &mut O,
+) -> Result<(), Failure> {
+    let alloc = rt.alloc();
+    if !asking.words.is_empty() {
+        return talk.send_words(alloc, asking.words.as_slice(), output);
+    }
+    let mut input = Device::new(rt.stdin());
+    let window = asking.options.window as u64;
+    talk.send_lines(alloc, &mut input, &mut Lines::new(alloc), window, output)
+}
+
+/// Writes the line of `--count`.
+fn write_totals<O: Sink>(
+    replies: u64,
+    errors: u64,
+    micros: u64,
+    output: &mut O,
+) -> Result<(), DeviceFault> {
+    write_number(output, b"replies ", replies, b" errors ")?;
+    write_number(output, b"", errors, b" seconds ")?;
+    write_number(output, b"", micros / 1_000_000, b".")?;
+    let part = micros % 1_000_000;
+    let digits = [
+        digit(part / 100_000),
+        digit(part / 10_000),
+        digit(part / 1_000),
+    ];
+    write_text(output, &digits)?;
+    let rate = replies.saturating_mul(1_000_000) / micros.max(1);
+    write_number(output, b" per second ", rate, b"\n")
+}
+
+/// Returns the last digit of a number.
+fn digit(number: u64) -> u8 {
+    b'0' + (number % 10) as u8
+}

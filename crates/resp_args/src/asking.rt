@@ -1,0 +1,98 @@
+//! The options of `resp ask`.
+
+ghost use Rattle.std.specs.Prelude.{◌≡◌, ◌≢◌, ℕ, Bool, List, Option, [], map, IfErr, IfNone, IfOk, IfSome, OnErr, OnOk, codes, option_map, unwrap_or};
+ghost use Rattle.clap.specs.Words.{all_of, found_of, rows_of};
+ghost use Rattle.resp_args.specs.CommandWords.{HasAskOptions, HasAsking};
+
+use crate::asked::NothingAsked;
+use crate::options::{address_of, flag_of, limits_of, small_number_of, text_of};
+use clap::ArgMatches;
+use resp_value::limits::Limits;
+use std::alloc::{AllocError, Global};
+use std::net::SocketAddr;
+
+/// The options of `resp ask`.
+#[derive(Debug, Drop)]
+pub struct Asking<'a> {
+    /// The address of the server.
+    pub server: SocketAddr,
+    /// The address as it was given.
+    pub server_text: &'a str,
+    /// The options that are neither the address nor the words.
+    pub options: AskOptions<'a>,
+    /// The words of the command. If there is no word, commands are read from standard input.
+    pub words: Vec<&'a str>,
+}
+
+/// The options of `resp ask` that are neither the address nor the words.
+#[derive(Clone, Copy, Debug)]
+pub struct AskOptions<'a> {
+    /// Whether HELLO 3 is sent first.
+    pub is_three: bool,
+    /// The name of the user, if one was given.
+    pub user: Option<&'a str>,
+    /// The most commands that wait for a reply, from 1 to 65,536.
+    pub window: usize,
+    /// Whether replies are counted and not printed.
+    pub counts: bool,
+    /// The limits of commands and replies, which allow doubles if HELLO 3 is sent.
+    pub limits: Limits,
+}
+
+/// Returns the options of `ask`, or why there are none.
+pub(crate) fn asking_of<'a>(
+    alloc: Global,
+    matches: &ArgMatches<'a>,
+) -> Result<Asking<'a>, NothingAsked<'a>>
+    ensures ok { IfOk result (HasAsking (rows_of (found_of matches.now))) }
+    ensures err { IfErr result (λ nothing. nothing ≢ NothingAsked.Memory → (asking : Asking)
+        → HasAsking (rows_of (found_of matches.now)) asking → ⊥) }
+{
+    let Some(options) = options_of(matches) else {
+        return Err(NothingAsked::OtherWords);
+    };
+    let Some(text) = text_of(matches, "server") else {
+        return Err(NothingAsked::OtherWords);
+    };
+    let server = match address_of(text, "SERVER") {
+        Ok(server) => server,
+        Err(nothing) => return Err(nothing),
+    };
+    match words_of(alloc, matches) {
+        Ok(words) => Ok(Asking {
+            server,
+            server_text: text,
+            options,
+            words,
+        }),
+        Err(_) => Err(NothingAsked::Memory),
+    }
+}
+
+/// Returns the words of the command.
+fn words_of<'a>(alloc: Global, matches: &ArgMatches<'a>) -> Result<Vec<&'a str>, AllocError>
+    ensures { IfOk result (λ words. map (λ word. word.now) words.items ≡
+        unwrap_or (all_of (codes "words") (rows_of (found_of matches.now))) []) }
+{
+    match matches.get_strs("words") {
+        Some(words) => Vec::from_slice(alloc, words),
+        None => Ok(Vec::new(alloc)),
+    }
+}
+
+/// Returns the options that are neither the address nor the words; `None` if a number is outside its
+/// range, which the parser of the command line rejects before.
+fn options_of<'a>(matches: &ArgMatches<'a>) -> Option<AskOptions<'a>>
+    ensures some { IfSome result (HasAskOptions (rows_of (found_of matches.now))) }
+    ensures none { IfNone result ((options : AskOptions)
+        → HasAskOptions (rows_of (found_of matches.now)) options → ⊥) }
+{
+    let is_three = flag_of(matches, "three")?;
+    Some(AskOptions {
+        is_three,
+        user: text_of(matches, "user"),
+        window: small_number_of(matches, "window")?,
+        counts: flag_of(matches, "count")?,
+        limits: limits_of(matches)?.with_doubles(is_three),
+    })
+}
