@@ -5,6 +5,7 @@
 //! state is as promised after that; or `wrong`.
 #![tactic(auto)]
 
+mod asking;
 mod decoding;
 mod encoding;
 mod engines;
@@ -64,7 +65,7 @@ fn print(rt: &impl Print, parts: &[Part]) -> Result<()> {
 }
 
 /// Runs each part, and returns their outcomes in order.
-fn parts(alloc: Global) -> [Part; 41] {
+fn parts(alloc: Global) -> [Part; 43] {
     [
         ("decode a piece", decoding::of_one_piece(alloc)),
         ("decode bytes", decoding::of_single_bytes(alloc)),
@@ -92,6 +93,8 @@ fn parts(alloc: Global) -> [Part; 41] {
         ("hub push", serving::of_push(alloc)),
         ("ask", engines::of_ask(alloc)),
         ("serve", engines::of_serve(alloc)),
+        ("words of a line", asking::of_line(alloc)),
+        ("ask a command", asking::of_command(alloc)),
         ("schedule open", scheduling::of_open(alloc)),
         ("mux open", multiplexing::of_open(alloc)),
         ("mux forward", multiplexing::of_forward(alloc)),
