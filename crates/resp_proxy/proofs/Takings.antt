@@ -181,12 +181,15 @@ all-taken f f1 b b1 b2 old mid new who piece used found h e taken r front begun 
     }
 
 -- the loop has taken a command that ended where it began
-pub same-taken : (f f1 f2 : Frames) (b b1 b2 : Begun) (old mid new : Multiplexed) (who : ClientId) (piece : List ℕ) (used : ℕ) (found : Option ℕ) →
+pub same-taken : (f f1 f2 : Frames) (b b1 b2 : Begun) (old mid new : Multiplexed) (who : ClientId) (piece : List ℕ) (used : ℕ) (found : Option ℕ)
+    (error : ClientError) →
     HasTaken f b old who piece used f1 b1 mid → found ≡ Some 0 → KeepsClients mid new → (IsReady f1 → IsReady f2) → frame_rules f2 ≡ frame_rules f1 →
     WhereBegun f1 b1 (λ front. TakesOne (frame_rules f1) who front (rest-of used piece) b2 found mid new) →
-    WhereBegun f b (λ front. TakesSome (frame_rules f) who (front ++ take used piece) b2 (Ok tt) old new)
-same-taken f f1 f2 b b1 b2 old mid new who piece used found h e clients ready same taken r front begun =
+    WhereBegun f b (λ front. TakesSome (frame_rules f) who (front ++ take used piece) b2 (Err error) old new)
+same-taken f f1 f2 b b1 b2 old mid new who piece used found error h e clients ready same taken r front begun =
     let none : used + 0 ≡ used = omega arith in
     let within : used + 0 ≤ length piece = subst (λ n. n ≤ length piece) (sym none) h.within in
     let next = more-taken f f1 f2 b b1 b2 old mid new who piece used 0 found h e within clients ready same taken in
-    subst (λ n. TakesSome (frame_rules f) who (front ++ take n piece) b2 (Ok tt) old new) none (next.taken r front begun)
+    let t = next.taken r front begun in
+    subst (λ n. TakesSome (frame_rules f) who (front ++ take n piece) b2 (Err error) old new) none
+    (record { after = t.after; takes = t.takes; begun = tt })

@@ -12,6 +12,10 @@ client_id c = c.id
 abbrev pub is_closing : Client → Bool
 is_closing c = c.is_closing
 
+-- the bytes of the client that are not taken before there is room for a command
+abbrev pub waits_for_room : Client → List ℕ
+waits_for_room c = c.rest.items
+
 -- these bytes came from the client, and are not yet a command
 pub record Holds (rules : Rules) (c : Client) (held : List ℕ) : Type 0 where
   pub front : List ℕ

@@ -5,6 +5,7 @@ ghost use Rattle.resp_frames.specs.Framing.{IsReady, WhereBegun, frame_rules};
 ghost use Rattle.resp_frames.specs.Texts.{text_of};
 ghost use Rattle.resp_mux.specs.Multiplexing.{HasPassed, KeepsClients, KeepsPassed, WherePassed};
 ghost use Rattle.resp_mux.specs.Passing.{with_command, with_own};
+ghost use Rattle.resp_proxy.specs.Room.{HasRoom};
 ghost use Rattle.resp_proxy.specs.Taking.{CarriesOut, TakesOne, TakesSome};
 
 use crate::answer::own_answer;
@@ -43,6 +44,9 @@ pub(crate) fn take_commands(
         TakesSome (frame_rules frames.old) who (front ++ take result.used piece.now) begun.new
         result.end mux.old mux.new) }
     ensures within { result.used ≤ length piece.now }
+    // If there is room for more, all bytes were taken.
+    ensures all { OnOk result.end (HasRoom settings.now mux.new who →
+        result.used ≡ length piece.now) }
     ensures same_clients { KeepsClients mux.old mux.new }
     ensures ready { IsReady frames.old → IsReady frames.new }
     ensures same_rules { frame_rules frames.new ≡ frame_rules frames.old }
@@ -60,7 +64,10 @@ pub(crate) fn take_commands(
             &piece[used..],
         ) {
             Ok(Some(0)) => {
-                return Taken { used, end: Ok(()) };
+                return Taken {
+                    used,
+                    end: Err(ClientError::NoProgress),
+                };
             }
             Ok(Some(count)) => used += count,
             Ok(None) => {

@@ -16,6 +16,9 @@ pub enum ClientError {
     /// The client is closing.
     #[error("the client is closing")]
     Closing,
+    /// A command ended before its first byte. This cannot happen, and no clause says so.
+    #[error("a command has no byte")]
+    NoProgress,
     /// The proxy does not have this client.
     #[error("no client with this id is open")]
     NoClient,

@@ -4,14 +4,14 @@ ghost use Rattle.std.specs.Prelude.{◌≡◌, ◌↔◌, ◌⊎◌, ◌++◌, t
 ghost use Rattle.resp_frames.specs.Framing.{HasBegun};
 ghost use Rattle.resp_mux.specs.Multiplexing.{HasAnsweredSome, HasClosed, HasNoNumberLeft, HasOpened, HasPassed, KeepsClients, KeepsPassed, WherePassed, unsent, waiting_clients};
 ghost use Rattle.resp_mux.specs.Passing.{nothing_passed, with_loss};
-ghost use Rattle.resp_proxy.specs.Clients.{Holds, client_id, is_closing};
+ghost use Rattle.resp_proxy.specs.Clients.{Holds, client_id, is_closing, waits_for_room};
 ghost use Rattle.resp_proxy.specs.Room.{HasRoom};
 ghost use Rattle.resp_proxy.specs.Replying.{TakesReplies};
 ghost use Rattle.resp_proxy.specs.Taking.{TakesIn};
 ghost use Rattle.resp_proxy.specs.Visiting.{GivesSome, HasNothingFor, IsDone, SendsSome};
 ghost use Rattle.resp_value.specs.Devices.{count_after};
 ghost use Rattle.resp_value.specs.Rules.{Rules};
-ghost use Rattle.resp_proxy.specs.Proxies.{HasBegunBy, HasNoClient, WhereBegunBy, WhereHeld, lost_text, mux_of, reply_rules_of, rules_of, server_begun, settings_of};
+ghost use Rattle.resp_proxy.specs.Proxies.{HasBegunBy, HasNoClient, HasRoomFor, WhereBegunBy, WhereHeld, lost_text, mux_of, reply_rules_of, rules_of, server_begun, settings_of};
 
 use crate::client::Client;
 use crate::error::{ClientError, ServerError};
@@ -140,6 +140,9 @@ impl Proxy {
         ensures taken { WhereHeld self.old client.old (λ held.
             TakesIn (rules_of self.old) (client_id client.old) (held ++ piece.now) client.new
             result (mux_of self.old) (mux_of self.new)) }
+        // If there is room for more, no bytes wait for room.
+        ensures all { OnOk result (HasRoomFor self.new client.new →
+            waits_for_room client.new ≡ []) }
         ensures same_client { client_id client.new ≡ client_id client.old }
         ensures same_clients { KeepsClients (mux_of self.old) (mux_of self.new) }
         ensures same_rules { rules_of self.new ≡ rules_of self.old }

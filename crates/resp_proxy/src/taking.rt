@@ -3,7 +3,8 @@
 ghost use Rattle.std.specs.Prelude.{◌≡◌, ◌++◌, ◌≤◌, List, ℕ, [], drop, length, true, OnOk};
 ghost use Rattle.resp_frames.specs.Framing.{IsReady, frame_rules};
 ghost use Rattle.resp_mux.specs.Multiplexing.{KeepsClients};
-ghost use Rattle.resp_proxy.specs.Clients.{Holds, client_id, is_closing};
+ghost use Rattle.resp_proxy.specs.Clients.{Holds, client_id, is_closing, waits_for_room};
+ghost use Rattle.resp_proxy.specs.Room.{HasRoom};
 ghost use Rattle.resp_proxy.specs.Taking.{SaysLast, TakesHeld, TakesIn};
 ghost use Rattle.resp_value.specs.Rules.{Rules};
 
@@ -31,6 +32,8 @@ pub(crate) fn take_in(
         Holds (frame_rules frames.old) client.old held →
         TakesIn (frame_rules frames.old) (client_id client.old) (held ++ piece.now) client.new
         result mux.old mux.new }
+    ensures all { OnOk result (HasRoom settings.now mux.new (client_id client.old) →
+        waits_for_room client.new ≡ []) }
     ensures same_client { client_id client.new ≡ client_id client.old }
     ensures same_clients { KeepsClients mux.old mux.new }
     ensures ready { IsReady frames.old → IsReady frames.new }
@@ -57,6 +60,8 @@ fn take_held(
         Holds (frame_rules frames.old) client.old held →
         TakesHeld (frame_rules frames.old) (client_id client.old) (held ++ piece.now) client.new
         result mux.old mux.new }
+    ensures all { OnOk result (HasRoom settings.now mux.new (client_id client.old) →
+        waits_for_room client.new ≡ []) }
     ensures same_client { client_id client.new ≡ client_id client.old }
     ensures same_clients { KeepsClients mux.old mux.new }
     ensures ready { IsReady frames.old → IsReady frames.new }
@@ -86,6 +91,8 @@ fn take_piece(
         Holds (frame_rules frames.old) client.old held →
         TakesHeld (frame_rules frames.old) (client_id client.old) (held ++ piece.now) client.new
         result mux.old mux.new }
+    ensures all { OnOk result (HasRoom settings.now mux.new (client_id client.old) →
+        waits_for_room client.new ≡ []) }
     ensures same_client { client_id client.new ≡ client_id client.old }
     ensures same_clients { KeepsClients mux.old mux.new }
     ensures ready { IsReady frames.old → IsReady frames.new }
@@ -132,6 +139,8 @@ fn take_rest(
         Holds (frame_rules frames.old) client.old held →
         TakesHeld (frame_rules frames.old) (client_id client.old) (held ++ piece.now) client.new
         result mux.old mux.new }
+    ensures all { OnOk result (HasRoom settings.now mux.new (client_id client.old) →
+        waits_for_room client.new ≡ []) }
     ensures same_client { client_id client.new ≡ client_id client.old }
     ensures same_clients { KeepsClients mux.old mux.new }
     ensures ready { IsReady frames.old → IsReady frames.new }

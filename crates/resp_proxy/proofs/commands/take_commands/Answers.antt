@@ -1,4 +1,5 @@
 use Rattle.std.proofs.Common.{arith}
+use Rattle.resp_proxy.specs.declared.error.ClientError.TheVariants as error
 use Rattle.resp_proxy.proofs.Takings.{all-taken, more-taken, same-taken}
 use Rattle.resp_proxy.proofs.commands.take_commands.Goals as goal
 
@@ -6,7 +7,7 @@ pub returns-in-Ok-Some-eq0-clause-taken : goal.returns-in-Ok-Some-eq0-clause-tak
 returns-in-Ok-Some-eq0-clause-taken c =
     let l = c.loop-used in
     same-taken c.args.frames.now l.frames c.take_one.new.frames c.args.begun.now l.begun c.take_one.new.begun c.args.mux.now l.mux c.take_one.new.mux
-    c.args.who c.args.piece.now l.used c.in-Ok-Some-eq0.field-0 l.invariant (grind arith) c.take_one.ensures.same_clients c.take_one.ensures.ready
+    c.args.who c.args.piece.now l.used c.in-Ok-Some-eq0.field-0 error.NoProgress l.invariant (grind arith) c.take_one.ensures.same_clients c.take_one.ensures.ready
     c.take_one.ensures.same_rules c.in-Ok-Some-eq0.ensures.taken
 
 pub loop-used-preserved : goal.loop-used-preserved
