@@ -1,6 +1,6 @@
 //! Writes the bytes that wait in a multiplexer.
 
-ghost use Rattle.std.specs.Prelude.{◌≡◌, ◌⊎◌, [], IsTrue};
+ghost use Rattle.std.specs.Prelude.{◌≡◌, ◌↔◌, ◌⊎◌, [], IsTrue};
 ghost use Rattle.resp_mux.specs.Multiplexing.{KeepsClients, unsent};
 ghost use Rattle.resp_proxy.specs.Visiting.{GivesSome, HasNoCommand, HasNothingFor, SendsSome};
 ghost use Rattle.resp_value.specs.Devices.{count_after};
@@ -80,12 +80,22 @@ fn left_to_server(mux: &Mux) -> Written
     }
 }
 
-/// Returns whether no bytes and no commands of a client wait.
-pub(crate) fn has_nothing(mux: &Mux, who: ClientId) -> bool
-    ensures { IsTrue result → HasNothingFor mux.now who × HasNoCommand mux.now who }
+/// Returns whether no bytes wait for a client.
+pub(crate) fn has_no_bytes(mux: &Mux, who: ClientId) -> bool
+    ensures { IsTrue result ↔ HasNothingFor mux.now who }
 {
-    let (Some(text), Some(count)) = (mux.to_client(who), mux.waiting_of(who)) else {
-        return false;
-    };
-    text.is_empty() && count == 0
+    match mux.to_client(who) {
+        Some(text) => text.is_empty(),
+        None => true,
+    }
+}
+
+/// Returns whether no command of a client waits.
+pub(crate) fn has_no_command(mux: &Mux, who: ClientId) -> bool
+    ensures { IsTrue result ↔ HasNoCommand mux.now who }
+{
+    match mux.waiting_of(who) {
+        Some(count) => count == 0,
+        None => true,
+    }
 }

@@ -15,7 +15,7 @@ ghost use Rattle.resp_proxy.specs.Proxies.{HasBegunBy, HasNoClient, HasRoomFor, 
 
 use crate::client::Client;
 use crate::error::{ClientError, ServerError};
-use crate::giving::{Written, give, has_nothing, send};
+use crate::giving::{Written, give, has_no_bytes, has_no_command, send};
 use crate::replies::take_replies;
 use crate::settings::Settings;
 use crate::taking::{shut, take_in};
@@ -174,12 +174,11 @@ impl Proxy {
     /// Returns whether a client is closing, no command of it waits, and all its replies were
     /// written. Close it then.
     pub fn is_done(&self, client: &Client) -> bool
-        ensures { IsTrue result → IsDone (mux_of self.now) client.now }
+        ensures { IsTrue result ↔ IsDone (mux_of self.now) client.now }
     {
-        if !client.is_closing {
-            return false;
-        }
-        has_nothing(&self.mux, client.id)
+        client.is_closing
+            && has_no_bytes(&self.mux, client.id)
+            && has_no_command(&self.mux, client.id)
     }
 
     /// Takes nothing more from a client. The bytes that it holds are lost.
