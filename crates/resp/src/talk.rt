@@ -335,7 +335,7 @@ impl<'a, R: Source, W: Sink> Talk<'a, R, W> {
         output: &mut O,
     ) -> Result<(), Failure> {
         let most = (window / 2).max(1);
-        let mut queued = 0;
+        let mut queued: u64 = 0;
         for _line in 0..u64::MAX {
             let number = lines.number().saturating_add(1);
             let is_queued = match lines.next_line() {
@@ -343,7 +343,7 @@ impl<'a, R: Source, W: Sink> Talk<'a, R, W> {
                 None => return Ok(()),
             };
             if is_queued {
-                queued += 1;
+                queued = queued.saturating_add(1);
             }
             if queued >= most || self.client.out().len() >= BATCH {
                 self.write_batch(queued, window, output)?;
