@@ -3,7 +3,7 @@ use Rattle.std.specs.Borrow.{Bor}
 use Rattle.std.specs.Prelude.{IfNone, IfSome, Option, None, Some, not}
 use Rattle.resp_ask.specs.declared.line.WordEnd.{WordEnd}
 use Rattle.resp_ask.specs.declared.line.WordEnd.TheVariants.{Ended, Open, NoSpace}
-use Rattle.resp_ask.specs.Lines.{IfEnded, IsHexPair, escaped}
+use Rattle.resp_ask.specs.Lines.{IfEnded, IsHexPair, UnlessEnded, escaped}
 use Rattle.std.proofs.Common.{◌≡◌, ◌≢◌, ◌⊎◌, inl, inr, ◌<◌, ◌≤◌, ℕ, Bool, true, false, List, [], ◌∷◌, ◌++◌, length, refl, sym, ap, subst, ◌∙◌, arith, append_assoc, length-append}
 use Rattle.std.specs.List.{AllByRecursion}
 use Rattle.std.proofs.lemmas.List.{append-nil}
@@ -155,3 +155,310 @@ shorter_word word text rest is starts = go is.read
 
 pub spaces_shorter : (text rest : List ℕ) → FollowsSpaces text rest → length rest ≤ length text
 spaces_shorter text rest (spaces, parts, are) = omega (arith, ap length parts, length-append spaces rest)
+
+-- ---- there is one way to read a line
+
+abbrev after_first : List ℕ → List ℕ
+after_first [] = []
+after_first (b ∷ rest) = rest
+
+abbrev head_of : List ℕ → ℕ
+head_of [] = 0
+head_of (b ∷ rest) = b
+
+-- the rest after one byte in double quotes
+pub double_rest : (text : List ℕ) (b b' : ℕ) (rest rest' : List ℕ) → ReadsDoubleByte b text rest → ReadsDoubleByte b' text rest' → rest ≡ rest'
+double_rest text b b' rest rest' (inl a) (inl a') = ap after_first (sym a.0 ∙ a'.0)
+double_rest text b b' rest rest' (inl a) (inr (inl (x, h, l, is, pair))) = absurd (a.2 (ap head_of (sym a.0 ∙ is)))
+double_rest text b b' rest rest' (inl a) (inr (inr (c, is, none, same))) = absurd (a.2 (ap head_of (sym a.0 ∙ is)))
+double_rest text b b' rest rest' (inr (inl (x, h, l, is, pair))) (inl a) = absurd (a.2 (ap head_of (sym a.0 ∙ is)))
+double_rest text b b' rest rest' (inr (inl (x, h, l, is, pair))) (inr (inl (x', h', l', is', pair'))) =
+    ap (λ z. after_first (after_first (after_first (after_first z)))) (sym is ∙ is')
+double_rest text b b' rest rest' (inr (inl (x, h, l, is, pair))) (inr (inr (c, is', none, same))) =
+    absurd (none b (subst (λ z. IsHexPair z b) (ap after_first (sym is ∙ is')) pair))
+double_rest text b b' rest rest' (inr (inr (c, is, none, same))) (inl a) = absurd (a.2 (ap head_of (sym a.0 ∙ is)))
+double_rest text b b' rest rest' (inr (inr (c, is, none, same))) (inr (inl (x, h, l, is', pair))) =
+    absurd (none b' (subst (λ z. IsHexPair z b') (ap after_first (sym is' ∙ is)) pair))
+double_rest text b b' rest rest' (inr (inr (c, is, none, same))) (inr (inr (c', is', none', same'))) =
+    ap (λ z. after_first (after_first z)) (sym is ∙ is')
+
+-- the closing quote is no byte
+pub double_no_quote : (text end : List ℕ) (b : ℕ) (rest : List ℕ) → text ≡ 34 ∷ end → ReadsDoubleByte b text rest → ⊥
+double_no_quote text end b rest quote (inl a) = a.1 (ap head_of (sym a.0 ∙ quote))
+double_no_quote text end b rest quote (inr (inl (x, h, l, is, pair))) = let e : 92 ≡ 34 = ap head_of (sym is ∙ quote) in absurd (omega (arith, e))
+double_no_quote text end b rest quote (inr (inr (c, is, none, same))) = let e : 92 ≡ 34 = ap head_of (sym is ∙ quote) in absurd (omega (arith, e))
+
+pub double_no_end : (text : List ℕ) (b : ℕ) (rest : List ℕ) → length text ≡ 0 → ReadsDoubleByte b text rest → ⊥
+double_no_end text b rest none byte = let some = double_byte_shorter b text rest byte in absurd (omega (arith, some, none))
+
+pub double_no_slash : (text beyond : List ℕ) (b : ℕ) (rest : List ℕ) → text ≡ 92 ∷ beyond → length beyond ≡ 0 → ReadsDoubleByte b text rest → ⊥
+double_no_slash text beyond b rest slash none (inl a) = a.2 (ap head_of (sym a.0 ∙ slash))
+double_no_slash text beyond b rest slash none (inr (inl (x, h, l, is, pair))) = absurd (omega (arith, ap length (sym is ∙ slash), none))
+double_no_slash text beyond b rest slash none (inr (inr (c, is, other, same))) = absurd (omega (arith, ap length (sym is ∙ slash), none))
+
+pub double_through : (text rest after : List ℕ) (b : ℕ) → ((content end : List ℕ) → ReadsDouble content text end → (more : List ℕ) × ReadsDouble more rest end) →
+    ReadsDoubleByte b rest after → (content end : List ℕ) → ReadsDouble content text end → (more : List ℕ) × ReadsDouble more after end
+double_through text rest after b through byte content end given = go (through content end given)
+  where
+    go : (more : List ℕ) × ReadsDouble more rest end → (more : List ℕ) × ReadsDouble more after end
+    go ([], quote) = absurd (double_no_quote rest end b after quote byte)
+    go (b' ∷ more, (mid, byte', read)) = (more, subst (λ z. ReadsDouble more z end) (double_rest rest b' b mid after byte' byte) read)
+
+pub double_only : (text rest after : List ℕ) → ((content end : List ℕ) → ReadsDouble content text end → (more : List ℕ) × ReadsDouble more rest end) →
+    rest ≡ 34 ∷ after → (content end : List ℕ) → ReadsDouble content text end → end ≡ after
+double_only text rest after through is content end given = go (through content end given)
+  where
+    go : (more : List ℕ) × ReadsDouble more rest end → end ≡ after
+    go ([], quote) = ap after_first (sym quote ∙ is)
+    go (b ∷ more, (mid, byte, read)) = absurd (double_no_quote rest after b mid is byte)
+
+pub double_open : (text rest : List ℕ) → ((content end : List ℕ) → ReadsDouble content text end → (more : List ℕ) × ReadsDouble more rest end) →
+    ((end : List ℕ) → rest ≡ 34 ∷ end → ⊥) → ((b : ℕ) (after : List ℕ) → ReadsDoubleByte b rest after → ⊥) →
+    (content end : List ℕ) → ReadsDouble content text end → ⊥
+double_open text rest through no_quote no_byte content end given = go (through content end given)
+  where
+    go : (more : List ℕ) × ReadsDouble more rest end → ⊥
+    go ([], quote) = no_quote end quote
+    go (b ∷ more, (mid, byte, read)) = no_byte b mid byte
+
+pub single_rest : (text : List ℕ) (b b' : ℕ) (rest rest' : List ℕ) → ReadsSingleByte b text rest → ReadsSingleByte b' text rest' → rest ≡ rest'
+single_rest text b b' rest rest' (inl a) (inl a') = ap (λ z. after_first (after_first z)) (sym a.0 ∙ a'.0)
+single_rest text b b' rest rest' (inl a) (inr a') = absurd (a'.2 rest a.0)
+single_rest text b b' rest rest' (inr a) (inl a') = absurd (a.2 rest' a'.0)
+single_rest text b b' rest rest' (inr a) (inr a') = ap after_first (sym a.0 ∙ a'.0)
+
+pub single_no_quote : (text end : List ℕ) (b : ℕ) (rest : List ℕ) → text ≡ 39 ∷ end → ReadsSingleByte b text rest → ⊥
+single_no_quote text end b rest quote (inl a) = let e : 92 ≡ 39 = ap head_of (sym a.0 ∙ quote) in absurd (omega (arith, e))
+single_no_quote text end b rest quote (inr a) = a.1 (ap head_of (sym a.0 ∙ quote))
+
+pub single_no_end : (text : List ℕ) (b : ℕ) (rest : List ℕ) → length text ≡ 0 → ReadsSingleByte b text rest → ⊥
+single_no_end text b rest none byte = let some = single_byte_shorter b text rest byte in absurd (omega (arith, some, none))
+
+pub single_through : (text rest after : List ℕ) (b : ℕ) → ((content end : List ℕ) → ReadsSingle content text end → (more : List ℕ) × ReadsSingle more rest end) →
+    ReadsSingleByte b rest after → (content end : List ℕ) → ReadsSingle content text end → (more : List ℕ) × ReadsSingle more after end
+single_through text rest after b through byte content end given = go (through content end given)
+  where
+    go : (more : List ℕ) × ReadsSingle more rest end → (more : List ℕ) × ReadsSingle more after end
+    go ([], quote) = absurd (single_no_quote rest end b after quote byte)
+    go (b' ∷ more, (mid, byte', read)) = (more, subst (λ z. ReadsSingle more z end) (single_rest rest b' b mid after byte' byte) read)
+
+pub single_only : (text rest after : List ℕ) → ((content end : List ℕ) → ReadsSingle content text end → (more : List ℕ) × ReadsSingle more rest end) →
+    rest ≡ 39 ∷ after → (content end : List ℕ) → ReadsSingle content text end → end ≡ after
+single_only text rest after through is content end given = go (through content end given)
+  where
+    go : (more : List ℕ) × ReadsSingle more rest end → end ≡ after
+    go ([], quote) = ap after_first (sym quote ∙ is)
+    go (b ∷ more, (mid, byte, read)) = absurd (single_no_quote rest after b mid is byte)
+
+pub single_open : (text rest : List ℕ) → ((content end : List ℕ) → ReadsSingle content text end → (more : List ℕ) × ReadsSingle more rest end) →
+    ((end : List ℕ) → rest ≡ 39 ∷ end → ⊥) → ((b : ℕ) (after : List ℕ) → ReadsSingleByte b rest after → ⊥) →
+    (content end : List ℕ) → ReadsSingle content text end → ⊥
+single_open text rest through no_quote no_byte content end given = go (through content end given)
+  where
+    go : (more : List ℕ) × ReadsSingle more rest end → ⊥
+    go ([], quote) = no_quote end quote
+    go (b ∷ more, (mid, byte, read)) = no_byte b mid byte
+
+pub other_quote : (rest after end : List ℕ) (b q : ℕ) → rest ≡ b ∷ after → b ≢ q → rest ≡ q ∷ end → ⊥
+other_quote rest after end b q is other quote = other (ap head_of (sym is ∙ quote))
+
+pub no_quote_at_end : (rest end : List ℕ) (q : ℕ) → length rest ≡ 0 → rest ≡ q ∷ end → ⊥
+no_quote_at_end rest end q none quote = absurd (omega (arith, ap length quote, none))
+
+-- what stops the first elements that pass a test
+Stops : (ℕ → Bool) → List ℕ → Type 0
+Stops p [] = Unit {0}
+Stops p (b ∷ rest) = p b ≡ false
+
+false_true : (b : Bool) → b ≡ false → b ≡ true → ⊥
+false_true b off on = let bad : true ≡ false = sym on ∙ off in cc
+
+-- the elements that pass a test, up to one that does not, end at one place
+span_rest : (p : ℕ → Bool) (a b x y : List ℕ) → AllByRecursion (λ c. p c ≡ true) a → AllByRecursion (λ c. p c ≡ true) b → a ++ x ≡ b ++ y →
+    Stops p x → Stops p y → x ≡ y
+unfolding Stops
+span_rest p [] [] x y pa pb same sx sy = same
+span_rest p [] (c ∷ b) x y pa pb same sx sy = absurd (false_true (p c) (subst (Stops p) same sx) pb.0)
+span_rest p (c ∷ a) [] x y pa pb same sx sy = absurd (false_true (p c) (subst (Stops p) (sym same) sy) pa.0)
+span_rest p (c ∷ a) (c' ∷ b) x y pa pb same sx sy = span_rest p a b x y pa.1 pb.1 (ap after_first same) sx sy
+
+space_not_bare : (b : ℕ) → is_space b ≡ true → is_bare b ≡ false
+space_not_bare b space = rw space refl
+
+bare_not_space : (b : ℕ) → is_bare b ≡ true → is_space b ≡ false
+bare_not_space b bare = by (is_space b) refl
+  where
+    by : (s : Bool) → is_space b ≡ s → is_space b ≡ false
+    by false is = is
+    by true is = absurd (false_true (is_bare b) (space_not_bare b is) bare)
+
+stops_word : (rest : List ℕ) → EndsWord rest → Stops is_bare rest
+unfolding Stops
+stops_word [] ends = tt
+stops_word (b ∷ rest) ends = space_not_bare b ends
+
+stops_bare : (rest : List ℕ) → EndsBare rest → Stops is_bare rest
+unfolding Stops
+stops_bare [] ends = tt
+stops_bare (b ∷ rest) ends = ends
+
+stops_quote : (mid inside : List ℕ) (q : ℕ) → is_bare q ≡ false → mid ≡ q ∷ inside → Stops is_bare mid
+unfolding Stops
+stops_quote mid inside q quote is = subst (Stops is_bare) (sym is) quote
+
+stops_mid : (word text rest : List ℕ) → (is : IsWord word text rest) → Stops is_bare is.mid
+stops_mid word text rest is = go is.read
+  where
+    go : ((is.quoted ≡ []) × (rest ≡ is.mid) × (length rest < length text)) ⊎ ReadsQuoted is.quoted is.mid rest → Stops is_bare is.mid
+    go (inl (none, same, some)) = subst (Stops is_bare) same (stops_word rest is.ends)
+    go (inr (inside, inl (quote, read))) = stops_quote is.mid inside 34 refl quote
+    go (inr (inside, inr (quote, read))) = stops_quote is.mid inside 39 refl quote
+
+mid_is : (word text end bare rest : List ℕ) → (is : IsWord word text end) → AllByRecursion (λ b. is_bare b ≡ true) bare → text ≡ bare ++ rest →
+    EndsBare rest → is.mid ≡ rest
+mid_is word text end bare rest is are parts ends =
+    span_rest is_bare is.bare bare is.mid rest is.are_bare are (sym is.begins ∙ parts) (stops_mid word text end is) (stops_bare rest ends)
+
+pub ends_empty : (rest : List ℕ) → length rest ≡ 0 → EndsWord rest
+ends_empty [] none = tt
+ends_empty (b ∷ rest) none = absurd (omega (arith, none))
+
+-- a word that no quote follows
+pub bare_only : (text rest word word' : List ℕ) → ((bare : List ℕ) × (word' ≡ word ++ bare) × AllByRecursion (λ b. is_bare b ≡ true) bare × (text ≡ bare ++ rest)) →
+    EndsBare rest → EndsWord rest → (other end : List ℕ) → IsWord other text end → end ≡ rest
+bare_only text rest word word' (bare, made, are, parts) stops ends other end is = go is.read
+  where
+    mid : is.mid ≡ rest
+    mid = mid_is other text end bare rest is are parts stops
+
+    go : ((is.quoted ≡ []) × (end ≡ is.mid) × (length end < length text)) ⊎ ReadsQuoted is.quoted is.mid end → end ≡ rest
+    go (inl (none, same, some)) = same ∙ mid
+    go (inr (inside, inl (quote, read))) = let bad : false ≡ true = subst EndsWord (sym mid ∙ quote) ends in cc
+    go (inr (inside, inr (quote, read))) = let bad : false ≡ true = subst EndsWord (sym mid ∙ quote) ends in cc
+
+-- what a quoted text leads to, and whether it leads anywhere
+abbrev pub OnlyQuoted : List ℕ → Option (Bor (List ℕ)) → Type 0
+OnlyQuoted mid after = IfSome after (λ a. (content end : List ℕ) → ReadsQuoted content mid end → end ≡ a.now) ×
+    IfNone after ((content end : List ℕ) → ReadsQuoted content mid end → ⊥)
+
+inside_double : (P : List ℕ → Type 0) (mid inside : List ℕ) → mid ≡ 34 ∷ inside → ((content end : List ℕ) → ReadsDouble content inside end → P end) →
+    (content end : List ℕ) → ReadsQuoted content mid end → P end
+inside_double P mid inside opens given content end (inside', inl (quote, read)) =
+    given content end (subst (λ z. ReadsDouble content z end) (ap after_first (sym quote ∙ opens)) read)
+inside_double P mid inside opens given content end (inside', inr (quote, read)) =
+    let e : 39 ≡ 34 = ap head_of (sym quote ∙ opens) in absurd (omega (arith, e))
+
+inside_single : (P : List ℕ → Type 0) (mid inside : List ℕ) → mid ≡ 39 ∷ inside → ((content end : List ℕ) → ReadsSingle content inside end → P end) →
+    (content end : List ℕ) → ReadsQuoted content mid end → P end
+inside_single P mid inside opens given content end (inside', inr (quote, read)) =
+    given content end (subst (λ z. ReadsSingle content z end) (ap after_first (sym quote ∙ opens)) read)
+inside_single P mid inside opens given content end (inside', inl (quote, read)) =
+    let e : 34 ≡ 39 = ap head_of (sym quote ∙ opens) in absurd (omega (arith, e))
+
+pub only_double : (mid inside : List ℕ) (after : Option (Bor (List ℕ))) → mid ≡ 34 ∷ inside →
+    IfSome after (λ a. (content end : List ℕ) → ReadsDouble content inside end → end ≡ a.now) →
+    IfNone after ((content end : List ℕ) → ReadsDouble content inside end → ⊥) → OnlyQuoted mid after
+only_double mid inside (Some a) opens only opened = (inside_double (λ end. end ≡ a.now) mid inside opens only, tt)
+only_double mid inside None opens only opened = (tt, inside_double (λ end. ⊥) mid inside opens opened)
+
+pub only_single : (mid inside : List ℕ) (after : Option (Bor (List ℕ))) → mid ≡ 39 ∷ inside →
+    IfSome after (λ a. (content end : List ℕ) → ReadsSingle content inside end → end ≡ a.now) →
+    IfNone after ((content end : List ℕ) → ReadsSingle content inside end → ⊥) → OnlyQuoted mid after
+only_single mid inside (Some a) opens only opened = (inside_single (λ end. end ≡ a.now) mid inside opens only, tt)
+only_single mid inside None opens only opened = (tt, inside_single (λ end. ⊥) mid inside opens opened)
+
+-- a word whose text in quotes begins where the bytes without quotes end
+word_quoted : (P : List ℕ → Type 0) (text mid inside bare : List ℕ) (q : ℕ) → AllByRecursion (λ b. is_bare b ≡ true) bare → text ≡ bare ++ mid → EndsBare mid →
+    is_space q ≡ false → mid ≡ q ∷ inside → ((content end : List ℕ) → ReadsQuoted content mid end → EndsWord end → P end) →
+    (other end : List ℕ) → IsWord other text end → P end
+word_quoted P text mid inside bare q are parts stops space opens given other end is = go is.read
+  where
+    same : is.mid ≡ mid
+    same = mid_is other text end bare mid is are parts stops
+
+    go : ((is.quoted ≡ []) × (end ≡ is.mid) × (length end < length text)) ⊎ ReadsQuoted is.quoted is.mid end → P end
+    go (inl (none, at, some)) = absurd (false_true (is_space q) space (subst EndsWord (at ∙ same ∙ opens) is.ends))
+    go (inr read) = given is.quoted end (subst (λ z. ReadsQuoted is.quoted z end) same read) is.ends
+
+pub quoted_only : (text mid inside word word' : List ℕ) (q : ℕ) (after : Option (Bor (List ℕ))) (end : WordEnd) →
+    ((bare : List ℕ) × (word' ≡ word ++ bare) × AllByRecursion (λ b. is_bare b ≡ true) bare × (text ≡ bare ++ mid)) → EndsBare mid →
+    is_space q ≡ false → mid ≡ q ∷ inside → OnlyQuoted mid after →
+    IfSome after (λ bytes. IfEnded (λ rest. (rest ≡ bytes.now) × EndsWord rest) end) → IfNone after (IfEnded (λ _. ⊥) end) →
+    IfEnded (λ rest. (other stop : List ℕ) → IsWord other text stop → stop ≡ rest) end
+quoted_only text mid inside word word' q (Some a) (Ended rest) (bare, made, are, parts) stops space opens only closed none =
+    word_quoted (λ stop. stop ≡ rest.now) text mid inside bare q are parts stops space opens
+    (λ content stop read ends. only.0 content stop read ∙ sym closed.0)
+quoted_only text mid inside word word' q None (Ended rest) all stops space opens only closed none = absurd none
+quoted_only text mid inside word word' q after (Open count) all stops space opens only closed none = tt
+quoted_only text mid inside word word' q after (NoSpace rest) all stops space opens only closed none = tt
+
+pub quoted_none : (text mid inside word word' : List ℕ) (q : ℕ) (after : Option (Bor (List ℕ))) (end : WordEnd) →
+    ((bare : List ℕ) × (word' ≡ word ++ bare) × AllByRecursion (λ b. is_bare b ≡ true) bare × (text ≡ bare ++ mid)) → EndsBare mid →
+    is_space q ≡ false → mid ≡ q ∷ inside → OnlyQuoted mid after → IfSome after (λ bytes. UnlessEnded (EndsWord bytes.now → ⊥) end) →
+    UnlessEnded ((other stop : List ℕ) → IsWord other text stop → ⊥) end
+quoted_none text mid inside word word' q after (Ended rest) all stops space opens only glued = tt
+quoted_none text mid inside word word' q None (Open count) (bare, made, are, parts) stops space opens only glued =
+    word_quoted (λ stop. ⊥) text mid inside bare q are parts stops space opens (λ content stop read ends. only.1 content stop read)
+quoted_none text mid inside word word' q None (NoSpace rest) (bare, made, are, parts) stops space opens only glued =
+    word_quoted (λ stop. ⊥) text mid inside bare q are parts stops space opens (λ content stop read ends. only.1 content stop read)
+quoted_none text mid inside word word' q (Some a) (Open count) (bare, made, are, parts) stops space opens only glued =
+    word_quoted (λ stop. ⊥) text mid inside bare q are parts stops space opens
+    (λ content stop read ends. glued (subst EndsWord (only.0 content stop read) ends))
+quoted_none text mid inside word word' q (Some a) (NoSpace rest) (bare, made, are, parts) stops space opens only glued =
+    word_quoted (λ stop. ⊥) text mid inside bare q are parts stops space opens
+    (λ content stop read ends. glued (subst EndsWord (only.0 content stop read) ends))
+
+-- a word begins with no space
+starts_word : (word text rest : List ℕ) → IsWord word text rest → Stops is_space text
+unfolding Stops
+starts_word word text rest is = go is.bare refl
+  where
+    go : (bare : List ℕ) → is.bare ≡ bare → Stops is_space text
+    go (b ∷ bare) same =
+        subst (Stops is_space) (sym (is.begins ∙ ap (λ z. z ++ is.mid) same))
+        (bare_not_space b (subst (AllByRecursion (λ c. is_bare c ≡ true)) same is.are_bare).0)
+    go [] same = mid_starts is.read
+      where
+        at : text ≡ is.mid
+        at = is.begins ∙ ap (λ z. z ++ is.mid) same
+
+        mid_starts : ((is.quoted ≡ []) × (rest ≡ is.mid) × (length rest < length text)) ⊎ ReadsQuoted is.quoted is.mid rest → Stops is_space text
+        mid_starts (inl (none, end, some)) = absurd (omega (arith, some, ap length end, ap length at))
+        mid_starts (inr (inside, inl (quote, read))) = subst (Stops is_space) (sym (at ∙ quote)) refl
+        mid_starts (inr (inside, inr (quote, read))) = subst (Stops is_space) (sym (at ∙ quote)) refl
+
+starts_text : (rest : List ℕ) → StartsWord rest → Stops is_space rest
+unfolding Stops
+starts_text [] starts = tt
+starts_text (b ∷ rest) starts = starts
+
+-- the words after the spaces
+word_at : (after rest : List ℕ) (words : List (List ℕ)) → FollowsSpaces after rest → StartsWord rest → AreWords words after →
+    (word : List ℕ) × (more : List (List ℕ)) × (end : List ℕ) × IsWord word rest end × AreWords more end
+word_at after [] words spaces starts given = absurd starts
+word_at after (b ∷ rest) [] (spaces, parts, are) starts given =
+    absurd (false_true (is_space b) starts (last_space spaces (subst (AllByRecursion (λ c. is_space c ≡ true)) parts given)))
+  where
+    last_space : (spaces : List ℕ) → AllByRecursion (λ c. is_space c ≡ true) (spaces ++ b ∷ rest) → is_space b ≡ true
+    last_space [] all = all.0
+    last_space (c ∷ spaces) all = last_space spaces all.1
+word_at after (b ∷ rest) (word ∷ words) (spaces, parts, are) starts (spaces', mid, end, parts', are', is, given) =
+    let same = span_rest is_space spaces' spaces mid (b ∷ rest) are' are (sym parts' ∙ parts) (starts_word word mid end is) (starts_text (b ∷ rest) starts) in
+    (word, words, end, subst (λ z. IsWord word z end) same is, given)
+
+pub words_through : (line after rest after' : List ℕ) → FollowsSpaces after rest → StartsWord rest →
+    ((words : List (List ℕ)) → AreWords words line → (more : List (List ℕ)) × AreWords more after) →
+    ((other end : List ℕ) → IsWord other rest end → end ≡ after') →
+    (words : List (List ℕ)) → AreWords words line → (more : List (List ℕ)) × AreWords more after'
+words_through line after rest after' spaces starts through only words given =
+    let (more, read) = through words given in
+    let (word, others, end, is, left) = word_at after rest more spaces starts read in
+    (others, subst (AreWords others) (only word end is) left)
+
+pub no_words : (line after rest : List ℕ) → FollowsSpaces after rest → StartsWord rest →
+    ((words : List (List ℕ)) → AreWords words line → (more : List (List ℕ)) × AreWords more after) →
+    ((other end : List ℕ) → IsWord other rest end → ⊥) → (words : List (List ℕ)) → AreWords words line → ⊥
+no_words line after rest spaces starts through none words given =
+    let (more, read) = through words given in
+    let (word, others, end, is, left) = word_at after rest more spaces starts read in
+    none word end is

@@ -96,3 +96,8 @@ AreWords (word ∷ words) text = (spaces : List ℕ) × (mid : List ℕ) × (res
 abbrev pub IfEnded : (List ℕ → Type 0) → WordEnd → Type 0
 IfEnded P (Ended rest) = P rest.now
 IfEnded P _ = Unit {0}
+
+-- unless a word is complete, this holds
+abbrev pub UnlessEnded : Type 0 → WordEnd → Type 0
+UnlessEnded P (Ended rest) = Unit {0}
+UnlessEnded P _ = P

@@ -1,9 +1,9 @@
 //! Reads the words of a line, with the quoting of redis-cli.
 
-ghost use Rattle.std.specs.Prelude.{◌≡◌, ◌≤◌, ◌<◌, ◌++◌, [], ◌∷◌, ℕ, List, true, length, IfNone, IfOk, IfSome, IsSome, OnOk};
+ghost use Rattle.std.specs.Prelude.{◌≡◌, ◌≢◌, ◌≤◌, ◌<◌, ◌++◌, [], ◌∷◌, ℕ, List, true, length, IfErr, IfNone, IfOk, IfSome, IsSome, OnOk};
 ghost use Rattle.std.specs.List.{AllByRecursion};
 ghost use Rattle.resp_value.specs.Words.{texts_of};
-ghost use Rattle.resp_ask.specs.Lines.{AreWords, EndsBare, EndsWord, FollowsSpaces, IfEnded, IsHexPair, IsWord, ReadsDouble, ReadsDoubleByte, ReadsSingle, ReadsSingleByte, StartsWord, escaped, hex_value, is_bare, is_space};
+ghost use Rattle.resp_ask.specs.Lines.{AreWords, EndsBare, EndsWord, FollowsSpaces, IfEnded, IsHexPair, IsWord, ReadsDouble, ReadsDoubleByte, ReadsSingle, ReadsSingleByte, StartsWord, UnlessEnded, escaped, hex_value, is_bare, is_space};
 
 use std::alloc::{AllocError, Global};
 use thiserror::Error;
@@ -114,6 +114,8 @@ fn hex_byte(text: &[u8]) -> Option<u8>
 /// at the closing quote, at the end of the text, and at a backslash that ends the text.
 fn double_byte(text: &[u8]) -> Option<(u8, &[u8])>
     ensures read { IfSome result (λ read. ReadsDoubleByte read.0 text.now read.1.now) }
+    ensures none { IfNone result ((byte : ℕ) (rest : List ℕ) →
+        ReadsDoubleByte byte text.now rest → ⊥) }
     ensures shorter { IfSome result (λ read. length read.1.now < length text.now) }
 {
     let (byte, beyond) = text.split_first()?;
@@ -134,6 +136,8 @@ fn double_byte(text: &[u8]) -> Option<(u8, &[u8])>
 /// at the closing quote and at the end of the text.
 fn single_byte(text: &[u8]) -> Option<(u8, &[u8])>
     ensures read { IfSome result (λ read. ReadsSingleByte read.0 text.now read.1.now) }
+    ensures none { IfNone result ((byte : ℕ) (rest : List ℕ) →
+        ReadsSingleByte byte text.now rest → ⊥) }
     ensures shorter { IfSome result (λ read. length read.1.now < length text.now) }
 {
     let (byte, beyond) = text.split_first()?;
@@ -152,6 +156,10 @@ fn read_double<'a>(text: &'a [u8], word: &mut Vec<u8>) -> Result<Option<&'a [u8]
     ensures closed { IfOk result (λ after. IfSome after (λ rest. (content : List ℕ) ×
         (word.new.items ≡ word.old.items ++ content) ×
         ReadsDouble content text.now rest.now)) }
+    ensures only { IfOk result (λ after. IfSome after (λ rest. (content end : List ℕ) →
+        ReadsDouble content text.now end → end ≡ rest.now)) }
+    ensures open { IfOk result (λ after. IfNone after ((content end : List ℕ) →
+        ReadsDouble content text.now end → ⊥)) }
     ensures shorter { IfOk result (λ after. IfSome after (λ rest.
         length rest.now < length text.now)) }
 {
@@ -160,10 +168,13 @@ fn read_double<'a>(text: &'a [u8], word: &mut Vec<u8>) -> Result<Option<&'a [u8]
         word.push(byte)?;
         rest = after;
     }
-    match rest.split_first() {
-        Some((b'"', after)) => Ok(Some(after)),
-        _ => Ok(None),
+    let Some((byte, after)) = rest.split_first() else {
+        return Ok(None);
+    };
+    if *byte == b'"' {
+        return Ok(Some(after));
     }
+    Ok(None)
 }
 
 /// Appends the text in single quotes up to the closing quote, and returns the bytes after the quote,
@@ -172,6 +183,10 @@ fn read_single<'a>(text: &'a [u8], word: &mut Vec<u8>) -> Result<Option<&'a [u8]
     ensures closed { IfOk result (λ after. IfSome after (λ rest. (content : List ℕ) ×
         (word.new.items ≡ word.old.items ++ content) ×
         ReadsSingle content text.now rest.now)) }
+    ensures only { IfOk result (λ after. IfSome after (λ rest. (content end : List ℕ) →
+        ReadsSingle content text.now end → end ≡ rest.now)) }
+    ensures open { IfOk result (λ after. IfNone after ((content end : List ℕ) →
+        ReadsSingle content text.now end → ⊥)) }
     ensures shorter { IfOk result (λ after. IfSome after (λ rest.
         length rest.now < length text.now)) }
 {
@@ -180,10 +195,13 @@ fn read_single<'a>(text: &'a [u8], word: &mut Vec<u8>) -> Result<Option<&'a [u8]
         word.push(byte)?;
         rest = after;
     }
-    match rest.split_first() {
-        Some((b'\'', after)) => Ok(Some(after)),
-        _ => Ok(None),
+    let Some((byte, after)) = rest.split_first() else {
+        return Ok(None);
+    };
+    if *byte == b'\'' {
+        return Ok(Some(after));
     }
+    Ok(None)
 }
 
 /// The end of a word.
@@ -203,6 +221,10 @@ fn read_word<'a>(text: &'a [u8], word: &mut Vec<u8>) -> Result<WordEnd<'a>, Allo
     requires empty { word.old.items ≡ [] }
     requires begins { StartsWord text.now }
     ensures ended { IfOk result (IfEnded (IsWord word.new.items text.now)) }
+    ensures only { IfOk result (IfEnded (λ rest. (other end : List ℕ) →
+        IsWord other text.now end → end ≡ rest)) }
+    ensures none { IfOk result (UnlessEnded ((other end : List ℕ) →
+        IsWord other text.now end → ⊥)) }
 {
     let rest = read_bare(text, word)?;
     let open = text.len().saturating_sub(rest.len());
@@ -226,6 +248,8 @@ fn word_end(after: Option<&[u8]>, open: usize) -> WordEnd<'_>
     ensures closed { IfSome after.entry (λ bytes. IfEnded (λ rest. (rest ≡ bytes.now) × EndsWord rest)
         result) }
     ensures open { IfNone after.entry (IfEnded (λ _. ⊥) result) }
+    ensures glued { IfSome after.entry (λ bytes.
+        UnlessEnded (EndsWord bytes.now → ⊥) result) }
 {
     let Some(after) = after else {
         return WordEnd::Open(open);
@@ -244,7 +268,9 @@ fn word_end(after: Option<&[u8]>, open: usize) -> WordEnd<'_>
 
 /// Appends a word.
 fn push_word(words: &mut Vec<Vec<u8>>, word: Vec<u8>) -> Result<(), LineError>
-    ensures { OnOk result (texts_of words.new.items ≡ texts_of words.old.items ++ word.items ∷ []) }
+    ensures pushed { OnOk result (texts_of words.new.items ≡
+        texts_of words.old.items ++ word.items ∷ []) }
+    ensures memory { IfErr result (λ error. error ≡ LineError.Memory) }
 {
     match words.push(word) {
         Ok(()) => Ok(()),
@@ -265,6 +291,8 @@ fn push_word(words: &mut Vec<Vec<u8>>, word: Vec<u8>) -> Result<(), LineError>
 /// - [`LineError::Memory`] if an allocation fails.
 pub fn words_of(alloc: Global, line: &[u8]) -> Result<Vec<Vec<u8>>, LineError>
     ensures words { IfOk result (λ words. AreWords (texts_of words.items) line.now) }
+    ensures no_words { IfErr result (λ error. error ≢ LineError.Memory →
+        (words : List (List ℕ)) → AreWords words line.now → ⊥) }
 {
     let mut words = Vec::new(alloc);
     let mut rest = without_spaces(line);

@@ -6,6 +6,7 @@ abbrev pub invariant-loop-byte : goal.invariant-loop-byte
 invariant-loop-byte l = record {
   read : (content : List ℕ) × (l.word.items ≡ l.fn.word.items ++ content) ×
       ((more rest : List ℕ) → ReadsSingle more l.rest rest → ReadsSingle (content ++ more) l.fn.text rest);
+  through : (content end : List ℕ) → ReadsSingle content l.fn.text end → (more : List ℕ) × ReadsSingle more l.rest end;
   short : length l.rest ≤ length l.fn.text;
 }
 

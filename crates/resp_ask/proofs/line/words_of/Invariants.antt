@@ -5,7 +5,8 @@ use Rattle.resp_ask.proofs.line.words_of.Given as goal
 
 abbrev pub invariant-loop-rest : goal.invariant-loop-rest
 invariant-loop-rest l = record {
-  read : (after : List ℕ) × FollowsSpaces after l.rest × ((more : List (List ℕ)) → AreWords more after → AreWords (texts_of l.words.items ++ more) l.line);
+  read : (after : List ℕ) × FollowsSpaces after l.rest × ((more : List (List ℕ)) → AreWords more after → AreWords (texts_of l.words.items ++ more) l.line) ×
+      ((words : List (List ℕ)) → AreWords words l.line → (more : List (List ℕ)) × AreWords more after);
   starts : 0 < length l.rest → StartsWord l.rest;
 }
 
