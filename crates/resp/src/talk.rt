@@ -21,9 +21,13 @@ const PIECE: usize = 16_384;
 /// The most bytes of the text of a reply to AUTH or HELLO.
 const MOST_GREETING: usize = 1_048_576;
 
-/// Commands are written once they have this many bytes. Two such texts fit into the buffers of a
-/// connection, so that a write ends even if the server does not read.
-const BATCH: usize = 32_768;
+/// Commands are written once they have this many bytes. They have at most twice as many, unless the
+/// text is that of one long command. Such a text is written only if no other command waits.
+const BATCH: usize = 16_384;
+
+/// The most bytes of a line whose command is written together with others. The text of the command
+/// has less than four times as many.
+const TOGETHER: usize = 4_096;
 
 /// The most input pieces.
 const MOST_PIECES: u64 = 4_000_000_000_000;
@@ -338,11 +342,14 @@ impl<'a, R: Source, W: Sink> Talk<'a, R, W> {
         let mut queued: u64 = 0;
         for _line in 0..u64::MAX {
             let number = lines.number().saturating_add(1);
-            let is_queued = match lines.next_line() {
-                Some(line) => self.queue(alloc, number, line)?,
-                None => return Ok(()),
+            let Some(line) = lines.next_line() else {
+                return Ok(());
             };
-            if is_queued {
+            if queued > 0 && line.len() > TOGETHER {
+                self.write_batch(queued, window, output)?;
+                queued = 0;
+            }
+            if self.queue(alloc, number, line)? {
                 queued = queued.saturating_add(1);
             }
             if queued >= most || self.client.out().len() >= BATCH {
