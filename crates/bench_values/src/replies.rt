@@ -35,7 +35,10 @@ impl Counts {
     #[inline(always)]
     fn walk(&mut self, nodes: &[Node]) {
         let mut rest = nodes;
-        while let Some(first) = rest.first() {
+        for _ in 0..u64::MAX {
+            let Some(first) = rest.first() else {
+                break;
+            };
             self.replies = self.replies.wrapping_add(1);
             rest = rest.get(first.size.max(1)..).unwrap_or_default();
         }
@@ -60,7 +63,10 @@ fn read_text(
     counts: &mut Counts,
 ) {
     let mut rest = text;
-    while !rest.is_empty() {
+    for _ in 0..u64::MAX {
+        if rest.is_empty() {
+            return;
+        }
         let reading = read(Version::Three, limits, rest, nodes, texts);
         if reading.used == 0 {
             return;
