@@ -1,7 +1,7 @@
 # Completions of resp for bash.
 _resp() {
     local word=${COMP_WORDS[COMP_CWORD]} before=${COMP_WORDS[COMP_CWORD - 1]} command=${COMP_WORDS[1]-} options
-    local commands="show check canon loop serve tap ask help"
+    local commands="show check canon loop serve tap proxy ask help"
     local limits="--depth --length --total --items --no-streamed"
     COMPREPLY=()
     if [ "$COMP_CWORD" -eq 1 ]; then
@@ -10,13 +10,17 @@ _resp() {
     fi
     case $before in
     --proto) COMPREPLY=($(compgen -W "2 3" -- "$word")) && return ;;
-    --depth | --length | --total | --items | --piece | --clients | --held | --user | --window) return ;;
+    --depth | --length | --total | --items | --piece | --clients | --held | --user | --window | \
+        --waiting | --unsent | --patience | --report) return ;;
     esac
     case $command in
     show | check | canon) options="-2 -3 --proto $limits --doubles --piece --explain --no-explain -h --help" ;;
     loop) options="--explain --no-explain -h --help" ;;
     serve) options="$limits --clients --held -h --help" ;;
     tap) options="$limits --clients --time --exit-with-output --keep-going --show-passwords -h --help" ;;
+    proxy)
+        options="$limits --clients --waiting --held --unsent --patience --report --local-ping --drain -h --help"
+        ;;
     ask) options="-3 --user --window --count $limits -h --help" ;;
     help) [ "$COMP_CWORD" -ne 2 ] || COMPREPLY=($(compgen -W "$commands" -- "$word")) ;;
     esac

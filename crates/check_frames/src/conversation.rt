@@ -37,10 +37,10 @@ fn send(
 fn receive(frames: &mut Frames, begun: &mut Begun, mux: &mut Mux, piece: &[u8]) -> Result<()> {
     let mut rest = piece;
     while !rest.is_empty() {
-        let Some(used) = take_reply(frames, begun, mux, rest)? else {
+        let Some(reply) = take_reply(frames, begun, mux, rest)? else {
             break;
         };
-        rest = rest.get(used..).unwrap_or_default();
+        rest = rest.get(reply.used..).unwrap_or_default();
     }
     Ok(())
 }
@@ -58,6 +58,7 @@ fn is_right(alloc: Global, cut: usize, server_cut: usize) -> Result<bool> {
     let mut sent = FIRST.to_vec(alloc)?;
     sent.extend_from_slice(SECOND)?;
     let is_sent = mux.to_server() == sent.as_slice();
+    mux.sent(mux.to_server().len());
     receive(
         &mut frames,
         &mut of_server,

@@ -64,10 +64,14 @@ pub(crate) fn of_join(alloc: Global) -> Outcome {
     {
         return Outcome::refused(mux.to_server().is_empty() && mux.waiting() == 0);
     }
+    mux.sent(mux.to_server().len());
     for piece in PIECES {
         match take_reply(&mut frames, &mut of_server, &mut mux, piece) {
             Ok(None) => {}
-            Ok(Some(used)) => return Outcome::of(used == 4 && mux.to_client(who) == Some(TEXT)),
+            Ok(Some(reply)) => {
+                let is_right = reply.used == 4 && reply.client == who;
+                return Outcome::of(is_right && mux.to_client(who) == Some(TEXT));
+            }
             Err(
                 ReplyError::Frame(FrameError::OutOfMemory)
                 | ReplyError::Answer(AnswerError::OutOfMemory),

@@ -74,6 +74,7 @@ pub(crate) fn of_own(alloc: Global) -> Outcome {
         }
     }
     let waits = has(&mux, first, b"") && has(&mux, second, b"");
+    mux.sent(mux.to_server().len());
     match mux.answer(b"+1;") {
         Ok(owner) => {
             let holds = waits && owner == first && has(&mux, first, b"+1;=1;=2;");
@@ -91,6 +92,7 @@ pub(crate) fn of_answer(alloc: Global) -> Outcome {
     let Ok((mut mux, first, second)) = two_clients(alloc) else {
         return Outcome::OutOfMemory;
     };
+    mux.sent(mux.to_server().len());
     match mux.answer(b"+1;") {
         Ok(owner) => Outcome::of(
             owner == first && has(&mux, first, b"+1;") && has(&mux, second, b""),
@@ -110,6 +112,7 @@ pub(crate) fn of_lose(alloc: Global) -> Outcome {
     let Ok((mut mux, first, second)) = two_clients(alloc) else {
         return Outcome::OutOfMemory;
     };
+    mux.sent(mux.to_server().len());
     let lost = mux.lose(b"-lost;");
     let left = mux.waiting();
     let refused = lost.is_err();

@@ -4,6 +4,7 @@
 use crate::outcome::Outcome;
 use resp_mux::OpenError;
 use resp_proxy::{Client, ClientError, Proxy, Settings};
+use resp_value::MemorySink;
 use std::alloc::{AllocError, Global};
 
 const PING: &[u8] = b"*1\r\n$4\r\nPING\r\n";
@@ -67,6 +68,21 @@ pub(crate) fn of_client(alloc: Global) -> Outcome {
     Outcome::of(proxy.waiting() == 1 && !first.is_closing())
 }
 
+/// Returns whether each of these clients was replied to if bytes wait for it.
+fn is_told(alloc: Global, proxy: &mut Proxy, clients: [&Client; 2]) -> Result<bool, AllocError> {
+    let mut told = Vec::new(alloc);
+    while let Some(who) = proxy.next_replied() {
+        told.push(who)?;
+    }
+    let mut is_told = true;
+    for client in clients {
+        let mut writer = MemorySink::new(alloc, 100, 100)?;
+        let _ = proxy.give(client, &mut writer);
+        is_told &= writer.bytes().is_empty() || told.contains(&client.id());
+    }
+    Ok(is_told)
+}
+
 /// A reply, and the loss of the connection while a command waits.
 pub(crate) fn of_server(alloc: Global) -> Outcome {
     let Ok((mut proxy, mut first, mut second)) = two_clients(alloc) else {
@@ -77,6 +93,10 @@ pub(crate) fn of_server(alloc: Global) -> Outcome {
             return Outcome::OutOfMemory;
         }
     }
+    let Ok(mut server) = MemorySink::new(alloc, 100, 100) else {
+        return Outcome::OutOfMemory;
+    };
+    let _ = proxy.send(&mut server);
     let mut refused = proxy.from_server(b"+PONG\r\n+P").is_err();
     if proxy.lose().is_err() {
         refused = true;
@@ -84,7 +104,10 @@ pub(crate) fn of_server(alloc: Global) -> Outcome {
             return Outcome::Wrong;
         }
     }
-    let holds = proxy.waiting() == 0 && proxy.from_client(&mut first, PING).is_ok();
+    let Ok(is_told) = is_told(alloc, &mut proxy, [&first, &second]) else {
+        return Outcome::OutOfMemory;
+    };
+    let holds = is_told && proxy.waiting() == 0 && proxy.from_client(&mut first, PING).is_ok();
     if refused {
         Outcome::refused(holds)
     } else {

@@ -37,6 +37,11 @@ impl Server {
         Ok(())
     }
 
+    /// Returns the number of commands without a reply of which a byte has come.
+    pub(crate) fn begun(&self) -> usize {
+        self.commands.len() + usize::from(!self.begun.is_empty())
+    }
+
     /// Returns the reply to the first command that has none.
     pub(crate) fn reply(&mut self) -> Result<Option<Vec<u8>>, AllocError> {
         let Some(command) = self.commands.pop_front() else {

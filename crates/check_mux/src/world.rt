@@ -46,6 +46,8 @@ struct Events {
     own: u64,
     closed: u64,
     lost: u64,
+    /// Losses after which commands wait for the new connection.
+    kept: u64,
 }
 
 #[derive(Drop)]
@@ -81,6 +83,7 @@ impl World {
                 own: 0,
                 closed: 0,
                 lost: 0,
+                kept: 0,
             },
         })
     }
@@ -99,6 +102,7 @@ impl World {
             && e.own > 100
             && e.closed > 100
             && e.lost > 10
+            && e.kept > 5
     }
 
     fn check(&mut self, holds: bool) {
@@ -201,8 +205,7 @@ impl World {
     /// The server replies to its first command.
     fn reply(&mut self) -> Result<()> {
         let Some(reply) = self.server.reply()? else {
-            let unasked = self.waiting.is_empty();
-            if unasked {
+            if self.server.begun() == 0 {
                 let refused = self.mux.answer(b"+nobody;") == Err(AnswerError::Unasked);
                 self.check(refused);
             }
@@ -272,18 +275,30 @@ impl World {
         }
     }
 
-    /// The connection to the server is lost, and a new one begins.
+    /// The connection to the server is lost. The commands of which a byte was sent are answered, and
+    /// the others wait for a new connection.
     fn lose(&mut self) -> Result<()> {
         self.mux.lose(LOST)?;
-        self.server = Server::new(self.alloc);
-        while let Some(command) = self.waiting.pop_front() {
-            self.record(command, LOST)?;
+        for _ in 0..self.server.begun() {
+            if let Some(command) = self.waiting.pop_front() {
+                self.record(command, LOST)?;
+            }
         }
+        self.server = Server::new(self.alloc);
         for seat in 0..self.seats.len() {
             self.compare(seat)?;
         }
-        let is_empty = self.mux.waiting() == 0 && self.mux.to_server().is_empty();
-        self.check(is_empty);
+        let mut left = String::new(self.alloc);
+        for command in &self.waiting {
+            write!(left, "{},{};", command.seat, command.index)?;
+        }
+        if !self.waiting.is_empty() {
+            self.events.kept += 1;
+        }
+        let is_left = self.mux.waiting() == self.waiting.len()
+            && self.mux.begun() == 0
+            && self.mux.to_server() == left.as_bytes();
+        self.check(is_left);
         self.events.lost += 1;
         Ok(())
     }

@@ -31,6 +31,11 @@ pub(crate) struct Proxying {
     proxy: Proxy,
     seats: Vec<Seat>,
     sent: Vec<u8>,
+    /// The numbers of the clients that were replied to by the last row of the server, in order. A
+    /// client that was closed has number 0.
+    told: Vec<u64>,
+    /// The number of bytes that the server still takes over this connection.
+    takes: usize,
 }
 
 impl Subject for Proxying {
@@ -40,6 +45,8 @@ impl Subject for Proxying {
             proxy: Proxy::new(alloc, Settings::standard())?,
             seats: Vec::new(alloc),
             sent: Vec::new(alloc),
+            told: Vec::new(alloc),
+            takes: MOST,
         })
     }
 
@@ -50,11 +57,14 @@ impl Subject for Proxying {
     fn run(&mut self, name: &str, given: &str, cut: Cut, said: &mut String) -> Result<()> {
         match name {
             "proxy" => self.renew(given)?,
+            "local-ping" => self.ping_locally()?,
             "client" => self.hear_client(given, cut)?,
             "server" => self.hear_server(given, cut, said)?,
             "end" => self.end(given)?,
             "close" => self.close(given)?,
-            "lose" => self.proxy.lose()?,
+            "lose" => self.lose(said)?,
+            "takes" => self.takes = number(given)? as usize,
+            "told" => self.say_told(said)?,
             _ => bail!("an unknown row"),
         }
         self.settle()?;
@@ -71,6 +81,17 @@ impl Proxying {
             waiting: waiting.parse()?,
             held: held.parse()?,
             unsent: unsent.parse()?,
+            ..Settings::standard()
+        };
+        self.proxy = Proxy::new(self.alloc, settings)?;
+        self.seats.clear();
+        Ok(())
+    }
+
+    /// `local-ping` begins a proxy that itself replies to PING.
+    fn ping_locally(&mut self) -> Result<()> {
+        let settings = Settings {
+            local_ping: true,
             ..Settings::standard()
         };
         self.proxy = Proxy::new(self.alloc, settings)?;
@@ -151,9 +172,49 @@ impl Proxying {
         for piece in pieces(self.alloc, text.as_slice(), cut)? {
             if let Err(error) = self.proxy.from_server(piece) {
                 writeln!(said, "server: {error}")?;
-                return Ok(());
+                break;
             }
         }
+        self.ask_told(said)
+    }
+
+    /// `lose`: the connection to the server is lost.
+    fn lose(&mut self, said: &mut String) -> Result<()> {
+        self.proxy.lose()?;
+        self.takes = MOST;
+        self.ask_told(said)
+    }
+
+    /// Asks which clients were replied to, and gives them their bytes. No bytes wait for the others.
+    fn ask_told(&mut self, said: &mut String) -> Result<()> {
+        self.told.clear();
+        while let Some(id) = self.proxy.next_replied() {
+            let mut told = 0;
+            for seat in &self.seats {
+                if seat.client.id() == id {
+                    told = seat.number;
+                }
+            }
+            self.told.push(told)?;
+        }
+        for seat in &mut self.seats {
+            let mut writer = MemorySink::new(self.alloc, MOST, MOST)?;
+            let _ = self.proxy.give(&seat.client, &mut writer);
+            if !writer.bytes().is_empty() && !self.told.contains(&seat.number) {
+                writeln!(said, "client {} was not told", seat.number)?;
+            }
+            seat.got.extend_from_slice(writer.bytes())?;
+        }
+        Ok(())
+    }
+
+    /// `told`: prints which clients the last row of the server replied to.
+    fn say_told(&self, said: &mut String) -> Result<()> {
+        write!(said, "told")?;
+        for number in &self.told {
+            write!(said, " {number}")?;
+        }
+        writeln!(said)?;
         Ok(())
     }
 
@@ -183,8 +244,9 @@ impl Proxying {
     }
 
     fn write(&mut self) -> Result<()> {
-        let mut server = MemorySink::new(self.alloc, MOST, MOST)?;
+        let mut server = MemorySink::new(self.alloc, MOST, self.takes)?;
         let _ = self.proxy.send(&mut server);
+        self.takes = self.takes.saturating_sub(server.bytes().len());
         self.sent.extend_from_slice(server.bytes())?;
         for seat in &mut self.seats {
             let mut writer = MemorySink::new(self.alloc, MOST, MOST)?;

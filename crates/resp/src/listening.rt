@@ -1,21 +1,26 @@
-//! The commands `serve` and `tap`, which listen on an address for clients.
+//! The commands `serve`, `tap` and `proxy`, which listen on an address for clients.
 
+use resp_args::proxying::{ProxyOptions, Proxying};
 use resp_args::serving::Serving;
 use resp_args::tapping::Tapping;
 use resp_args::tool_error::ToolError;
 use resp_args::words::{refuse_file, stop};
 use resp_print::live::LiveSink;
 use resp_print::text::write_text;
-use resp_serve::{AfterFailure, Server, Settings, Window};
+use resp_serve::{AfterFailure, ProxyServer, ProxySettings, Server, Settings, Window};
 use resp_value::device::Sink;
 use std::alloc::{AllocError, Global};
 use std::hash::RandomState;
-use std::io;
 use std::io::ErrorKind;
 use std::net::SocketAddr;
+use std::time::Duration;
+use std::{env, io};
 
 /// The exit status after a failed device.
 const DEVICE_FAILED: u8 = 3;
+
+/// The environment variable with the password of the server.
+const PASSWORD: &str = "RESP_PASSWORD";
 
 /// Why the program stops listening for clients.
 #[derive(Drop)]
@@ -123,6 +128,82 @@ fn tap<W: LiveSink>(
     match window.run(rt, writer) {
         Err(error) if error.kind() == ErrorKind::WriteZero => Err(ToolError::Write.into()),
         ended => Ok(ended?),
+    }
+}
+
+/// Runs the proxy between clients and the server in the words. Returns the status if that fails.
+pub fn run_proxy<W: LiveSink, F: Sink>(
+    rt: &HostRuntime,
+    proxying: &Proxying<'_>,
+    writer: &mut W,
+    faults: &mut F,
+) -> Result<u8, AllocError> {
+    match proxy(rt, proxying, writer) {
+        Ok(()) => Ok(0),
+        Err(error) => refuse(rt.alloc(), proxying.address_text, &error, faults),
+    }
+}
+
+/// Runs the proxy between clients and a server until that fails.
+fn proxy<W: LiveSink>(
+    rt: &HostRuntime,
+    proxying: &Proxying<'_>,
+    writer: &mut W,
+) -> Result<(), ListenError> {
+    let alloc = rt.alloc();
+    let settings = settings_of(&proxying.options);
+    let Ok(login) = login_of(rt) else {
+        return Err(ToolError::Memory.into());
+    };
+    let mut server = ProxyServer::listen(
+        rt,
+        alloc,
+        proxying.address,
+        proxying.server,
+        login,
+        settings,
+    )?;
+    write_listening(alloc, server.address()?, writer)?;
+    if writer.flush().is_err() {
+        return Err(ToolError::Write.into());
+    }
+    Ok(server.run(rt, rt.stdin(), writer)?)
+}
+
+/// Returns the command AUTH with the password of the environment, or no byte if there is no password.
+fn login_of(rt: &HostRuntime) -> Result<Vec<u8>, AllocError> {
+    let alloc = rt.alloc();
+    let Ok(password) = env::var(rt, PASSWORD) else {
+        return Ok(Vec::new(alloc));
+    };
+    let word = password.as_str();
+    let command = format!(in alloc; "*2\r\n$4\r\nAUTH\r\n${}\r\n{word}\r\n", word.len())?;
+    Ok(command.into_bytes())
+}
+
+/// Returns the time between two reports of this many seconds, or `None` for 0.
+fn report_of(seconds: u64) -> Option<Duration> {
+    if seconds == 0 {
+        None
+    } else {
+        Some(Duration::from_secs(seconds))
+    }
+}
+
+/// Returns the settings that the options of `proxy` ask for.
+fn settings_of(options: &ProxyOptions) -> ProxySettings {
+    ProxySettings {
+        proxy: resp_proxy::Settings {
+            limits: options.limits,
+            waiting: options.waiting,
+            held: options.held,
+            unsent: options.unsent,
+            local_ping: options.local_ping,
+        },
+        most: options.clients,
+        patience: Duration::from_millis(options.patience),
+        report: report_of(options.report),
+        drains: options.drains,
     }
 }
 

@@ -1,6 +1,6 @@
 //! The program `resp`. It shows, checks and rewrites streams of the Redis wire protocol, plays
-//! scripts of several clients of one server, serves clients, and prints what passes between clients
-//! and a server.
+//! scripts of several clients of one server, serves clients, prints what passes between clients and
+//! a server, and shares one connection to a server among many clients.
 #![tactic(auto)]
 
 mod asking;
@@ -14,7 +14,7 @@ ghost use Rattle.std.specs.Prelude.{◌≤◌};
 
 use asking::run_ask;
 use input::read_input;
-use listening::{run_serve, run_tap};
+use listening::{run_proxy, run_serve, run_tap};
 use output::Output;
 use resp_args::asked::Asked;
 use resp_args::options::{Options, STANDARD_INPUT};
@@ -106,6 +106,7 @@ fn run_words<W: LiveSink, F: Sink>(
         }
         Ok(Asked::Serve(serving)) => run_serve(rt, &serving, writer, faults),
         Ok(Asked::Tap(tapping)) => run_tap(rt, &tapping, writer, faults),
+        Ok(Asked::Proxy(proxying)) => run_proxy(rt, &proxying, writer, faults),
         Ok(Asked::Ask(asking)) => run_ask(rt, &asking, writer, faults),
         Err(status) => Ok(status),
     }

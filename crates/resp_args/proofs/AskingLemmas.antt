@@ -10,7 +10,7 @@ use Rattle.clap.specs.declared.parser.matches.ArgMatches.{ArgMatches}
 use Rattle.clap.specs.declared.parser.matches.Found.{Found}
 use Rattle.clap.proofs.OnLiterals.{clap_on_literals}
 use Rattle.clap.proofs.WalkLemmas.{one_text-rows}
-use Rattle.resp_args.specs.CommandWords.{AnswersSort, AnswersStatus, AskFor, Enters, IsOfSort, FindsWords, HasAsking, HasFlag, HasNumber, HasPort, HasReading, HasServing, HasTapping, IsAddressText, IsAsked, IsLocalPort, flag_text, task_word}
+use Rattle.resp_args.specs.CommandWords.{AnswersSort, AnswersStatus, AskFor, Enters, IsOfSort, FindsWords, HasAsking, HasFlag, HasNumber, HasPort, HasProxying, HasReading, HasServing, HasTapping, IsAddressText, IsAsked, IsLocalPort, flag_text, task_word}
 use Rattle.resp_args.specs.Faults.{IsWordStatus}
 use Rattle.std.specs.Str.{bytes_eq}
 use Rattle.std.specs.Prelude.{if◌then◌else◌}
@@ -22,10 +22,11 @@ use Rattle.std.specs.declared.net.socket_addr.SocketAddr.{SocketAddr}
 use Rattle.clap.specs.declared.builder.value_parser.ValueParser.TheVariants as vp
 use Rattle.resp_value.specs.declared.version.Version.{Version}
 use Rattle.resp_args.specs.declared.asked.Asked.{Asked}
-use Rattle.resp_args.specs.declared.asked.Asked.TheVariants.{Stream, Play, Serve, Tap, Ask}
+use Rattle.resp_args.specs.declared.asked.Asked.TheVariants.{Stream, Play, Serve, Tap, Proxy, Ask}
 use Rattle.resp_args.specs.declared.asking.Asking.{Asking}
 use Rattle.resp_args.specs.declared.options.Task.{Task}
 use Rattle.resp_args.specs.declared.options.Task.TheVariants.{Show, Check, Canon}
+use Rattle.resp_args.specs.declared.proxying.Proxying.{Proxying}
 use Rattle.resp_args.specs.declared.serving.Serving.{Serving}
 use Rattle.resp_args.specs.declared.tapping.Tapping.{Tapping}
 
@@ -138,6 +139,17 @@ no_server given text is none tapping has =
     let same = same_text text server (first_of (codes "server") given) is words.server_text in
     none tapping.server (subst (λ z. IsAddressText z tapping.server) (sym same) to)
 
+pub no_proxy_addresses : (given : List Row) (text text' : Text) → first_of (codes "listen") given ≡ Some text →
+    first_of (codes "server") given ≡ Some text' →
+    ((here there : SocketAddr) → IsAddressText text here → IsAddressText text' there → ⊥) →
+    (proxying : Proxying) → HasProxying given proxying → ⊥
+no_proxy_addresses given text text' is is' none proxying has =
+    let (server, words, listen, to) = has in
+    let same = same_text text proxying.address_text.now (first_of (codes "listen") given) is words.listen_text in
+    let same' = same_text text' server (first_of (codes "server") given) is' words.server_text in
+    none proxying.address proxying.server (subst (λ z. IsAddressText z proxying.address) (sym same) listen)
+    (subst (λ z. IsAddressText z proxying.server) (sym same') to)
+
 pub no_asking : (given : List Row) (text : Text) → first_of (codes "server") given ≡ Some text →
     ((address : SocketAddr) → IsAddressText text address → ⊥) → (asking : Asking) → HasAsking given asking → ⊥
 no_asking given text is none asking has =
@@ -201,7 +213,8 @@ module _ (program : App) (words : List Text) (found : Result ArgMatches Error) (
 -- whether it is that of a task, or which of the others, by its name and by what it is asked for
 abbrev sort_of_word : Text → ℕ
 sort_of_word word = if bytes_eq word (codes "loop") then 1 else if bytes_eq word (codes "serve") then 2 else
-    if bytes_eq word (codes "tap") then 3 else if bytes_eq word (codes "ask") then 4 else 0
+    if bytes_eq word (codes "tap") then 3 else if bytes_eq word (codes "ask") then 4 else
+    if bytes_eq word (codes "proxy") then 5 else 0
 
 abbrev pub sort_of : Asked → ℕ
 sort_of (Stream options) = 0
@@ -209,6 +222,7 @@ sort_of (Play explains never_explains file) = 1
 sort_of (Serve serving) = 2
 sort_of (Tap tapping) = 3
 sort_of (Ask asking) = 4
+sort_of (Proxy proxying) = 5
 
 sort_of_task : (task : Task) → sort_of_word (task_word task) ≡ 0
 sort_of_task Show = refl
@@ -221,6 +235,7 @@ sort_by_word name given (Play explains never_explains file) is = ap sort_of_word
 sort_by_word name given (Serve serving) is = ap sort_of_word is.0
 sort_by_word name given (Tap tapping) is = ap sort_of_word is.0
 sort_by_word name given (Ask asking) is = ap sort_of_word is.0
+sort_by_word name given (Proxy proxying) is = ap sort_of_word is.0
 
 -- where `tap` can't be asked for what is tapped it can't be asked for anything
 pub no_tapping : (given : List Row) → ((tapping : Tapping) → HasTapping given tapping → ⊥) → (asked : Asked) →
@@ -229,6 +244,15 @@ no_tapping given none asked is = go asked is (sort_by_word (codes "tap") given a
   where
     go : (asked : Asked) → IsAsked (codes "tap") given asked → 3 ≡ sort_of asked → ⊥
     go (Tap tapping) is sort = none tapping is.1
+    go other is sort = omega arith
+
+-- where `proxy` can't be asked for a proxy it can't be asked for anything
+pub no_proxying : (given : List Row) → ((proxying : Proxying) → HasProxying given proxying → ⊥) → (asked : Asked) →
+    IsAsked (codes "proxy") given asked → ⊥
+no_proxying given none asked is = go asked is (sort_by_word (codes "proxy") given asked is)
+  where
+    go : (asked : Asked) → IsAsked (codes "proxy") given asked → 5 ≡ sort_of asked → ⊥
+    go (Proxy proxying) is sort = none proxying is.1
     go other is sort = omega arith
 
 -- where `ask` can't be asked for what is sent it can't be asked for anything
@@ -285,6 +309,7 @@ of_sort (Play a f n) (Play b g m) same = tt
 of_sort (Serve a) (Serve b) same = tt
 of_sort (Tap a) (Tap b) same = tt
 of_sort (Ask a) (Ask b) same = tt
+of_sort (Proxy a) (Proxy b) same = tt
 of_sort (Stream a) (Play b g m) same = absurd (omega (arith, same))
 of_sort (Stream a) (Serve b) same = absurd (omega (arith, same))
 of_sort (Stream a) (Tap b) same = absurd (omega (arith, same))
@@ -305,6 +330,16 @@ of_sort (Ask a) (Stream b) same = absurd (omega (arith, same))
 of_sort (Ask a) (Play b g m) same = absurd (omega (arith, same))
 of_sort (Ask a) (Serve b) same = absurd (omega (arith, same))
 of_sort (Ask a) (Tap b) same = absurd (omega (arith, same))
+of_sort (Stream a) (Proxy b) same = absurd (omega (arith, same))
+of_sort (Play a f n) (Proxy b) same = absurd (omega (arith, same))
+of_sort (Serve a) (Proxy b) same = absurd (omega (arith, same))
+of_sort (Tap a) (Proxy b) same = absurd (omega (arith, same))
+of_sort (Ask a) (Proxy b) same = absurd (omega (arith, same))
+of_sort (Proxy a) (Stream b) same = absurd (omega (arith, same))
+of_sort (Proxy a) (Play b g m) same = absurd (omega (arith, same))
+of_sort (Proxy a) (Serve b) same = absurd (omega (arith, same))
+of_sort (Proxy a) (Tap b) same = absurd (omega (arith, same))
+of_sort (Proxy a) (Ask b) same = absurd (omega (arith, same))
 
 by_status : (status : ℕ) → IsWordStatus status → (status ≡ 0 → ⊥) → (status ≡ 2 → ⊥) → status ≡ 3
 by_status status (inl zero') none two = absurd (none zero')

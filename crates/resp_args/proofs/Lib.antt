@@ -1,4 +1,5 @@
 pub mod Tried
 pub mod CommandLemmas
+pub mod TaskLemmas
 pub mod AskingLemmas
 pub mod CommandExamples

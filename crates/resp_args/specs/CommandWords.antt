@@ -17,12 +17,14 @@ use Rattle.resp_value.specs.Bounds.{AreBounds, Bounds}
 use Rattle.resp_value.specs.declared.version.Version.{Version}
 use Rattle.resp_value.specs.declared.version.Version.TheVariants.{Two, Three}
 use Rattle.resp_args.specs.declared.asked.Asked.{Asked}
-use Rattle.resp_args.specs.declared.asked.Asked.TheVariants.{Stream, Play, Serve, Tap, Ask}
+use Rattle.resp_args.specs.declared.asked.Asked.TheVariants.{Stream, Play, Serve, Tap, Proxy, Ask}
 use Rattle.resp_args.specs.declared.asking.AskOptions.{AskOptions}
 use Rattle.resp_args.specs.declared.asking.Asking.{Asking}
 use Rattle.resp_args.specs.declared.options.Options.{Options}
 use Rattle.resp_args.specs.declared.options.Task.{Task}
 use Rattle.resp_args.specs.declared.options.Task.TheVariants.{Show, Check, Canon}
+use Rattle.resp_args.specs.declared.proxying.ProxyOptions.{ProxyOptions}
+use Rattle.resp_args.specs.declared.proxying.Proxying.{Proxying}
 use Rattle.resp_args.specs.declared.serving.Serving.{Serving}
 use Rattle.resp_args.specs.declared.tapping.TapOptions.{TapOptions}
 use Rattle.resp_args.specs.declared.tapping.Tapping.{Tapping}
@@ -38,6 +40,10 @@ HasNumber given name number = (text : Text) × (one_of name given ≡ Some text)
 -- the option is this number, which is from 1 to 65,536
 abbrev pub HasSmallNumber : List Row → Text → ℕ → Type 0
 HasSmallNumber given name number = HasNumber given name number × (1 ≤ number) × (number ≤ 65536)
+
+-- the option is this number, which is in this range
+abbrev pub HasNumberBetween : List Row → Text → ℕ → ℕ → ℕ → Type 0
+HasNumberBetween given name least most number = HasNumber given name number × (least ≤ number) × (number ≤ most)
 
 abbrev pub flag_text : Bool → Text
 flag_text on = if on then codes "true" else codes "false"
@@ -149,6 +155,38 @@ HasTapping given tapping = (server_text : Text) ×
     HasTapWords given tapping.address_text.now server_text (tap_options_of tapping) ×
     IsAddressText tapping.address_text.now tapping.address × IsAddressText server_text tapping.server
 
+-- `--patience` in milliseconds and `--report` in seconds, within an hour and a day
+abbrev pub HasProxyTimes : List Row → ℕ × ℕ → Type 0
+HasProxyTimes given times = HasNumberBetween given (codes "patience") 1 3600000 times.0 ×
+    HasNumberBetween given (codes "report") 0 86400 times.1
+
+-- whether `--local-ping` and `--drain` are given
+abbrev pub HasProxyFlags : List Row → Bool × Bool → Type 0
+HasProxyFlags given flags = HasFlag given (codes "local-ping") flags.0 × HasFlag given (codes "drain") flags.1
+
+-- the options of `proxy` that are no address
+pub record HasProxyOptions (given : List Row) (options : ProxyOptions) : Type 0 where
+  pub in_limits : HasLimits given options.limits
+  pub no_doubles : options.limits.doubles ≡ false
+  pub at_once : HasSmallNumber given (codes "clients") options.clients
+  pub unanswered : HasNumberBetween given (codes "waiting") 1 1048576 options.waiting
+  pub for_client : HasNumber given (codes "held") options.held
+  pub for_server : HasNumber given (codes "unsent") options.unsent
+  pub times : HasProxyTimes given (options.patience, options.report)
+  pub flags : HasProxyFlags given (options.local_ping, options.drains)
+
+-- the options of `proxy`, with the texts of its addresses
+pub record HasProxyWords (given : List Row) (address server : Text) (options : ProxyOptions) : Type 0 where
+  pub has : HasProxyOptions given options
+  pub listen_text : first_of (codes "listen") given ≡ Some address
+  pub server_text : first_of (codes "server") given ≡ Some server
+
+-- the options of `proxy`, with its addresses
+abbrev pub HasProxying : List Row → Proxying → Type 0
+HasProxying given proxying = (server_text : Text) ×
+    HasProxyWords given proxying.address_text.now server_text proxying.options ×
+    IsAddressText proxying.address_text.now proxying.address × IsAddressText server_text proxying.server
+
 -- the options of `ask` that are neither the address nor the words
 pub record HasAskOptions (given : List Row) (options : AskOptions) : Type 0 where
   pub three : HasFlag given (codes "three") options.is_three
@@ -180,6 +218,7 @@ IsAsked name given (Play explains never_explains file) = (name ≡ codes "loop")
     (first_of (codes "file") given ≡ Some file.now)
 IsAsked name given (Serve serving) = (name ≡ codes "serve") × HasServing given serving
 IsAsked name given (Tap tapping) = (name ≡ codes "tap") × HasTapping given tapping
+IsAsked name given (Proxy proxying) = (name ≡ codes "proxy") × HasProxying given proxying
 IsAsked name given (Ask asking) = (name ≡ codes "ask") × HasAsking given asking
 
 -- the subcommand that was given asks for this
@@ -191,12 +230,16 @@ Enters (Some entered) asked = IsAsked entered.0 entered.1 asked
 abbrev pub AskFor : App → List Text → Asked → Type 0
 AskFor program words asked = (fault_of program words ≡ []) × Enters (subcommand_of program words) asked
 
--- the size of a read, the most clients at once, or the most commands that wait is from 1 to 65,536
+-- The size of a read, the most clients at once, and the most commands that wait are from 1 to 65,536; for `proxy` a client
+-- has from 1 to 1,048,576 commands that wait, patience ends within an hour, and reports follow one another within a day.
 abbrev pub IsInRange : Asked → Type 0
 IsInRange (Stream options) = (1 ≤ options.piece) × (options.piece ≤ 65536)
 IsInRange (Play explains never_explains file) = Unit {0}
 IsInRange (Serve serving) = (1 ≤ serving.clients) × (serving.clients ≤ 65536)
 IsInRange (Tap tapping) = (1 ≤ tapping.clients) × (tapping.clients ≤ 65536)
+IsInRange (Proxy proxying) = (1 ≤ proxying.options.clients) × (proxying.options.clients ≤ 65536) ×
+    (1 ≤ proxying.options.waiting) × (proxying.options.waiting ≤ 1048576) ×
+    (1 ≤ proxying.options.patience) × (proxying.options.patience ≤ 3600000) × (proxying.options.report ≤ 86400)
 IsInRange (Ask asking) = (1 ≤ asking.options.window) × (asking.options.window ≤ 65536)
 
 -- the words ask for help, or for the version of the program
@@ -218,12 +261,13 @@ FindsWords program words (Ok found) =
     (fault_of program words ≡ []) × (subcommand_rows_of found ≡ subcommand_of program words)
 FindsWords program words (Err error) = HasKind (fault_of program words) error
 
--- both are a stream, a script, a server, a tap, or commands to be sent
+-- both are a stream, a script, a server, a tap, a proxy, or commands to be sent
 abbrev pub IsOfSort : Asked → Asked → Type 0
 IsOfSort (Stream a) (Stream b) = Unit {0}
 IsOfSort (Play a b file) (Play c d file') = Unit {0}
 IsOfSort (Serve a) (Serve b) = Unit {0}
 IsOfSort (Tap a) (Tap b) = Unit {0}
+IsOfSort (Proxy a) (Proxy b) = Unit {0}
 IsOfSort (Ask a) (Ask b) = Unit {0}
 IsOfSort a b = ⊥
 

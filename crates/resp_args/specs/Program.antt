@@ -60,25 +60,29 @@ limit_options =
 abbrev pub file_word : Rule
 file_word = record (new_rule (codes "file")) { value_names = 1; defaults = codes "-" ∷ [] }
 
+-- the options for the version of the protocol, with these versions for `--proto`
+abbrev pub version_options : ValueParser → List Rule
+version_options versions = value_option (codes "proto") versions (codes "2") ∷
+    short_flag_option (codes "two") 50 ∷ short_flag_option (codes "three") 51 ∷ []
+
+-- the file to read, and whether its errors are explained
+abbrev pub explained_file : List Rule
+explained_file = flag_option (codes "explain") ∷ flag_option (codes "no-explain") ∷ file_word ∷ []
+
 -- the options of `show`, `check` and `canon`, with these versions for `--proto`
 abbrev pub stream_options : ValueParser → List Rule
-stream_options versions = value_option (codes "proto") versions (codes "2") ∷
-    short_flag_option (codes "two") 50 ∷ short_flag_option (codes "three") 51 ∷ (limit_options ++
-    flag_option (codes "doubles") ∷
-    number_option (codes "piece") 1 65536 (codes "4096") ∷
-    flag_option (codes "explain") ∷
-    flag_option (codes "no-explain") ∷
-    file_word ∷ [])
+stream_options versions = version_options versions ++ limit_options ++ flag_option (codes "doubles") ∷
+    number_option (codes "piece") 1 65536 (codes "4096") ∷ explained_file
 
 -- the options of `loop`
 abbrev pub loop_options : List Rule
-loop_options = flag_option (codes "explain") ∷ flag_option (codes "no-explain") ∷ file_word ∷ []
+loop_options = explained_file
 
 -- an address, a required argument without a name
 abbrev pub address_word : Text → Rule
 address_word name = record (new_rule name) { value_names = 1; required = true }
 
--- the options of `serve` and `tap`, followed by those that only one of them has
+-- the options of `serve`, `tap` and `proxy`, followed by those that only one of them has
 abbrev pub listening_options : List Rule → List Rule
 listening_options others = limit_options ++ number_option (codes "clients") 1 65536 (codes "1000") ∷ others
 
@@ -93,6 +97,17 @@ tap_options = listening_options
     (flag_option (codes "time") ∷ flag_option (codes "exit-with-output") ∷ flag_option (codes "keep-going") ∷
     flag_option (codes "show-passwords") ∷ address_word (codes "listen") ∷ address_word (codes "server") ∷ [])
 
+-- the options of `proxy`
+abbrev pub proxy_options : List Rule
+proxy_options = listening_options
+    (number_option (codes "waiting") 1 1048576 (codes "1024") ∷
+    number_option (codes "held") 1 1099511627776 (codes "1048576") ∷
+    number_option (codes "unsent") 1 1099511627776 (codes "1048576") ∷
+    number_option (codes "patience") 1 3600000 (codes "5000") ∷
+    number_option (codes "report") 0 86400 (codes "0") ∷
+    flag_option (codes "local-ping") ∷ flag_option (codes "drain") ∷
+    address_word (codes "listen") ∷ address_word (codes "server") ∷ [])
+
 -- `--name VALUE`, an option with any value and without a default
 abbrev pub name_option : Text → Rule
 name_option name = record (new_rule name) { long = Some name; value_names = 1 }
@@ -105,11 +120,14 @@ command_word = record (new_rule (codes "words")) {
   trailing_var_arg = true;
 }
 
+-- the options of `ask` that do not limit values
+abbrev pub asking_options : List Rule
+asking_options = short_flag_option (codes "three") 51 ∷ name_option (codes "user") ∷
+    number_option (codes "window") 1 65536 (codes "1000") ∷ flag_option (codes "count") ∷ []
+
 -- the options of `ask`
 abbrev pub ask_options : List Rule
-ask_options = short_flag_option (codes "three") 51 ∷ name_option (codes "user") ∷
-    number_option (codes "window") 1 65536 (codes "1000") ∷ flag_option (codes "count") ∷ (limit_options ++
-    address_word (codes "server") ∷ command_word ∷ [])
+ask_options = asking_options ++ limit_options ++ address_word (codes "server") ∷ command_word ∷ []
 
 -- ---- subcommands
 
@@ -128,13 +146,14 @@ bare_app = on_top (λ top. record top { has_version = true; subcommand_required 
 -- the whole program, with these versions for `--proto`
 abbrev pub resp_app : ValueParser → App
 resp_app versions = with_subcommand (with_subcommand (with_subcommand (with_subcommand (with_subcommand
-    (with_subcommand (with_subcommand bare_app
+    (with_subcommand (with_subcommand (with_subcommand bare_app
     (task_shape (codes "show") (stream_options versions)))
     (task_shape (codes "check") (stream_options versions)))
     (task_shape (codes "canon") (stream_options versions)))
     (task_shape (codes "loop") loop_options))
     (task_shape (codes "serve") serve_options))
     (task_shape (codes "tap") tap_options))
+    (task_shape (codes "proxy") proxy_options))
     (task_shape (codes "ask") ask_options)
 
 -- the versions are 2 and 3, and nothing else

@@ -6,6 +6,7 @@ ghost use Rattle.resp_args.specs.CommandWords.{Enters, IsAsked, task_word};
 
 use crate::asking::{Asking, asking_of};
 use crate::options::{Options, Task, flag_of, options_of, text_of};
+use crate::proxying::{Proxying, proxying_of};
 use crate::serving::{Serving, serving_of};
 use crate::tapping::{Tapping, tapping_of};
 use clap::ArgMatches;
@@ -34,6 +35,8 @@ pub enum Asked<'a> {
     Serve(Serving<'a>),
     /// Forward connections: `tap`.
     Tap(Tapping<'a>),
+    /// Share one connection to a server: `proxy`.
+    Proxy(Proxying<'a>),
     /// Send commands: `ask`.
     Ask(Asking<'a>),
 }
@@ -109,6 +112,7 @@ fn asked_by<'a>(
         "loop" => play_of(given),
         "serve" => serve_of(given),
         "tap" => tap_of(given),
+        "proxy" => proxy_of(given),
         "ask" => ask_of(alloc, given),
         _ => Err(NothingAsked::OtherWords),
     }
@@ -164,6 +168,18 @@ fn tap_of<'a>(given: &ArgMatches<'a>) -> Result<Asked<'a>, NothingAsked<'a>>
 {
     match tapping_of(given) {
         Ok(tapping) => Ok(Asked::Tap(tapping)),
+        Err(nothing) => Err(nothing),
+    }
+}
+
+/// Returns what `proxy` with these options asks for.
+fn proxy_of<'a>(given: &ArgMatches<'a>) -> Result<Asked<'a>, NothingAsked<'a>>
+    ensures ok { IfOk result (IsAsked (codes "proxy") (rows_of (found_of given.now))) }
+    ensures err { OnErr result ((asked : Asked)
+        → IsAsked (codes "proxy") (rows_of (found_of given.now)) asked → ⊥) }
+{
+    match proxying_of(given) {
+        Ok(proxying) => Ok(Asked::Proxy(proxying)),
         Err(nothing) => Err(nothing),
     }
 }

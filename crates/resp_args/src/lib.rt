@@ -9,6 +9,8 @@ pub mod asking;
 pub mod laws;
 pub mod options;
 mod parser;
+mod proxy_command;
+pub mod proxying;
 pub mod serving;
 pub mod tapping;
 pub mod tool_error;

@@ -1,19 +1,20 @@
 //! The parser of the command line: the subcommands of the program with their options and their
 //! help.
 
-ghost use Rattle.std.specs.Prelude.{◌≡◌, false, [], ◌∷◌, codes, map};
+ghost use Rattle.std.specs.Prelude.{◌≡◌, ◌⊎◌, false, [], ◌∷◌, codes, map, Err, IfErr, IfOk, Ok};
 ghost use Rattle.clap.specs.Words.{App, Rule, new_app, rule_of, with_rule, with_subcommand};
 ghost use Rattle.clap.specs.declared.builder.value_parser.ValueParser.TheVariants as vp;
 ghost use Rattle.resp_args.specs.CommandWords.{FindsWords};
-ghost use Rattle.resp_args.specs.Program.{IsProgram, MakesTask, address_word, ask_options, bare_app, command_word, file_word, flag_option, limit_options, loop_options, name_option, numbers_between, resp_app, serve_options, short_flag_option, stream_options, tap_options, value_option, with_options};
+ghost use Rattle.resp_args.specs.Program.{IsProgram, MakesTask, address_word, ask_options, asking_options, bare_app, command_word, explained_file, file_word, flag_option, limit_options, loop_options, name_option, numbers_between, resp_app, serve_options, short_flag_option, stream_options, tap_options, value_option, version_options, with_options};
 
 use crate::options::STANDARD_INPUT;
+use crate::proxy_command::proxy_task;
 use clap::{Arg, ArgAction, ArgMatches, Command};
 use std::alloc::Global;
 use std::convert::AsStr;
 
 /// The greatest limit of total, of items and of held bytes.
-const MOST_TOTAL: i64 = 1_099_511_627_776;
+pub(crate) const MOST_TOTAL: i64 = 1_099_511_627_776;
 
 /// The values of `--proto`.
 const VERSIONS: &[&str] = &["2", "3"];
@@ -98,13 +99,13 @@ Exit status:
 
 /// An option with a number in a range.
 #[derive(Clone, Copy)]
-struct NumberOption {
-    name: &'static str,
-    help: &'static str,
-    least: i64,
-    most: i64,
-    default: &'static str,
-    hides_default: bool,
+pub(crate) struct NumberOption {
+    pub(crate) name: &'static str,
+    pub(crate) help: &'static str,
+    pub(crate) least: i64,
+    pub(crate) most: i64,
+    pub(crate) default: &'static str,
+    pub(crate) hides_default: bool,
 }
 
 /// `--depth`: the limit of depth, in aggregates inside one another.
@@ -158,7 +159,7 @@ const PIECE: NumberOption = NumberOption {
 };
 
 /// `--clients`: the most clients at once.
-const CLIENTS: NumberOption = NumberOption {
+pub(crate) const CLIENTS: NumberOption = NumberOption {
     name: "clients",
     help: "Maximum clients at once, 1 to 65536",
     least: 1,
@@ -189,7 +190,7 @@ const WINDOW: NumberOption = NumberOption {
 
 impl NumberOption {
     /// Returns the option for the parser, which rejects a number outside the range.
-    fn option<'a>(self, alloc: Global) -> Arg<'a>
+    pub(crate) fn option<'a>(self, alloc: Global) -> Arg<'a>
         ensures rule { rule_of result ≡ value_option self.name.now
             (numbers_between self.least self.most) self.default.now }
         ensures here { result.global ≡ false }
@@ -244,6 +245,7 @@ fn program<'a>(alloc: Global, versions: &'a [&'a str]) -> Result<Command<'a>, cl
     let program = with_subcommand(program, loop_task(alloc));
     let program = with_subcommand(program, serve_task(alloc));
     let program = with_subcommand(program, tap_task(alloc));
+    let program = with_subcommand(program, proxy_task(alloc));
     with_subcommand(program, ask_task(alloc))
 }
 
@@ -255,11 +257,23 @@ fn with_subcommand<'a>(
     ensures { (app task : App) → MakesTask app program.entry → MakesTask task subcommand.entry →
         MakesTask (with_subcommand app task.top) result }
 {
-    Ok(program?.subcommand(subcommand?)?)
+    let (program, subcommand) = both(program, subcommand)?;
+    Ok(program.subcommand(subcommand)?)
+}
+
+/// Returns both values. Returns the first error if one of them is an error.
+fn both<A: Drop, B: Drop, E: Drop>(first: Result<A, E>, second: Result<B, E>) -> Result<(A, B), E>
+    ensures ok { IfOk result (λ values. (first ≡ Ok values.0) × (second ≡ Ok values.1)) }
+    ensures err { IfErr result (λ error. (first ≡ Err error) ⊎ (second ≡ Err error)) }
+{
+    match (first, second) {
+        (Ok(first), Ok(second)) => Ok((first, second)),
+        (Err(error), _) | (Ok(_), Err(error)) => Err(error),
+    }
 }
 
 /// Adds an option to a subcommand. Returns the error if the subcommand is an error.
-fn with_arg<'a>(
+pub(crate) fn with_arg<'a>(
     subcommand: Result<Command<'a>, clap::Error>,
     arg: Arg<'a>,
 ) -> Result<Command<'a>, clap::Error>
@@ -268,6 +282,46 @@ fn with_arg<'a>(
         MakesTask (with_rule task option) result }
 {
     Ok(subcommand?.arg(arg)?)
+}
+
+/// Adds an option without a value to a subcommand.
+pub(crate) fn with_flag<'a>(
+    alloc: Global,
+    subcommand: Result<Command<'a>, clap::Error>,
+    name: &'a str,
+    help: &'static str,
+) -> Result<Command<'a>, clap::Error>
+    ensures { (task : App) → MakesTask task subcommand.entry →
+        MakesTask (with_rule task (flag_option name.entry.now)) result }
+{
+    with_arg(subcommand, flag(alloc, name, help))
+}
+
+/// Adds an option with a number in a range to a subcommand.
+fn with_number<'a>(
+    alloc: Global,
+    subcommand: Result<Command<'a>, clap::Error>,
+    option: NumberOption,
+) -> Result<Command<'a>, clap::Error>
+    ensures { (task : App) → MakesTask task subcommand.entry →
+        MakesTask (with_rule task (value_option option.name.now
+        (numbers_between option.least option.most) option.default.now)) result }
+{
+    with_arg(subcommand, option.option(alloc))
+}
+
+/// Adds a required argument that is an address to a subcommand.
+fn with_address<'a>(
+    alloc: Global,
+    subcommand: Result<Command<'a>, clap::Error>,
+    name: &'a str,
+    value_name: &'static str,
+    help: &'static str,
+) -> Result<Command<'a>, clap::Error>
+    ensures { (task : App) → MakesTask task subcommand.entry →
+        MakesTask (with_rule task (address_word name.entry.now)) result }
+{
+    with_arg(subcommand, address(alloc, name, value_name, help))
 }
 
 /// Returns the program without its subcommands.
@@ -285,7 +339,7 @@ fn resp<'a>(alloc: Global) -> Result<Command<'a>, clap::Error>
 }
 
 /// Returns a subcommand without options, with a text at the end of its help.
-fn bare_task<'a>(
+pub(crate) fn bare_task<'a>(
     alloc: Global,
     name: &'a str,
     about: &'a str,
@@ -312,17 +366,41 @@ fn stream_task<'a>(
 {
     let why =
         "Says where in the input an error is, and why;\nthe default if standard error is a terminal";
+    let task = bare_task(alloc, name, about, STREAM_HELP);
+    let task = with_versions(alloc, task, versions);
+    let task = with_limits(alloc, task);
+    let task = with_flag(alloc, task, "doubles", "Accepts RESP3 doubles");
+    let task = with_number(alloc, task, PIECE);
+    with_explained_file(alloc, task, why)
+}
+
+/// Adds the options for the version of the protocol to a subcommand.
+fn with_versions<'a>(
+    alloc: Global,
+    subcommand: Result<Command<'a>, clap::Error>,
+    versions: &'a [&'a str],
+) -> Result<Command<'a>, clap::Error>
+    ensures { (task : App) → MakesTask task subcommand.entry →
+        MakesTask (with_options task (version_options (vp.Names versions.entry))) result }
+{
     let two = "Protocol version 2, also with -3";
     let three = "Protocol version 3 with doubles";
-    let task = bare_task(alloc, name, about, STREAM_HELP);
-    let task = with_arg(task, proto(alloc, versions));
+    let task = with_arg(subcommand, proto(alloc, versions));
     let task = with_arg(task, short_flag(alloc, "two", '2', two));
-    let task = with_arg(task, short_flag(alloc, "three", '3', three));
-    let task = with_limits(alloc, task);
-    let task = with_arg(task, flag(alloc, "doubles", "Accepts RESP3 doubles"));
-    let task = with_arg(task, PIECE.option(alloc));
-    let task = with_arg(task, flag(alloc, "explain", why));
-    let task = with_arg(task, flag(alloc, "no-explain", NO_EXPLAIN));
+    with_arg(task, short_flag(alloc, "three", '3', three))
+}
+
+/// Adds the file to read to a subcommand, and whether its errors are explained.
+fn with_explained_file<'a>(
+    alloc: Global,
+    subcommand: Result<Command<'a>, clap::Error>,
+    explain: &'static str,
+) -> Result<Command<'a>, clap::Error>
+    ensures { (task : App) → MakesTask task subcommand.entry →
+        MakesTask (with_options task explained_file) result }
+{
+    let task = with_flag(alloc, subcommand, "explain", explain);
+    let task = with_flag(alloc, task, "no-explain", NO_EXPLAIN);
     with_arg(task, file(alloc))
 }
 
@@ -335,9 +413,7 @@ fn loop_task<'a>(alloc: Global) -> Result<Command<'a>, clap::Error>
     let why =
         "Says why a line of the script is wrong;\nthe default if standard error is a terminal";
     let task = bare_task(alloc, "loop", about, LOOP_HELP);
-    let task = with_arg(task, flag(alloc, "explain", why));
-    let task = with_arg(task, flag(alloc, "no-explain", NO_EXPLAIN));
-    with_arg(task, file(alloc))
+    with_explained_file(alloc, task, why)
 }
 
 /// Returns the subcommand `serve`.
@@ -348,9 +424,9 @@ fn serve_task<'a>(alloc: Global) -> Result<Command<'a>, clap::Error>
     let listen = "Address to listen on, such as 127.0.0.1:6380";
     let task = bare_task(alloc, "serve", about, SERVE_HELP);
     let task = with_limits(alloc, task);
-    let task = with_arg(task, CLIENTS.option(alloc));
-    let task = with_arg(task, HELD.option(alloc));
-    with_arg(task, address(alloc, "address", "ADDRESS", listen))
+    let task = with_number(alloc, task, CLIENTS);
+    let task = with_number(alloc, task, HELD);
+    with_address(alloc, task, "address", "ADDRESS", listen)
 }
 
 /// Returns the subcommand `tap`.
@@ -366,13 +442,13 @@ fn tap_task<'a>(alloc: Global) -> Result<Command<'a>, clap::Error>
     let server = "Address of the server, such as 127.0.0.1:6379";
     let task = bare_task(alloc, "tap", about, TAP_HELP);
     let task = with_limits(alloc, task);
-    let task = with_arg(task, CLIENTS.option(alloc));
-    let task = with_arg(task, flag(alloc, "time", time));
-    let task = with_arg(task, flag(alloc, "exit-with-output", exit));
-    let task = with_arg(task, flag(alloc, "keep-going", keep_going));
-    let task = with_arg(task, flag(alloc, "show-passwords", passwords));
-    let task = with_arg(task, address(alloc, "listen", "LISTEN", listen));
-    with_arg(task, address(alloc, "server", "SERVER", server))
+    let task = with_number(alloc, task, CLIENTS);
+    let task = with_flag(alloc, task, "time", time);
+    let task = with_flag(alloc, task, "exit-with-output", exit);
+    let task = with_flag(alloc, task, "keep-going", keep_going);
+    let task = with_flag(alloc, task, "show-passwords", passwords);
+    let task = with_address(alloc, task, "listen", "LISTEN", listen);
+    with_address(alloc, task, "server", "SERVER", server)
 }
 
 /// Returns the subcommand `ask`.
@@ -380,18 +456,29 @@ fn ask_task<'a>(alloc: Global) -> Result<Command<'a>, clap::Error>
     ensures { MakesTask (with_options (new_app (codes "ask")) ask_options) result }
 {
     let about = "Sends commands to a server and prints the replies";
+    let server = "Address of the server, such as 127.0.0.1:6379";
+    let task = bare_task(alloc, "ask", about, ASK_HELP);
+    let task = with_asking_options(alloc, task);
+    let task = with_limits(alloc, task);
+    let task = with_address(alloc, task, "server", "SERVER", server);
+    with_arg(task, command(alloc))
+}
+
+/// Adds the options of `ask` that do not limit values.
+fn with_asking_options<'a>(
+    alloc: Global,
+    subcommand: Result<Command<'a>, clap::Error>,
+) -> Result<Command<'a>, clap::Error>
+    ensures { (task : App) → MakesTask task subcommand.entry →
+        MakesTask (with_options task asking_options) result }
+{
     let three = "Sends HELLO 3 first, and accepts doubles";
     let user = "Name of the user whose password is in\nRESP_PASSWORD";
     let count = "Prints only the numbers of replies and errors, and\nthe time";
-    let server = "Address of the server, such as 127.0.0.1:6379";
-    let task = bare_task(alloc, "ask", about, ASK_HELP);
-    let task = with_arg(task, short_flag(alloc, "three", '3', three));
+    let task = with_arg(subcommand, short_flag(alloc, "three", '3', three));
     let task = with_arg(task, name(alloc, "user", user));
-    let task = with_arg(task, WINDOW.option(alloc));
-    let task = with_arg(task, flag(alloc, "count", count));
-    let task = with_limits(alloc, task);
-    let task = with_arg(task, address(alloc, "server", "SERVER", server));
-    with_arg(task, command(alloc))
+    let task = with_number(alloc, task, WINDOW);
+    with_flag(alloc, task, "count", count)
 }
 
 /// Returns an option with a name, which has no default.
@@ -419,7 +506,7 @@ fn command<'a>(alloc: Global) -> Arg<'a>
 }
 
 /// Returns a required argument that is an address.
-fn address<'a>(
+pub(crate) fn address<'a>(
     alloc: Global,
     name: &'a str,
     value_name: &'static str,
@@ -482,7 +569,7 @@ fn file<'a>(alloc: Global) -> Arg<'a>
 }
 
 /// Adds the options that limit values to a subcommand.
-fn with_limits<'a>(
+pub(crate) fn with_limits<'a>(
     alloc: Global,
     subcommand: Result<Command<'a>, clap::Error>,
 ) -> Result<Command<'a>, clap::Error>
@@ -490,9 +577,9 @@ fn with_limits<'a>(
         MakesTask (with_options task limit_options) result }
 {
     let streamed = "Rejects streamed strings and aggregates";
-    let task = with_arg(subcommand, DEPTH.option(alloc));
-    let task = with_arg(task, LENGTH.option(alloc));
-    let task = with_arg(task, TOTAL.option(alloc));
-    let task = with_arg(task, ITEMS.option(alloc));
-    with_arg(task, flag(alloc, "no-streamed", streamed))
+    let task = with_number(alloc, subcommand, DEPTH);
+    let task = with_number(alloc, task, LENGTH);
+    let task = with_number(alloc, task, TOTAL);
+    let task = with_number(alloc, task, ITEMS);
+    with_flag(alloc, task, "no-streamed", streamed)
 }

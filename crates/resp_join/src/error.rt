@@ -14,7 +14,7 @@ pub enum ReplyError {
     /// The value is a push, which no command waits for.
     #[error("a push came over a shared connection")]
     Push,
-    /// No command waits for the reply, or memory ran out.
+    /// No command waits of which a byte was sent, or memory ran out.
     #[error(transparent)]
     Answer(AnswerError),
 }

@@ -11,4 +11,4 @@ mod replies;
 
 pub use commands::take_command;
 pub use error::{CommandError, ReplyError};
-pub use replies::take_reply;
+pub use replies::{Replied, take_reply};

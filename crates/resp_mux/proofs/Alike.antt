@@ -1,9 +1,9 @@
 -- Two runs that differ only in the replies to the commands of others.
-use Rattle.std.proofs.Common.{◌≡◌, ◌⊎◌, ℕ, zero, suc, ◌+◌, ◌==◌, Bool, true, false, List, [], ◌∷◌, ◌++◌, length, map, Option, slice_get, refl, sym, ap, subst, ◌∙◌, cond, inl, inr}
+use Rattle.std.proofs.Common.{◌≡◌, ◌⊎◌, ℕ, zero, suc, ◌+◌, ◌==◌, Bool, true, false, List, [], ◌∷◌, ◌++◌, drop, length, map, take, Option, slice_get, refl, sym, ap, subst, ◌∙◌, cond, inl, inr}
 use Rattle.std.specs.Option.{option_map}
 use Rattle.std.specs.List.{concat}
 use Rattle.resp_mux.specs.declared.client_id.ClientId.{ClientId}
-use Rattle.resp_mux.specs.Boards.{Ask, AnswersAnother, Board, DifferForOthers, Entry, Event, IsOthers, Lose, Own, Part, Place, Redirect, Reply, RunsDifferForOthers, Split, after_events, after_redirect, after_reply, after_split, all_parts, answer_all, answer_at, asked_of, due_on, first_part, happens, last_on, nothing_asked, part_answered, with_line, with_parts}
+use Rattle.resp_mux.specs.Boards.{Ask, AnswersAnother, Board, DifferForOthers, Entry, Event, IsOthers, Fail, Lose, Own, Part, Place, Redirect, Reply, RunsDifferForOthers, Split, after_events, after_redirect, after_reply, after_split, all_parts, answer_all, answer_at, asked_of, due_on, first_part, happens, last_on, nothing_asked, part_answered, with_line, with_parts}
 use Rattle.resp_mux.specs.Passing.{answers_for, front_answers, is_same}
 
 -- two commands of one client, with the same answers if they are this client's
@@ -123,11 +123,20 @@ redirected who b c line next (p ∷ places) h = record {
       (λ l. same_lines line l places places b.waiting c.waiting refl h.waiting);
 }
 
-lost : (who : ClientId) (b c : Board) (line : ℕ) (text : List ℕ) → BoardsAlike who b c → BoardsAlike who (happens b (Lose line text)) (happens c (Lose line text))
+lost : (who : ClientId) (b c : Board) (line : ℕ) (text : List ℕ) → BoardsAlike who b c → BoardsAlike who (happens b (Fail line text)) (happens c (Fail line text))
 lost who b c line text h = record {
   entries = subst (λ ps. AreAlike who (answer_all b.entries (b.waiting line) text) (answer_all c.entries ps text)) (h.waiting line)
       (all_answered who b.entries c.entries (b.waiting line) text h.entries);
   waiting = λ other. same_lines line other [] [] b.waiting c.waiting refl h.waiting;
+}
+
+lost-some : (who : ClientId) (b c : Board) (line count : ℕ) (text : List ℕ) → BoardsAlike who b c →
+    BoardsAlike who (happens b (Lose line count text)) (happens c (Lose line count text))
+lost-some who b c line count text h = record {
+  entries = subst (λ ps. AreAlike who (answer_all b.entries (take count (b.waiting line)) text) (answer_all c.entries (take count ps) text)) (h.waiting line)
+      (all_answered who b.entries c.entries (take count (b.waiting line)) text h.entries);
+  waiting = λ other. same_lines line other (drop count (b.waiting line)) (drop count (c.waiting line)) b.waiting c.waiting (ap (drop count) (h.waiting line))
+      h.waiting;
 }
 
 owned : (who : ClientId) (b c : Board) (w : ClientId) (text : List ℕ) → BoardsAlike who b c → BoardsAlike who (happens b (Own w text)) (happens c (Own w text))
@@ -143,7 +152,9 @@ stepped who b c (Redirect line next) f d h =
     subst (λ x. BoardsAlike who (happens b (Redirect line next)) (happens c x)) d
     (subst (λ ps. BoardsAlike who (after_redirect b line next (b.waiting line)) (after_redirect c line next ps)) (h.waiting line)
     (redirected who b c line next (b.waiting line) h))
-stepped who b c (Lose line text) f d h = subst (λ x. BoardsAlike who (happens b (Lose line text)) (happens c x)) d (lost who b c line text h)
+stepped who b c (Lose line count text) f d h =
+    subst (λ x. BoardsAlike who (happens b (Lose line count text)) (happens c x)) d (lost-some who b c line count text h)
+stepped who b c (Fail line text) f d h = subst (λ x. BoardsAlike who (happens b (Fail line text)) (happens c x)) d (lost who b c line text h)
 stepped who b c (Reply line text) (Reply line' text') d h =
     subst (λ l. BoardsAlike who (happens b (Reply line text)) (happens c (Reply l text'))) d.0
     (subst (λ ps. BoardsAlike who (after_reply b line text (b.waiting line)) (after_reply c line text' ps)) (h.waiting line)
@@ -152,7 +163,8 @@ stepped who b c (Reply line text) (Ask w l t) d h = absurd (cc)
 stepped who b c (Reply line text) (Split w parts merge) d h = absurd (cc)
 stepped who b c (Reply line text) (Own w t) d h = absurd (cc)
 stepped who b c (Reply line text) (Redirect l n) d h = absurd (cc)
-stepped who b c (Reply line text) (Lose l t) d h = absurd (cc)
+stepped who b c (Reply line text) (Lose l n t) d h = absurd (cc)
+stepped who b c (Reply line text) (Fail l t) d h = absurd (cc)
 
 all_stepped : (who : ClientId) (es fs : List Event) (b c : Board) → RunsDifferForOthers who b es fs → BoardsAlike who b c →
     BoardsAlike who (after_events b es) (after_events c fs)

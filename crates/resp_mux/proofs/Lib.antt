@@ -1,6 +1,8 @@
 pub mod Texts
+pub mod Among
 pub mod Answers
 pub mod Standing
+pub mod Begun
 pub mod Zips
 pub mod Alike
 pub mod OneLine

@@ -1,12 +1,12 @@
 -- Over one line, several lines and one connection mean the same.
-use Rattle.std.proofs.Common.{◌≡◌, ◌≢◌, ℕ, suc, ◌<◌, ◌≤◌, Bool, true, false, List, [], ◌∷◌, ◌++◌, length, map, Option, None, Some, is_some, refl, sym, ap, subst, ◌∙◌, cond, arith, append_assoc, length-append}
+use Rattle.std.proofs.Common.{◌≡◌, ◌≢◌, ℕ, zero, suc, ◌<◌, ◌≤◌, Bool, true, false, List, [], ◌∷◌, ◌++◌, drop, length, map, take, Option, None, Some, is_some, refl, sym, ap, subst, ◌∙◌, cond, arith, append_assoc, length-append}
 use Rattle.std.specs.List.{AllByRecursion}
 use Rattle.std.proofs.lemmas.Bool.{eq-eqb}
 use Rattle.std.proofs.lemmas.List.{append-nil}
 use Rattle.resp_mux.specs.declared.client_id.ClientId.{ClientId}
-use Rattle.resp_mux.specs.Boards.{Ask, Board, Entry, Event, IsOfLine, Lose, Own, Place, Redirect, Reply, Split, after_events, after_passing, after_reply, answer_all, answer_at, asked_of, due_on, first_part, happens, nothing_asked, passes, with_line}
+use Rattle.resp_mux.specs.Boards.{Ask, Board, Entry, Event, IsOfLine, Fail, Lose, Own, Place, Redirect, Reply, Split, after_events, after_passing, after_reply, answer_all, answer_at, asked_of, due_on, first_part, happens, nothing_asked, passes, with_line}
 use Rattle.resp_mux.specs.Laws.{AreOnLine, answered_to}
-use Rattle.resp_mux.specs.Passing.{Asked, Passed, due_to, nothing_passed, unanswered, with_all_answered, with_next_answer, with_reply}
+use Rattle.resp_mux.specs.Passing.{Asked, Passed, due_to, nothing_passed, unanswered, with_all_answered, with_next_answer, with_next_answers, with_reply}
 use Rattle.resp_mux.proofs.Answers.{all-answered, all-next}
 use Rattle.resp_mux.proofs.Zips.{due_zipped, zipped, zipped-ask, zipped-reply}
 
@@ -147,6 +147,47 @@ lose_all text (p ∷ places) asked e h =
     lose_all text places (with_next_answer text asked) (sym r.1) h.1 ∙
     ap (map entry_of) (all-next text asked)
 
+abbrev no_places : List Place
+no_places = []
+
+take-nil : (count : ℕ) → take count no_places ≡ []
+take-nil zero = refl
+take-nil (suc count) = refl
+
+drop-nil : (count : ℕ) → drop count no_places ≡ []
+drop-nil zero = refl
+drop-nil (suc count) = refl
+
+-- what the first parts that wait leave, when they have the same answer
+record Leaves (text : List ℕ) (count : ℕ) (places : List Place) (asked : List Asked) : Type 0 where
+  pub entries : answer_all (map entry_of asked) (take count places) text ≡ map entry_of (with_next_answers count text asked)
+  pub waiting : entry_places (drop count places) ≡ open_places (with_next_answers count text asked)
+  pub whole : AreWhole (drop count places)
+
+lose_some : (text : List ℕ) (count : ℕ) (places : List Place) (asked : List Asked) → entry_places places ≡ open_places asked → AreWhole places →
+    Leaves text count places asked
+lose_some text zero places asked e h = record { entries = refl; waiting = e; whole = h }
+lose_some text (suc count) [] asked e h =
+    let same = unchanged text asked (none_open asked (sym e)) in
+    let rest = lose_some text count [] asked e tt in
+    let none : take count no_places ≡ [] = take-nil count in
+    let none' : drop count no_places ≡ [] = drop-nil count in
+    record {
+      entries = ap (λ ps. answer_all (map entry_of asked) ps text) (sym none) ∙ rest.entries ∙
+          ap (λ a. map entry_of (with_next_answers count text a)) (sym same);
+      waiting = ap entry_places (sym none') ∙ rest.waiting ∙ ap (λ a. open_places (with_next_answers count text a)) (sym same);
+      whole = tt;
+    }
+lose_some text (suc count) (p ∷ places) asked e h =
+    let r = reply_at text asked p.entry (entry_places places) (sym e) in
+    let rest = lose_some text count places (with_next_answer text asked) (sym r.1) h.1 in
+    record {
+      entries = ap (λ n. answer_all (answer_at (map entry_of asked) p.entry n text) (take count places) text) h.0 ∙
+          ap (λ es. answer_all es (take count places) text) r.0 ∙ rest.entries;
+      waiting = rest.waiting;
+      whole = rest.whole;
+    }
+
 -- one line's board and what passed over one connection
 pub record IsOneLine (line : ℕ) (b : Board) (p : Passed) : Type 0 where
   pub entries : b.entries ≡ map entry_of p.asked
@@ -191,7 +232,17 @@ replied line b p text (place ∷ places) entries same waiting whole =
       whole = subst AreWhole (sym (at_line line places b.waiting)) whole.1;
     }
 
-loses : (line : ℕ) (b : Board) (p : Passed) (text : List ℕ) → IsOneLine line b p → IsOneLine line (happens b (Lose line text)) (passes p (Lose line text))
+loses-some : (line : ℕ) (b : Board) (p : Passed) (count : ℕ) (text : List ℕ) → IsOneLine line b p →
+    IsOneLine line (happens b (Lose line count text)) (passes p (Lose line count text))
+loses-some line b p count text z =
+    let left = lose_some text count (b.waiting line) p.asked z.waiting z.whole in
+    record {
+      entries = ap (λ es. answer_all es (take count (b.waiting line)) text) z.entries ∙ left.entries;
+      waiting = ap entry_places (at_line line (drop count (b.waiting line)) b.waiting) ∙ left.waiting;
+      whole = subst AreWhole (sym (at_line line (drop count (b.waiting line)) b.waiting)) left.whole;
+    }
+
+loses : (line : ℕ) (b : Board) (p : Passed) (text : List ℕ) → IsOneLine line b p → IsOneLine line (happens b (Fail line text)) (passes p (Fail line text))
 loses line b p text z = record {
   entries = ap (λ es. answer_all es (b.waiting line) text) z.entries ∙ lose_all text (b.waiting line) p.asked z.waiting z.whole;
   waiting = ap entry_places (at_line line [] b.waiting) ∙ sym (all_closed text p.asked);
@@ -207,8 +258,10 @@ steps line b p (Reply l text) on z =
     subst (λ n. IsOneLine line (happens b (Reply n text)) (passes p (Reply n text))) (sym on)
     (replied line b p text (b.waiting line) z.entries refl z.waiting z.whole)
 steps line b p (Redirect from to) on z = absurd on
-steps line b p (Lose l text) on z =
-    subst (λ n. IsOneLine line (happens b (Lose n text)) (passes p (Lose n text))) (sym on) (loses line b p text z)
+steps line b p (Lose l count text) on z =
+    subst (λ n. IsOneLine line (happens b (Lose n count text)) (passes p (Lose n count text))) (sym on) (loses-some line b p count text z)
+steps line b p (Fail l text) on z =
+    subst (λ n. IsOneLine line (happens b (Fail n text)) (passes p (Fail n text))) (sym on) (loses line b p text z)
 
 runs : (line : ℕ) (events : List Event) (b : Board) (p : Passed) → AllByRecursion (IsOfLine line) events → IsOneLine line b p →
     IsOneLine line (after_events b events) (after_passing p events)
@@ -276,7 +329,8 @@ zips line (Reply l text ∷ events) b p owners more replies (reply ∷ later) z 
 zips line (Split who parts merge ∷ events) b p owners more replies later z same few on = absurd on
 zips line (Own who text ∷ events) b p owners more replies later z same few on = absurd on
 zips line (Redirect l n ∷ events) b p owners more replies later z same few on = absurd on
-zips line (Lose l text ∷ events) b p owners more replies later z same few on = absurd on
+zips line (Lose l n text ∷ events) b p owners more replies later z same few on = absurd on
+zips line (Fail l text ∷ events) b p owners more replies later z same few on = absurd on
 
 pub one_zip : (line : ℕ) (who : ClientId) (events : List Event) (owners : List ClientId) (replies : List (List ℕ)) →
     AreOnLine line nothing_asked events owners replies → due_on who (after_events nothing_asked events) ≡ answered_to who owners replies

@@ -1,5 +1,5 @@
 -- The commands for a line: those of each client in its order, and whole.
-use Rattle.std.proofs.Common.{◌≡◌, ◌≢◌, ℕ, ◌+◌, ◌==◌, Bool, true, false, List, [], ◌∷◌, ◌++◌, refl, sym, ap, ◌∙◌, cond, append_assoc, inl, inr}
+use Rattle.std.proofs.Common.{◌≡◌, ◌≢◌, ℕ, zero, suc, ◌+◌, ◌==◌, Bool, true, false, List, [], ◌∷◌, ◌++◌, drop, refl, sym, ap, ◌∙◌, cond, append_assoc, inl, inr}
 use Rattle.std.specs.List.{AllByRecursion, concat}
 use Rattle.std.proofs.lemmas.Bool.{cases_eq, eq-eqb, ne_eqb}
 use Rattle.std.proofs.lemmas.List.{append-nil}
@@ -7,7 +7,7 @@ use Rattle.resp_value.specs.Rules.{Rules}
 use Rattle.resp_value.specs.Data.{Datum}
 use Rattle.resp_value.specs.Spellings.{AreSpellings}
 use Rattle.resp_mux.specs.declared.client_id.ClientId.{ClientId}
-use Rattle.resp_mux.specs.Boards.{Ask, Board, Event, KeepsLine, Lose, Own, Part, Place, Redirect, Reply, Split, after_events, after_redirect, after_reply, happens, last_on, nothing_asked, parts_for, texts_for, texts_in, texts_sent, with_line, with_parts, with_texts}
+use Rattle.resp_mux.specs.Boards.{Ask, Board, Event, KeepsLine, Fail, Lose, Own, Part, Place, Redirect, Reply, Split, after_events, after_redirect, after_reply, commands_of, happens, last_on, nothing_asked, parts_for, texts_for, texts_in, texts_sent, with_line, with_parts, with_texts}
 use Rattle.resp_mux.specs.Laws.{IsSpelled, SendsSpellings}
 use Rattle.resp_mux.specs.Passing.{Command, is_same, texts_of}
 
@@ -71,7 +71,9 @@ sent-event who line b (Split w parts merge) keeps = sent-parts who line w parts 
 sent-event who line b (Own w text) keeps = kept who (b.commands line) (b.commands line) refl
 sent-event who line b (Reply l text) keeps = kept who _ (b.commands line) (same-reply b line l text (b.waiting l))
 sent-event who line b (Redirect from to) keeps = kept who _ (b.commands line) (same-redirect b line from to (b.waiting from) keeps)
-sent-event who line b (Lose l text) keeps =
+sent-event who line b (Lose l count text) keeps =
+    kept who _ (b.commands line) (ap (λ here. cond here (commands_of (drop count (b.waiting l))) (b.commands line)) (ne_eqb line l keeps))
+sent-event who line b (Fail l text) keeps =
     kept who _ (b.commands line) (ap (λ here. cond here [] (b.commands line)) (ne_eqb line l keeps))
 
 pub in_order : (who : ClientId) (line : ℕ) (b : Board) (events : List Event) → AllByRecursion (KeepsLine line) events →
@@ -140,6 +142,15 @@ redirected-spells rules b from to (p ∷ places) spelled h =
           (all-last (λ (q : Place). IsSpelled rules q.text) (with_line from places b.waiting to) p spelled.0 (left to)) (left l);
     }
 
+rest-spelled : (rules : Rules) (count : ℕ) (places : List Place) → PlacesSpelled rules places → PlacesSpelled rules (drop count places)
+rest-spelled rules zero places spelled = spelled
+rest-spelled rules (suc count) [] spelled = tt
+rest-spelled rules (suc count) (p ∷ places) spelled = rest-spelled rules count places spelled.1
+
+commands-spelled : (rules : Rules) (places : List Place) → PlacesSpelled rules places → AreSpelled rules (commands_of places)
+commands-spelled rules [] spelled = tt
+commands-spelled rules (p ∷ places) spelled = (spelled.0, commands-spelled rules places spelled.1)
+
 spells-event : (rules : Rules) (b : Board) (e : Event) → SendsSpellings rules e → BoardSpells rules b → BoardSpells rules (happens b e)
 spells-event rules b (Ask w to text) sends h = record {
   commands = commands-parts rules w ((record { line = to; text = text }) ∷ []) b.commands (sends, tt) h.commands;
@@ -152,7 +163,14 @@ spells-event rules b (Split w parts merge) sends h = record {
 spells-event rules b (Own w text) sends h = record { commands = h.commands; waiting = h.waiting }
 spells-event rules b (Reply l text) sends h = replied-spells rules b l text (b.waiting l) (h.waiting l) h
 spells-event rules b (Redirect from to) sends h = redirected-spells rules b from to (b.waiting from) (h.waiting from) h
-spells-event rules b (Lose l text) sends h = record {
+spells-event rules b (Lose l count text) sends h =
+    let left = rest-spelled rules count (b.waiting l) (h.waiting l) in
+    record {
+      commands = λ line. on-line (AreSpelled rules) (line == l) (commands_of (drop count (b.waiting l))) (b.commands line)
+          (commands-spelled rules (drop count (b.waiting l)) left) (h.commands line);
+      waiting = λ line. on-line (PlacesSpelled rules) (line == l) (drop count (b.waiting l)) (b.waiting line) left (h.waiting line);
+    }
+spells-event rules b (Fail l text) sends h = record {
   commands = λ line. on-line (AreSpelled rules) (line == l) [] (b.commands line) tt (h.commands line);
   waiting = λ line. on-line (PlacesSpelled rules) (line == l) [] (b.waiting line) tt (h.waiting line);
 }

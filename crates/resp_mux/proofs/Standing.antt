@@ -3,16 +3,18 @@ use Rattle.std.proofs.Common.{◌≡◌, ℕ, zero, suc, ◌+◌, ◌<◌, ◌�
 use Rattle.std.specs.List.{AllByRecursion, concat}
 use Rattle.std.specs.Prelude.{unwrap_or}
 use Rattle.std.specs.Option.{option_map}
-use Rattle.std.proofs.lemmas.List.{append-nil, take-append-drop}
+use Rattle.std.proofs.Math.Seq.{drop-append-add, drop-append_seam}
+use Rattle.std.proofs.lemmas.List.{append-nil, drop-map, take-append-drop}
 use Rattle.std.proofs.lemmas.List.Folds.{concat-append}
 use Rattle.std.proofs.Math.Logic.{∥∥₁_map}
 use Rattle.std.proofs.lemmas.Bool.{cases_Bool, cases_lt}
 use Rattle.resp_mux.specs.declared.client.Client.{Client}
 use Rattle.resp_mux.specs.declared.client_id.ClientId.{ClientId}
 use Rattle.resp_mux.specs.Multiplexing.{AnsweredSome, HasPassed, HasPassedSome, IsServed, Multiplexed, Stands, later_answers}
-use Rattle.resp_mux.specs.Passing.{Asked, Command, Passed, answers_for, due_to, is_same, nothing_passed, texts_of, unanswered, with_all_answered, with_command, with_given, with_loss, with_next_answer, with_own, with_replies, with_reply, with_sent}
+use Rattle.resp_mux.specs.Passing.{Asked, Command, Passed, answers_for, due_to, is_same, nothing_passed, texts_of, unanswered, with_all_answered, with_command, with_given, with_failure, with_loss, with_next_answer, with_next_answers, with_own, with_replies, with_reply, with_sent}
 use Rattle.resp_mux.specs.Seats.{Changes, client_in, out_with_own, out_with_reply, with_first_reply, with_own_answer, with_waiting, without_front}
 use Rattle.resp_mux.specs.Waiting.{with_last}
+use Rattle.resp_mux.proofs.Among.{not_among, not_one}
 use Rattle.resp_mux.proofs.Answers.{all-answered, all-next, answers-other, answers-others-reply, answers-own, answers-reply, due, due-ask, due-own, due-reply, later-ask, later-own, later-reply, other_number, same_is, same_number, unanswered-append, unanswered-reply, unknown-answers}
 
 abbrev pub Clients : Type 0
@@ -88,7 +90,7 @@ owners-append : (commands : List Command) (c : Command) →
 owners-append [] c = refl
 owners-append (d ∷ commands) c = ap (λ owners. d.client ∷ owners) (owners-append commands c)
 
-texts-append : (commands : List Command) (c : Command) → texts_of (commands ++ c ∷ []) ≡ texts_of commands ++ c.text ∷ []
+pub texts-append : (commands : List Command) (c : Command) → texts_of (commands ++ c ∷ []) ≡ texts_of commands ++ c.text ∷ []
 texts-append [] c = refl
 texts-append (d ∷ commands) c = ap (λ texts. d.text ∷ texts) (texts-append commands c)
 
@@ -103,6 +105,10 @@ reply-due text given out all (x ∷ xs) e = sym (append_assoc given out (text ++
 all-replies : (count : ℕ) (text : List ℕ) (p : Passed) → with_all_answered text (with_replies count text p).asked ≡ with_all_answered text p.asked
 all-replies zero text p = refl
 all-replies (suc count) text p = all-next text (with_replies count text p).asked ∙ all-replies count text p
+
+sent-replies : (count : ℕ) (text : List ℕ) (p : Passed) → (with_replies count text p).sent ≡ p.sent
+sent-replies zero text p = refl
+sent-replies (suc count) text p = sent-replies count text p
 
 given-replies : (count : ℕ) (text : List ℕ) (p : Passed) (who : ClientId) → (with_replies count text p).given who ≡ p.given who
 given-replies zero text p who = refl
@@ -252,9 +258,68 @@ replies clients clients' waiting out text last p owner changed s = record {
   ungiven = s.ungiven;
 }
 
--- what replies leave, if no command waits: a loss
+replied-count : (count : ℕ) (text : List ℕ) (p : Passed) → length (with_replies count text p).replies ≡ length p.replies + count
+replied-count zero text p = omega arith
+replied-count (suc count) text p =
+    let l = length-append (with_replies count text p).replies (text ∷ []) in let r = replied-count count text p in omega (arith, l, r)
+
+replied-commands : (count : ℕ) (text : List ℕ) (p : Passed) → (with_replies count text p).commands ≡ p.commands
+replied-commands zero text p = refl
+replied-commands (suc count) text p = replied-commands count text p
+
+next-last : (count : ℕ) (text : List ℕ) (asked : List Asked) → with_next_answers count text (with_next_answer text asked) ≡
+    with_next_answer text (with_next_answers count text asked)
+next-last zero text asked = refl
+next-last (suc count) text asked = next-last count text (with_next_answer text asked)
+
+replied-asked : (count : ℕ) (text : List ℕ) (p : Passed) → (with_replies count text p).asked ≡ with_next_answers count text p.asked
+replied-asked zero text p = refl
+replied-asked (suc count) text p = ap (with_next_answer text) (replied-asked count text p) ∙ sym (next-last count text p.asked)
+
+owners-drop : (count : ℕ) (commands : List Command) →
+    map (λ (c : Command). c.client) (drop count commands) ≡ drop count (map (λ (c : Command). c.client) commands)
+owners-drop count commands = sym (drop-map (λ (c : Command). c.client) count commands)
+
+texts-drop : (count : ℕ) (commands : List Command) → texts_of (drop count commands) ≡ drop count (texts_of commands)
+texts-drop count commands = sym (drop-map (λ (c : Command). c.text) count commands)
+
+-- after the first texts come the others
+drop-concat : (count : ℕ) (texts : List (List ℕ)) → drop (length (concat (take count texts))) (concat texts) ≡ concat (drop count texts)
+drop-concat count texts =
+    ap (λ ts. drop (length (concat (take count texts))) (concat ts)) (sym (take-append-drop count texts)) ∙
+    ap (drop (length (concat (take count texts)))) (concat-append (take count texts) (drop count texts)) ∙
+    drop-append_seam (concat (take count texts)) (concat (drop count texts))
+
+-- what replies leave, once the bytes that are left of the last command with a reply are removed: a loss
+pub loses-some : (clients : Clients) (waiting : List ClientId) (out : List ℕ) (last count left : ℕ) (text : List ℕ) (p : Passed) →
+    length (concat (take (length p.replies + count) (texts_of p.commands))) ≡ length p.sent + left →
+    Stands clients waiting out last (with_replies count text p) → Stands clients waiting (drop left out) last (with_loss count text p)
+loses-some clients waiting out last count left text p bytes s =
+    let n = length p.replies + count in
+    let r = with_replies count text p in
+    let done : length s.answered ≡ n = s.each_one ∙ replied-count count text p in
+    let all : map (λ (c : Command). c.client) p.commands ≡ s.answered ++ waiting =
+    ap (map (λ (c : Command). c.client)) (sym (replied-commands count text p)) ∙ s.whole in
+    let texts = texts_of p.commands in
+    let whole : p.sent ++ out ≡ concat texts =
+    ap (λ t. t ++ out) (sym (sent-replies count text p)) ∙ s.in_order ∙ ap (λ cs. concat (texts_of cs)) (replied-commands count text p) in
+    record {
+      open_commands = ap unanswered (sym (replied-asked count text p)) ∙ s.open_commands;
+      answered = [];
+      whole = owners-drop n p.commands ∙ ap (drop n) all ∙ ap (λ i. drop i (s.answered ++ waiting)) (sym done) ∙ drop-append_seam s.answered waiting;
+      each_one = refl;
+      in_order = sym (drop-append-add p.sent out left) ∙ ap (λ i. drop i (p.sent ++ out)) (sym bytes) ∙ ap (drop (length (concat (take n texts)))) whole ∙
+          drop-concat n texts ∙ sym (ap concat (texts-drop n p.commands));
+      served = λ who. if_some (clients who) _ _ (served_same who (r.given who) (p.given who) r.asked (with_next_answers count text p.asked)
+          (sym (given-replies count text p who)) (ap (answers_for who) (sym (replied-asked count text p)))) (s.served who);
+      numbered = subst (λ asked. AllByRecursion (λ (a : Asked). a.client.number ≤ last) asked) (replied-asked count text p) s.numbered;
+      seated = s.seated;
+      ungiven = λ who above. sym (given-replies count text p who) ∙ s.ungiven who above;
+    }
+
+-- what replies leave, if no command waits
 pub loses : (clients : Clients) (out : List ℕ) (last count : ℕ) (text : List ℕ) (p : Passed) → Stands clients [] out last (with_replies count text p) →
-    Stands clients [] [] last (with_loss text p)
+    Stands clients [] [] last (with_failure text p)
 loses clients out last count text p s =
     let all : (with_replies count text p).asked ≡ with_all_answered text p.asked =
     sym (all-answered text (with_replies count text p).asked s.open_commands) ∙ all-replies count text p in
@@ -357,7 +422,7 @@ changed_open same (Some c) f z e = ap is_some e ∙ kept_open same c f
 
 -- no command was answered yet
 pub answered_none : (text : List ℕ) (slots : List (Option Client)) (waiting : List ClientId) → AnsweredSome text slots waiting slots waiting
-answered_none text slots waiting = record { answered = []; whole = refl; are_open = λ who. refl; stands = λ unsent last p s. s }
+answered_none text slots waiting = record { answered = []; whole = refl; are_open = λ who. refl; others = λ who none. refl; stands = λ unsent last p s. s }
 
 -- one more command was answered
 pub answered_more : (text : List ℕ) (old mid new : List (Option Client)) (waiting left left' : List ClientId) (owner : ClientId) → left ≡ owner ∷ left' →
@@ -366,6 +431,10 @@ answered_more text old mid new waiting left left' owner first changed a = record
   answered = a.answered ++ owner ∷ [];
   whole = a.whole ∙ ap (λ rest. a.answered ++ rest) first ∙ sym (append_assoc a.answered (owner ∷ []) left');
   are_open = λ who. changed_open (is_same who owner) (client_in mid who) (with_first_reply text) (client_in new who) (changed who) ∙ a.are_open who;
+  others = λ who none.
+      let apart = not_among who a.answered (owner ∷ []) none in
+      changed who ∙ ap (λ b. cond b (option_map (with_first_reply text) (client_in mid who)) (client_in mid who)) (not_one who owner apart.1) ∙
+      a.others who apart.0;
   stands = λ unsent last p s.
       let count : length (a.answered ++ owner ∷ []) ≡ suc (length a.answered) = length-append a.answered (owner ∷ []) ∙ omega arith in
       subst (λ n. Stands (client_in new) left' unsent last (with_replies n text p)) (sym count)

@@ -1,8 +1,8 @@
 -- The commands of many clients over several lines, which are connections to servers.
-use Rattle.std.specs.Prelude.{◌≡◌, ◌≢◌, ◌⊎◌, ℕ, zero, suc, ◌+◌, ◌==◌, false, List, [], ◌∷◌, ◌++◌, length, map, Option, None, Some, slice_get, if◌then◌else◌}
+use Rattle.std.specs.Prelude.{◌≡◌, ◌≢◌, ◌⊎◌, ℕ, zero, suc, ◌+◌, ◌==◌, false, List, [], ◌∷◌, ◌++◌, drop, length, map, take, Option, None, Some, slice_get, if◌then◌else◌}
 use Rattle.std.specs.Option.{option_map}
 use Rattle.resp_mux.specs.declared.client_id.ClientId.{ClientId}
-use Rattle.resp_mux.specs.Passing.{Asked, Command, Passed, due_to, is_same, with_command, with_loss, with_own, with_reply}
+use Rattle.resp_mux.specs.Passing.{Asked, Command, Passed, due_to, is_same, with_command, with_failure, with_loss, with_own, with_reply}
 
 -- a command: its client, the answers to its parts, and how these become its answer
 pub record Entry : Type 0 where
@@ -41,8 +41,11 @@ pub data Event : Type 0 where
   Reply : ℕ → List ℕ → Event
   -- the server of the first line sends the part that waits first to the second line
   Redirect : ℕ → ℕ → Event
-  -- the connection of a line is lost: each part that waits on it has this answer, and a new connection begins
-  Lose : ℕ → List ℕ → Event
+  -- the connection of a line is lost: this many parts that wait on it have this answer, from the first on, and the others
+  -- are the commands for a new connection
+  Lose : ℕ → ℕ → List ℕ → Event
+  -- a line has no connection: each part that waits on it has this answer
+  Fail : ℕ → List ℕ → Event
 
 -- no command has come
 abbrev pub nothing_asked : Board
@@ -134,6 +137,10 @@ after_redirect b line other (p ∷ places) = record {
   commands = last_on other (record { client = p.client; text = p.text }) b.commands;
 }
 
+-- the commands of these parts
+abbrev pub commands_of : List Place → List Command
+commands_of places = map (λ (p : Place). record { client = p.client; text = p.text }) places
+
 -- the board after an event
 abbrev pub happens : Board → Event → Board
 happens b (Ask who line text) = after_split b who ((record { line = line; text = text }) ∷ []) first_part
@@ -145,7 +152,12 @@ happens b (Own who text) = record {
 }
 happens b (Reply line text) = after_reply b line text (b.waiting line)
 happens b (Redirect line other) = after_redirect b line other (b.waiting line)
-happens b (Lose line text) = record {
+happens b (Lose line count text) = record {
+  entries = answer_all b.entries (take count (b.waiting line)) text;
+  waiting = with_line line (drop count (b.waiting line)) b.waiting;
+  commands = with_line line (commands_of (drop count (b.waiting line))) b.commands;
+}
+happens b (Fail line text) = record {
   entries = answer_all b.entries (b.waiting line) text;
   waiting = with_line line [] b.waiting;
   commands = with_line line [] b.commands;
@@ -163,7 +175,8 @@ passes p (Split who parts merge) = p
 passes p (Own who text) = with_own who text p
 passes p (Reply line text) = with_reply text p
 passes p (Redirect line other) = p
-passes p (Lose line text) = with_loss text p
+passes p (Lose line count text) = with_loss count text p
+passes p (Fail line text) = with_failure text p
 
 abbrev pub after_passing : Passed → List Event → Passed
 after_passing p [] = p
@@ -176,7 +189,8 @@ IsOfLine line (Split who parts merge) = ⊥
 IsOfLine line (Own who text) = Unit {0}
 IsOfLine line (Reply other text) = other ≡ line
 IsOfLine line (Redirect from to) = ⊥
-IsOfLine line (Lose other text) = other ≡ line
+IsOfLine line (Lose other count text) = other ≡ line
+IsOfLine line (Fail other text) = other ≡ line
 
 -- the command at this place is another client's
 abbrev pub IsOthers : ClientId → Option Entry → Type 0
@@ -212,7 +226,8 @@ texts_in who line (Split other parts merge) = if is_same who other then parts_fo
 texts_in who line (Own other text) = []
 texts_in who line (Reply other text) = []
 texts_in who line (Redirect from to) = []
-texts_in who line (Lose other text) = []
+texts_in who line (Lose other count text) = []
+texts_in who line (Fail other text) = []
 
 -- the texts that a client sends to a line, in order
 abbrev pub texts_sent : ClientId → ℕ → List Event → List (List ℕ)
@@ -231,4 +246,5 @@ KeepsLine line (Split who parts merge) = Unit {0}
 KeepsLine line (Own who text) = Unit {0}
 KeepsLine line (Reply other text) = Unit {0}
 KeepsLine line (Redirect from to) = line ≢ to
-KeepsLine line (Lose other text) = line ≢ other
+KeepsLine line (Lose other count text) = line ≢ other
+KeepsLine line (Fail other text) = line ≢ other

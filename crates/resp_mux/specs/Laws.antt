@@ -5,7 +5,7 @@ use Rattle.resp_value.specs.Rules.{Rules}
 use Rattle.resp_value.specs.Data.{Datum}
 use Rattle.resp_value.specs.Spellings.{AreSpellings, IsSpelling}
 use Rattle.resp_mux.specs.declared.client_id.ClientId.{ClientId}
-use Rattle.resp_mux.specs.Boards.{Ask, Board, Event, IsOfLine, KeepsLine, Lose, Own, Part, Redirect, Reply, RunsDifferForOthers, Split, after_events, after_passing, due_on, happens, nothing_asked, texts_for, texts_sent}
+use Rattle.resp_mux.specs.Boards.{Ask, Board, Event, IsOfLine, KeepsLine, Fail, Lose, Own, Part, Redirect, Reply, RunsDifferForOthers, Split, after_events, after_passing, due_on, happens, nothing_asked, texts_for, texts_sent}
 use Rattle.resp_mux.specs.Passing.{due_to, is_same, nothing_passed, texts_of}
 
 -- The answers to a client if the commands of these clients, in this order, have these replies: the replies to its own
@@ -77,7 +77,8 @@ SendsSpellings rules (Split who parts merge) = AllByRecursion (λ (p : Part). Is
 SendsSpellings rules (Own who text) = Unit {0}
 SendsSpellings rules (Reply line text) = Unit {0}
 SendsSpellings rules (Redirect line other) = Unit {0}
-SendsSpellings rules (Lose line text) = Unit {0}
+SendsSpellings rules (Lose line count text) = Unit {0}
+SendsSpellings rules (Fail line text) = Unit {0}
 
 -- If the texts that clients send are spellings, the bytes for each line are spellings of values, whole and in order.
 abbrev pub TheServerIsAskedWholeCommands : Type 0

@@ -1,11 +1,11 @@
 -- The state of a multiplexer, and how it belongs to the commands and replies so far.
-use Rattle.std.specs.Prelude.{◌≡◌, ℕ, ◌+◌, ◌<◌, ◌≤◌, List, [], ◌∷◌, ◌++◌, length, map, Option, None, Some, IfSome, IsSomeAnd, is_some, if◌then◌else◌}
-use Rattle.std.specs.List.{AllByRecursion, concat}
+use Rattle.std.specs.Prelude.{◌≡◌, ℕ, ◌+◌, ◌-◌, ◌<◌, ◌≤◌, Bool, false, List, [], ◌∷◌, ◌++◌, drop, length, map, take, count_by, Option, None, Some, IfSome, IsSomeAnd, is_some, if◌then◌else◌}
+use Rattle.std.specs.List.{AllByRecursion, concat, list_any}
 use Rattle.std.specs.Option.{option_map}
 use Rattle.resp_mux.specs.declared.bounds.Bounds.{Bounds}
 use Rattle.resp_mux.specs.declared.client.Client.{Client}
 use Rattle.resp_mux.specs.declared.client_id.ClientId.{ClientId}
-use Rattle.resp_mux.specs.Passing.{Asked, Command, Passed, answers_for, due_to, front_answers, is_same, texts_of, unanswered, with_replies}
+use Rattle.resp_mux.specs.Passing.{Asked, Command, IsBegun, Passed, answers_for, due_to, front_answers, is_same, texts_of, unanswered, with_replies}
 use Rattle.resp_mux.specs.Seats.{client_in}
 
 pub record Multiplexed : Type 0 where
@@ -17,6 +17,10 @@ pub record Multiplexed : Type 0 where
   pub waiting : List ClientId
   -- the bytes that wait to be sent to the server
   pub unsent : List ℕ
+  -- the lengths of the commands of which no byte was sent, in order: they are the last that wait
+  pub unbegun : List ℕ
+  -- the number of bytes that were not sent of the command before them
+  pub left : ℕ
   pub bounds : Bounds
 
 -- the bytes that wait to be given to a client, if it is open
@@ -26,6 +30,22 @@ waiting_for m who = option_map (λ (c : Client). c.out) (client_in m.slots who)
 -- the clients of the commands that wait for replies, in order
 abbrev pub waiting_clients : Multiplexed → List ClientId
 waiting_clients m = m.waiting
+
+-- the number of commands that wait of which a byte was sent: they are the first that wait
+abbrev pub begun_count : Multiplexed → ℕ
+begun_count m = length m.waiting - length m.unbegun
+
+-- the clients of these commands, in order
+abbrev pub begun_clients : Multiplexed → List ClientId
+begun_clients m = take (begun_count m) m.waiting
+
+-- the number of open clients
+abbrev pub open_count : Multiplexed → ℕ
+open_count m = count_by is_some m.slots
+
+-- the number of clients that were opened
+abbrev pub opened_count : Multiplexed → ℕ
+opened_count m = m.last
 
 -- the number of commands of a client that wait for replies, if it is open
 abbrev pub waiting_count : Multiplexed → ClientId → Option ℕ
@@ -66,18 +86,53 @@ pub record Stands (clients : ClientId → Option Client) (waiting : List ClientI
   pub seated : (who : ClientId) → last < who.number → clients who ≡ None
   pub ungiven : (who : ClientId) → last < who.number → p.given who ≡ []
 
+-- whether a client is one of these
+abbrev pub is_among : ClientId → List ClientId → Bool
+is_among who clients = list_any (is_same who) clients
+
+-- how the lengths of the commands of which no byte was sent, and the bytes that are left of the command before them, belong to
+-- what passed, if this many commands wait
+pub record Begins (waiting : ℕ) (unbegun : List ℕ) (left : ℕ) (p : Passed) : Type 0 where
+  pub begun : ℕ
+  pub count : begun + length unbegun ≡ waiting
+  pub is_begun : IsBegun p begun
+  pub lengths : map length (drop (length p.replies + begun) (texts_of p.commands)) ≡ unbegun
+  pub sent : length (concat (take (length p.replies + begun) (texts_of p.commands))) ≡ length p.sent + left
+
+-- all of these together
+abbrev pub total : List ℕ → ℕ
+total [] = 0
+total (n ∷ ns) = n + total ns
+
+-- at most the commands that wait are unbegun, and the bytes that wait are those that are left and those of the unbegun
+pub record IsCounted (waiting : List ClientId) (unbegun : List ℕ) (left : ℕ) (unsent : List ℕ) : Type 0 where
+  pub within : length unbegun ≤ length waiting
+  pub bytes : length unsent ≡ left + total unbegun
+
+-- More bytes were sent than are left of a command: they begin the next commands, of these lengths, and these bytes are left of
+-- the last.
+pub record BeginsMore (count : ℕ) (unbegun : List ℕ) (left : ℕ) (unbegun' : List ℕ) (left' : ℕ) : Type 0 where
+  pub more : ℕ
+  pub within : more ≤ length unbegun
+  pub others : unbegun' ≡ drop more unbegun
+  pub bytes : count + left' ≡ left + total (take more unbegun)
+  pub fewest : (fewer : ℕ) → fewer < more → left + total (take fewer unbegun) < count
+
 -- the first commands that waited were answered by this text, and the others still wait
 pub record AnsweredSome (text : List ℕ) (old : List (Option Client)) (waiting : List ClientId) (new : List (Option Client))
     (left : List ClientId) : Type 0 where
   pub answered : List ClientId
   pub whole : waiting ≡ answered ++ left
   pub are_open : (who : ClientId) → is_some (client_in new who) ≡ is_some (client_in old who)
+  -- no other client changes
+  pub others : (who : ClientId) → is_among who answered ≡ false → client_in new who ≡ client_in old who
   pub stands : (unsent : List ℕ) (last : ℕ) (p : Passed) → Stands (client_in old) waiting unsent last p →
       Stands (client_in new) left unsent last (with_replies (length answered) text p)
 
 -- these commands and replies have passed through the multiplexer
-abbrev pub HasPassed : Multiplexed → Passed → Type 0
-HasPassed m p = Stands (client_in m.slots) m.waiting m.unsent m.last p
+pub record HasPassed (m : Multiplexed) (p : Passed) : Type 0 where
+  pub stands : Stands (client_in m.slots) m.waiting m.unsent m.last p
+  pub begins : Begins (length m.waiting) m.unbegun m.left p
 
 -- some commands and replies have passed through the multiplexer: WherePassed speaks of these
 abbrev pub HasPassedSome : Multiplexed → Type 0
@@ -96,6 +151,14 @@ pub record KeepsClients (old new : Multiplexed) : Type 0 where
   pub are_open : (who : ClientId) → is_some (waiting_for new who) ≡ is_some (waiting_for old who)
   pub last : new.last ≡ old.last
   pub bounds : new.bounds ≡ old.bounds
+
+-- each client has the bytes that it had
+abbrev pub KeepsBytes : Multiplexed → Multiplexed → Type 0
+KeepsBytes old new = (who : ClientId) → waiting_for new who ≡ waiting_for old who
+
+-- each client that is none of these has the bytes that it had
+abbrev pub KeepsOthers : List ClientId → Multiplexed → Multiplexed → Type 0
+KeepsOthers clients old new = (who : ClientId) → is_among who clients ≡ false → waiting_for new who ≡ waiting_for old who
 
 -- a client has this id or had it
 abbrev pub IsKnown : Multiplexed → ClientId → Type 0

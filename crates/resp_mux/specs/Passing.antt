@@ -1,5 +1,5 @@
 -- The commands and replies of many clients that share one connection to a server.
-use Rattle.std.specs.Prelude.{ℕ, zero, suc, ◌==◌, ◌&&◌, Bool, List, [], ◌∷◌, ◌++◌, map, Option, None, Some, is_some, unwrap_or, if◌then◌else◌}
+use Rattle.std.specs.Prelude.{ℕ, zero, suc, ◌+◌, ◌<◌, ◌≤◌, ◌==◌, ◌&&◌, Bool, List, [], ◌∷◌, ◌++◌, drop, length, map, take, Option, None, Some, is_some, unwrap_or, if◌then◌else◌}
 use Rattle.std.specs.List.{concat}
 use Rattle.resp_mux.specs.declared.client_id.ClientId.{ClientId}
 
@@ -103,9 +103,31 @@ abbrev pub with_replies : ℕ → List ℕ → Passed → Passed
 with_replies zero text p = p
 with_replies (suc count) text p = with_reply text (with_replies count text p)
 
--- the connection was lost: each command without an answer has this one, and a new connection begins
-abbrev pub with_loss : List ℕ → Passed → Passed
-with_loss text p = record { asked = with_all_answered text p.asked; commands = []; replies = []; sent = []; given = p.given }
+-- the commands, after this many without an answer got this one, from the first on
+abbrev pub with_next_answers : ℕ → List ℕ → List Asked → List Asked
+with_next_answers zero text asked = asked
+with_next_answers (suc count) text asked = with_next_answers count text (with_next_answer text asked)
+
+-- This many commands wait of which a byte was sent. With those that the server replied to, they are the fewest first commands
+-- that have all bytes sent.
+pub record IsBegun (p : Passed) (count : ℕ) : Type 0 where
+  pub enough : length p.sent ≤ length (concat (take (length p.replies + count) (texts_of p.commands)))
+  pub fewest : (fewer : ℕ) → fewer < length p.replies + count → length (concat (take fewer (texts_of p.commands))) < length p.sent
+
+-- The connection was lost: this many commands without an answer have this one, from the first on. The others are the commands
+-- for a new connection.
+abbrev pub with_loss : ℕ → List ℕ → Passed → Passed
+with_loss count text p = record {
+  asked = with_next_answers count text p.asked;
+  commands = drop (length p.replies + count) p.commands;
+  replies = [];
+  sent = [];
+  given = p.given;
+}
+
+-- there is no connection: each command without an answer has this one
+abbrev pub with_failure : List ℕ → Passed → Passed
+with_failure text p = record { asked = with_all_answered text p.asked; commands = []; replies = []; sent = []; given = p.given }
 
 -- these bytes were sent to the server
 abbrev pub with_sent : List ℕ → Passed → Passed

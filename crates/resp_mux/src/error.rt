@@ -45,7 +45,7 @@ pub enum OwnError {
 /// The error of [`Mux::answer`](crate::Mux::answer): nobody gets the reply.
 #[derive(Clone, Copy, Debug, PartialEq, Eq, Error)]
 pub enum AnswerError {
-    /// No command waits for a reply.
+    /// No command waits for a reply of which a byte was sent.
     #[error("no command waits for this reply")]
     Unasked,
     /// An allocation failed.

@@ -9,7 +9,7 @@ use crate::client::Client;
 use crate::client_id::ClientId;
 use crate::clients;
 use crate::error::{AnswerError, ForwardError, OpenError, OwnError};
-use crate::line::{answer_all, answer_first, queue};
+use crate::line::{answer_first, answer_some, begin, queue};
 use bytes::BytesMut;
 use slab::Slab;
 use std::alloc::{AllocError, Global};
@@ -28,9 +28,10 @@ const MOST_CLIENTS: u64 = 9_223_372_036_854_775_807;
 /// This holds if the server replies to the commands of a connection one by one, in order, and each
 /// reply is one call of [`Mux::answer`].
 ///
-/// Each call takes constant time, except that it copies the bytes that it is given, and that
-/// [`Mux::lose`] visits each command that waits. A client for which nothing waits takes 96 bytes, a
-/// command that waits 16, each in a list that doubles when it is full.
+/// Each call takes constant time, except that it copies the bytes that it is given, that
+/// [`Mux::lose`] visits each command that it answers, and that [`Mux::sent`] visits each command that
+/// the bytes begin. A client for which nothing waits takes 96 bytes, a command that waits 16, and 8
+/// more until a byte of it was sent, each in a list that doubles when it is full.
 #[derive(Drop)]
 pub struct Mux {
     alloc: Global,
@@ -42,10 +43,14 @@ pub struct Mux {
     waiting: VecDeque<ClientId>,
     /// The bytes that wait to be sent to the server.
     out: BytesMut,
+    /// The lengths of the commands of which no byte was sent. They are the last that wait.
+    unbegun: VecDeque<usize>,
+    /// The number of bytes that were not sent of the command before them.
+    left: usize,
 }
 
 impl Model for Mux {
-    ghost use Rattle.resp_mux.specs.Multiplexing.{HasPassedSome, Multiplexed};
+    ghost use Rattle.resp_mux.specs.Multiplexing.{HasPassedSome, IsCounted, Multiplexed};
 
     ghost Value = { Multiplexed };
 
@@ -54,6 +59,8 @@ impl Model for Mux {
       last = m.last;
       waiting = m.waiting.items;
       unsent = m.out.items;
+      unbegun = m.unbegun.items;
+      left = m.left;
       bounds = m.bounds;
     } };
 
@@ -62,13 +69,15 @@ impl Model for Mux {
       last = m.last;
       waiting = m.waiting.items;
       unsent = m.out.items;
+      unbegun = m.unbegun.items;
+      left = m.left;
       bounds = m.bounds;
-    }) };
+    }) × IsCounted m.waiting.items m.unbegun.items m.left m.out.items };
 }
 
 impl Mux {
     ghost use Rattle.resp_mux.specs.Passing.{due_to, nothing_passed, texts_of, with_command, with_given, with_loss, with_own, with_reply, with_sent};
-    ghost use Rattle.resp_mux.specs.Multiplexing.{ClientHasRoom, ClientIsFull, HasAnsweredSome, HasClosed, HasNoNumberLeft, HasOpened, HasPassed, HasPassedSome, KeepsClients, KeepsPassed, LineIsFull, WherePassed, bounds_of, unsent, waiting_clients, waiting_count, waiting_for};
+    ghost use Rattle.resp_mux.specs.Multiplexing.{ClientHasRoom, ClientIsFull, HasAnsweredSome, HasClosed, HasNoNumberLeft, HasOpened, HasPassed, HasPassedSome, KeepsBytes, KeepsClients, KeepsOthers, KeepsPassed, LineIsFull, WherePassed, begun_clients, begun_count, bounds_of, open_count, opened_count, unsent, waiting_clients, waiting_count, waiting_for};
 
     /// Returns a multiplexer without clients. Does not allocate.
     pub fn new(alloc: Global, bounds: Bounds) -> Mux
@@ -83,6 +92,8 @@ impl Mux {
             last: 0,
             waiting: VecDeque::new(alloc),
             out: BytesMut::new(alloc),
+            unbegun: VecDeque::new(alloc),
+            left: 0,
         }
     }
 
@@ -130,6 +141,7 @@ impl Mux {
         let Ok(()) = queue(
             &mut self.clients,
             &mut self.waiting,
+            &mut self.unbegun,
             &mut self.out,
             who,
             command,
@@ -188,22 +200,26 @@ impl Mux {
     }
 
     /// Gives a reply of the server to the client of the first command that waits, and returns that
-    /// client. If the client is closed, nobody gets the reply.
+    /// client. If the client is closed, nobody gets the reply. A server can only reply to a command of
+    /// which a byte was sent.
     ///
     /// # Errors
     ///
-    /// `Unasked` if no command waits, and otherwise `OutOfMemory` if an allocation fails. Nothing
-    /// changes. After `OutOfMemory` close the client that [`Mux::next_client`] returns, and try again.
+    /// `Unasked` if no command waits of which a byte was sent, and otherwise `OutOfMemory` if an
+    /// allocation fails. Nothing changes. After `OutOfMemory` close the client that [`Mux::next_client`] returns, and try again.
     pub fn answer(&mut self, reply: &[u8]) -> Result<ClientId, AnswerError>
         ensures owner { IfOk result (λ who.
             waiting_clients self.old ≡ who ∷ waiting_clients self.new) }
         ensures passed { OnOk result (WherePassed self.old (λ p.
             HasPassed self.new (with_reply reply.now p))) }
-        ensures unasked { IsErrOf result AnswerError.Unasked ↔ (waiting_clients self.old ≡ []) }
-        ensures unchanged { OnErr result (KeepsPassed self.old self.new) }
+        // Each other client has the bytes that it had.
+        ensures others { IfOk result (λ who. KeepsOthers (who ∷ []) self.old self.new) }
+        ensures unasked { IsErrOf result AnswerError.Unasked ↔ (begun_count self.old ≡ 0) }
+        ensures unchanged { OnErr result (KeepsPassed self.old self.new ×
+            KeepsBytes self.old self.new) }
         ensures same_clients { KeepsClients self.old self.new }
     {
-        if self.waiting.is_empty() {
+        if self.waiting.len() == self.unbegun.len() {
             return Err(AnswerError::Unasked);
         }
         let Ok(owner) = answer_first(&mut self.clients, &mut self.waiting, reply) else {
@@ -212,24 +228,35 @@ impl Mux {
         Ok(owner)
     }
 
-    /// Answers each command that waits by this text, since the connection to the server was lost.
-    /// The bytes that wait for the server are removed, and a new connection begins.
+    /// Answers each command that waits of which a byte was sent by this text, since the connection to
+    /// the server was lost. The others wait for a new connection: [`Mux::to_server`] returns these
+    /// commands, whole and in order.
     ///
     /// # Errors
     ///
-    /// `AllocError` if an allocation fails. The first commands that waited may be answered, and the
+    /// `AllocError` if an allocation fails. The first of these commands may be answered, and the
     /// others still wait, so close the client that [`Mux::next_client`] returns, and try again.
     pub fn lose(&mut self, text: &[u8]) -> Result<(), AllocError>
         ensures passed { OnOk result (WherePassed self.old (λ p.
-            HasPassed self.new (with_loss text.now p))) }
-        ensures nothing_waits { OnOk result ((waiting_clients self.new ≡ []) ×
-            (unsent self.new ≡ [])) }
+            HasPassed self.new (with_loss (begun_count self.old) text.now p))) }
+        ensures none_begun { OnOk result (begun_count self.new ≡ 0) }
         ensures some_answered { OnErr result (HasAnsweredSome text.now self.old self.new) }
+        ensures others { KeepsOthers (begun_clients self.old) self.old self.new }
         ensures same_clients { KeepsClients self.old self.new }
     {
-        answer_all(&mut self.clients, &mut self.waiting, text)?;
-        self.out.clear();
+        let begun = self.begun();
+        answer_some(&mut self.clients, &mut self.waiting, begun, text)?;
+        self.out.advance(self.left);
+        self.left = 0;
         Ok(())
+    }
+
+    /// Returns the number of commands that wait for replies and of which a byte was sent over this
+    /// connection. They are the first that wait.
+    pub fn begun(&self) -> usize
+        ensures { result ≡ begun_count self.now }
+    {
+        self.waiting.len() - self.unbegun.len()
     }
 
     /// Returns the client of the first command that waits for a reply.
@@ -237,6 +264,14 @@ impl Mux {
         ensures { result ≡ slice_get (waiting_clients self.now) 0 }
     {
         self.waiting.front().copied()
+    }
+
+    /// Returns the client of a command that waits for a reply, by the number of commands that wait
+    /// before it, or `None` if no more commands wait.
+    pub fn waiting_client(&self, before: usize) -> Option<ClientId>
+        ensures { result ≡ slice_get (waiting_clients self.now) before }
+    {
+        self.waiting.get(before).copied()
     }
 
     /// Returns the bytes that wait to be sent to the server: with the bytes that were sent over this
@@ -256,8 +291,11 @@ impl Mux {
         requires { count ≤ length (unsent self.old) }
         ensures passed { WherePassed self.old (λ p.
             HasPassed self.new (with_sent (take count (unsent self.old)) p)) }
+        ensures same_waiting { waiting_clients self.new ≡ waiting_clients self.old }
+        ensures same_bytes { KeepsBytes self.old self.new }
         ensures same_clients { KeepsClients self.old self.new }
     {
+        begin(&mut self.unbegun, &mut self.left, count);
         self.out.advance(count);
     }
 
@@ -296,6 +334,20 @@ impl Mux {
         ensures same_commands { waiting_clients self.new ≡ waiting_clients self.old }
     {
         clients::close(&mut self.clients, who);
+    }
+
+    /// Returns the number of open clients.
+    pub fn open_clients(&self) -> usize
+        ensures { result ≡ open_count self.now }
+    {
+        self.clients.len()
+    }
+
+    /// Returns the number of clients that were opened.
+    pub fn opened_clients(&self) -> u64
+        ensures { result ≡ opened_count self.now }
+    {
+        self.last
     }
 
     /// Returns the number of commands that wait for replies.

@@ -1,9 +1,10 @@
 -- How bytes are written.
-use Rattle.std.proofs.Common.{◌≡◌, ◌∙◌, ℕ, Bool, true, false, cond, List, [], ◌++◌, take, drop, Option, None, Some, IfSome, ap, refl, subst, sym}
+use Rattle.std.proofs.Common.{◌≡◌, ◌∙◌, ℕ, Bool, true, false, cond, List, [], ◌++◌, length, take, drop, Option, None, Some, IfSome, ap, refl, subst, sym}
 use Rattle.std.specs.Borrow.{Bor}
 use Rattle.std.specs.Option.{option_map}
 use Rattle.std.specs.Prelude.{MatchOption}
 use Rattle.std.proofs.lemmas.List.{append-nil, take-append-drop}
+use Rattle.resp_mux.proofs.Begun.{begins_given}
 use Rattle.resp_mux.specs.declared.client_id.ClientId.{ClientId}
 use Rattle.resp_mux.specs.Multiplexing.{HasPassed, IsServed, Multiplexed, WherePassed, unsent, waiting_for}
 use Rattle.resp_mux.specs.Passing.{Passed, due_to, is_same, with_given, with_sent}
@@ -22,17 +23,22 @@ appends-none (Some held) = ap Some (sym (append-nil held))
 
 -- no bytes were given
 given-nothing : (m : Multiplexed) (who : ClientId) (p : Passed) → HasPassed m p → HasPassed m (with_given who [] p)
-given-nothing m who p s = record {
-  open_commands = s.open_commands;
-  answered = s.answered;
-  whole = s.whole;
-  each_one = s.each_one;
-  in_order = s.in_order;
-  served = λ w. subst (λ given. IfSome (client_in m.slots w) (IsServed w given p.asked)) (sym (same-given (is_same w who) (p.given w))) (s.served w);
-  numbered = s.numbered;
-  seated = s.seated;
-  ungiven = λ w above. same-given (is_same w who) (p.given w) ∙ s.ungiven w above;
-}
+given-nothing m who p h =
+    let s = h.stands in
+    record {
+      stands = record {
+        open_commands = s.open_commands;
+        answered = s.answered;
+        whole = s.whole;
+        each_one = s.each_one;
+        in_order = s.in_order;
+        served = λ w. subst (λ given. IfSome (client_in m.slots w) (IsServed w given p.asked)) (sym (same-given (is_same w who) (p.given w))) (s.served w);
+        numbered = s.numbered;
+        seated = s.seated;
+        ungiven = λ w above. same-given (is_same w who) (p.given w) ∙ s.ungiven w above;
+      };
+      begins = begins_given (length m.waiting) m.unbegun m.left p who [] h.begins;
+    }
 
 -- nothing was written
 pub none-given : (result : Option (Bor (List ℕ))) (out out' : Option (List ℕ)) (who : ClientId) (m : Multiplexed) →

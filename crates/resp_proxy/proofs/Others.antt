@@ -58,7 +58,7 @@ others-keep : (who other : ClientId) (old new : Multiplexed) (p q : Passed) → 
     waiting_for new other ≡ waiting_for old other
 others-keep who other old new p q same clients before after =
     same-out (client_in old.slots other) (client_in new.slots other) (p.given other) (q.given other) p.asked q.asked other same.given same.due
-    (clients.are_open other) (before.served other) (after.served other)
+    (clients.are_open other) (before.stands.served other) (after.stands.served other)
 
 -- a visit leaves each other client the bytes that it had
 pub visit-others : (rules : Rules) (who who' : ClientId) (left left' out out' : Option (List ℕ)) (held : List ℕ) (c : Handle) (old between new : Multiplexed)

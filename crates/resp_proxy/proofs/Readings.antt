@@ -1,10 +1,11 @@
 -- How bytes are read.
-use Rattle.std.proofs.Common.{◌≡◌, ◌∙◌, ℕ, true, List, [], ◌++◌, take, drop, Option, None, Some, Ok, Err, ap, refl, sym}
+use Rattle.std.proofs.Common.{◌≡◌, ◌∙◌, ℕ, true, List, [], ◌++◌, length, take, drop, Option, None, Some, Ok, Err, ap, arith, refl, sym}
 use Rattle.std.proofs.lemmas.List.{append-nil, take-append-drop}
 use Rattle.resp_frames.specs.declared.begun.Begun.{Begun}
 use Rattle.resp_frames.specs.Framing.{HasBegun}
 use Rattle.resp_mux.specs.declared.client_id.ClientId.{ClientId}
-use Rattle.resp_mux.specs.Multiplexing.{HasPassed, Multiplexed}
+use Rattle.resp_mux.proofs.Begun.{begins_sent}
+use Rattle.resp_mux.specs.Multiplexing.{BeginsMore, HasPassed, Multiplexed}
 use Rattle.resp_mux.specs.Passing.{Passed, with_sent}
 use Rattle.resp_proxy.specs.Clients.{Holds, is_closing}
 use Rattle.resp_proxy.specs.declared.client.Client.{Client}
@@ -80,18 +81,27 @@ no-reply-came rules left left' front b m come h = record {
   takes = λ p passed. record { replies = []; after = front; whole = append-nil front; spelled = tt; passed = passed; begun = h };
 }
 
+begun-none : (unbegun : List ℕ) (left : ℕ) → BeginsMore 0 unbegun left unbegun left
+begun-none unbegun left =
+    record { more = 0; within = omega arith; others = refl; bytes = omega arith; fewest = λ fewer few. absurd (omega (arith, few)) }
+
 sent-nothing : (m : Multiplexed) (p : Passed) → HasPassed m p → HasPassed m (with_sent [] p)
-sent-nothing m p s = record {
-  open_commands = s.open_commands;
-  answered = s.answered;
-  whole = s.whole;
-  each_one = s.each_one;
-  in_order = ap (λ text. text ++ m.unsent) (append-nil p.sent) ∙ s.in_order;
-  served = s.served;
-  numbered = s.numbered;
-  seated = s.seated;
-  ungiven = s.ungiven;
-}
+sent-nothing m p h =
+    let s = h.stands in
+    record {
+      stands = record {
+        open_commands = s.open_commands;
+        answered = s.answered;
+        whole = s.whole;
+        each_one = s.each_one;
+        in_order = ap (λ text. text ++ m.unsent) (append-nil p.sent) ∙ s.in_order;
+        served = s.served;
+        numbered = s.numbered;
+        seated = s.seated;
+        ungiven = s.ungiven;
+      };
+      begins = begins_sent (length m.waiting) m.unbegun m.unbegun m.left m.left 0 p [] (omega arith) (begun-none m.unbegun m.left) h.begins;
+    }
 
 -- nothing was written to the server
 pub none-sent : (out : Option (List ℕ)) (m : Multiplexed) → SendsSome out out m m

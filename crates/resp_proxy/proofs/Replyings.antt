@@ -7,11 +7,15 @@ use Rattle.std.proofs.lemmas.List.Folds.{concat-append}
 use Rattle.resp_frames.specs.declared.begun.Begun.{Begun}
 use Rattle.resp_frames.specs.declared.frames.Frames.{Frames}
 use Rattle.resp_frames.specs.Framing.{HasBegun, IsReady, WhereBegun, frame_rules}
-use Rattle.resp_mux.specs.Multiplexing.{HasPassed, KeepsClients, KeepsPassed, Multiplexed, WherePassed}
+use Rattle.resp_join.specs.declared.replies.Replied.{Replied}
+use Rattle.resp_mux.specs.declared.client_id.ClientId.{ClientId}
+use Rattle.resp_mux.specs.Multiplexing.{HasPassed, KeepsBytes, KeepsClients, KeepsOthers, KeepsPassed, Multiplexed, WherePassed, waiting_clients}
 use Rattle.resp_mux.specs.Passing.{Passed, with_reply}
 use Rattle.resp_proxy.specs.declared.error.ServerError.{ServerError}
 use Rattle.resp_proxy.specs.Replying.{HasReplied, TakesReplies, with_each_reply}
+use Rattle.resp_proxy.specs.Telling.{Notes, Tells}
 use Rattle.resp_proxy.proofs.Takings.{kept-clients, rest-of, whole-rest}
+use Rattle.resp_proxy.proofs.Tellings.{answers-one, tells-none, tells-one}
 use Rattle.resp_scan.specs.Reading.{HasNoValue, IsSpelled}
 use Rattle.resp_value.specs.Rules.{Rules}
 
@@ -57,43 +61,56 @@ takes-more rules bytes more b b' end p mid new t kept begun = record {
   begun = begun;
 }
 
-one-reply : (rules : Rules) (front piece : List ℕ) (b : Begun) (found : Option ℕ) (used : ℕ) (p : Passed) (new : Multiplexed) → found ≡ Some used →
-    IfSome found (λ used. OneReply rules front piece b used p new) → OneReply rules front piece b used p new
-one-reply rules front piece b found used p new e one = subst (λ o. IfSome o (λ used. OneReply rules front piece b used p new)) e one
+one-reply : (rules : Rules) (front piece : List ℕ) (b : Begun) (found : Option Replied) (reply : Replied) (p : Passed) (new : Multiplexed) → found ≡ Some reply →
+    IfSome found (λ r. OneReply rules front piece b r.used p new) → OneReply rules front piece b reply.used p new
+one-reply rules front piece b found reply p new e one = subst (λ o. IfSome o (λ r. OneReply rules front piece b r.used p new)) e one
+
+-- the command of this client waited first, and each other client has the bytes that it had
+abbrev pub IsFor : ClientId → Multiplexed → Multiplexed → Type 0
+IsFor who old new = (waiting_clients old ≡ who ∷ waiting_clients new) × KeepsOthers (who ∷ []) old new
+
+is-for : (found : Option Replied) (reply : Replied) (old new : Multiplexed) → found ≡ Some reply → IfSome found (λ r. IsFor r.client old new) →
+    IsFor reply.client old new
+is-for found reply old new e h = subst (λ o. IfSome o (λ r. IsFor r.client old new)) e h
 
 -- the loop has taken one more reply
-pub more-replied : (f f1 f2 : Frames) (b b1 b2 : Begun) (old mid new : Multiplexed) (piece : List ℕ) (used count : ℕ) (found : Option ℕ) →
-    HasReplied f b old piece used f1 b1 mid → found ≡ Some count → used + count ≤ length piece → KeepsClients mid new → (IsReady f1 → IsReady f2) →
-    frame_rules f2 ≡ frame_rules f1 →
-    WhereBegun f1 b1 (λ front. WherePassed mid (λ p. IfSome found (λ n. OneReply (frame_rules f1) front (rest-of used piece) b2 n p new))) →
-    HasReplied f b old piece (used + count) f2 b2 new
-more-replied f f1 f2 b b1 b2 old mid new piece used count found h e within clients ready same taken = record {
-  within = within;
-  ready = λ r. ready (h.ready r);
-  same_rules = same ∙ h.same_rules;
-  clients = kept-clients old mid new h.clients clients;
-  taken = λ r front begun p passed.
-      let t = h.taken r front begun p passed in
-      let q = with_each_reply t.replies p in
-      let one : OneReply (frame_rules f1) t.after (rest-of used piece) b2 count q new =
-      one-reply (frame_rules f1) t.after (rest-of used piece) b2 found count q new e
-      (taken (h.ready r) t.after (subst (λ rules. HasBegun rules b1 t.after) (sym h.same_rules) t.begun) q t.passed) in
-      let here : OneReply (frame_rules f) t.after (drop used piece) b2 count q new =
-      subst (λ rest. OneReply (frame_rules f) t.after rest b2 count q new) (whole-rest used piece)
-      (subst (λ rules. OneReply rules t.after (rest-of used piece) b2 count q new) h.same_rules one) in
-      let joined : (front ++ take used piece) ++ take count (drop used piece) ≡ front ++ take (used + count) piece =
-      append_assoc front (take used piece) (take count (drop used piece)) ∙ ap (λ z. front ++ z) (sym (take-add used count piece)) in
-      subst (λ bytes. TakesReplies (frame_rules f) bytes b2 (Ok tt) p new) joined
-      (takes-reply (frame_rules f) (front ++ take used piece) (take count (drop used piece)) b1 b2 p mid new t here);
-}
+pub more-replied : (f f1 f2 : Frames) (b b1 b2 : Begun) (old mid new : Multiplexed) (queued queued1 queued2 : List ClientId) (piece : List ℕ) (used : ℕ)
+    (found : Option Replied) (reply : Replied) →
+    HasReplied f b old queued piece used f1 b1 mid queued1 → found ≡ Some reply → used + reply.used ≤ length piece → KeepsClients mid new →
+    (IsReady f1 → IsReady f2) → frame_rules f2 ≡ frame_rules f1 → IfSome found (λ r. IsFor r.client mid new) → Notes reply.client queued1 queued2 →
+    WhereBegun f1 b1 (λ front. WherePassed mid (λ p. IfSome found (λ r. OneReply (frame_rules f1) front (rest-of used piece) b2 r.used p new))) →
+    HasReplied f b old queued piece (used + reply.used) f2 b2 new queued2
+more-replied f f1 f2 b b1 b2 old mid new queued queued1 queued2 piece used found reply h e within clients ready same for notes taken =
+    let one = is-for found reply mid new e for in
+    record {
+      within = within;
+      ready = λ r. ready (h.ready r);
+      same_rules = same ∙ h.same_rules;
+      clients = kept-clients old mid new h.clients clients;
+      answers = answers-one old mid new reply.client h.answers one.0;
+      tells = tells-one queued queued1 queued2 old mid new reply.client h.tells h.answers one.0 one.1 notes;
+      taken = λ r front begun p passed.
+          let t = h.taken r front begun p passed in
+          let q = with_each_reply t.replies p in
+          let one : OneReply (frame_rules f1) t.after (rest-of used piece) b2 reply.used q new =
+          one-reply (frame_rules f1) t.after (rest-of used piece) b2 found reply q new e
+          (taken (h.ready r) t.after (subst (λ rules. HasBegun rules b1 t.after) (sym h.same_rules) t.begun) q t.passed) in
+          let here : OneReply (frame_rules f) t.after (drop used piece) b2 reply.used q new =
+          subst (λ rest. OneReply (frame_rules f) t.after rest b2 reply.used q new) (whole-rest used piece)
+          (subst (λ rules. OneReply rules t.after (rest-of used piece) b2 reply.used q new) h.same_rules one) in
+          let joined : (front ++ take used piece) ++ take reply.used (drop used piece) ≡ front ++ take (used + reply.used) piece =
+          append_assoc front (take used piece) (take reply.used (drop used piece)) ∙ ap (λ z. front ++ z) (sym (take-add used reply.used piece)) in
+          subst (λ bytes. TakesReplies (frame_rules f) bytes b2 (Ok tt) p new) joined
+          (takes-reply (frame_rules f) (front ++ take used piece) (take reply.used (drop used piece)) b1 b2 p mid new t here);
+    }
 
 -- all bytes came, and no more replies have ended
-pub rest-replied : (f f1 : Frames) (b b1 b2 : Begun) (old mid new : Multiplexed) (piece : List ℕ) (used : ℕ) (end : Result (Unit {0}) ServerError) →
-    HasReplied f b old piece used f1 b1 mid →
+pub rest-replied : (f f1 : Frames) (b b1 b2 : Begun) (old mid new : Multiplexed) (queued queued1 : List ClientId) (piece : List ℕ) (used : ℕ)
+    (end : Result (Unit {0}) ServerError) → HasReplied f b old queued piece used f1 b1 mid queued1 →
     (IsReady f → (after : List ℕ) (q : Passed) → HasBegun (frame_rules f) b1 after → HasPassed mid q →
     HasPassed new q × OnOk end (HasBegun (frame_rules f) b2 (after ++ drop used piece))) →
     WhereBegun f b (λ front. WherePassed old (λ p. TakesReplies (frame_rules f) (front ++ piece) b2 end p new))
-rest-replied f f1 b b1 b2 old mid new piece used end h rest r front begun p passed =
+rest-replied f f1 b b1 b2 old mid new queued queued1 piece used end h rest r front begun p passed =
     let t = h.taken r front begun p passed in
     let left = rest r t.after (with_each_reply t.replies p) t.begun t.passed in
     let joined : (front ++ take used piece) ++ drop used piece ≡ front ++ piece =
@@ -101,19 +118,19 @@ rest-replied f f1 b b1 b2 old mid new piece used end h rest r front begun p pass
     subst (λ bytes. TakesReplies (frame_rules f) bytes b2 end p new) joined
     (takes-more (frame_rules f) (front ++ take used piece) (drop used piece) b1 b2 end p mid new t left.0 left.1)
 
-no-reply : (rules : Rules) (text : List ℕ) (b : Begun) (found : Option ℕ) (q : Passed) (new : Multiplexed) → found ≡ None →
+no-reply : (rules : Rules) (text : List ℕ) (b : Begun) (found : Option Replied) (q : Passed) (new : Multiplexed) → found ≡ None →
     IfNone found (HasNoValue text × HasBegun rules b text × HasPassed new q) → HasPassed new q × HasBegun rules b text
 no-reply rules text b found q new e none =
     let h = subst (λ o. IfNone o (HasNoValue text × HasBegun rules b text × HasPassed new q)) e none in (h.2, h.1)
 
 -- the last bytes of the piece begin a reply
-pub begun-replied : (f f1 : Frames) (b b1 b2 : Begun) (old mid new : Multiplexed) (piece : List ℕ) (used : ℕ) (found : Option ℕ) →
-    HasReplied f b old piece used f1 b1 mid → found ≡ None →
+pub begun-replied : (f f1 : Frames) (b b1 b2 : Begun) (old mid new : Multiplexed) (queued queued1 : List ClientId) (piece : List ℕ) (used : ℕ)
+    (found : Option Replied) → HasReplied f b old queued piece used f1 b1 mid queued1 → found ≡ None →
     WhereBegun f1 b1 (λ front. WherePassed mid (λ p. IfNone found
     (HasNoValue (front ++ rest-of used piece) × HasBegun (frame_rules f1) b2 (front ++ rest-of used piece) × HasPassed new p))) →
     WhereBegun f b (λ front. WherePassed old (λ p. TakesReplies (frame_rules f) (front ++ piece) b2 (Ok tt) p new))
-begun-replied f f1 b b1 b2 old mid new piece used found h e more =
-    rest-replied f f1 b b1 b2 old mid new piece used (Ok tt) h
+begun-replied f f1 b b1 b2 old mid new queued queued1 piece used found h e more =
+    rest-replied f f1 b b1 b2 old mid new queued queued1 piece used (Ok tt) h
     (λ r after q begun passed.
     let none = no-reply (frame_rules f1) (after ++ rest-of used piece) b2 found q new e
     (more (h.ready r) after (subst (λ rules. HasBegun rules b1 after) (sym h.same_rules) begun) q passed) in (
@@ -122,27 +139,34 @@ begun-replied f f1 b b1 b2 old mid new piece used found h e more =
           (subst (λ rules. HasBegun rules b2 (after ++ rest-of used piece)) h.same_rules none.1),
     ))
 
+-- nobody more was replied to
+pub nobody-told : (found : Option Replied) (f f1 : Frames) (b b1 : Begun) (old mid new : Multiplexed) (queued queued1 : List ClientId) (piece : List ℕ) (used : ℕ) →
+    HasReplied f b old queued piece used f1 b1 mid queued1 → found ≡ None → IfNone found (KeepsBytes mid new) → Tells queued queued1 old new
+nobody-told found f f1 b b1 old mid new queued queued1 piece used h e none =
+    tells-none queued queued1 old mid new h.tells (subst (λ o. IfNone o (KeepsBytes mid new)) e none)
+
 -- the connection is not usable
-pub end-replied : (f f1 : Frames) (b b1 b2 : Begun) (old mid new : Multiplexed) (piece : List ℕ) (used : ℕ) (e : ServerError) →
-    HasReplied f b old piece used f1 b1 mid → KeepsPassed mid new →
+pub end-replied : (f f1 : Frames) (b b1 b2 : Begun) (old mid new : Multiplexed) (queued queued1 : List ClientId) (piece : List ℕ) (used : ℕ) (e : ServerError) →
+    HasReplied f b old queued piece used f1 b1 mid queued1 → KeepsPassed mid new →
     WhereBegun f b (λ front. WherePassed old (λ p. TakesReplies (frame_rules f) (front ++ piece) b2 (Err e) p new))
-end-replied f f1 b b1 b2 old mid new piece used e h kept =
-    rest-replied f f1 b b1 b2 old mid new piece used (Err e) h (λ r after q begun passed. (kept q passed, tt))
+end-replied f f1 b b1 b2 old mid new queued queued1 piece used e h kept =
+    rest-replied f f1 b b1 b2 old mid new queued queued1 piece used (Err e) h (λ r after q begun passed. (kept q passed, tt))
 
 -- a reply ended where it began
-pub stuck-replied : (f f1 f2 : Frames) (b b1 b2 : Begun) (old mid new : Multiplexed) (piece : List ℕ) (used : ℕ) (found : Option ℕ) (e : ServerError) →
-    HasReplied f b old piece used f1 b1 mid → found ≡ Some 0 → KeepsClients mid new → (IsReady f1 → IsReady f2) → frame_rules f2 ≡ frame_rules f1 →
-    WhereBegun f1 b1 (λ front. WherePassed mid (λ p. IfSome found (λ n. OneReply (frame_rules f1) front (rest-of used piece) b2 n p new))) →
+pub stuck-replied : (f f1 f2 : Frames) (b b1 b2 : Begun) (old mid new : Multiplexed) (queued queued1 queued2 : List ClientId) (piece : List ℕ) (used : ℕ)
+    (found : Option Replied) (reply : Replied) (e : ServerError) →
+    HasReplied f b old queued piece used f1 b1 mid queued1 → found ≡ Some reply → used + reply.used ≤ length piece → KeepsClients mid new →
+    (IsReady f1 → IsReady f2) → frame_rules f2 ≡ frame_rules f1 → IfSome found (λ r. IsFor r.client mid new) → Notes reply.client queued1 queued2 →
+    WhereBegun f1 b1 (λ front. WherePassed mid (λ p. IfSome found (λ r. OneReply (frame_rules f1) front (rest-of used piece) b2 r.used p new))) →
     WhereBegun f b (λ front. WherePassed old (λ p. TakesReplies (frame_rules f) (front ++ piece) b2 (Err e) p new))
-stuck-replied f f1 f2 b b1 b2 old mid new piece used found e h is clients ready same taken =
-    let none : used + 0 ≡ used = omega arith in
-    let within : used + 0 ≤ length piece = subst (λ n. n ≤ length piece) (sym none) h.within in
-    end-replied f f2 b b2 b2 old new new piece (used + 0) e (more-replied f f1 f2 b b1 b2 old mid new piece used 0 found h is within clients ready same taken)
-    (λ p passed. passed)
+stuck-replied f f1 f2 b b1 b2 old mid new queued queued1 queued2 piece used found reply e h is within clients ready same for notes taken =
+    end-replied f f2 b b2 b2 old new new queued queued2 piece (used + reply.used) e
+    (more-replied f f1 f2 b b1 b2 old mid new queued queued1 queued2 piece used found reply h is within clients ready same for notes taken) (λ p passed. passed)
 
 -- all bytes were taken
-pub all-replied : (f f1 : Frames) (b b1 : Begun) (old new : Multiplexed) (piece : List ℕ) (used : ℕ) → HasReplied f b old piece used f1 b1 new →
+pub all-replied : (f f1 : Frames) (b b1 : Begun) (old new : Multiplexed) (queued queued1 : List ClientId) (piece : List ℕ) (used : ℕ) →
+    HasReplied f b old queued piece used f1 b1 new queued1 →
     length piece ≤ used → WhereBegun f b (λ front. WherePassed old (λ p. TakesReplies (frame_rules f) (front ++ piece) b1 (Ok tt) p new))
-all-replied f f1 b b1 old new piece used h end r front begun p passed =
+all-replied f f1 b b1 old new queued queued1 piece used h end r front begun p passed =
     let same : used ≡ length piece = let w = h.within in omega (arith, w, end) in
     subst (λ z. TakesReplies (frame_rules f) (front ++ z) b1 (Ok tt) p new) (ap (λ n. take n piece) same ∙ take-length piece) (h.taken r front begun p passed)

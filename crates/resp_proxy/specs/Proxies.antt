@@ -19,6 +19,8 @@ pub record Proxied : Type 0 where
   pub reply_rules : Rules
   -- the reply that the server has begun
   pub begun : Begun
+  -- the clients that were replied to and were not asked for yet
+  pub replied : List ClientId
 
 abbrev pub mux_of : Proxied → Multiplexed
 mux_of p = p.mux
@@ -32,6 +34,21 @@ reply_rules_of p = p.reply_rules
 -- the reply that the server has begun
 abbrev pub server_begun : Proxied → Begun
 server_begun p = p.begun
+
+-- the clients that were replied to and were not asked for yet, in order
+abbrev pub replied_to : Proxied → List ClientId
+replied_to p = p.replied
+
+-- these clients were replied to, and all else is as it was
+abbrev pub with_replied : List ClientId → Proxied → Proxied
+with_replied clients p = record {
+  mux = p.mux;
+  settings = p.settings;
+  rules = p.rules;
+  reply_rules = p.reply_rules;
+  begun = p.begun;
+  replied = clients;
+}
 
 abbrev pub settings_of : Proxied → Settings
 settings_of p = p.settings
@@ -56,7 +73,7 @@ WhereBegunBy p P = (front : List ℕ) → HasBegunBy p front → P front
 abbrev pub WhereHeld : Proxied → Client → (List ℕ → Type 0) → Type 0
 WhereHeld p c P = (held : List ℕ) → Holds p.rules c held → P held
 
--- the answer to each command that waits when the connection to the server is lost
+-- the reply to each command that was begun to be sent when the connection to the server is lost
 abbrev pub lost_text : List ℕ
 lost_text = codes "-ERR connection to server lost; the command may have run\r\n"
 

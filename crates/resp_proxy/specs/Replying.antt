@@ -4,9 +4,11 @@ use Rattle.std.specs.List.{AllByRecursion, concat}
 use Rattle.resp_frames.specs.declared.begun.Begun.{Begun}
 use Rattle.resp_frames.specs.declared.frames.Frames.{Frames}
 use Rattle.resp_frames.specs.Framing.{HasBegun, IsReady, WhereBegun, frame_rules}
+use Rattle.resp_mux.specs.declared.client_id.ClientId.{ClientId}
 use Rattle.resp_mux.specs.Multiplexing.{HasPassed, KeepsClients, Multiplexed, WherePassed}
 use Rattle.resp_mux.specs.Passing.{Passed, with_reply}
 use Rattle.resp_proxy.specs.declared.error.ServerError.{ServerError}
+use Rattle.resp_proxy.specs.Telling.{Answers, Tells}
 use Rattle.resp_scan.specs.Reading.{IsSpelled}
 use Rattle.resp_value.specs.Rules.{Rules}
 
@@ -26,11 +28,13 @@ pub record TakesReplies (rules : Rules) (bytes : List ℕ) (b : Begun) (end : Re
   pub begun : OnOk end (HasBegun rules b after)
 
 -- these bytes of a piece were taken
-pub record HasReplied (frames : Frames) (b : Begun) (old : Multiplexed) (piece : List ℕ) (used : ℕ) (frames' : Frames) (b' : Begun)
-    (new : Multiplexed) : Type 0 where
+pub record HasReplied (frames : Frames) (b : Begun) (old : Multiplexed) (queued : List ClientId) (piece : List ℕ) (used : ℕ)
+    (frames' : Frames) (b' : Begun) (new : Multiplexed) (queued' : List ClientId) : Type 0 where
   pub within : used ≤ length piece
   pub ready : IsReady frames → IsReady frames'
   pub same_rules : frame_rules frames' ≡ frame_rules frames
   pub clients : KeepsClients old new
+  pub answers : Answers old new
+  pub tells : Tells queued queued' old new
   pub taken : WhereBegun frames b (λ front. WherePassed old (λ p.
       TakesReplies (frame_rules frames) (front ++ take used piece) b' (Ok tt) p new))

@@ -1,6 +1,6 @@
 //! The replies of the proxy itself.
 
-use resp_commands::Class;
+use resp_commands::{Class, entry};
 use resp_frames::{CommandFrame, FrameError};
 use resp_mux::ClientId;
 use resp_scan::whole;
@@ -77,7 +77,7 @@ fn answer_to(
     if class == Some(Class::OwnAnswer) {
         return answer_outside(alloc, asked.name);
     }
-    refusal(alloc, asked.name, class)
+    refusal(alloc, asked, class)
 }
 
 /// Returns whether the proxy itself replies to this subcommand of CLIENT.
@@ -179,14 +179,18 @@ fn ok(alloc: Global) -> Result<Vec<u8>, AllocError> {
 }
 
 /// Returns the error for a command that is not served, with its name and the reason.
-fn refusal(alloc: Global, name: &[u8], class: Option<Class>) -> Result<Vec<u8>, AllocError> {
-    let shown = name[..name.len().min(SHOWN)].escape_ascii();
+fn refusal(alloc: Global, asked: Asked<'_>, class: Option<Class>) -> Result<Vec<u8>, AllocError> {
+    let name = asked.name[..asked.name.len().min(SHOWN)].escape_ascii();
     let text = match class {
-        None => format!(in alloc; "-ERR unknown command '{shown}'\r\n")?,
-        Some(Class::Setting | Class::OwnConnection) => {
-            format!(in alloc; "-ERR '{shown}' is not served by this proxy yet\r\n")?
+        None if entry(asked.name).is_some() => {
+            let word = asked.first[..asked.first.len().min(SHOWN)].escape_ascii();
+            format!(in alloc; "-ERR unknown subcommand '{word}' of '{name}'\r\n")?
         }
-        Some(_) => format!(in alloc; "-ERR '{shown}' is not served by this proxy\r\n")?,
+        None => format!(in alloc; "-ERR unknown command '{name}'\r\n")?,
+        Some(Class::Setting | Class::OwnConnection) => {
+            format!(in alloc; "-ERR '{name}' is not served by this proxy yet\r\n")?
+        }
+        Some(_) => format!(in alloc; "-ERR '{name}' is not served by this proxy\r\n")?,
     };
     Ok(text.into_bytes())
 }

@@ -10,11 +10,11 @@ ghost use Rattle.resp_proxy.specs.Taking.{CarriesOut, TakesOne, TakesSome};
 
 use crate::answer::own_answer;
 use crate::error::ClientError;
+use crate::local::local_answer;
 use crate::settings::Settings;
 use resp_commands::Class;
 use resp_frames::{Begun, CommandFrame, Frames};
 use resp_mux::{ClientId, ForwardError, Mux, OwnError};
-use resp_value::limits::Limits;
 use std::alloc::{AllocError, Global};
 
 /// The result of [`take_commands`].
@@ -55,7 +55,7 @@ pub(crate) fn take_commands(
     while used < piece.len() && settings.has_room(mux, who) {
         match take_one(
             alloc,
-            &settings.limits,
+            settings,
             frames,
             begun,
             label,
@@ -91,7 +91,7 @@ pub(crate) fn take_commands(
 /// or `None` if no command ends in the piece. Then all bytes of the piece are held.
 fn take_one(
     alloc: Global,
-    limits: &Limits,
+    settings: &Settings,
     frames: &mut Frames,
     begun: &mut Begun,
     label: &mut Vec<u8>,
@@ -114,17 +114,17 @@ fn take_one(
     let Some(command) = found else {
         return Ok(None);
     };
-    match carry_out(alloc, limits, label, mux, who, &command) {
+    match carry_out(alloc, settings, label, mux, who, &command) {
         Ok(()) => Ok(Some(command.frame.used())),
         Err(error) => Err(error),
     }
 }
 
-/// Queues a command for the server if clients may share a connection for it. Otherwise the proxy
-/// itself replies.
+/// Queues a command for the server if clients may share a connection for it, and the proxy does not reply
+/// to it although they may. Otherwise the proxy itself replies.
 fn carry_out(
     alloc: Global,
-    limits: &Limits,
+    settings: &Settings,
     label: &mut Vec<u8>,
     mux: &mut Mux,
     who: ClientId,
@@ -136,9 +136,13 @@ fn carry_out(
     ensures same_clients { KeepsClients mux.old mux.new }
 {
     if command.words.class == Some(Class::Shared) {
-        return forward(mux, who, command.frame.text());
+        return match local_answer(alloc, settings, mux, command) {
+            Ok(Some(answer)) => own(mux, who, &answer),
+            Ok(None) => forward(mux, who, command.frame.text()),
+            Err(AllocError) => Err(ClientError::OutOfMemory),
+        };
     }
-    match own_answer(alloc, limits, who, label, command) {
+    match own_answer(alloc, &settings.limits, who, label, command) {
         Ok(Some(answer)) => own(mux, who, &answer),
         Ok(None) => Err(ClientError::Quit),
         Err(AllocError) => Err(ClientError::OutOfMemory),

@@ -31,7 +31,8 @@ pub enum ClientError {
 /// [`Proxy::lose`](crate::Proxy::lose).
 #[derive(Clone, Copy, Debug, PartialEq, Eq, Error)]
 pub enum ServerError {
-    /// A byte was rejected, a value is a push, no command waits for a reply, or memory ran out.
+    /// A byte was rejected, a value is a push, no command waits of which a byte was sent, or memory ran
+    /// out.
     #[error(transparent)]
     Reply(ReplyError),
     /// A reply ended before its first byte. This cannot happen, and no clause says so.

@@ -1,7 +1,7 @@
 //! Writes the bytes that wait in a multiplexer.
 
 ghost use Rattle.std.specs.Prelude.{◌≡◌, ◌↔◌, ◌⊎◌, [], IsTrue};
-ghost use Rattle.resp_mux.specs.Multiplexing.{KeepsClients, unsent};
+ghost use Rattle.resp_mux.specs.Multiplexing.{KeepsBytes, KeepsClients, unsent};
 ghost use Rattle.resp_proxy.specs.Visiting.{GivesSome, HasNoCommand, HasNothingFor, SendsSome};
 ghost use Rattle.resp_value.specs.Devices.{count_after};
 
@@ -52,6 +52,7 @@ fn left_for(mux: &Mux, who: ClientId) -> Written
 /// Writes bytes that wait for the server, with at most one write.
 pub(crate) fn send<W: Sink>(mux: &mut Mux, writer: &mut W) -> Written
     ensures sends { SendsSome (W.written writer.old) (W.written writer.new) mux.old mux.new }
+    ensures same_bytes { KeepsBytes mux.old mux.new }
     ensures all { result ≡ Written.All → unsent mux.new ≡ [] }
     ensures once { (unsent mux.old ≡ []) ⊎
         (W.calls writer.new ≡ count_after 1 (W.calls writer.old)) }

@@ -9,10 +9,12 @@ mod client;
 mod commands;
 mod error;
 mod giving;
+mod local;
 mod proxy;
 mod replies;
 mod settings;
 mod taking;
+mod told;
 mod visit;
 
 pub use client::Client;

@@ -1,17 +1,19 @@
 //! The proxy.
 
-ghost use Rattle.std.specs.Prelude.{◌≡◌, ◌↔◌, ◌⊎◌, ◌++◌, true, false, [], length, slice_get, IfOk, IsErrOf, IsTrue, OnErr, OnOk};
+ghost use Rattle.std.specs.Prelude.{◌≡◌, ◌↔◌, ◌⊎◌, ◌++◌, true, false, [], drop, length, slice_get, IfOk, IsErrOf, IsTrue, OnErr, OnOk};
 ghost use Rattle.resp_frames.specs.Framing.{HasBegun};
-ghost use Rattle.resp_mux.specs.Multiplexing.{HasAnsweredSome, HasClosed, HasNoNumberLeft, HasOpened, HasPassed, KeepsClients, KeepsPassed, WherePassed, unsent, waiting_clients};
+ghost use Rattle.resp_mux.specs.Multiplexing.{HasAnsweredSome, HasClosed, HasNoNumberLeft, HasOpened, HasPassed, KeepsBytes, KeepsClients, KeepsPassed, WherePassed, begun_count, unsent, waiting_clients};
 ghost use Rattle.resp_mux.specs.Passing.{nothing_passed, with_loss};
 ghost use Rattle.resp_proxy.specs.Clients.{Holds, client_id, is_closing, waits_for_room};
 ghost use Rattle.resp_proxy.specs.Room.{HasRoom};
+ghost use Rattle.resp_proxy.specs.Failing.{Fails, FailsSome};
 ghost use Rattle.resp_proxy.specs.Replying.{TakesReplies};
 ghost use Rattle.resp_proxy.specs.Taking.{TakesIn};
+ghost use Rattle.resp_proxy.specs.Telling.{Tells};
 ghost use Rattle.resp_proxy.specs.Visiting.{GivesSome, HasNothingFor, IsDone, SendsSome};
 ghost use Rattle.resp_value.specs.Devices.{count_after};
 ghost use Rattle.resp_value.specs.Rules.{Rules};
-ghost use Rattle.resp_proxy.specs.Proxies.{HasBegunBy, HasNoClient, HasRoomFor, WhereBegunBy, WhereHeld, lost_text, mux_of, reply_rules_of, rules_of, server_begun, settings_of};
+ghost use Rattle.resp_proxy.specs.Proxies.{HasBegunBy, HasNoClient, HasRoomFor, WhereBegunBy, WhereHeld, lost_text, mux_of, replied_to, reply_rules_of, rules_of, server_begun, settings_of, with_replied};
 
 use crate::client::Client;
 use crate::error::{ClientError, ServerError};
@@ -19,14 +21,16 @@ use crate::giving::{Written, give, has_no_bytes, has_no_command, send};
 use crate::replies::take_replies;
 use crate::settings::Settings;
 use crate::taking::{shut, take_in};
+use crate::told::note_begun;
 use resp_frames::{Begun, Frames};
 use resp_mux::{Bounds, ClientId, Mux, OpenError};
 use resp_value::device::Sink;
 use resp_value::version::Version;
 use std::alloc::{AllocError, Global};
+use std::collections::VecDeque;
 use std::marker::Model;
 
-/// The reply to each command that waits when the connection to the server is lost.
+/// The reply to each command of which a byte was sent, when the connection to the server is lost.
 const LOST: &[u8] = b"-ERR connection to server lost; the command may have run\r\n";
 
 /// A proxy between many clients and one connection to a server.
@@ -41,6 +45,8 @@ pub struct Proxy {
     replies: Frames,
     /// The reply that the server has begun.
     begun: Begun,
+    /// The clients that were replied to and were not asked for yet.
+    replied: VecDeque<ClientId>,
 }
 
 impl Model for Proxy {
@@ -55,6 +61,7 @@ impl Model for Proxy {
       rules = frame_rules p.commands;
       reply_rules = frame_rules p.replies;
       begun = p.begun;
+      replied = p.replied.items;
     } };
 
     ghost invariant = { λ p. IsSound p.commands p.replies };
@@ -70,6 +77,7 @@ impl Proxy {
         ensures passed { IfOk result (λ proxy. HasPassed (mux_of proxy) nothing_passed) }
         ensures no_clients { IfOk result (λ proxy. HasNoClient (mux_of proxy)) }
         ensures begun { IfOk result (λ proxy. HasBegunBy proxy []) }
+        ensures nobody { IfOk result (λ proxy. replied_to proxy ≡ []) }
         ensures settings { IfOk result (λ proxy. settings_of proxy ≡ settings) }
     {
         let commands = Frames::new(alloc, Version::Two, &settings.limits)?;
@@ -85,6 +93,7 @@ impl Proxy {
             commands,
             replies,
             begun: Begun::new(),
+            replied: VecDeque::new(alloc),
         })
     }
 
@@ -103,6 +112,7 @@ impl Proxy {
         ensures too_many { IsErrOf result OpenError.TooMany ↔ HasNoNumberLeft (mux_of self.old) }
         ensures unchanged { OnErr result (KeepsClients (mux_of self.old) (mux_of self.new)) }
         ensures same_rules { rules_of self.new ≡ rules_of self.old }
+        ensures same_replied { replied_to self.new ≡ replied_to self.old }
     {
         match self.mux.open() {
             Ok(id) => Ok(Client::new(self.alloc, id)),
@@ -116,6 +126,7 @@ impl Proxy {
         ensures closed { HasClosed (mux_of self.old) (mux_of self.new) (client_id client) }
         ensures passed { KeepsPassed (mux_of self.old) (mux_of self.new) }
         ensures same_rules { rules_of self.new ≡ rules_of self.old }
+        ensures same_replied { replied_to self.new ≡ replied_to self.old }
     {
         self.mux.close(client.id);
     }
@@ -146,6 +157,7 @@ impl Proxy {
         ensures same_client { client_id client.new ≡ client_id client.old }
         ensures same_clients { KeepsClients (mux_of self.old) (mux_of self.new) }
         ensures same_rules { rules_of self.new ≡ rules_of self.old }
+        ensures same_replied { replied_to self.new ≡ replied_to self.old }
     {
         take_in(
             self.alloc,
@@ -155,6 +167,13 @@ impl Proxy {
             client,
             piece,
         )
+    }
+
+    /// Returns the number of bytes that wait for the server.
+    pub fn unsent(&self) -> usize
+        ensures { result ≡ length (unsent (mux_of self.now)) }
+    {
+        self.mux.to_server().len()
     }
 
     /// Returns the number of commands that wait for replies.
@@ -201,12 +220,22 @@ impl Proxy {
         ensures taken { WhereBegunBy self.old (λ front. WherePassed (mux_of self.old) (λ p.
             TakesReplies (reply_rules_of self.old) (front ++ piece.now) (server_begun self.new)
             result p (mux_of self.new))) }
+        // Each client whose bytes are other than before is returned by `next_replied`.
+        ensures told { Tells (replied_to self.old) (replied_to self.new) (mux_of self.old)
+            (mux_of self.new) }
         ensures same_clients { KeepsClients (mux_of self.old) (mux_of self.new) }
         ensures same_rules { rules_of self.new ≡ rules_of self.old }
         ensures same_reply_rules { reply_rules_of self.new ≡ reply_rules_of self.old }
         ensures forgotten { OnErr result (HasBegunBy self.new []) }
     {
-        match take_replies(&mut self.replies, &mut self.begun, &mut self.mux, piece) {
+        let taken = take_replies(
+            &mut self.replies,
+            &mut self.begun,
+            &mut self.mux,
+            &mut self.replied,
+            piece,
+        );
+        match taken {
             Ok(()) => Ok(()),
             Err(error) => {
                 forget(&mut self.begun);
@@ -215,24 +244,79 @@ impl Proxy {
         }
     }
 
-    /// Answers each command that waits by an error, since the connection to the server was lost, and
-    /// forgets the reply that the server had begun. A new connection begins.
+    /// Replies to each command that waits of which a byte was sent by an error, since the connection to
+    /// the server was lost, and forgets the reply that the server had begun. The other commands wait
+    /// for a new connection.
     ///
     /// # Errors
     ///
-    /// `AllocError` if an allocation fails. The first commands may have their replies, and the others still
-    /// wait. Close the client of the first command, and try again.
+    /// `AllocError` if an allocation fails. The first of these commands may have their replies, and the
+    /// others still wait. Close the client of the first command, and try again.
     pub fn lose(&mut self) -> Result<(), AllocError>
         ensures passed { OnOk result (WherePassed (mux_of self.old) (λ p.
-            HasPassed (mux_of self.new) (with_loss lost_text p))) }
+            HasPassed (mux_of self.new)
+            (with_loss (begun_count (mux_of self.old)) lost_text p))) }
         ensures some_answered { OnErr result (HasAnsweredSome lost_text (mux_of self.old)
             (mux_of self.new)) }
+        ensures told { Tells (replied_to self.old) (replied_to self.new) (mux_of self.old)
+            (mux_of self.new) }
+        ensures begun { HasBegunBy self.new [] }
+        ensures same_clients { KeepsClients (mux_of self.old) (mux_of self.new) }
+        ensures same_rules { rules_of self.new ≡ rules_of self.old }
+    {
+        self.lose_by(LOST)
+    }
+
+    /// Does what `lose` does, with this text as the reply.
+    fn lose_by(&mut self, text: &[u8]) -> Result<(), AllocError>
+        ensures passed { OnOk result (WherePassed (mux_of self.old) (λ p.
+            HasPassed (mux_of self.new)
+            (with_loss (begun_count (mux_of self.old)) text.now p))) }
+        ensures some_answered { OnErr result (HasAnsweredSome text.now (mux_of self.old)
+            (mux_of self.new)) }
+        ensures told { Tells (replied_to self.old) (replied_to self.new) (mux_of self.old)
+            (mux_of self.new) }
         ensures begun { HasBegunBy self.new [] }
         ensures same_clients { KeepsClients (mux_of self.old) (mux_of self.new) }
         ensures same_rules { rules_of self.new ≡ rules_of self.old }
     {
         forget(&mut self.begun);
-        self.mux.lose(LOST)
+        note_begun(&mut self.replied, &self.mux)?;
+        self.mux.lose(text)
+    }
+
+    /// Replies to each command that waits by this text, since no connection to the server can be opened.
+    /// No byte of them is sent. A new connection begins.
+    ///
+    /// # Errors
+    ///
+    /// `AllocError` if an allocation fails. The first commands may have their replies, and the others count
+    /// as begun. Close the client of the first command, and call [`Proxy::lose`].
+    pub fn fail(&mut self, text: &[u8]) -> Result<(), AllocError>
+        // The commands of which a byte would be sent if all bytes were sent.
+        ensures passed { OnOk result (WherePassed (mux_of self.old) (λ p.
+            Fails text.now (mux_of self.old) (mux_of self.new) p)) }
+        ensures some_answered { OnErr result (WherePassed (mux_of self.old) (λ p.
+            FailsSome text.now (mux_of self.old) (mux_of self.new) p)) }
+        ensures told { Tells (replied_to self.old) (replied_to self.new) (mux_of self.old)
+            (mux_of self.new) }
+        ensures begun { HasBegunBy self.new [] }
+        ensures same_clients { KeepsClients (mux_of self.old) (mux_of self.new) }
+        ensures same_rules { rules_of self.new ≡ rules_of self.old }
+    {
+        let all = self.mux.to_server().len();
+        self.mux.sent(all);
+        self.lose_by(text)
+    }
+
+    /// Returns the next client that was replied to by [`Proxy::from_server`],
+    /// [`Proxy::visit_server`] or [`Proxy::lose`], and removes it from the queue of these clients. It
+    /// may be closed. A client that was replied to more than once in a row is returned once.
+    pub fn next_replied(&mut self) -> Option<ClientId>
+        ensures first { result ≡ slice_get (replied_to self.old) 0 }
+        ensures rest { self.new ≡ with_replied (drop 1 (replied_to self.old)) self.old }
+    {
+        self.replied.pop_front()
     }
 
     /// Writes bytes that wait for a client, with at most one write.
@@ -245,6 +329,7 @@ impl Proxy {
             (W.calls writer.new ≡ count_after 1 (W.calls writer.old)) }
         ensures same_clients { KeepsClients (mux_of self.old) (mux_of self.new) }
         ensures same_rules { rules_of self.new ≡ rules_of self.old }
+        ensures same_replied { replied_to self.new ≡ replied_to self.old }
     {
         give(&mut self.mux, client.id, writer)
     }
@@ -253,11 +338,13 @@ impl Proxy {
     pub fn send<W: Sink>(&mut self, writer: &mut W) -> Written
         ensures sends { SendsSome (W.written writer.old) (W.written writer.new)
             (mux_of self.old) (mux_of self.new) }
+        ensures same_bytes { KeepsBytes (mux_of self.old) (mux_of self.new) }
         ensures all { result ≡ Written.All → unsent (mux_of self.new) ≡ [] }
         ensures once { (unsent (mux_of self.old) ≡ []) ⊎
             (W.calls writer.new ≡ count_after 1 (W.calls writer.old)) }
         ensures same_clients { KeepsClients (mux_of self.old) (mux_of self.new) }
         ensures same_rules { rules_of self.new ≡ rules_of self.old }
+        ensures same_replied { replied_to self.new ≡ replied_to self.old }
         ensures same_begun { server_begun self.new ≡ server_begun self.old }
     {
         send(&mut self.mux, writer)

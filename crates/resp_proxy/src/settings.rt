@@ -17,11 +17,13 @@ pub struct Settings {
     pub held: usize,
     /// No command is taken while more than this number of bytes wait for the server.
     pub unsent: usize,
+    /// Whether the proxy itself replies to PING.
+    pub local_ping: bool,
 }
 
 impl Settings {
     /// Returns the default settings: the standard limits, 1,024 commands of a client, 1 MiB of
-    /// replies for a client, and 1 MiB of commands for the server.
+    /// replies for a client, and 1 MiB of commands for the server. PING is sent to the server.
     pub fn standard() -> Settings
         ensures waiting { result.waiting ≡ 1024 }
         ensures held { result.held ≡ 1048576 }
@@ -32,6 +34,7 @@ impl Settings {
             waiting: 1_024,
             held: 1_048_576,
             unsent: 1_048_576,
+            local_ping: false,
         }
     }
 

@@ -3,7 +3,8 @@
 ghost use Rattle.std.specs.Prelude.{◌≡◌, ◌<◌, [], length};
 ghost use Rattle.resp_mux.specs.Multiplexing.{KeepsClients, WherePassed, unsent};
 ghost use Rattle.resp_proxy.specs.Clients.{client_id, is_closing};
-ghost use Rattle.resp_proxy.specs.Proxies.{HasRoomFor, WhereBegunBy, WhereHeld, mux_of, rules_of, reply_rules_of, server_begun};
+ghost use Rattle.resp_proxy.specs.Proxies.{HasRoomFor, WhereBegunBy, WhereHeld, mux_of, replied_to, rules_of, reply_rules_of, server_begun};
+ghost use Rattle.resp_proxy.specs.Telling.{Tells};
 ghost use Rattle.resp_proxy.specs.Visiting.{HasNothingFor, OthersKeep, ReadsClient, ReadsServer, VisitsClient, VisitsServer};
 ghost use Rattle.resp_value.specs.Devices.{count_after};
 
@@ -76,6 +77,7 @@ impl Proxy {
         ensures same_client { client_id client.new ≡ client_id client.old }
         ensures same_clients { KeepsClients (mux_of self.old) (mux_of self.new) }
         ensures same_rules { rules_of self.new ≡ rules_of self.old }
+        ensures same_replied { replied_to self.new ≡ replied_to self.old }
     {
         let read = self.read_client(client, reader, buffer);
         let written = self.give(client, writer);
@@ -97,6 +99,7 @@ impl Proxy {
         ensures same_client { client_id client.new ≡ client_id client.old }
         ensures same_clients { KeepsClients (mux_of self.old) (mux_of self.new) }
         ensures same_rules { rules_of self.new ≡ rules_of self.old }
+        ensures same_replied { replied_to self.new ≡ replied_to self.old }
     {
         if client.is_closing {
             return Read::Closing(ClientError::Closing);
@@ -131,6 +134,9 @@ impl Proxy {
             (R.remaining reader.old) (R.remaining reader.new) (W.written writer.old)
             (W.written writer.new) front (server_begun self.new) result.end
             (mux_of self.old) (mux_of self.new)) }
+        // Each client whose bytes are other than before is returned by `next_replied`.
+        ensures told { Tells (replied_to self.old) (replied_to self.new) (mux_of self.old)
+            (mux_of self.new) }
         ensures once { R.calls reader.new ≡ count_after 1 (R.calls reader.old) }
         ensures all { result.written ≡ Written.All →
             unsent (mux_of self.new) ≡ [] }
@@ -156,6 +162,8 @@ impl Proxy {
         ensures reads { WhereBegunBy self.old (λ front. ReadsServer (reply_rules_of self.old)
             (R.remaining reader.old) (R.remaining reader.new) front (server_begun self.new) result.1
             (mux_of self.old) (mux_of self.new)) }
+        ensures told { Tells (replied_to self.old) (replied_to self.new) (mux_of self.old)
+            (mux_of self.new) }
         ensures once { R.calls reader.new ≡ count_after 1 (R.calls reader.old) }
         ensures same_clients { KeepsClients (mux_of self.old) (mux_of self.new) }
         ensures same_rules { rules_of self.new ≡ rules_of self.old }

@@ -179,7 +179,7 @@ pub(crate) fn refuse(stream: &TcpStream, line: &[u8]) {
 
 /// Shuts down the sending direction, and then reads bytes that were received but not read: a socket
 /// that is closed with unread bytes discards the bytes that it sent.
-fn close(stream: &TcpStream) {
+pub(crate) fn close(stream: &TcpStream) {
     let _ = stream.shutdown(Shutdown::Write);
     let mut reader = stream;
     let mut unread = [0; 4_096];

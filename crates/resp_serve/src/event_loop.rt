@@ -5,7 +5,7 @@ ghost use Rattle.resp_serve.specs.Placing.{ArePlaced, KeepsOthers, NoneAppears};
 ghost use Rattle.resp_serve.specs.Waits.{IsNoWait};
 
 use crate::connection::refuse;
-use crate::service::{Next, Service, Tokens};
+use crate::service::{Cause, INPUT, Next, OWN_SOCKET, Service, Tokens};
 use mio::net::{TcpListener, TcpStream};
 use mio::{Events, Interest, Poll, Token};
 use resp_schedule::{Backlog, OpenError, Schedule, State, Wait};
@@ -145,16 +145,20 @@ impl<C: Drop> Loop<C> {
         for event in events.iter() {
             match event.token() {
                 Token(LISTENER) => self.schedule.set_backlog(Backlog::Waiting),
+                OWN_SOCKET => service.ready(event.is_read_closed()),
+                INPUT => service.input_ready(event.is_read_closed()),
                 Token(token) => {
-                    self.visit_ready(service, (token - 1) / 2, event.is_read_closed());
+                    let is_at_end = event.is_read_closed();
+                    self.visit_idle(service, (token - 1) / 2, Cause::Ready { is_at_end });
                 }
             }
         }
+        self.visit_named(service);
         self.visit_due(service);
         if self.schedule.accepts() {
             self.accept_some(service);
         }
-        service.work()
+        service.work(self.poll.registry())
     }
 
     /// Returns the longest time of the next wait.
@@ -169,11 +173,20 @@ impl<C: Drop> Loop<C> {
         }
     }
 
-    /// Visits a connection after a socket of it became ready. A queued connection is visited when
-    /// it is its turn.
-    fn visit_ready<T: Service<C>>(&mut self, service: &mut T, place: usize, is_at_end: bool) {
+    /// Visits a connection that is not queued. A queued connection is visited when it is its turn.
+    fn visit_idle<T: Service<C>>(&mut self, service: &mut T, place: usize, cause: Cause) {
         if let State::Idle = self.schedule.state(place) {
-            self.visit(service, place, is_at_end);
+            self.visit(service, place, cause);
+        }
+    }
+
+    /// Visits the connections that the service names.
+    fn visit_named<T: Service<C>>(&mut self, service: &mut T) {
+        for _ in 0..u64::MAX {
+            let Some(place) = service.next_due() else {
+                return;
+            };
+            self.visit_idle(service, place, Cause::Due);
         }
     }
 
@@ -183,17 +196,16 @@ impl<C: Drop> Loop<C> {
         ensures all_are_next { due_of self.new.schedule ≡ self.new.schedule.queue }
     {
         while let Some(place) = self.schedule.next_due() {
-            // The event that reports the end of the input may already have passed.
-            self.visit(service, place, true);
+            self.visit(service, place, Cause::Queued);
         }
     }
 
     /// Visits the connection in a place, and queues or closes it if the service says so.
-    fn visit<T: Service<C>>(&mut self, service: &mut T, place: usize, is_at_end: bool)
+    fn visit<T: Service<C>>(&mut self, service: &mut T, place: usize, cause: Cause)
         ensures due { length (due_of self.new.schedule) ≤ length (due_of self.old.schedule) }
         ensures others { KeepsOthers self.old.connections.items self.new.connections.items place }
     {
-        let next = visit_one(&mut self.connections, service, place, is_at_end);
+        let next = visit_one(&mut self.connections, service, place, cause);
         self.settle(service, place, next);
     }
 
@@ -276,6 +288,7 @@ impl<C: Drop> Loop<C> {
     {
         let first = place.saturating_mul(2);
         let tokens = Tokens {
+            place,
             client: Token(first.saturating_add(1)),
             server: Token(first.saturating_add(2)),
         };
@@ -307,13 +320,13 @@ fn visit_one<C: Drop, T: Service<C>>(
     connections: &mut Vec<Option<C>>,
     service: &mut T,
     place: usize,
-    is_at_end: bool,
+    cause: Cause,
 ) -> Next
     ensures same { NoneAppears connections.old.items connections.new.items }
     ensures others { KeepsOthers connections.old.items connections.new.items place }
 {
     match connections.get_mut(place) {
-        Some(Some(connection)) => service.visit(connection, is_at_end),
+        Some(Some(connection)) => service.visit(connection, cause),
         _ => Next::Wait,
     }
 }

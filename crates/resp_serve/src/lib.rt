@@ -1,4 +1,4 @@
-//! A server and a proxy for many TCP connections at once, in one thread, over non-blocking sockets.
+//! A server, a window and a proxy for many TCP connections at once, in one thread, over non-blocking sockets.
 //!
 //! A [`Server`] answers commands. Each ready connection is served by [`answer`], which calls
 //! [`resp_wire::serve::serve_with`]. The contract of that function states which bytes are read,
@@ -7,23 +7,37 @@
 //! A [`Window`] forwards connections to another server with [`resp_tap::way::Way::visit`], and
 //! prints the commands, replies and pushes that [`resp_tap::TimedTap`] reports.
 //!
-//! Both are services of one loop. A [`resp_schedule::Schedule`] decides which connection it visits
+//! A [`ProxyServer`] shares one connection to a server among many clients, with
+//! [`resp_proxy::Proxy::visit_client`] and [`resp_proxy::Proxy::visit_server`].
+//!
+//! All three are services of one loop. A [`resp_schedule::Schedule`] decides which connection it visits
 //! next, when it accepts connections, and when it waits.
 #![tactic(auto)]
 
 mod connection;
 mod event_loop;
+mod input_end;
+mod login;
 mod non_blocking;
 mod own_address;
 mod printer;
+mod proxied;
+mod proxying;
+mod relay;
+mod report;
+mod retry;
 mod server;
+mod server_link;
 mod service;
+mod spare;
+mod stalled;
 mod tapped;
 mod terminal;
 mod timing;
 mod window;
 
 pub use connection::{PIECE, Rest, Room, answer};
+pub use proxying::{ProxyServer, ProxySettings};
 pub use server::Server;
 pub use service::Next;
 pub use window::{AfterFailure, Settings, Window};

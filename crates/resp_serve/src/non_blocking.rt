@@ -1,7 +1,24 @@
 //! A non-blocking socket as a reader and a writer that keep the reason of a failure.
 
+use mio::net::TcpStream;
 use std::io;
 use std::io::{ErrorKind, Read, Write};
+
+/// Returns whether a connection that was begun is open.
+///
+/// # Errors
+///
+/// The error of the system if the connection can't be opened.
+pub(crate) fn is_open(server: &TcpStream) -> io::Result<bool> {
+    if let Some(error) = server.take_error()? {
+        return Err(error);
+    }
+    match server.peer_addr() {
+        Ok(_) => Ok(true),
+        Err(error) if error.kind() == ErrorKind::NotConnected => Ok(false),
+        Err(error) => Err(error),
+    }
+}
 
 /// A reader that knows, after a failed read, whether the read failed because it would block.
 ///

@@ -4,16 +4,37 @@ ghost use Rattle.std.specs.Prelude.{◌≡◌, true};
 ghost use Rattle.std.specs.Net.Socket.{socket_port};
 
 use mio::net::TcpListener;
+use std::io;
+use std::io::ErrorKind;
 use std::net::{IpAddr, Ipv4Addr, Ipv6Addr, Net, SocketAddr};
 
+/// Why nothing listens on the address of the server.
+const COMES_BACK: &str = "connections to the server would come back to this address";
+
+/// Fails if connections to the server would come back to this address to listen on.
+///
+/// # Errors
+///
+/// The error of the address, or an error of kind `InvalidInput`.
+pub(crate) fn check_server(
+    net: &impl Net,
+    server: SocketAddr,
+    address: io::Result<SocketAddr>,
+) -> io::Result<()> {
+    if comes_back(server, address?, is_own(net, server.ip())) {
+        return Err(io::Error::new(ErrorKind::InvalidInput, COMES_BACK));
+    }
+    Ok(())
+}
+
 /// Returns whether an address is one of this machine's.
-pub(crate) fn is_own(net: &impl Net, ip: IpAddr) -> bool {
+fn is_own(net: &impl Net, ip: IpAddr) -> bool {
     TcpListener::bind(net, SocketAddr::new(ip, 0)).is_ok()
 }
 
 /// Returns whether connections to `server` reach a listener on the address `listening`. `is_own`
 /// says whether the address of the server is one of this machine's.
-pub(crate) fn comes_back(server: SocketAddr, listening: SocketAddr, is_own: bool) -> bool
+fn comes_back(server: SocketAddr, listening: SocketAddr, is_own: bool) -> bool
     ensures port { result ≡ true → socket_port server ≡ socket_port listening }
 {
     server.port() == listening.port() && reaches(reached(server.ip()), listening.ip(), is_own)

@@ -2,7 +2,7 @@
 
 use crate::connection::{Connection, Room};
 use crate::event_loop::Loop;
-use crate::service::{Next, Service, Tokens};
+use crate::service::{Cause, Next, Service, Tokens};
 use mio::net::TcpStream;
 use mio::{Interest, Registry};
 use resp_server::Hub;
@@ -103,8 +103,8 @@ impl<S: BuildHasher + Drop> Service<Connection> for Replies<S> {
 
     fn reject(&mut self) {}
 
-    fn visit(&mut self, connection: &mut Connection, is_at_end: bool) -> Next {
-        connection.serve(&mut self.hub, &mut self.room, is_at_end)
+    fn visit(&mut self, connection: &mut Connection, cause: Cause) -> Next {
+        connection.serve(&mut self.hub, &mut self.room, cause.is_at_end())
     }
 
     fn close(&mut self, connection: Connection) {
@@ -120,7 +120,7 @@ impl<S: BuildHasher + Drop> Service<Connection> for Replies<S> {
         None
     }
 
-    fn work(&mut self) -> io::Result<()> {
+    fn work(&mut self, _registry: &Registry) -> io::Result<()> {
         Ok(())
     }
 }

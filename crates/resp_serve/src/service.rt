@@ -5,6 +5,12 @@ use mio::{Registry, Token};
 use std::io;
 use std::time::Duration;
 
+/// The token of the socket of a service itself.
+pub(crate) const OWN_SOCKET: Token = Token(usize::MAX);
+
+/// The token of standard input.
+pub(crate) const INPUT: Token = Token(usize::MAX - 1);
+
 /// When a connection is visited next.
 #[derive(Clone, Copy, Debug, PartialEq, Eq)]
 pub enum Next {
@@ -16,9 +22,33 @@ pub enum Next {
     Close,
 }
 
-/// The tokens of the sockets of one connection.
+/// Why a connection is visited.
+#[derive(Clone, Copy, Debug, PartialEq, Eq)]
+pub(crate) enum Cause {
+    /// A socket of it is ready. `is_at_end` says whether an input may have ended.
+    Ready { is_at_end: bool },
+    /// The visit before it asked for another one.
+    Queued,
+    /// The service named its place.
+    Due,
+}
+
+impl Cause {
+    /// Returns whether an input may have ended. The event that reports the end may have passed before
+    /// a queued visit.
+    pub(crate) fn is_at_end(self) -> bool {
+        match self {
+            Cause::Ready { is_at_end } => is_at_end,
+            Cause::Queued => true,
+            Cause::Due => false,
+        }
+    }
+}
+
+/// The place of one connection, and the tokens of its sockets.
 #[derive(Clone, Copy)]
 pub(crate) struct Tokens {
+    pub(crate) place: usize,
     pub(crate) client: Token,
     pub(crate) server: Token,
 }
@@ -39,9 +69,8 @@ pub(crate) trait Service<C> {
     /// Notes that an accepted client was closed at once, because the most connections are open.
     fn reject(&mut self);
 
-    /// Reads and writes the sockets of a connection, and says when to do so again. `is_at_end` says
-    /// whether an input may have ended.
-    fn visit(&mut self, connection: &mut C, is_at_end: bool) -> Next;
+    /// Reads and writes the sockets of a connection, and says when to do so again.
+    fn visit(&mut self, connection: &mut C, cause: Cause) -> Next;
 
     /// Closes a connection.
     fn close(&mut self, connection: C);
@@ -54,10 +83,24 @@ pub(crate) trait Service<C> {
     /// connection.
     fn patience(&self) -> Option<Duration>;
 
-    /// Does that work, after connections were visited.
+    /// Does that work, after connections were visited. A socket of the service itself is registered
+    /// under [`OWN_SOCKET`].
     ///
     /// # Errors
     ///
     /// An error that ends the loop.
-    fn work(&mut self) -> io::Result<()>;
+    fn work(&mut self, registry: &Registry) -> io::Result<()>;
+
+    /// Notes that the socket of the service itself is ready. `is_at_end` says whether its input may have
+    /// ended.
+    fn ready(&mut self, _is_at_end: bool) {}
+
+    /// Notes that standard input is ready. `is_at_end` says whether it has ended.
+    fn input_ready(&mut self, _is_at_end: bool) {}
+
+    /// Returns the place of the next connection that is to be visited although its sockets are not
+    /// ready.
+    fn next_due(&mut self) -> Option<usize> {
+        None
+    }
 }

@@ -1,6 +1,6 @@
 //! One forwarded connection.
 
-use crate::non_blocking::{Input, Output};
+use crate::non_blocking::{Input, Output, is_open};
 use crate::printer::Printer;
 use crate::service::Next;
 use mio::net::TcpStream;
@@ -11,7 +11,6 @@ use resp_value::device::{Device, Sink};
 use resp_value::limits::Limits;
 use std::alloc::{AllocError, Global};
 use std::io;
-use std::io::ErrorKind;
 use std::net::Shutdown;
 use std::rt::Clock;
 
@@ -139,22 +138,6 @@ impl<W: Sink, C: Clock> Seeing<'_, '_, W, C> {
             self.printer
                 .print_end(self.tap, self.printing.client, self.side);
         }
-    }
-}
-
-/// Returns whether a connection that was begun is open.
-///
-/// # Errors
-///
-/// The error of the system if the connection can't be opened.
-fn is_open(server: &TcpStream) -> io::Result<bool> {
-    if let Some(error) = server.take_error()? {
-        return Err(error);
-    }
-    match server.peer_addr() {
-        Ok(_) => Ok(true),
-        Err(error) if error.kind() == ErrorKind::NotConnected => Ok(false),
-        Err(error) => Err(error),
     }
 }
 

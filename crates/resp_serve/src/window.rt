@@ -1,14 +1,15 @@
 //! The window: its loop, its screen, and what it does with a connection.
 
 use crate::event_loop::Loop;
-use crate::own_address::{comes_back, is_own};
+use crate::own_address::check_server;
 use crate::printer::Printer;
-use crate::service::{Next, Service, Tokens};
+use crate::service::{Cause, Next, Service, Tokens};
+use crate::spare::Spare;
 use crate::tapped::{Opening, Tapped};
 use crate::terminal::Terminal;
 use crate::timing::Timing;
 use mio::net::TcpStream;
-use mio::{Interest, Poll, Registry};
+use mio::{Interest, Registry};
 use resp_print::live::LiveSink;
 use resp_tap::Printing;
 use resp_tap::screen::Screen;
@@ -36,9 +37,6 @@ const NOT_CONNECTED: &[u8] = b" not connected";
 
 /// The end of the line about a client over the maximum.
 const REJECTED: &[u8] = b": rejected by --clients";
-
-/// Why the tap does not listen on the address of the server.
-const COMES_BACK: &str = "connections to the server would come back to this address";
 
 /// The notice on standard error after a failed write, if the window ends with the last connection.
 const FINISHES: &str = "write failed\n\
@@ -97,9 +95,8 @@ struct View {
     settings: Settings,
     /// The number of connections that were accepted.
     count: u64,
-    /// A descriptor that is closed if no other is left for a connection to the server. So a client
-    /// is accepted only if a descriptor is left for its connection to the server too.
-    spare: Option<Poll>,
+    /// With it a client is accepted only if a descriptor is left for its connection to the server too.
+    spare: Spare,
     screen: Screen,
     terminal: Terminal,
     /// Whether a write to a file has failed.
@@ -175,18 +172,6 @@ impl Window {
     }
 }
 
-/// Fails if connections to the server would come back to the address that the window listens on.
-fn check_server(
-    net: &impl Net,
-    server: SocketAddr,
-    address: io::Result<SocketAddr>,
-) -> io::Result<()> {
-    if comes_back(server, address?, is_own(net, server.ip())) {
-        return Err(io::Error::new(ErrorKind::InvalidInput, COMES_BACK));
-    }
-    Ok(())
-}
-
 impl View {
     /// Returns a view of a server, before any client is accepted.
     fn new<R: Net + Clock + Files<File = File>>(
@@ -204,7 +189,7 @@ impl View {
             server_text,
             settings,
             count: 0,
-            spare: Poll::new(rt).ok(),
+            spare: Spare::new(rt),
             screen: Screen::new(alloc, SCREEN),
             terminal,
             has_failed: false,
@@ -329,26 +314,6 @@ impl View {
         next
     }
 
-    /// Begins to connect to the server. If that fails, it is tried once more after the spare
-    /// descriptor is closed.
-    fn connect_server(&mut self, net: &impl Net) -> io::Result<TcpStream> {
-        let connected = TcpStream::connect(net, self.server);
-        if connected.is_ok() || self.spare.is_none() {
-            return connected;
-        }
-        self.spare = None;
-        let connected = TcpStream::connect(net, self.server);
-        self.keep_spare(net);
-        connected
-    }
-
-    /// Opens the spare descriptor, if it is closed and a descriptor is left.
-    fn keep_spare(&mut self, net: &impl Net) {
-        if self.spare.is_none() {
-            self.spare = Poll::new(net).ok();
-        }
-    }
-
     /// Begins to connect to the server for a client, and returns both connections.
     fn connect(
         &mut self,
@@ -359,7 +324,7 @@ impl View {
         tokens: Tokens,
     ) -> io::Result<Tapped> {
         let mut client = client;
-        let mut server = self.connect_server(net)?;
+        let mut server = self.spare.connect(net, self.server)?;
         register(&mut client, &mut server, registry, tokens)?;
         let printing = Printing {
             client: number,
@@ -417,8 +382,9 @@ impl<R: Net + Clock + Eprint, W: LiveSink> Service<Tapped> for Watching<'_, R, W
         self.view.print_line(number, REJECTED, self.rt, self.out);
     }
 
-    fn visit(&mut self, connection: &mut Tapped, is_at_end: bool) -> Next {
-        self.view.visit(connection, is_at_end, self.rt, self.out)
+    fn visit(&mut self, connection: &mut Tapped, cause: Cause) -> Next {
+        self.view
+            .visit(connection, cause.is_at_end(), self.rt, self.out)
     }
 
     fn close(&mut self, connection: Tapped) {
@@ -428,7 +394,7 @@ impl<R: Net + Clock + Eprint, W: LiveSink> Service<Tapped> for Watching<'_, R, W
         }
         // Its descriptors are closed first.
         drop(connection);
-        self.view.keep_spare(self.rt);
+        self.view.spare.keep(self.rt);
     }
 
     fn accepts(&self) -> bool {
@@ -443,7 +409,7 @@ impl<R: Net + Clock + Eprint, W: LiveSink> Service<Tapped> for Watching<'_, R, W
         Some(Duration::from_millis(PATIENCE))
     }
 
-    fn work(&mut self) -> io::Result<()> {
+    fn work(&mut self, _registry: &Registry) -> io::Result<()> {
         if !self.view.is_silent && self.view.show(self.out).is_err() {
             return self.view.fail(self.rt);
         }

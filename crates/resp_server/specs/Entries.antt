@@ -1,6 +1,6 @@
 -- The entries of the store as data, and their places.
 use Rattle.std.specs.Prelude.{◌≡◌, ℕ, ◌*◌, ◌+◌, ◌≤◌, Bool, List, [], ◌∷◌, length, map, Option, None, Some, Vec}
-use Rattle.std.specs.List.{IsDistinct, slice_get}
+use Rattle.std.specs.List.{IsDistinct, position, slice_get}
 use Rattle.std.specs.Map.{keys_of}
 use Rattle.std.specs.Option.{option_map}
 use Rattle.std.specs.Str.{bytes_eq}
@@ -18,6 +18,10 @@ Rows = List (Vec ℕ Global × Row)
 -- a row's key and value as bytes
 abbrev pub entry_of : Vec ℕ Global × Row → List ℕ × List ℕ
 entry_of row = (row.0.items, row.1.value)
+
+-- the first row with this key has this index
+abbrev pub IsKeyAt : Rows → ℕ → List ℕ → Type 0
+IsKeyAt rows index key = position (λ (k : Vec ℕ Global). bytes_eq key k.items) (keys_of rows) ≡ Some index
 
 -- the entry in a place: that of the row with this index, or no entry
 abbrev pub entry_at : Rows → Option ℕ → Option (List ℕ × List ℕ)

@@ -40,16 +40,31 @@ pub(crate) fn run<S: BuildHasher>(
 {
     match operation {
         Operation::Ping => session.out.extend_from_slice(b"+PONG\r\n"),
-        Operation::Echo(word) => {
-            let word = Value::Bulk(Content::new(Vec::from_slice(shared.alloc, word)?));
-            reply(&mut session.out, session.version, &shared.limits, &word)
-        }
+        Operation::Echo(word) => echo(word, shared, session),
         Operation::Get(key) => get(key, shared, session),
         Operation::Set(condition, key, value) => set(condition, key, value, shared, session),
         Operation::Del(keys) => del(keys, shared, session),
         Operation::Hello(asked) => hello(asked, shared, session),
         Operation::Refused(refusal) => session.out.extend_from_slice(refusal.line()),
     }
+}
+
+/// Replies with a word.
+fn echo<S: BuildHasher>(
+    word: &[u8],
+    shared: &Shared<S>,
+    session: &mut Session,
+) -> Result<(), AllocError>
+    requires { FitsEffect shared.now.limits
+        (effect_of shared.now.store session.old.version 0 (spec.Echo word.now)) }
+    ensures done { OnOk result (HasEffect shared.now.store session.old session.new
+        (effect_of shared.now.store session.old.version 0 (spec.Echo word.now))) }
+    ensures unchanged { OnErr result (IsAsBefore shared.now.store shared.now.store session.old
+        session.new) }
+    ensures rest { HasSameRest session.old session.new }
+{
+    let word = Value::Bulk(Content::new(Vec::from_slice(shared.alloc, word)?));
+    reply(&mut session.out, session.version, &shared.limits, &word)
 }
 
 /// Replies with the value of a key.

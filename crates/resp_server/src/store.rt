@@ -1,11 +1,11 @@
 //! The store: keys with their values, in the order in which the keys were added.
 
-ghost use Rattle.std.specs.Prelude.{◌≡◌, ◌*◌, ◌+◌, ◌<◌, ◌≤◌, ◌∷◌, [], ℕ, None, Some, Vec, length, slice_get, IfNone, IfSome, IsSome, OnOk, OnErr};
+ghost use Rattle.std.specs.Prelude.{◌≡◌, ◌*◌, ◌+◌, ◌<◌, ◌≤◌, ◌∷◌, [], ℕ, List, None, Some, Vec, length, slice_get, IfNone, IfSome, IsSome, OnOk, OnErr};
 ghost use Rattle.std.proofs.Common.{Global};
 ghost use Rattle.std.specs.Option.{option_map};
 ghost use Rattle.resp_value.specs.Values.{content_bytes};
 ghost use Rattle.indexmap.specs.IndexMap.{index_map_len, set_value_at};
-ghost use Rattle.resp_server.specs.Entries.{AreInPlace, entries_in};
+ghost use Rattle.resp_server.specs.Entries.{AreInPlace, IsKeyAt, entries_in};
 ghost use Rattle.resp_server.specs.declared.row.Row.{Row};
 ghost use Rattle.resp_server.specs.Words.{words_left};
 ghost use Rattle.resp_session.specs.Stores.{value_at, store_with, store_without};
@@ -150,16 +150,36 @@ impl<S: BuildHasher> Store<S> {
         let Some(index) = self.rows.get_index_of(key) else {
             return 0;
         };
-        let Some((_, row)) = self.rows.swap_remove_index(index) else {
-            unreachable!()
-        };
-        self.places[row.place] = None;
-        // The row that was last now has this index.
-        if let Some((_, moved)) = self.rows.get_index(index) {
-            self.places[moved.place] = Some(index);
-        }
+        remove_row(&mut self.rows, &mut self.places, index);
         close_up(&mut self.rows, &mut self.places);
         1
+    }
+}
+
+/// Removes the row with this index, and empties its place.
+fn remove_row<S: BuildHasher>(
+    rows: &mut IndexMap<Vec<u8>, Row, S>,
+    places: &mut Vec<Option<usize>>,
+    index: usize,
+)
+    requires there { index < index_map_len rows.old }
+    requires before { AreInPlace rows.old.entries places.old.items }
+    ensures removed { (key : List ℕ) → IsKeyAt rows.old.entries index key →
+        entries_in rows.new.entries places.new.items ≡
+        store_without (entries_in rows.old.entries places.old.items) (key ∷ []) }
+    ensures count { length (entries_in rows.new.entries places.new.items) + 1 ≡
+        length (entries_in rows.old.entries places.old.items) }
+    ensures in_place { AreInPlace rows.new.entries places.new.items }
+{
+    let Some(removed) = rows.swap_remove_index(index) else {
+        unreachable!()
+    };
+    let place = removed.1.place;
+    drop(removed);
+    places[place] = None;
+    // The row that was last now has this index.
+    if let Some((_, moved)) = rows.get_index(index) {
+        places[moved.place] = Some(index);
     }
 }
 

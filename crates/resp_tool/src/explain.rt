@@ -1,6 +1,6 @@
 //! Explains an error in a stream: the lines of `--explain`.
 
-ghost use Rattle.std.specs.Prelude.{◌≡◌, ◌≢◌, ℕ, [], List, IfErr, IfOk, OnErr, OnOk, option_map};
+ghost use Rattle.std.specs.Prelude.{◌≡◌, ◌≢◌, ℕ, [], List, IfErr, IfOk, OnErr, OnOk, length, option_map, replicate};
 ghost use Rattle.resp_tool.specs.Explained.{Explains, ExplainsAt, HasWatched, IsNextOf, IsTruncated, cause_text, double_text, explanation_lines, held_bytes, margin_text, reason_text, rules_watched, sentence_text};
 ghost use Rattle.resp_print.specs.Written.{WritesText};
 ghost use Rattle.resp_tool.specs.Streams.{failed_to_write};
@@ -120,9 +120,31 @@ fn explain_at<R, F: Sink>(
         next,
     };
     let (before, after) = watched.around(place);
+    write_around(alloc, place, before, after, &reason, faults)
+}
+
+/// Writes both lines, with the bytes before and after the place.
+fn write_around<F: Sink>(
+    alloc: Global,
+    place: u64,
+    before: &[u8],
+    after: &[u8],
+    reason: &Reason<'_>,
+    faults: &mut F,
+) -> Result<(), ToolError>
+    ensures lines { OnOk result (Appends (F.written faults.old) (F.written faults.new)
+        (explanation_lines (margin_text place before.now) after.now
+        (replicate (length (margin_text place before.now)) 32) (reason_text
+        (rules_under reason.now.version reason.now.limits.now) reason.now.missing
+        reason.now.error.now reason.now.next))) }
+    ensures write_failed { F.failures faults.new ≡
+        failures_after (failed_to_write result) (F.failures faults.old) }
+    ensures memory { IfErr result (λ error. error ≢ ToolError.Write → (error ≡ ToolError.Memory) ×
+        Appends (F.written faults.old) (F.written faults.new) []) }
+{
     let margin = margin(alloc, place, before)?;
     let blank = vec![in alloc; b' '; margin.bytes().len()]?;
-    write_lines(faults, margin.bytes(), after, blank.as_slice(), &reason)?;
+    write_lines(faults, margin.bytes(), after, blank.as_slice(), reason)?;
     Ok(())
 }
 

@@ -2,10 +2,6 @@ use Rattle.resp_args.proofs.parser.tap_task.Goals as goal
 
 pub returns : goal.returns
 returns c =
-    c.with_arg.ensures _ _ c.address-2.ensures.rule c.address-2.ensures.here
-    (c.with_arg-task-6.ensures _ _ c.address.ensures.rule c.address.ensures.here
-    (c.with_arg-task-5.ensures _ _ c.flag-4.ensures.rule c.flag-4.ensures.here
-    (c.with_arg-task-4.ensures _ _ c.flag-3.ensures.rule c.flag-3.ensures.here
-    (c.with_arg-task-3.ensures _ _ c.flag-2.ensures.rule c.flag-2.ensures.here
-    (c.with_arg-task-2.ensures _ _ c.flag.ensures.rule c.flag.ensures.here
-    (c.with_arg-task.ensures _ _ c.option.ensures.rule c.option.ensures.here (c.with_limits-task.ensures _ c.bare_task-task.ensures)))))))
+    c.with_address.ensures _ (c.with_address-task.ensures _
+    (c.with_flag-task-4.ensures _ (c.with_flag-task-3.ensures _ (c.with_flag-task-2.ensures _ (c.with_flag-task.ensures _
+    (c.with_number-task.ensures _ (c.with_limits-task.ensures _ c.bare_task-task.ensures)))))))

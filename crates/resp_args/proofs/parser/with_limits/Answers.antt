@@ -2,8 +2,5 @@ use Rattle.resp_args.proofs.parser.with_limits.Goals as goal
 
 pub returns : goal.returns
 returns c task before =
-    c.with_arg.ensures _ _ c.flag.ensures.rule c.flag.ensures.here
-    (c.with_arg-task-4.ensures _ _ c.option-4.ensures.rule c.option-4.ensures.here
-    (c.with_arg-task-3.ensures _ _ c.option-3.ensures.rule c.option-3.ensures.here
-    (c.with_arg-task-2.ensures _ _ c.option-2.ensures.rule c.option-2.ensures.here
-    (c.with_arg-task.ensures _ _ c.option.ensures.rule c.option.ensures.here before))))
+    c.with_flag.ensures _ (c.with_number-task-4.ensures _ (c.with_number-task-3.ensures _
+    (c.with_number-task-2.ensures _ (c.with_number-task.ensures _ before))))

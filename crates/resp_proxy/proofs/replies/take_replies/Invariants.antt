@@ -3,7 +3,7 @@ use Rattle.resp_proxy.specs.Replying.{HasReplied}
 use Rattle.resp_proxy.proofs.replies.take_replies.Given as goal
 
 abbrev pub invariant-loop-used : goal.invariant-loop-used
-invariant-loop-used l = HasReplied l.initial.frames l.initial.begun l.initial.mux l.piece l.used l.frames l.begun l.mux
+invariant-loop-used l = HasReplied l.initial.frames l.initial.begun l.initial.mux l.initial.queued.items l.piece l.used l.frames l.begun l.mux l.queued.items
 
 abbrev pub decreases-loop-used : goal.decreases-loop-used
 decreases-loop-used l = length l.piece - l.used

@@ -1,23 +1,23 @@
-use Rattle.std.proofs.Common.{rules, ◌≡◌, ◌+◌, length, length-append, refl, take, drop, option_map, replicate, subst, sym, ap, arith, ◌∙◌}
-use Rattle.resp_tool.specs.Explained.{AreAround, IsHeld, explanation_lines, held_bytes, reason_text}
+use Rattle.std.proofs.Common.{◌≡◌, ◌+◌, Err, Ok, OnOk, Result, length, length-append, refl, take, drop, option_map, subst, sym, ap, arith, ◌∙◌}
+use Rattle.resp_tool.specs.Explained.{AreAround, IsHeld, held_bytes, reason_text}
 use Rattle.resp_fronts.specs.LeastCompletions.{IsLeast}
-use Rattle.resp_value.specs.Devices.{Appends}
 use Rattle.resp_value.specs.Rules.{WithinTotal, rules_under}
 use Rattle.resp_value.specs.Spellings.{IsViable}
 use Rattle.resp_tool.proofs.ValidLemmas.{is_text, of_text, says_reason}
 use Rattle.resp_tool.proofs.explain.explain_at.Goals as goal
 
+on_ok : {X E : Type 0} (result : Result X E) (P Q : Type 0) → (P → Q) → OnOk result P → OnOk result Q
+on_ok (Ok x) P Q follows is = follows is
+on_ok (Err error) P Q follows is = tt
+
 pub returns-clause-explains : goal.returns-clause-explains
-returns-clause-explains g c = λ bytes h scanned.
+returns-clause-explains g c = λ bytes h scanned. on_ok c.write_around.result _ _ (λ told.
     let before = c.around.result.0.now in
     let after = c.around.result.1.now in
     let r = rules_under c.args.options.now.version c.args.options.now.limits in
     let missing = c.missing-missing.result in
     let next = c.in_ok-next.next in
     let sentence = reason_text r missing c.args.error.now next in
-    let said = g.F.Sink.written c.args.faults.now in
-    let said' = g.F.Sink.written c.write_lines.new.faults in
-    let blank : c.as_slice.result.now ≡ replicate (length c.bytes-2.result.now) 32 = search rules in
     let found = c.in-Some.ensures.place bytes h in
     let place = found.is_place in
     let holds = c.in-Some.ensures.holds bytes h refl in
@@ -43,6 +43,5 @@ returns-clause-explains g c = λ bytes h scanned.
           (λ is_held. is_text c.front.result (c.front.ensures.none bytes place.front holds begins
           (subst (λ n. IsHeld n bytes place.front c.args.at) (sym c.in-Some.ensures.same_size) is_held)))
           next c.in_ok-next.ensures;
-      told = subst (λ z. Appends said said' (explanation_lines z after (replicate (length z) 32) sentence)) (c.bytes-2.ensures ∙ c.in_ok-margin.ensures)
-          (subst (λ z. Appends said said' (explanation_lines c.bytes-2.result.now after z sentence)) blank c.in_ok-write_lines.ensures.lines);
-    }
+      told = told;
+    }) c.write_around.ensures.lines

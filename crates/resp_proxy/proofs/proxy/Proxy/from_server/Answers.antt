@@ -9,7 +9,7 @@ use Rattle.resp_proxy.proofs.proxy.Proxy.from_server.Goals as goal
 pub returns-in-Ok-clause-taken : goal.returns-in-Ok-clause-taken
 returns-in-Ok-clause-taken c =
     let piece = c.args.piece.now in
-    let taken = c.take_replies.new in
+    let taken = c.take_replies-taken.new in
     subst (λ (s : Proxied). WhereBegunBy s (λ front. WherePassed (mux_of s) (λ p.
     TakesReplies (reply_rules_of s) (front ++ piece) taken.begun (Ok tt) p taken.mux))) c.self.view_is
     (λ front h p passed. c.in-Ok.ensures.taken c.self.invariant.replies_ready front h p passed)
@@ -17,7 +17,7 @@ returns-in-Ok-clause-taken c =
 pub returns-in-Err-clause-taken : goal.returns-in-Err-clause-taken
 returns-in-Err-clause-taken c =
     let piece = c.args.piece.now in
-    let taken = c.take_replies.new in
+    let taken = c.take_replies-taken.new in
     subst (λ (s : Proxied). WhereBegunBy s (λ front. WherePassed (mux_of s) (λ p.
     TakesReplies (reply_rules_of s) (front ++ piece) c.forget.new.begun (Err c.in-Err.error) p taken.mux))) c.self.view_is
     (λ front h p passed. replies-lost (frame_rules c.self.inside.replies) (front ++ piece) taken.begun c.forget.new.begun c.in-Err.error p taken.mux

@@ -1,0 +1,165 @@
+//! The options of `resp proxy`.
+
+ghost use Rattle.std.specs.Prelude.{ℕ, Bool, List, IfNone, IfOk, IfSome, OnErr};
+ghost use Rattle.clap.specs.Words.{found_of, rows_of};
+ghost use Rattle.resp_args.specs.CommandWords.{HasNumberBetween, HasProxyFlags, HasProxyOptions, HasProxyTimes, HasProxyWords, HasProxying, IsAddressText};
+
+use crate::asked::NothingAsked;
+use crate::options::{address_of, flag_of, limits_of, number_of, small_number_of, text_of};
+use clap::ArgMatches;
+use resp_value::limits::Limits;
+use std::net::SocketAddr;
+
+/// The options of `resp proxy`.
+#[derive(Clone, Copy, Debug)]
+pub struct Proxying<'a> {
+    /// The address to listen on.
+    pub address: SocketAddr,
+    /// The address as it was given.
+    pub address_text: &'a str,
+    /// The address of the server.
+    pub server: SocketAddr,
+    /// The options that are no address.
+    pub options: ProxyOptions,
+}
+
+/// The options of `resp proxy` that are no address.
+#[derive(Clone, Copy, Debug)]
+pub struct ProxyOptions {
+    /// The limits of commands and replies.
+    pub limits: Limits,
+    /// The most clients at once, from 1 to 65,536.
+    pub clients: usize,
+    /// The most commands of one client that wait for replies, from 1 to 1,048,576.
+    pub waiting: u32,
+    /// The most bytes that wait to be written to a client when its next command is taken.
+    pub held: usize,
+    /// The most bytes that wait to be written to the server when a command is taken.
+    pub unsent: usize,
+    /// The milliseconds without a reply, while commands wait, after which the connection to the
+    /// server is given up, from 1 to 3,600,000.
+    pub patience: u64,
+    /// The seconds from one report on standard output to the next, from 0 to 86,400; with 0 there
+    /// is no report.
+    pub report: u64,
+    /// Whether the proxy replies to PING itself.
+    pub local_ping: bool,
+    /// Whether the proxy ends when standard input ends.
+    pub drains: bool,
+}
+
+/// The options before the addresses are parsed.
+#[derive(Clone, Copy)]
+struct Words<'a> {
+    address: &'a str,
+    server: &'a str,
+    options: ProxyOptions,
+}
+
+/// Returns the options of `proxy`, or why there are none.
+pub(crate) fn proxying_of<'a>(matches: &ArgMatches<'a>) -> Result<Proxying<'a>, NothingAsked<'a>>
+    ensures ok { IfOk result (HasProxying (rows_of (found_of matches.now))) }
+    ensures err { OnErr result ((proxying : Proxying)
+        → HasProxying (rows_of (found_of matches.now)) proxying → ⊥) }
+{
+    let Some(words) = words_of(matches) else {
+        return Err(NothingAsked::OtherWords);
+    };
+    match addresses_of(words.address, words.server) {
+        Ok((address, server)) => Ok(Proxying {
+            address,
+            address_text: words.address,
+            server,
+            options: words.options,
+        }),
+        Err(nothing) => Err(nothing),
+    }
+}
+
+/// Returns the address to listen on and that of the server.
+fn addresses_of<'a>(
+    listen: &'a str,
+    server: &'a str,
+) -> Result<(SocketAddr, SocketAddr), NothingAsked<'a>>
+    ensures ok { IfOk result (λ both. IsAddressText listen.now both.0 ×
+        IsAddressText server.now both.1) }
+    ensures err { OnErr result ((here there : SocketAddr) → IsAddressText listen.now here
+        → IsAddressText server.now there → ⊥) }
+{
+    let address = address_of(listen, "LISTEN")?;
+    Ok((address, address_of(server, "SERVER")?))
+}
+
+/// Returns the options before the addresses are parsed; `None` if a number is outside its range,
+/// which the parser of the command line rejects before.
+fn words_of<'a>(matches: &ArgMatches<'a>) -> Option<Words<'a>>
+    ensures some { IfSome result (λ words. HasProxyWords (rows_of (found_of matches.now))
+        words.address.now words.server.now words.options) }
+    ensures none { IfNone result ((address server : List ℕ) (options : ProxyOptions)
+        → HasProxyWords (rows_of (found_of matches.now)) address server options → ⊥) }
+{
+    let Some(options) = options_of(matches) else {
+        return None;
+    };
+    Some(Words {
+        address: text_of(matches, "listen")?,
+        server: text_of(matches, "server")?,
+        options,
+    })
+}
+
+/// Returns the options that are no address; `None` if a number is outside its range.
+fn options_of(matches: &ArgMatches<'_>) -> Option<ProxyOptions>
+    ensures some { IfSome result (HasProxyOptions (rows_of (found_of matches.now))) }
+    ensures none { IfNone result ((options : ProxyOptions)
+        → HasProxyOptions (rows_of (found_of matches.now)) options → ⊥) }
+{
+    let (patience, report) = times_of(matches)?;
+    let (local_ping, drains) = flags_of(matches)?;
+    Some(ProxyOptions {
+        limits: limits_of(matches)?,
+        clients: small_number_of(matches, "clients")?,
+        waiting: number_between(matches, "waiting", 1, 1_048_576)? as u32,
+        held: number_of(matches, "held")? as usize,
+        unsent: number_of(matches, "unsent")? as usize,
+        patience,
+        report,
+        local_ping,
+        drains,
+    })
+}
+
+/// Returns the milliseconds of `--patience` and the seconds of `--report`; `None` if one of them is
+/// outside its range.
+fn times_of(matches: &ArgMatches<'_>) -> Option<(u64, u64)>
+    ensures some { IfSome result (HasProxyTimes (rows_of (found_of matches.now))) }
+    ensures none { IfNone result ((times : ℕ × ℕ)
+        → HasProxyTimes (rows_of (found_of matches.now)) times → ⊥) }
+{
+    let patience = number_between(matches, "patience", 1, 3_600_000)?;
+    Some((patience, number_between(matches, "report", 0, 86_400)?))
+}
+
+/// Returns whether `--local-ping` and `--drain` are given.
+fn flags_of(matches: &ArgMatches<'_>) -> Option<(bool, bool)>
+    ensures some { IfSome result (HasProxyFlags (rows_of (found_of matches.now))) }
+    ensures none { IfNone result ((flags : Bool × Bool)
+        → HasProxyFlags (rows_of (found_of matches.now)) flags → ⊥) }
+{
+    let local_ping = flag_of(matches, "local-ping")?;
+    Some((local_ping, flag_of(matches, "drain")?))
+}
+
+/// Returns the number of an option; `None` if it is outside this range.
+fn number_between(matches: &ArgMatches<'_>, name: &str, least: u64, most: u64) -> Option<u64>
+    ensures some { IfSome result
+        (HasNumberBetween (rows_of (found_of matches.now)) name.now least most) }
+    ensures none { IfNone result ((number : ℕ)
+        → HasNumberBetween (rows_of (found_of matches.now)) name.now least most number → ⊥) }
+{
+    let number = number_of(matches, name)?;
+    if number < least || number > most {
+        return None;
+    }
+    Some(number)
+}

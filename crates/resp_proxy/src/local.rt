@@ -1,0 +1,80 @@
+//! Replies of the proxy itself to commands that the server would reply to.
+
+use crate::settings::Settings;
+use resp_frames::CommandFrame;
+use resp_mux::Mux;
+use resp_scan::whole;
+use std::alloc::{AllocError, Global};
+
+/// Where the name of a command of one or two words with a name of four bytes is in its usual spelling.
+const NAME: usize = 8;
+
+/// Returns the reply of the proxy to `INFO proxy`, and to PING if the settings ask for it. Returns `None` if
+/// the command is for the server.
+#[inline(always)]
+pub(crate) fn local_answer(
+    alloc: Global,
+    settings: &Settings,
+    mux: &Mux,
+    command: &CommandFrame,
+) -> Result<Option<Vec<u8>>, AllocError> {
+    if command.words.arguments > 1 {
+        return Ok(None);
+    }
+    let Some(name) = command.frame.text().get(NAME..NAME + 4) else {
+        return Ok(None);
+    };
+    if name.eq_ignore_ascii_case(b"INFO") {
+        return info(alloc, settings, mux, command.frame.text());
+    }
+    if settings.local_ping && name.eq_ignore_ascii_case(b"PING") {
+        return pong(alloc, settings, command.frame.text());
+    }
+    Ok(None)
+}
+
+/// Returns the reply to INFO if its word is `proxy`.
+fn info(
+    alloc: Global,
+    settings: &Settings,
+    mux: &Mux,
+    text: &[u8],
+) -> Result<Option<Vec<u8>>, AllocError> {
+    let Some(words) = whole::command(text, &settings.limits) else {
+        return Ok(None);
+    };
+    let mut arguments = words.arguments;
+    let section = arguments.next().unwrap_or(b"");
+    if !words.name.eq_ignore_ascii_case(b"INFO") || !section.eq_ignore_ascii_case(b"proxy") {
+        return Ok(None);
+    }
+    let (clients, opened) = (mux.open_clients(), mux.opened_clients());
+    let (waiting, unsent) = (mux.waiting(), mux.to_server().len());
+    let section = format!(in alloc;
+        "# Proxy\r\nclients:{clients}\r\nclients_opened:{opened}\r\ncommands_waiting:{waiting}\r\nbytes_unsent:{unsent}\r\n"
+    )?;
+    bulk(alloc, section.as_str().as_bytes())
+}
+
+/// Returns the reply to PING: PONG, or its word.
+fn pong(alloc: Global, settings: &Settings, text: &[u8]) -> Result<Option<Vec<u8>>, AllocError> {
+    let Some(words) = whole::command(text, &settings.limits) else {
+        return Ok(None);
+    };
+    if !words.name.eq_ignore_ascii_case(b"PING") {
+        return Ok(None);
+    }
+    let mut arguments = words.arguments;
+    match arguments.next() {
+        Some(word) => bulk(alloc, word),
+        None => Ok(Some(b"+PONG\r\n".to_vec(alloc)?)),
+    }
+}
+
+/// Returns a bulk string of these bytes.
+fn bulk(alloc: Global, bytes: &[u8]) -> Result<Option<Vec<u8>>, AllocError> {
+    let mut reply = format!(in alloc; "${}\r\n", bytes.len())?.into_bytes();
+    reply.extend_from_slice(bytes)?;
+    reply.extend_from_slice(b"\r\n")?;
+    Ok(Some(reply))
+}

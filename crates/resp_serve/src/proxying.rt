@@ -1,0 +1,232 @@
+//! The proxy over sockets: its loop, and its settings.
+
+use crate::connection;
+use crate::event_loop::Loop;
+use crate::input_end::InputEnd;
+use crate::own_address::check_server;
+use crate::proxied::Proxied;
+use crate::relay::Relay;
+use crate::report::Report;
+use crate::service::{Cause, Next, Service, Tokens};
+use mio::net::TcpStream;
+use mio::{Interest, Registry};
+use resp_print::live::LiveSink;
+use std::alloc::Global;
+use std::fs::{File, Files};
+use std::io;
+use std::io::{ErrorKind, Read};
+use std::net::{Net, SocketAddr};
+use std::rt::Clock;
+use std::time::Duration;
+
+/// Shares one connection to a server among many clients. The contracts of [`resp_proxy::Proxy`] state
+/// which bytes go where: each client gets the replies to its own commands, in order, and nothing else.
+///
+/// A client is not read while as many of its commands wait for replies, or as many bytes wait for it, as
+/// the settings allow, nor while too many bytes wait for the server. Clients with much to do are visited
+/// in turns. If the connection to the server is lost, each command of which a byte was sent gets an
+/// error, and the others wait for the next connection. No command is sent twice.
+#[derive(Drop)]
+pub struct ProxyServer {
+    connections: Loop<Proxied>,
+    relay: Relay,
+}
+
+/// How a [`ProxyServer`] works.
+#[derive(Clone, Copy, Debug)]
+pub struct ProxySettings {
+    /// The limits and bounds of the proxy.
+    pub proxy: resp_proxy::Settings,
+    /// The most clients at once.
+    pub most: usize,
+    /// The time without a reply after which the connection to the server is given up, if a command
+    /// waits. A connection that is not open after this time is given up too.
+    pub patience: Duration,
+    /// The time between two lines with numbers on standard output, if they are printed.
+    pub report: Option<Duration>,
+    /// Whether the proxy ends when standard input ends.
+    pub drains: bool,
+}
+
+/// A relay with the runtime, and the output to which its numbers are printed.
+#[derive(Drop)]
+struct Relaying<'a, R, I, W> {
+    relay: &'a mut Relay,
+    report: Option<Report>,
+    input: Option<InputEnd<I>>,
+    rt: &'a R,
+    out: &'a mut W,
+}
+
+impl ProxyServer {
+    /// Listens on an address for clients of the server at another address. `login` is the command AUTH
+    /// that is sent first over each connection to the server, or empty.
+    ///
+    /// # Errors
+    ///
+    /// The error of the system if the address can't be opened, an error of kind `InvalidInput` if the
+    /// address of the server is the address to listen on, or an error of kind `OutOfMemory` if an
+    /// allocation fails.
+    pub fn listen<R: Net>(
+        rt: &R,
+        alloc: Global,
+        address: SocketAddr,
+        server: SocketAddr,
+        login: Vec<u8>,
+        settings: ProxySettings,
+    ) -> io::Result<Self> {
+        let connections = Loop::listen(rt, alloc, address, settings.most)?;
+        check_server(rt, server, connections.address())?;
+        match Relay::new(rt, alloc, server, login, settings) {
+            Ok(relay) => Ok(ProxyServer { connections, relay }),
+            Err(_) => Err(ErrorKind::OutOfMemory.into()),
+        }
+    }
+
+    /// Returns the address that the proxy listens on.
+    ///
+    /// # Errors
+    ///
+    /// The error of the system if it can't be read.
+    pub fn address(&self) -> io::Result<SocketAddr> {
+        self.connections.address()
+    }
+
+    /// Serves all clients until waiting for them fails, or until `input`, which is standard input, has ended
+    /// and the last client was closed, if the settings ask for that. Prints on standard error when the server is
+    /// connected and lost.
+    ///
+    /// # Errors
+    ///
+    /// The error of that wait, an error of the system if standard output can't be used, or an error of
+    /// kind `OutOfMemory` if the first allocation fails.
+    pub fn run<R: Net + Clock + Eprint + Files<File = File>, I: Read + Drop, W: LiveSink>(
+        &mut self,
+        rt: &R,
+        input: I,
+        out: &mut W,
+    ) -> io::Result<()> {
+        let mut events = self.connections.events()?;
+        let relay = &mut self.relay;
+        let report = report_of(rt, relay.alloc, relay.settings.report)?;
+        let input = if relay.settings.drains {
+            Some(InputEnd::new(input))
+        } else {
+            None
+        };
+        let mut relaying = Relaying {
+            relay,
+            report,
+            input,
+            rt,
+            out,
+        };
+        self.connections.run(&mut relaying, &mut events)
+    }
+}
+
+/// Returns a report with a line each time this time has passed, if there is one.
+fn report_of<R: Net + Files<File = File>>(
+    rt: &R,
+    alloc: Global,
+    every: Option<Duration>,
+) -> io::Result<Option<Report>> {
+    match every {
+        Some(every) => Ok(Some(Report::new(rt, alloc, every)?)),
+        None => Ok(None),
+    }
+}
+
+impl<R: Net + Clock + Eprint, I: Read + Drop, W: LiveSink> Service<Proxied>
+    for Relaying<'_, R, I, W> {
+    fn admit(
+        &mut self,
+        client: TcpStream,
+        registry: &Registry,
+        tokens: Tokens,
+    ) -> io::Result<Proxied> {
+        let mut client = client;
+        client.set_nodelay(true)?;
+        registry.register(
+            &mut client,
+            tokens.client,
+            Interest::READABLE | Interest::WRITABLE,
+        )?;
+        self.relay.open(client, tokens.place)
+    }
+
+    fn lose(&mut self) {
+        self.relay.counts.reject();
+    }
+
+    fn reject(&mut self) {
+        self.relay.counts.reject();
+    }
+
+    fn visit(&mut self, connection: &mut Proxied, cause: Cause) -> Next {
+        let next = self.relay.visit(connection, cause);
+        self.relay.send_eagerly(self.rt);
+        next
+    }
+
+    fn close(&mut self, connection: Proxied) {
+        let stream = self.relay.close(connection);
+        connection::close(&stream);
+    }
+
+    fn accepts(&self) -> bool {
+        !self.relay.is_draining()
+    }
+
+    fn patience(&self) -> Option<Duration> {
+        let of_relay = self.relay.patience();
+        match &self.report {
+            Some(report) => Some(shorter(of_relay, report.patience(self.relay.now()))),
+            None => of_relay,
+        }
+    }
+
+    fn work(&mut self, registry: &Registry) -> io::Result<()> {
+        if let Some(input) = &mut self.input {
+            if input.is_file(registry) {
+                self.relay.drain();
+            }
+        }
+        self.relay.work(self.rt, registry);
+        if let Some(report) = &mut self.report {
+            let (waiting, unsent) = (self.relay.waiting(), self.relay.unsent());
+            report.go_on(
+                self.relay.now(),
+                &self.relay.counts,
+                waiting,
+                unsent,
+                self.out,
+            );
+        }
+        Ok(())
+    }
+
+    fn input_ready(&mut self, is_at_end: bool) {
+        if let Some(input) = &mut self.input {
+            if input.has_come(is_at_end) {
+                self.relay.drain();
+            }
+        }
+    }
+
+    fn ready(&mut self, is_at_end: bool) {
+        self.relay.ready(self.rt, is_at_end);
+    }
+
+    fn next_due(&mut self) -> Option<usize> {
+        self.relay.next_due()
+    }
+}
+
+/// Returns the shorter of two times, if there are two.
+fn shorter(one: Option<Duration>, other: Duration) -> Duration {
+    match one {
+        Some(one) => one.min(other),
+        None => other,
+    }
+}

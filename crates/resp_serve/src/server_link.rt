@@ -1,0 +1,473 @@
+//! The connection of the proxy to the server.
+
+ghost use Rattle.std.specs.Prelude.{◌<◌, length};
+
+use crate::login::{Login, Progress};
+use crate::non_blocking::{Input, Output, is_open};
+use crate::retry::next_pause;
+use crate::service::OWN_SOCKET;
+use crate::spare::Spare;
+use mio::net::TcpStream;
+use mio::{Interest, Registry};
+use resp_proxy::{Proxy, ServerError, Written};
+use resp_value::device::Device;
+use std::alloc::Global;
+use std::io::ErrorKind;
+use std::net::{Net, SocketAddr};
+use std::time::Duration;
+use std::{io, mem};
+use thiserror::Error;
+
+/// The most reads and writes of the server before clients are visited.
+const TURNS: usize = 16;
+
+/// Why no connection was opened, if the server rejected AUTH.
+const REJECTED: &str = "the server rejected AUTH";
+
+/// Why no connection was opened, if the server closed it during the login.
+const CLOSED: &str = "closed during AUTH";
+
+/// Why the connection to the server was lost.
+#[derive(Clone, Copy, Debug, PartialEq, Eq, Error)]
+pub(crate) enum Loss {
+    /// The server closed the connection.
+    #[error("closed by the server")]
+    Closed,
+    /// A read failed.
+    #[error("read failed")]
+    Read,
+    /// A write failed.
+    #[error("write failed")]
+    Write,
+    /// No reply came in time.
+    #[error("no reply in time")]
+    Silence,
+    /// The bytes of the server are not usable.
+    #[error(transparent)]
+    Server(ServerError),
+}
+
+/// The state of the connection to the server.
+#[derive(Drop)]
+enum State {
+    /// There is no connection. The next attempt is made at this time.
+    Down { until: Duration },
+    /// A connection was begun at this time.
+    Opening { stream: TcpStream, since: Duration },
+    /// The proxy logs in over the connection.
+    Greeting(Login),
+    /// The connection is open.
+    Open(Line),
+}
+
+/// How far a connection is that is not open yet.
+#[derive(Clone, Copy)]
+enum Stage {
+    /// There is none.
+    Closed,
+    /// The server has not accepted it.
+    Waits,
+    /// The server has accepted it.
+    Connected,
+    /// The proxy logs in.
+    LogsIn,
+}
+
+/// An open connection to the server.
+#[derive(Drop)]
+struct Line {
+    stream: TcpStream,
+    /// Whether a read may return bytes.
+    may_read: bool,
+    /// Whether the input may have ended.
+    is_at_end: bool,
+    /// Whether a reply has come over this connection, and whether one has come since the last look at
+    /// the time.
+    has_replied: bool,
+    replied: bool,
+    /// Whether a command waited at the last look at the time.
+    waited: bool,
+    /// The last time at which no command waited or a reply came.
+    quiet_since: Duration,
+}
+
+/// The connection to the server, and when it is tried again.
+#[derive(Drop)]
+pub(crate) struct ServerLink {
+    alloc: Global,
+    server: SocketAddr,
+    /// The command that logs in to the server, or no byte.
+    login: Vec<u8>,
+    patience: Duration,
+    spare: Spare,
+    state: State,
+    /// The pause before the last attempt, in milliseconds.
+    pause: u64,
+    /// The current time.
+    now: Duration,
+}
+
+impl ServerLink {
+    /// Returns a link to a server, before the first attempt to connect to it. `login` is the command that
+    /// logs in to the server, or empty.
+    pub(crate) fn new(
+        net: &impl Net,
+        alloc: Global,
+        server: SocketAddr,
+        login: Vec<u8>,
+        patience: Duration,
+    ) -> Self {
+        ServerLink {
+            alloc,
+            server,
+            login,
+            patience,
+            spare: Spare::new(net),
+            state: State::Down {
+                until: Duration::from_millis(0),
+            },
+            pause: 0,
+            now: Duration::from_millis(0),
+        }
+    }
+
+    /// Notes the current time.
+    pub(crate) fn set_now(&mut self, now: Duration) {
+        self.now = now;
+    }
+
+    /// Returns the current time.
+    pub(crate) fn now(&self) -> Duration {
+        self.now
+    }
+
+    /// Opens the spare descriptor again, if it is closed and one is left.
+    pub(crate) fn keep_spare(&mut self, net: &impl Net) {
+        self.spare.keep(net);
+    }
+
+    /// Returns whether no connection is open or begun.
+    pub(crate) fn is_down(&self) -> bool {
+        matches!(self.state, State::Down { .. })
+    }
+
+    /// Returns the time until the link has work to do although its socket is not ready. `waits` says
+    /// whether a command waits for a reply.
+    pub(crate) fn patience(&self, waits: bool) -> Option<Duration> {
+        let until = match &self.state {
+            State::Down { until } => *until,
+            State::Opening { since, .. } => since.saturating_add(self.patience),
+            State::Greeting(login) => login.since.saturating_add(self.patience),
+            State::Open(line) if line.may_read => return Some(Duration::from_millis(0)),
+            State::Open(line) if waits => line.quiet_since.saturating_add(self.patience),
+            State::Open(_) => return None,
+        };
+        Some(until.saturating_sub(self.now))
+    }
+
+    /// Notes that the socket is ready.
+    pub(crate) fn note_ready(&mut self, is_at_end: bool) {
+        if let State::Open(line) = &mut self.state {
+            line.may_read = true;
+            line.is_at_end = line.is_at_end || is_at_end;
+        }
+    }
+
+    /// Begins to connect to the server, if there is no connection and the pause is over.
+    ///
+    /// # Errors
+    ///
+    /// The error of the system. The next attempt is made after a pause.
+    pub(crate) fn connect(&mut self, net: &impl Net, registry: &Registry) -> io::Result<()> {
+        let State::Down { until } = self.state else {
+            return Ok(());
+        };
+        if until > self.now {
+            return Ok(());
+        }
+        match open(&mut self.spare, net, self.server, registry) {
+            Ok(stream) => {
+                let since = self.now;
+                self.state = State::Opening { stream, since };
+                Ok(())
+            }
+            Err(error) => {
+                self.pause();
+                Err(error)
+            }
+        }
+    }
+
+    /// Goes on to open the connection that was begun, and to log in over it. Returns whether it is open
+    /// since this call.
+    ///
+    /// # Errors
+    ///
+    /// The error of the system, an error of kind `TimedOut`, or an error of kind `PermissionDenied` if the
+    /// server rejected the login. The next attempt is made after a pause.
+    pub(crate) fn finish_connecting(&mut self) -> io::Result<bool> {
+        let stage = self.stage();
+        match stage {
+            Ok(Stage::Closed | Stage::Waits) => Ok(false),
+            Ok(Stage::Connected) if self.login.is_empty() => {
+                self.start();
+                Ok(true)
+            }
+            Ok(Stage::Connected) => {
+                self.greet();
+                self.finish_login()
+            }
+            Ok(Stage::LogsIn) => self.finish_login(),
+            Err(error) => {
+                self.pause();
+                Err(error)
+            }
+        }
+    }
+
+    /// Returns how far the connection is.
+    fn stage(&self) -> io::Result<Stage> {
+        match &self.state {
+            State::Opening { stream, since } => {
+                if is_open(stream)? {
+                    return Ok(Stage::Connected);
+                }
+                self.in_time(*since)?;
+                Ok(Stage::Waits)
+            }
+            State::Greeting(login) => {
+                self.in_time(login.since)?;
+                Ok(Stage::LogsIn)
+            }
+            _ => Ok(Stage::Closed),
+        }
+    }
+
+    /// Fails if a connection that was begun at this time is not open in time.
+    fn in_time(&self, since: Duration) -> io::Result<()> {
+        if self.now.saturating_sub(since) > self.patience {
+            return Err(ErrorKind::TimedOut.into());
+        }
+        Ok(())
+    }
+
+    /// Goes on to log in. Returns whether the connection is open since this call.
+    fn finish_login(&mut self) -> io::Result<bool> {
+        let State::Greeting(login) = &mut self.state else {
+            return Ok(false);
+        };
+        match login.go_on(&self.login) {
+            Progress::Waits => Ok(false),
+            Progress::Accepted => {
+                self.start();
+                Ok(true)
+            }
+            Progress::Rejected => {
+                self.pause();
+                Err(io::Error::new(ErrorKind::PermissionDenied, REJECTED))
+            }
+            Progress::Failed => {
+                self.pause();
+                Err(io::Error::new(ErrorKind::ConnectionAborted, CLOSED))
+            }
+        }
+    }
+
+    /// Begins to log in over the connection that was begun.
+    fn greet(&mut self) {
+        let until = self.now;
+        let state = mem::replace(&mut self.state, State::Down { until });
+        if let State::Opening { stream, since } = state {
+            self.state = State::Greeting(Login::new(self.alloc, stream, since));
+        }
+    }
+
+    /// Makes the connection that was begun an open one.
+    fn start(&mut self) {
+        let until = self.now;
+        let state = mem::replace(&mut self.state, State::Down { until });
+        match state {
+            State::Opening { stream, .. } => self.state = State::Open(Line::new(stream, self.now)),
+            State::Greeting(login) => {
+                let Login { stream, .. } = login;
+                self.state = State::Open(Line::new(stream, self.now));
+            }
+            _ => {}
+        }
+    }
+
+    /// Closes the connection. The next attempt is made after a pause, or at once if a reply came over
+    /// this connection.
+    fn pause(&mut self) {
+        let has_replied = matches!(&self.state, State::Open(line) if line.has_replied);
+        self.pause = if has_replied {
+            0
+        } else {
+            next_pause(self.pause)
+        };
+        let until = self.now.saturating_add(Duration::from_millis(self.pause));
+        self.state = State::Down { until };
+    }
+
+    /// Reads replies and writes commands until each call would block, or 16 of each were made.
+    ///
+    /// # Errors
+    ///
+    /// Why the connection was lost. It is closed.
+    pub(crate) fn exchange(&mut self, proxy: &mut Proxy, buffer: &mut [u8]) -> Result<(), Loss>
+        requires { 0 < length buffer.old }
+    {
+        let State::Open(line) = &mut self.state else {
+            return Ok(());
+        };
+        let exchanged = line.exchange(proxy, buffer);
+        if exchanged.is_err() {
+            self.pause();
+        }
+        exchanged
+    }
+
+    /// Gives the connection up if commands wait and no reply has come for too long. `waits` says whether
+    /// a command waits for a reply.
+    ///
+    /// # Errors
+    ///
+    /// `Silence` if the connection was given up.
+    pub(crate) fn judge(&mut self, waits: bool) -> Result<(), Loss> {
+        let State::Open(line) = &mut self.state else {
+            return Ok(());
+        };
+        line.look_at_time(self.now, waits);
+        if waits && self.now.saturating_sub(line.quiet_since) > self.patience {
+            self.pause();
+            return Err(Loss::Silence);
+        }
+        Ok(())
+    }
+
+    /// Writes commands until a write would block, or 16 were made.
+    ///
+    /// # Errors
+    ///
+    /// Why the connection was lost. It is closed.
+    pub(crate) fn send(&mut self, proxy: &mut Proxy) -> Result<(), Loss> {
+        let State::Open(line) = &mut self.state else {
+            return Ok(());
+        };
+        let sent = line.send(proxy);
+        if sent.is_err() {
+            self.pause();
+        }
+        sent
+    }
+}
+
+impl Line {
+    /// Returns a connection over which no command was sent.
+    fn new(stream: TcpStream, now: Duration) -> Self {
+        Line {
+            stream,
+            may_read: true,
+            is_at_end: true,
+            has_replied: false,
+            replied: false,
+            waited: false,
+            quiet_since: now,
+        }
+    }
+
+    /// Reads replies and writes commands until each call would block, or 16 of each were made.
+    fn exchange(&mut self, proxy: &mut Proxy, buffer: &mut [u8]) -> Result<(), Loss>
+        requires { 0 < length buffer.old }
+    {
+        let before = proxy.waiting();
+        for _ in 0..TURNS {
+            if !self.may_read {
+                break;
+            }
+            self.visit(proxy, buffer)?;
+        }
+        if proxy.waiting() < before {
+            self.has_replied = true;
+            self.replied = true;
+        }
+        self.send(proxy)
+    }
+
+    /// Makes one read and at most one write.
+    fn visit(&mut self, proxy: &mut Proxy, buffer: &mut [u8]) -> Result<(), Loss>
+        requires { 0 < length buffer.old }
+    {
+        let stream = &self.stream;
+        self.may_read = exchange(proxy, stream, stream, self.is_at_end, buffer)?;
+        Ok(())
+    }
+
+    /// Notes the time if a reply has come since the last look at it, or no command waited then.
+    fn look_at_time(&mut self, now: Duration, waits: bool) {
+        if self.replied || !self.waited {
+            self.quiet_since = now;
+        }
+        self.replied = false;
+        self.waited = waits;
+    }
+
+    /// Writes commands until a write would block, or 16 were made.
+    fn send(&mut self, proxy: &mut Proxy) -> Result<(), Loss> {
+        for _ in 0..TURNS {
+            let mut writer = Device::new(Output::new(&self.stream));
+            let written = proxy.send(&mut writer);
+            let writer = writer.into_inner();
+            if writer.has_failed() {
+                return Err(Loss::Write);
+            }
+            if written == Written::All || writer.would_wait() {
+                return Ok(());
+            }
+        }
+        Ok(())
+    }
+}
+
+/// Reads bytes of the server from the reader, and writes bytes that wait for it to the writer. Returns
+/// whether another read may return bytes.
+fn exchange(
+    proxy: &mut Proxy,
+    reader: &TcpStream,
+    writer: &TcpStream,
+    is_at_end: bool,
+    buffer: &mut [u8],
+) -> Result<bool, Loss>
+    requires { 0 < length buffer.old }
+{
+    let mut reader = Device::new(Input::new(reader, is_at_end));
+    let mut writer = Device::new(Output::new(writer));
+    let visit = proxy.visit_server(&mut reader, &mut writer, buffer);
+    let is_dry = reader.into_inner().would_wait();
+    if writer.into_inner().has_failed() {
+        return Err(Loss::Write);
+    }
+    match (visit.end, visit.read) {
+        (Err(error), _) => Err(Loss::Server(error)),
+        (Ok(()), Some(0)) => Err(Loss::Closed),
+        (Ok(()), None) if !is_dry => Err(Loss::Read),
+        _ => Ok(!is_dry),
+    }
+}
+
+/// Begins a connection to a server, and registers its socket.
+fn open(
+    spare: &mut Spare,
+    net: &impl Net,
+    server: SocketAddr,
+    registry: &Registry,
+) -> io::Result<TcpStream> {
+    let mut stream = spare.connect(net, server)?;
+    stream.set_nodelay(true)?;
+    registry.register(
+        &mut stream,
+        OWN_SOCKET,
+        Interest::READABLE | Interest::WRITABLE,
+    )?;
+    Ok(stream)
+}

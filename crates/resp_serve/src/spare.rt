@@ -1,0 +1,45 @@
+//! A descriptor that is kept for a connection to the server.
+
+use mio::Poll;
+use mio::net::TcpStream;
+use std::io;
+use std::net::{Net, SocketAddr};
+
+/// A descriptor that is closed if no other is left for a connection to the server.
+#[derive(Drop)]
+pub(crate) struct Spare {
+    poll: Option<Poll>,
+}
+
+impl Spare {
+    /// Opens the descriptor, if one is left.
+    pub(crate) fn new(net: &impl Net) -> Self {
+        Spare {
+            poll: Poll::new(net).ok(),
+        }
+    }
+
+    /// Begins to connect to a server. If that fails, it is tried once more after the spare descriptor
+    /// is closed.
+    ///
+    /// # Errors
+    ///
+    /// The error of the system.
+    pub(crate) fn connect(&mut self, net: &impl Net, server: SocketAddr) -> io::Result<TcpStream> {
+        let connected = TcpStream::connect(net, server);
+        if connected.is_ok() || self.poll.is_none() {
+            return connected;
+        }
+        self.poll = None;
+        let connected = TcpStream::connect(net, server);
+        self.keep(net);
+        connected
+    }
+
+    /// Opens the descriptor again, if it is closed and one is left.
+    pub(crate) fn keep(&mut self, net: &impl Net) {
+        if self.poll.is_none() {
+            self.poll = Poll::new(net).ok();
+        }
+    }
+}

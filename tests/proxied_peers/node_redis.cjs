@@ -1,0 +1,33 @@
+// Tests `resp proxy` in front of redis-server with node-redis: node_redis.cjs PORT. Ten clients send pipelines at the same
+// time, and each reply is compared with its command.
+const assert = require("assert");
+const { createClient } = require("redis");
+
+const port = Number(process.argv[2]);
+
+async function work(number) {
+    const client = createClient({ socket: { host: "127.0.0.1", port } });
+    await client.connect();
+    const keys = Array.from({ length: 300 }, (_, part) => `node:${number}:${part}`);
+    const values = keys.map((key) => `value of ${key}`);
+    for (let turn = 0; turn < 5; turn++) {
+        const set = await Promise.all(keys.map((key, part) => client.set(key, values[part])));
+        assert.deepStrictEqual(set, keys.map(() => "OK"));
+        assert.deepStrictEqual(await Promise.all(keys.map((key) => client.get(key))), values);
+    }
+    assert.deepStrictEqual(await client.mGet([keys[0], "no such key"]), [values[0], null]);
+    await client.del(`hash:${number}`);
+    assert.strictEqual(await client.hSet(`hash:${number}`, { a: "1", b: "2" }), 2);
+    assert.deepStrictEqual({ ...(await client.hGetAll(`hash:${number}`)) }, { a: "1", b: "2" });
+    await assert.rejects(client.sendCommand(["BLPOP", "list", "0"]), /'BLPOP'/);
+    assert.strictEqual(await client.echo(`${number}`), `${number}`);
+    await client.quit();
+}
+
+Promise.all(Array.from({ length: 10 }, (_, number) => work(number))).then(
+    () => process.exit(0),
+    (error) => {
+        console.error(error);
+        process.exit(1);
+    },
+);

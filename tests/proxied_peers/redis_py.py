@@ -1,0 +1,64 @@
+"""Tests `resp proxy` in front of redis-server with python3-redis, a pool of connections and threads: redis_py.py PORT"""
+import sys
+import threading
+
+import redis
+
+pool = redis.BlockingConnectionPool(host="127.0.0.1", port=int(sys.argv[1]), max_connections=8, timeout=30)
+client = redis.Redis(connection_pool=pool)
+wrong = []
+
+
+def work(number):
+    """Reads its own values through whichever connection of the pool is free."""
+    try:
+        for turn in range(20):
+            key = f"pooled:{number}:{turn}"
+            assert client.set(key, f"value of {key}", ex=100) is True
+            assert client.get(key) == f"value of {key}".encode()
+            pipeline = client.pipeline(transaction=False)
+            for part in range(50):
+                pipeline.echo(f"{key}:{part}")
+                pipeline.incr(f"count:{number}")
+                pipeline.rpush(f"list:{number}", f"{key}:{part}")
+            replies = pipeline.execute()
+            assert replies[::3] == [f"{key}:{part}".encode() for part in range(50)], replies
+            assert replies[1::3] == list(range(50 * turn + 1, 50 * turn + 51)), replies
+            assert replies[2::3] == replies[1::3], replies
+            assert client.lrange(f"list:{number}", -1, -1) == [f"{key}:49".encode()]
+            assert client.mget(key, "no such key") == [f"value of {key}".encode(), None]
+    except Exception as error:
+        wrong.append(f"{number}: {type(error).__name__}: {error}")
+
+
+threads = [threading.Thread(target=work, args=(number,)) for number in range(24)]
+for thread in threads:
+    thread.start()
+for thread in threads:
+    thread.join()
+assert not wrong, wrong
+
+# Types, scans and scripts. Each of these has one reply.
+client.hset("hash of the proxy", mapping={"a": 1, "b": 2})
+assert client.hgetall("hash of the proxy") == {b"a": b"1", b"b": b"2"}
+client.zadd("scores of the proxy", {"one": 1, "two": 2.5})
+assert client.zrange("scores of the proxy", 0, -1, withscores=True) == [(b"one", 1.0), (b"two", 2.5)]
+client.sadd("set of the proxy", "a", "b")
+assert client.smembers("set of the proxy") == {b"a", b"b"}
+assert len(set(client.scan_iter("pooled:*", count=100))) == 24 * 20
+assert client.eval("return {KEYS[1], ARGV[1], 7}", 1, "key", "argument") == [b"key", b"argument", 7]
+entry = client.xadd("stream of the proxy", {"field": "value"})
+assert client.xread({"stream of the proxy": "0"}) == [[b"stream of the proxy", [(entry, {b"field": b"value"})]]]
+assert client.client_setname("me") and client.client_id() > 0
+great = bytes(range(256)) * 40_000
+assert client.set("great", great) is True and client.get("great") == great
+
+# The error of a command that the proxy does not serve names it, and the connection goes on.
+for words in (("MULTI",), ("BLPOP", "list", "0"), ("SUBSCRIBE", "a"), ("SELECT", "1"), ("CONFIG", "GET", "save")):
+    try:
+        client.execute_command(*words)
+    except redis.ResponseError as error:
+        assert f"'{words[0]}'" in str(error), error
+    else:
+        raise AssertionError(f"{words} was answered")
+assert client.ping() is True
