@@ -1,9 +1,9 @@
 //! Parts that test asking.
 
 use crate::outcome::Outcome;
-use resp_ask::line::{LineError, words_of};
 use resp_ask::{AskError, Form, Telling, ask_command};
 use resp_client::Client;
+use resp_line::{LineError, words_of};
 use resp_value::command::Command;
 use resp_value::device::{MemorySink, MemorySource};
 use resp_value::limits::Limits;

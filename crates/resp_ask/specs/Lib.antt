@@ -1,4 +1,3 @@
 pub mod Tellings
 pub mod Hearing
 pub mod Exchanging
-pub mod Lines

@@ -8,7 +8,6 @@ pub mod ask;
 pub mod error;
 pub mod exchange;
 pub mod hear;
-pub mod line;
 mod tell;
 pub mod telling;
 

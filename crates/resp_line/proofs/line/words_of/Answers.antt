@@ -1,8 +1,8 @@
 use Rattle.std.proofs.Common.{rules, ◌≡◌, ◌++◌, ℕ, List, arith, subst, sym}
 use Rattle.resp_value.specs.Words.{texts_of}
-use Rattle.resp_ask.specs.Lines.{AreWords, IfEnded, IsWord, UnlessEnded}
-use Rattle.resp_ask.proofs.WordLines.{no_words, shorter_word, spaces_shorter, word_more, words_end, words_through}
-use Rattle.resp_ask.proofs.line.words_of.Goals as goal
+use Rattle.resp_line.specs.Lines.{AreWords, IfEnded, IsWord, UnlessEnded}
+use Rattle.resp_line.proofs.WordLines.{no_words, shorter_word, spaces_shorter, word_more, words_end, words_through}
+use Rattle.resp_line.proofs.line.words_of.Goals as goal
 
 pub loop-rest-init : goal.loop-rest-init
 loop-rest-init c = record {

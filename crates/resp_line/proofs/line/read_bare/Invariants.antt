@@ -1,7 +1,7 @@
 use Rattle.std.proofs.Common.{◌≡◌, ◌++◌, List, ℕ, length, true}
 use Rattle.std.specs.List.{AllByRecursion}
-use Rattle.resp_ask.specs.Lines.{is_bare}
-use Rattle.resp_ask.proofs.line.read_bare.Given as goal
+use Rattle.resp_line.specs.Lines.{is_bare}
+use Rattle.resp_line.proofs.line.read_bare.Given as goal
 
 abbrev pub invariant-loop-byte : goal.invariant-loop-byte
 invariant-loop-byte l = record {

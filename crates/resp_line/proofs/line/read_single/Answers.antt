@@ -1,7 +1,7 @@
 use Rattle.std.proofs.Common.{rules, arith, ◌++◌, ◌∷◌, []}
 use Rattle.std.proofs.lemmas.Grind.{common_steps}
-use Rattle.resp_ask.proofs.WordLines.{single_closed, single_more, single_only, single_open, single_through, no_quote_at_end, other_quote}
-use Rattle.resp_ask.proofs.line.read_single.Goals as goal
+use Rattle.resp_line.proofs.WordLines.{single_closed, single_more, single_only, single_open, single_through, no_quote_at_end, other_quote}
+use Rattle.resp_line.proofs.line.read_single.Goals as goal
 
 pub loop-byte-preserved : goal.loop-byte-preserved
 loop-byte-preserved c =

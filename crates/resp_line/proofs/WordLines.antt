@@ -1,14 +1,14 @@
 -- The words of a line, one byte and one word after another.
 use Rattle.std.specs.Borrow.{Bor}
 use Rattle.std.specs.Prelude.{IfNone, IfSome, Option, None, Some, not}
-use Rattle.resp_ask.specs.declared.line.WordEnd.{WordEnd}
-use Rattle.resp_ask.specs.declared.line.WordEnd.TheVariants.{Ended, Open, NoSpace}
-use Rattle.resp_ask.specs.Lines.{IfEnded, IsHexPair, UnlessEnded, escaped}
+use Rattle.resp_line.specs.declared.line.WordEnd.{WordEnd}
+use Rattle.resp_line.specs.declared.line.WordEnd.TheVariants.{Ended, Open, NoSpace}
+use Rattle.resp_line.specs.Lines.{IfEnded, IsHexPair, UnlessEnded, escaped}
 use Rattle.std.proofs.Common.{◌≡◌, ◌≢◌, ◌⊎◌, inl, inr, ◌<◌, ◌≤◌, ℕ, Bool, true, false, List, [], ◌∷◌, ◌++◌, length, refl, sym, ap, subst, ◌∙◌, arith, append_assoc, length-append}
 use Rattle.std.specs.List.{AllByRecursion}
 use Rattle.std.proofs.lemmas.List.{append-nil}
 use Rattle.resp_value.proofs.FirstBytes.{all_append}
-use Rattle.resp_ask.specs.Lines.{AreWords, EndsBare, EndsWord, FollowsSpaces, IsWord, ReadsDouble, ReadsDoubleByte, ReadsQuoted, ReadsSingle, ReadsSingleByte, StartsWord, is_bare, is_space}
+use Rattle.resp_line.specs.Lines.{AreWords, EndsBare, EndsWord, FollowsSpaces, IsWord, ReadsDouble, ReadsDoubleByte, ReadsQuoted, ReadsSingle, ReadsSingleByte, StartsWord, is_bare, is_space}
 
 -- a byte more in double quotes
 pub double_more : (text rest mid content : List ℕ) (b : ℕ) → ((more end : List ℕ) → ReadsDouble more rest end → ReadsDouble (content ++ more) text end) →

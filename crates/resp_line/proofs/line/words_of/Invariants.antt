@@ -1,7 +1,7 @@
 use Rattle.std.proofs.Common.{◌<◌, ◌++◌, List, ℕ, length}
 use Rattle.resp_value.specs.Words.{texts_of}
-use Rattle.resp_ask.specs.Lines.{AreWords, FollowsSpaces, StartsWord}
-use Rattle.resp_ask.proofs.line.words_of.Given as goal
+use Rattle.resp_line.specs.Lines.{AreWords, FollowsSpaces, StartsWord}
+use Rattle.resp_line.proofs.line.words_of.Given as goal
 
 abbrev pub invariant-loop-rest : goal.invariant-loop-rest
 invariant-loop-rest l = record {

@@ -1,7 +1,7 @@
 use Rattle.std.proofs.Common.{rules, subst, sym}
-use Rattle.resp_ask.specs.Lines.{ReadsDoubleByte}
-use Rattle.resp_ask.proofs.WordLines.{escape_read}
-use Rattle.resp_ask.proofs.line.double_byte.Goals as goal
+use Rattle.resp_line.specs.Lines.{ReadsDoubleByte}
+use Rattle.resp_line.proofs.WordLines.{escape_read}
+use Rattle.resp_line.proofs.line.double_byte.Goals as goal
 
 pub returns-clause-read : goal.returns-clause-read
 returns-clause-read c =

@@ -1,6 +1,6 @@
 use Rattle.std.proofs.Common.{◌≡◌, ◌≤◌, ◌++◌, List, ℕ, length}
-use Rattle.resp_ask.specs.Lines.{ReadsSingle}
-use Rattle.resp_ask.proofs.line.read_single.Given as goal
+use Rattle.resp_line.specs.Lines.{ReadsSingle}
+use Rattle.resp_line.proofs.line.read_single.Given as goal
 
 abbrev pub invariant-loop-byte : goal.invariant-loop-byte
 invariant-loop-byte l = record {

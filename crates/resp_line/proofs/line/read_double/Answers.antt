@@ -1,7 +1,7 @@
 use Rattle.std.proofs.Common.{rules, arith, ◌++◌, ◌∷◌, []}
 use Rattle.std.proofs.lemmas.Grind.{common_steps}
-use Rattle.resp_ask.proofs.WordLines.{double_closed, double_more, double_only, double_open, double_through, no_quote_at_end, other_quote}
-use Rattle.resp_ask.proofs.line.read_double.Goals as goal
+use Rattle.resp_line.proofs.WordLines.{double_closed, double_more, double_only, double_open, double_through, no_quote_at_end, other_quote}
+use Rattle.resp_line.proofs.line.read_double.Goals as goal
 
 pub loop-byte-preserved : goal.loop-byte-preserved
 loop-byte-preserved c =

@@ -1,6 +1,6 @@
 use Rattle.std.proofs.Common.{rules, refl, ◌≡◌, ◌∷◌}
-use Rattle.resp_ask.proofs.WordLines.{bare_only, bare_word, ends_bare_word, ends_empty, only_double, only_single, quoted_none, quoted_only}
-use Rattle.resp_ask.proofs.line.read_word.Goals as goal
+use Rattle.resp_line.proofs.WordLines.{bare_only, bare_word, ends_bare_word, ends_empty, only_double, only_single, quoted_none, quoted_only}
+use Rattle.resp_line.proofs.line.read_word.Goals as goal
 
 pub returns-clause-ended : goal.returns-clause-ended
 returns-clause-ended c =

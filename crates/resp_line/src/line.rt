@@ -3,7 +3,7 @@
 ghost use Rattle.std.specs.Prelude.{◌≡◌, ◌≢◌, ◌≤◌, ◌<◌, ◌++◌, [], ◌∷◌, ℕ, List, true, length, IfErr, IfNone, IfOk, IfSome, IsSome, OnOk};
 ghost use Rattle.std.specs.List.{AllByRecursion};
 ghost use Rattle.resp_value.specs.Words.{texts_of};
-ghost use Rattle.resp_ask.specs.Lines.{AreWords, EndsBare, EndsWord, FollowsSpaces, IfEnded, IsHexPair, IsWord, ReadsDouble, ReadsDoubleByte, ReadsSingle, ReadsSingleByte, StartsWord, UnlessEnded, escaped, hex_value, is_bare, is_space};
+ghost use Rattle.resp_line.specs.Lines.{AreWords, EndsBare, EndsWord, FollowsSpaces, IfEnded, IsHexPair, IsWord, ReadsDouble, ReadsDoubleByte, ReadsSingle, ReadsSingleByte, StartsWord, UnlessEnded, escaped, hex_value, is_bare, is_space};
 
 use std::alloc::{AllocError, Global};
 use thiserror::Error;

@@ -1,6 +1,6 @@
 use Rattle.std.proofs.Common.{◌≡◌, ◌≤◌, ◌++◌, List, ℕ, length}
-use Rattle.resp_ask.specs.Lines.{ReadsDouble}
-use Rattle.resp_ask.proofs.line.read_double.Given as goal
+use Rattle.resp_line.specs.Lines.{ReadsDouble}
+use Rattle.resp_line.proofs.line.read_double.Given as goal
 
 abbrev pub invariant-loop-byte : goal.invariant-loop-byte
 invariant-loop-byte l = record {

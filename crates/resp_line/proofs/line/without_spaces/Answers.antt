@@ -1,7 +1,7 @@
 use Rattle.std.proofs.Common.{rules}
-use Rattle.resp_ask.specs.Lines.{is_space}
-use Rattle.resp_ask.proofs.WordLines.{space_more, was_true}
-use Rattle.resp_ask.proofs.line.without_spaces.Goals as goal
+use Rattle.resp_line.specs.Lines.{is_space}
+use Rattle.resp_line.proofs.WordLines.{space_more, was_true}
+use Rattle.resp_line.proofs.line.without_spaces.Goals as goal
 
 pub loop-byte-preserved : goal.loop-byte-preserved
 loop-byte-preserved c = record {

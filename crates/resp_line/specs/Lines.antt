@@ -1,8 +1,8 @@
 -- The words of a line, with the quoting of redis-cli.
 use Rattle.std.specs.Prelude.{◌≡◌, ◌≢◌, ◌⊎◌, ◌+◌, ◌*◌, ◌-◌, ℕ, Bool, true, false, not, ◌==◌, ◌&&◌, ◌||◌, nat_le, if◌then◌else◌, List, [], ◌∷◌, ◌++◌, length, ◌<◌, Option, None, Some}
 use Rattle.std.specs.List.{AllByRecursion}
-use Rattle.resp_ask.specs.declared.line.WordEnd.{WordEnd}
-use Rattle.resp_ask.specs.declared.line.WordEnd.TheVariants.{Ended}
+use Rattle.resp_line.specs.declared.line.WordEnd.{WordEnd}
+use Rattle.resp_line.specs.declared.line.WordEnd.TheVariants.{Ended}
 
 -- a byte that separates words: a space, a tab or a CR
 abbrev pub is_space : ℕ → Bool

@@ -1,6 +1,6 @@
 use Rattle.std.proofs.Common.{length}
-use Rattle.resp_ask.specs.Lines.{FollowsSpaces}
-use Rattle.resp_ask.proofs.line.without_spaces.Given as goal
+use Rattle.resp_line.specs.Lines.{FollowsSpaces}
+use Rattle.resp_line.proofs.line.without_spaces.Given as goal
 
 abbrev pub invariant-loop-byte : goal.invariant-loop-byte
 invariant-loop-byte l = record { follows : FollowsSpaces l.text l.rest }
