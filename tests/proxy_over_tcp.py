@@ -13,6 +13,7 @@ Most tests have a server of their own, which reads and replies step by step. The
 - a client that does not read its replies is not read either, and delays no other;
 - --waiting and --clients limit what they say, and nothing is busy without work;
 - with a password AUTH is sent first, and commands only after its reply;
+- lines are commands, and with --no-inline they are not;
 - --local-ping, --report and --drain do what they say, and INFO proxy;
 - clients wait while no descriptor is left, and the connection to the server is opened again even then.
 """
@@ -362,7 +363,7 @@ def patience():
 
 def protocol_error():
     """The client gets its earlier replies, then the error, then the end; the others go on."""
-    for wrong in (b"*1\r\n:1\r\n", b"*1\r\n$4\r\nPINGx", b"PING\r\n"):
+    for wrong in (b"*1\r\n:1\r\n", b"*1\r\n$4\r\nPINGx", b'ECHO "a\r\n'):
         with proxied() as (proxy, _, server), connect(proxy.port) as client, connect(proxy.port) as other:
             client.sendall(PING + wrong)
             hear(server, PING)
@@ -378,6 +379,44 @@ def protocol_error():
             hear(server, PING)
             server.sendall(PONG)
             hear(other, PONG)
+
+
+def lines():
+    """A line is sent as an array, at any cut. A line of more than 65,536 bytes, and HTTP, end the connection."""
+    echo = b"*2\r\n$4\r\necho\r\n"
+    source = random.Random(3)
+    with proxied() as (proxy, _, server), connect(proxy.port) as client:
+        for _ in range(20):
+            for piece in cut(b"PING\r\n\r\n*0\r\n \n" + PING + b"*-1\r\necho 'a b'\n", source):
+                client.sendall(piece)
+            hear(server, PING + PING + echo + b"$3\r\na b\r\n")
+            server.sendall(PONG + PONG + bulk(b"a b"))
+            hear(client, PONG + PONG + bulk(b"a b"))
+        most = 65536 - len(b"echo ")
+        for size in (most - 1, most):
+            client.sendall(b"echo " + b"a" * size)
+            assert not has_reply(server), "the line has not ended"
+            client.sendall(b"\n")
+            hear(server, echo + bulk(b"a" * size))
+            server.sendall(PONG)
+            hear(client, PONG)
+        client.sendall(PING + b"echo " + b"a" * (most + 1))
+        hear(server, PING)
+        server.sendall(PONG)
+        assert hear_end(client) == PONG + b"-ERR Protocol error: too big inline request\r\n"
+        with connect(proxy.port) as browser:
+            browser.sendall(b"PING\r\nPOST / HTTP/1.1\r\nHost: 127.0.0.1\r\n\r\nFLUSHALL\r\n")
+            hear(server, PING)
+            server.sendall(PONG)
+            assert hear_end(browser) == PONG
+    with proxied("--no-inline") as (proxy, _, server), connect(proxy.port) as client:
+        client.sendall(b"*0\r\n" + PING)
+        hear(server, PING)
+        server.sendall(PONG)
+        hear(client, PONG)
+        client.sendall(b"PING\r\n")
+        assert hear_end(client) == b"-ERR Protocol error: Syntax at byte 0 of the value\r\n"
+        assert not has_reply(server), "a line is sent in spite of --no-inline"
 
 
 def own_replies():
@@ -679,7 +718,7 @@ def own_address_of_proxy():
 
 
 TESTS = [pipelines_cut_at_random, client_that_goes, end_of_input, server_that_closes, server_that_ends_inside_a_reply,
-         reply_that_nobody_waits_for, server_that_is_not_there, patience, protocol_error, own_replies,
+         reply_that_nobody_waits_for, server_that_is_not_there, patience, protocol_error, own_replies, lines,
          client_that_does_not_read, server_that_does_not_read, one_command_at_a_time, login,
          ping_of_the_proxy, reports, end_of_standard_input, most_of_proxy,
          descriptors_of_proxy, busy_clients, own_address_of_proxy]

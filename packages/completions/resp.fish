@@ -42,6 +42,7 @@ complete -c resp -n '__fish_seen_subcommand_from proxy' -l unsent -x -d 'Maximum
 complete -c resp -n '__fish_seen_subcommand_from proxy' -l patience -x -d 'Milliseconds to wait for a reply, 1 to 3600000'
 complete -c resp -n '__fish_seen_subcommand_from proxy' -l report -x -d 'Prints a line with numbers every N seconds, 0 to 86400'
 complete -c resp -n '__fish_seen_subcommand_from proxy' -l local-ping -d 'Replies to PING without the server'
+complete -c resp -n '__fish_seen_subcommand_from proxy' -l no-inline -d 'Rejects commands that are lines'
 complete -c resp -n '__fish_seen_subcommand_from proxy' -l drain -d 'Ends when standard input ends'
 
 complete -c resp -n '__fish_seen_subcommand_from ask' -s 3 -d 'Sends HELLO 3 first, and accepts doubles'

@@ -105,6 +105,7 @@ fn parts(alloc: Global) -> [Part; 43] {
         ("take reply", frames::of_join(alloc)),
         ("proxy open", proxying::of_open(alloc)),
         ("proxy client", proxying::of_client(alloc)),
+        ("proxy lines", proxying::of_lines(alloc)),
         ("proxy server", proxying::of_server(alloc)),
         ("world", worlds::of_run(alloc)),
         ("framed values in", framing::of_values_in(alloc)),

@@ -47,15 +47,35 @@ pub(crate) fn of_open(alloc: Global) -> Outcome {
 /// A command that is queued, a reply of the proxy itself, an error with a name, and a command that
 /// has begun.
 pub(crate) fn of_client(alloc: Global) -> Outcome {
+    of_pieces(
+        alloc,
+        [
+            PING,
+            b"*2\r\n$6\r\nCLIENT\r\n$2\r\nID\r\n",
+            b"*1\r\n$5\r\nMULTI\r\n",
+            b"*1\r\n$4\r\nPI",
+        ],
+    )
+}
+
+/// The same as lines.
+pub(crate) fn of_lines(alloc: Global) -> Outcome {
+    of_pieces(
+        alloc,
+        [
+            b"ECHO \"a b\"\r\n",
+            b"CLIENT ID\r\n",
+            b"\r\nMULTI\r\n*0\r\n",
+            b"PI",
+        ],
+    )
+}
+
+/// A client sends four pieces, which have one command for the server.
+fn of_pieces(alloc: Global, pieces: [&[u8]; 4]) -> Outcome {
     let Ok((mut proxy, mut first, mut second)) = two_clients(alloc) else {
         return Outcome::OutOfMemory;
     };
-    let pieces: [&[u8]; 4] = [
-        PING,
-        b"*2\r\n$6\r\nCLIENT\r\n$2\r\nID\r\n",
-        b"*1\r\n$5\r\nMULTI\r\n",
-        b"*1\r\n$4\r\nPI",
-    ];
     for piece in pieces {
         match proxy.from_client(&mut first, piece) {
             Ok(()) => {}

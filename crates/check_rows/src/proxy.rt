@@ -57,7 +57,14 @@ impl Subject for Proxying {
     fn run(&mut self, name: &str, given: &str, cut: Cut, said: &mut String) -> Result<()> {
         match name {
             "proxy" => self.renew(given)?,
-            "local-ping" => self.ping_locally()?,
+            "local-ping" => self.begin(Settings {
+                local_ping: true,
+                ..Settings::standard()
+            })?,
+            "no-lines" => self.begin(Settings {
+                lines: false,
+                ..Settings::standard()
+            })?,
             "client" => self.hear_client(given, cut)?,
             "server" => self.hear_server(given, cut, said)?,
             "end" => self.end(given)?,
@@ -83,17 +90,11 @@ impl Proxying {
             unsent: unsent.parse()?,
             ..Settings::standard()
         };
-        self.proxy = Proxy::new(self.alloc, settings)?;
-        self.seats.clear();
-        Ok(())
+        self.begin(settings)
     }
 
-    /// `local-ping` begins a proxy that itself replies to PING.
-    fn ping_locally(&mut self) -> Result<()> {
-        let settings = Settings {
-            local_ping: true,
-            ..Settings::standard()
-        };
+    /// Begins a proxy with these settings.
+    fn begin(&mut self, settings: Settings) -> Result<()> {
         self.proxy = Proxy::new(self.alloc, settings)?;
         self.seats.clear();
         Ok(())

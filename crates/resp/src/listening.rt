@@ -199,6 +199,7 @@ fn settings_of(options: &ProxyOptions) -> ProxySettings {
             held: options.held,
             unsent: options.unsent,
             local_ping: options.local_ping,
+            lines: !options.refuses_lines,
         },
         most: options.clients,
         patience: Duration::from_millis(options.patience),

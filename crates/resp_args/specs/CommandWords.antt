@@ -174,6 +174,7 @@ pub record HasProxyOptions (given : List Row) (options : ProxyOptions) : Type 0 
   pub for_server : HasNumber given (codes "unsent") options.unsent
   pub times : HasProxyTimes given (options.patience, options.report)
   pub flags : HasProxyFlags given (options.local_ping, options.drains)
+  pub refuses_lines : HasFlag given (codes "no-inline") options.refuses_lines
 
 -- the options of `proxy`, with the texts of its addresses
 pub record HasProxyWords (given : List Row) (address server : Text) (options : ProxyOptions) : Type 0 where

@@ -105,7 +105,7 @@ proxy_options = listening_options
     number_option (codes "unsent") 1 1099511627776 (codes "1048576") ∷
     number_option (codes "patience") 1 3600000 (codes "5000") ∷
     number_option (codes "report") 0 86400 (codes "0") ∷
-    flag_option (codes "local-ping") ∷ flag_option (codes "drain") ∷
+    flag_option (codes "local-ping") ∷ flag_option (codes "no-inline") ∷ flag_option (codes "drain") ∷
     address_word (codes "listen") ∷ address_word (codes "server") ∷ [])
 
 -- `--name VALUE`, an option with any value and without a default

@@ -77,6 +77,9 @@ const REPORT: NumberOption = NumberOption {
 /// The help of `--local-ping`.
 const LOCAL_PING: &str = "Replies to PING without the server";
 
+/// The help of `--no-inline`.
+const NO_INLINE: &str = "Rejects commands that are lines, such as PING";
+
 /// The help of `--drain`.
 const DRAIN: &str = r"Ends when standard input ends; each client gets the
 replies to its commands first";
@@ -129,9 +132,11 @@ fn with_switches<'a>(
     task: Result<Command<'a>, clap::Error>,
 ) -> Result<Command<'a>, clap::Error>
     ensures { (app : App) → MakesTask app task.entry → MakesTask (with_options app
-        (flag_option (codes "local-ping") ∷ flag_option (codes "drain") ∷ [])) result }
+        (flag_option (codes "local-ping") ∷ flag_option (codes "no-inline") ∷
+        flag_option (codes "drain") ∷ [])) result }
 {
     let task = with_flag(alloc, task, "local-ping", LOCAL_PING);
+    let task = with_flag(alloc, task, "no-inline", NO_INLINE);
     with_flag(alloc, task, "drain", DRAIN)
 }
 

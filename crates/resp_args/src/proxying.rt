@@ -44,6 +44,8 @@ pub struct ProxyOptions {
     pub report: u64,
     /// Whether the proxy replies to PING itself.
     pub local_ping: bool,
+    /// Whether a line is rejected as a command.
+    pub refuses_lines: bool,
     /// Whether the proxy ends when standard input ends.
     pub drains: bool,
 }
@@ -116,6 +118,7 @@ fn options_of(matches: &ArgMatches<'_>) -> Option<ProxyOptions>
 {
     let (patience, report) = times_of(matches)?;
     let (local_ping, drains) = flags_of(matches)?;
+    let refuses_lines = flag_of(matches, "no-inline")?;
     Some(ProxyOptions {
         limits: limits_of(matches)?,
         clients: small_number_of(matches, "clients")?,
@@ -125,6 +128,7 @@ fn options_of(matches: &ArgMatches<'_>) -> Option<ProxyOptions>
         patience,
         report,
         local_ping,
+        refuses_lines,
         drains,
     })
 }

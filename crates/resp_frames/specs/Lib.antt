@@ -2,5 +2,6 @@
 pub mod Texts
 pub mod Framing
 pub mod Commands
+pub mod Requests
 pub mod Keys
 pub mod Laws

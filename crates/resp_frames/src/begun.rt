@@ -2,7 +2,7 @@
 
 ghost use Rattle.resp_frames.specs.Framing.{HasBegun};
 ghost use Rattle.resp_value.specs.Rules.{Rules};
-ghost use Rattle.std.specs.Prelude.{[]};
+ghost use Rattle.std.specs.Prelude.{◌≡◌, ◌↔◌, ℕ, List, [], IsTrue};
 
 use resp_scan::scanner::Scanner;
 
@@ -25,5 +25,16 @@ impl Begun {
         ensures nothing { (rules : Rules) → HasBegun rules result [] }
     {
         Begun { held: None }
+    }
+
+    /// Returns whether no byte of a value has come.
+    pub fn is_empty(&self) -> bool
+        ensures { (rules : Rules) (front : List ℕ) → HasBegun rules self.now front →
+            IsTrue result ↔ (front ≡ []) }
+    {
+        match &self.held {
+            Some(held) => held.bytes.is_empty(),
+            None => true,
+        }
     }
 }

@@ -1,7 +1,8 @@
 //! Whole commands.
 
-ghost use Rattle.std.specs.Prelude.{◌≡◌, ◌++◌, ◌≤◌, [], length, IfErr, IfNone, IfOk, IfSome, IsErrOf};
+ghost use Rattle.std.specs.Prelude.{◌≡◌, ◌++◌, ◌≤◌, [], length, IfErr, IfNone, IfOk, IfSome, IsErrOf, OnErr};
 ghost use Rattle.resp_frames.specs.Commands.{EndsOther, IsFrameOfWords};
+ghost use Rattle.resp_frames.specs.Requests.{EndsNoRequest, IfEmpty, IsRequest, request_used};
 ghost use Rattle.resp_frames.specs.Framing.{HasBegun, IsReady, OnFault, RejectsByte, WhereBegun, frame_limits, frame_rules};
 ghost use Rattle.resp_frames.specs.Texts.{used_of};
 ghost use Rattle.resp_scan.specs.Reading.{HasNoValue};
@@ -9,7 +10,7 @@ ghost use Rattle.resp_scan.specs.Reading.{HasNoValue};
 use crate::begun::Begun;
 use crate::error::FrameError;
 use crate::frames::Frames;
-use crate::words::{CommandFrame, command_of_piece, words_of};
+use crate::words::{CommandFrame, Request, command_of_piece, is_empty_array, words_of};
 
 impl Frames {
     /// Finds the end of the next command of a client, as [`Frames::next`] does. A command is an array
@@ -45,6 +46,8 @@ impl Frames {
         ensures no_command { WhereBegun self.old begun.old (λ front.
             IsErrOf result FrameError.NotACommand →
             EndsOther (frame_rules self.old) (frame_limits self.old) front piece.now) }
+        ensures nothing_begun { WhereBegun self.old begun.old (λ front.
+            OnErr result (HasBegun (frame_rules self.old) begun.new [])) }
         ensures within { IfOk result (λ found. IfSome found (λ command.
             used_of command.frame ≤ length piece.now)) }
         ensures ready { IsReady self.old → IsReady self.new }
@@ -55,29 +58,84 @@ impl Frames {
                 return Ok(Some(found));
             }
         }
-        self.scan_command(begun, piece)
+        match self.scan_request(begun, piece) {
+            Ok(Some(Request::Command(command))) => Ok(Some(command)),
+            Ok(Some(Request::Empty(_))) => Err(FrameError::NotACommand),
+            Ok(None) => Ok(None),
+            Err(error) => Err(error),
+        }
     }
 
-    /// Does what [`Frames::next_command`] does, with the scanner.
-    #[inline(never)]
-    fn scan_command<'a>(
+    /// Finds the end of the next command of a client, as [`Frames::next_command`] does, or of an array of no
+    /// words or null.
+    ///
+    /// # Errors
+    ///
+    /// Those of [`Frames::next`], and `NotACommand` if the value is neither.
+    #[inline(always)]
+    pub fn next_request<'a>(
         &mut self,
         begun: &mut Begun,
         piece: &'a [u8],
-    ) -> Result<Option<CommandFrame<'a>>, FrameError>
+    ) -> Result<Option<Request<'a>>, FrameError>
+        // The bytes that came since the last value are this command, or this empty array.
         ensures whole { WhereBegun self.old begun.old (λ front. IfOk result (λ found.
-            IfSome found (λ frame. IsFrameOfWords (frame_limits self.old) front piece.now frame ×
+            IfSome found (λ request. IsRequest (frame_limits self.old) front piece.now request ×
             HasBegun (frame_rules self.old) begun.new []))) }
+
+        // No value has ended, in any version and under any limits.
+        ensures more { WhereBegun self.old begun.old (λ front. IfOk result (λ found.
+            IfNone found (HasNoValue (front ++ piece.now) ×
+            HasBegun (frame_rules self.old) begun.new (front ++ piece.now)))) }
+
+        // The byte is the first that cannot follow the bytes before it, and the fault has its cause.
+        ensures refused { WhereBegun self.old begun.old (λ front. IfErr result (λ error.
+            OnFault error (RejectsByte (frame_rules self.old) front piece.now))) }
+
+        // A value has ended that is neither a command nor an empty array.
+        ensures no_request { WhereBegun self.old begun.old (λ front.
+            IsErrOf result FrameError.NotACommand →
+            EndsNoRequest (frame_rules self.old) (frame_limits self.old) front piece.now) }
+        ensures nothing_begun { WhereBegun self.old begun.old (λ front.
+            OnErr result (HasBegun (frame_rules self.old) begun.new [])) }
+        ensures within { IfOk result (λ found. IfSome found (λ request.
+            request_used request ≤ length piece.now)) }
+        ensures ready { IsReady self.old → IsReady self.new }
+        ensures same_rules { frame_rules self.new ≡ frame_rules self.old }
+    {
+        if begun.held.is_none() {
+            if let Some(found) = command_of_piece(piece, &self.limits) {
+                return Ok(Some(Request::Command(found)));
+            }
+        }
+        self.scan_request(begun, piece)
+    }
+
+    /// Does what [`Frames::next_request`] does, with the scanner.
+    #[inline(never)]
+    fn scan_request<'a>(
+        &mut self,
+        begun: &mut Begun,
+        piece: &'a [u8],
+    ) -> Result<Option<Request<'a>>, FrameError>
+        ensures whole { WhereBegun self.old begun.old (λ front. IfOk result (λ found.
+            IfSome found (λ request. IsRequest (frame_limits self.old) front piece.now request ×
+            HasBegun (frame_rules self.old) begun.new []))) }
+        ensures empty { WhereBegun self.old begun.old (λ front. IfOk result (λ found.
+            IfSome found (IfEmpty (λ used. EndsOther (frame_rules self.old) (frame_limits self.old)
+            front piece.now)))) }
         ensures more { WhereBegun self.old begun.old (λ front. IfOk result (λ found.
             IfNone found (HasNoValue (front ++ piece.now) ×
             HasBegun (frame_rules self.old) begun.new (front ++ piece.now)))) }
         ensures refused { WhereBegun self.old begun.old (λ front. IfErr result (λ error.
             OnFault error (RejectsByte (frame_rules self.old) front piece.now))) }
-        ensures no_command { WhereBegun self.old begun.old (λ front.
+        ensures no_request { WhereBegun self.old begun.old (λ front.
             IsErrOf result FrameError.NotACommand →
-            EndsOther (frame_rules self.old) (frame_limits self.old) front piece.now) }
-        ensures within { IfOk result (λ found. IfSome found (λ command.
-            used_of command.frame ≤ length piece.now)) }
+            EndsNoRequest (frame_rules self.old) (frame_limits self.old) front piece.now) }
+        ensures nothing_begun { WhereBegun self.old begun.old (λ front.
+            OnErr result (HasBegun (frame_rules self.old) begun.new [])) }
+        ensures within { IfOk result (λ found. IfSome found (λ request.
+            request_used request ≤ length piece.now)) }
         ensures ready { IsReady self.old → IsReady self.new }
         ensures same_rules { frame_rules self.new ≡ frame_rules self.old }
     {
@@ -88,9 +146,12 @@ impl Frames {
         let Some(frame) = found else {
             return Ok(None);
         };
-        match words_of(frame.text(), &self.limits) {
-            Some(words) => Ok(Some(CommandFrame { frame, words })),
-            None => Err(FrameError::NotACommand),
+        if let Some(words) = words_of(frame.text(), &self.limits) {
+            return Ok(Some(Request::Command(CommandFrame { frame, words })));
         }
+        if is_empty_array(frame.text()) {
+            return Ok(Some(Request::Empty(frame.used())));
+        }
+        Err(FrameError::NotACommand)
     }
 }

@@ -37,7 +37,7 @@ pub struct Frames {
 }
 
 impl Frames {
-    ghost use Rattle.resp_frames.specs.Framing.{IsReady, WhereBegun, frame_rules};
+    ghost use Rattle.resp_frames.specs.Framing.{IsReady, WhereBegun, frame_limits, frame_rules};
 
     /// Returns frames for values of this version with these limits.
     ///
@@ -55,6 +55,13 @@ impl Frames {
             limits: *limits,
             scanner,
         })
+    }
+
+    /// Returns the limits on values.
+    pub fn limits(&self) -> Limits
+        ensures { result ≡ frame_limits self.now }
+    {
+        self.limits
     }
 
     /// Finds the end of the value that the connection has begun, or of the value at the beginning of

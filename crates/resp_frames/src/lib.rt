@@ -17,4 +17,4 @@ pub use begun::Begun;
 pub use error::FrameError;
 pub use frame::Frame;
 pub use frames::Frames;
-pub use words::{CommandFrame, CommandWords};
+pub use words::{CommandFrame, CommandWords, Request, command_of_piece};

@@ -1,7 +1,8 @@
 //! The words of a command.
 
-ghost use Rattle.std.specs.Prelude.{[], IfNone, IfSome};
+ghost use Rattle.std.specs.Prelude.{◌≡◌, ◌↔◌, [], IfNone, IfSome, IsTrue};
 ghost use Rattle.resp_frames.specs.Commands.{HasWords, IsCommand, IsFrameOfWords, TellsWords};
+ghost use Rattle.resp_frames.specs.Requests.{IsEmptyArray, request_used};
 
 use crate::frame::Frame;
 use resp_commands::{Class, class_of};
@@ -27,6 +28,28 @@ pub struct CommandFrame<'a> {
     pub words: CommandWords,
 }
 
+/// A value that a client may send.
+#[derive(Debug, Drop)]
+pub enum Request<'a> {
+    /// A command.
+    Command(CommandFrame<'a>),
+    /// An array of no words, `*0\r\n`, or null, `*-1\r\n`. It is no command, and it has no reply. This
+    /// number of bytes of the piece belong to it.
+    Empty(usize),
+}
+
+impl<'a> Request<'a> {
+    /// Returns the number of bytes of the piece that belong to the value.
+    pub fn used(&self) -> usize
+        ensures { result ≡ request_used self.now }
+    {
+        match self {
+            Request::Command(command) => command.frame.used(),
+            Request::Empty(used) => *used,
+        }
+    }
+}
+
 /// Returns the number and the class of these words.
 #[inline(always)]
 fn words_by(name: &[u8], arguments: whole::Words<'_>) -> CommandWords
@@ -40,8 +63,8 @@ fn words_by(name: &[u8], arguments: whole::Words<'_>) -> CommandWords
 
 /// Returns the command at the beginning of the piece, if it lies whole in it.
 #[inline(always)]
-pub(crate) fn command_of_piece<'a>(piece: &'a [u8], limits: &Limits) -> Option<CommandFrame<'a>>
-    ensures { IfSome result (λ found. IsFrameOfWords limits.now [] piece.now found) }
+pub fn command_of_piece<'a>(piece: &'a [u8], limits: &Limits) -> Option<CommandFrame<'a>>
+    ensures command { IfSome result (λ found. IsFrameOfWords limits.now [] piece.now found) }
 {
     let command = whole::command(piece, limits)?;
     let used = piece.len() - command.rest.len();
@@ -49,6 +72,13 @@ pub(crate) fn command_of_piece<'a>(piece: &'a [u8], limits: &Limits) -> Option<C
         frame: Frame::InPiece(&piece[..used]),
         words: words_by(command.name, command.arguments),
     })
+}
+
+/// Returns whether the bytes are an array of no words or null.
+pub(crate) fn is_empty_array(text: &[u8]) -> bool
+    ensures { IsTrue result ↔ IsEmptyArray text.now }
+{
+    text == b"*0\r\n".as_slice() || text == b"*-1\r\n".as_slice()
 }
 
 /// Returns the number and the class of the words of a command, or `None` if the bytes are no command.

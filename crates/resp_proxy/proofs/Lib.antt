@@ -1,3 +1,5 @@
+pub mod Carryings
+pub mod Linings
 pub mod Takings
 pub mod Tellings
 pub mod Holdings

@@ -9,10 +9,10 @@ use Rattle.resp_mux.specs.declared.client_id.ClientId.{ClientId}
 use Rattle.resp_mux.specs.Multiplexing.{HasPassed, IsServed, KeepsClients, Multiplexed, waiting_for}
 use Rattle.resp_mux.specs.Passing.{Asked, Passed, due_to, is_same, with_given}
 use Rattle.resp_mux.specs.Seats.{client_in}
-use Rattle.resp_proxy.specs.Taking.{Taken, with_last_answer, with_one, with_taken}
+use Rattle.resp_proxy.specs.Taking.{Answers, Deed, Passes, Queues, Taken, with_last_answer, with_one, with_taken}
 use Rattle.resp_proxy.specs.declared.client.Client.{Client as Handle}
 use Rattle.resp_proxy.specs.Visiting.{GivesSome, OthersKeep, ReadsClient}
-use Rattle.resp_value.specs.Rules.{Rules}
+use Rattle.resp_proxy.specs.Terms.{Terms}
 
 -- the history has the same for another client
 record SameFor (other : ClientId) (p q : Passed) : Type 0 where
@@ -26,15 +26,16 @@ due-other : (who other : ClientId) (asked : List Asked) (answer : Option (List �
     due_to other (asked ++ (record { client = who; answer = answer }) ∷ []) ≡ due_to other asked
 due-other who other asked answer differs = ap (λ answers. due answers) (answers-other other asked (record { client = who; answer = answer }) differs)
 
-one-other : (who other : ClientId) (text : List ℕ) (own : Option (List ℕ)) (p : Passed) → is_same other who ≡ false → SameFor other p (with_one who text own p)
-one-other who other text None p differs = record { given = refl; due = due-other who other p.asked None differs }
-one-other who other text (Some answer) p differs = record { given = refl; due = due-other who other p.asked (Some answer) differs }
+one-other : (who other : ClientId) (deed : Deed) (p : Passed) → is_same other who ≡ false → SameFor other p (with_one who deed p)
+one-other who other Passes p differs = record { given = refl; due = refl }
+one-other who other (Queues sent) p differs = record { given = refl; due = due-other who other p.asked None differs }
+one-other who other (Answers answer) p differs = record { given = refl; due = due-other who other p.asked (Some answer) differs }
 
 taken-other : (who other : ClientId) (ts : List Taken) (p : Passed) → is_same other who ≡ false → SameFor other p (with_taken who ts p)
 taken-other who other [] p differs = record { given = refl; due = refl }
 taken-other who other (t ∷ ts) p differs =
-    same-for other p (with_one who t.text t.own p) (with_taken who (t ∷ ts) p) (one-other who other t.text t.own p differs)
-    (taken-other who other ts (with_one who t.text t.own p) differs)
+    same-for other p (with_one who t.deed p) (with_taken who (t ∷ ts) p) (one-other who other t.deed p differs)
+    (taken-other who other ts (with_one who t.deed p) differs)
 
 last-other : (who other : ClientId) (last : Option (List ℕ)) (p : Passed) → is_same other who ≡ false → SameFor other p (with_last_answer who last p)
 last-other who other None p differs = record { given = refl; due = refl }
@@ -61,10 +62,10 @@ others-keep who other old new p q same clients before after =
     (clients.are_open other) (before.stands.served other) (after.stands.served other)
 
 -- a visit leaves each other client the bytes that it had
-pub visit-others : (rules : Rules) (who who' : ClientId) (left left' out out' : Option (List ℕ)) (held : List ℕ) (c : Handle) (old between new : Multiplexed)
-    (p : Passed) → who' ≡ who → ReadsClient rules who left left' held c old between → GivesSome out out' who' between new → KeepsClients old new →
+pub visit-others : (terms : Terms) (who who' : ClientId) (left left' out out' : Option (List ℕ)) (held : List ℕ) (c : Handle) (old between new : Multiplexed)
+    (p : Passed) → who' ≡ who → ReadsClient terms who left left' held c old between → GivesSome out out' who' between new → KeepsClients old new →
     HasPassed old p → OthersKeep who old new
-visit-others rules who who' left left' out out' held c old between new p same r g clients passed other differs =
+visit-others terms who who' left left' out out' held c old between new p same r g clients passed other differs =
     let gives : GivesSome out out' who between new = subst (λ w. GivesSome out out' w between new) same g in
     let taken = with_taken who r.takes.taken p in
     let answered = with_last_answer who r.takes.last taken in

@@ -11,6 +11,7 @@ use Rattle.resp_proxy.specs.Clients.{Holds, is_closing}
 use Rattle.resp_proxy.specs.declared.client.Client.{Client}
 use Rattle.resp_proxy.specs.declared.error.ClientError.TheVariants as error
 use Rattle.resp_proxy.specs.declared.error.ServerError.{ServerError}
+use Rattle.resp_proxy.specs.Terms.{Terms}
 use Rattle.resp_proxy.specs.Replying.{TakesReplies}
 use Rattle.resp_proxy.specs.Visiting.{HaveCome, ReadsClient, ReadsServer, SendsSome}
 use Rattle.resp_proxy.proofs.Gives.{appends-none}
@@ -35,9 +36,9 @@ not-read None = tt
 not-read (Some left) = (left, refl, refl)
 
 -- no byte came from the client
-pub nothing-came : (rules : Rules) (who : ClientId) (left left' : Option (List ℕ)) (held : List ℕ) (c : Client) (m : Multiplexed) → HaveCome left left' [] →
-    Holds rules c held → ReadsClient rules who left left' held c m m
-nothing-came rules who left left' held c m come h = record {
+pub nothing-came : (terms : Terms) (who : ClientId) (left left' : Option (List ℕ)) (held : List ℕ) (c : Client) (m : Multiplexed) → HaveCome left left' [] →
+    Holds terms c held → ReadsClient terms who left left' held c m m
+nothing-came terms who left left' held c m come h = record {
   came = [];
   come = come;
   end = Ok tt;
@@ -54,9 +55,9 @@ nothing-came rules who left left' held c m come h = record {
 }
 
 -- the client is closing, and what it holds is lost
-pub ended : (rules : Rules) (who : ClientId) (left left' : Option (List ℕ)) (came held : List ℕ) (c : Client) (m : Multiplexed) → HaveCome left left' came →
-    Holds rules c [] → is_closing c ≡ true → ReadsClient rules who left left' held c m m
-ended rules who left left' came held c m come h closing = record {
+pub ended : (terms : Terms) (who : ClientId) (left left' : Option (List ℕ)) (came held : List ℕ) (c : Client) (m : Multiplexed) → HaveCome left left' came →
+    Holds terms c [] → is_closing c ≡ true → ReadsClient terms who left left' held c m m
+ended terms who left left' came held c m come h closing = record {
   came = came;
   come = come;
   end = Err error.Closing;

@@ -1,9 +1,9 @@
 -- The bytes that came from a client and are not yet a command.
 use Rattle.std.specs.Prelude.{◌≡◌, Bool, List, ℕ, ◌++◌}
-use Rattle.resp_frames.specs.Framing.{HasBegun}
 use Rattle.resp_mux.specs.declared.client_id.ClientId.{ClientId}
 use Rattle.resp_proxy.specs.declared.client.Client.{Client}
-use Rattle.resp_value.specs.Rules.{Rules}
+use Rattle.resp_proxy.specs.Terms.{Terms}
+use Rattle.resp_proxy.specs.Unfinished.{HasUnfinished}
 
 abbrev pub client_id : Client → ClientId
 client_id c = c.id
@@ -17,7 +17,7 @@ abbrev pub waits_for_room : Client → List ℕ
 waits_for_room c = c.rest.items
 
 -- these bytes came from the client, and are not yet a command
-pub record Holds (rules : Rules) (c : Client) (held : List ℕ) : Type 0 where
+pub record Holds (terms : Terms) (c : Client) (held : List ℕ) : Type 0 where
   pub front : List ℕ
-  pub begun : HasBegun rules c.begun front
+  pub begun : HasUnfinished terms c.unfinished front
   pub whole : held ≡ front ++ c.rest.items

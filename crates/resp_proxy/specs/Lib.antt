@@ -7,3 +7,5 @@ pub mod Room
 pub mod Taking
 pub mod Telling
 pub mod Visiting
+pub mod Terms
+pub mod Unfinished

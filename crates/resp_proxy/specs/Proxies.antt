@@ -9,13 +9,15 @@ use Rattle.resp_proxy.specs.declared.client.Client.{Client}
 use Rattle.resp_proxy.specs.declared.settings.Settings.{Settings}
 use Rattle.resp_proxy.specs.Clients.{Holds, client_id}
 use Rattle.resp_proxy.specs.Room.{HasRoom}
+use Rattle.resp_proxy.specs.Terms.{Terms}
 use Rattle.resp_value.specs.Rules.{Rules}
 
 pub record Proxied : Type 0 where
   pub mux : Multiplexed
   pub settings : Settings
-  -- the rules of commands, and those of replies
-  pub rules : Rules
+  -- which bytes of a client are commands, and which commands are sent
+  pub terms : Terms
+  -- the rules of replies
   pub reply_rules : Rules
   -- the reply that the server has begun
   pub begun : Begun
@@ -25,8 +27,8 @@ pub record Proxied : Type 0 where
 abbrev pub mux_of : Proxied → Multiplexed
 mux_of p = p.mux
 
-abbrev pub rules_of : Proxied → Rules
-rules_of p = p.rules
+abbrev pub terms_of : Proxied → Terms
+terms_of p = p.terms
 
 abbrev pub reply_rules_of : Proxied → Rules
 reply_rules_of p = p.reply_rules
@@ -44,7 +46,7 @@ abbrev pub with_replied : List ClientId → Proxied → Proxied
 with_replied clients p = record {
   mux = p.mux;
   settings = p.settings;
-  rules = p.rules;
+  terms = p.terms;
   reply_rules = p.reply_rules;
   begun = p.begun;
   replied = clients;
@@ -71,7 +73,7 @@ WhereBegunBy p P = (front : List ℕ) → HasBegunBy p front → P front
 
 -- this is true of the bytes that came from a client and are not yet a command
 abbrev pub WhereHeld : Proxied → Client → (List ℕ → Type 0) → Type 0
-WhereHeld p c P = (held : List ℕ) → Holds p.rules c held → P held
+WhereHeld p c P = (held : List ℕ) → Holds p.terms c held → P held
 
 -- the reply to each command that was begun to be sent when the connection to the server is lost
 abbrev pub lost_text : List ℕ

@@ -1,94 +1,163 @@
 -- The commands that are taken from the bytes of a client.
-use Rattle.std.specs.Prelude.{◌≡◌, ℕ, ◌≤◌, List, [], ◌∷◌, ◌++◌, length, map, take, Ok, Option, None, Some, IfNone, MatchOption, OnOk, OnErr, Result, true}
+use Rattle.std.specs.Prelude.{◌≡◌, ◌⊎◌, ℕ, ◌≤◌, List, [], ◌∷◌, ◌++◌, length, map, take, Ok, Option, None, Some, MatchOption, OnOk, OnErr, Result, true}
 use Rattle.std.specs.List.{AllByRecursion, concat}
-use Rattle.resp_commands.specs.Classes.{HasClass}
-use Rattle.resp_commands.specs.declared.command.Class.{Class}
-use Rattle.resp_commands.specs.declared.command.Class.TheVariants as class
 use Rattle.resp_frames.specs.declared.begun.Begun.{Begun}
-use Rattle.resp_frames.specs.declared.frames.Frames.{Frames}
-use Rattle.resp_frames.specs.Framing.{HasBegun, IsReady, WhereBegun, frame_rules}
+use Rattle.resp_frames.specs.Framing.{HasBegun, IsReady}
 use Rattle.resp_mux.specs.declared.client_id.ClientId.{ClientId}
 use Rattle.resp_mux.specs.Multiplexing.{HasPassed, KeepsClients, KeepsPassed, Multiplexed, WherePassed}
 use Rattle.resp_mux.specs.Passing.{Passed, with_command, with_own}
 use Rattle.resp_proxy.specs.Clients.{Holds, is_closing}
+use Rattle.resp_proxy.specs.Terms.{BeginsLine, IsAdmitted, IsNoRequest, IsRequestOf, IsWithinLine, MayBeSent, Terms}
+use Rattle.resp_proxy.specs.Unfinished.{HasUnfinished, WhereUnfinished, terms_of}
 use Rattle.resp_proxy.specs.declared.client.Client.{Client}
 use Rattle.resp_proxy.specs.declared.error.ClientError.{ClientError}
-use Rattle.resp_value.specs.Bounds.{Bounds}
-use Rattle.resp_value.specs.Rules.{Rules, rules_under}
+use Rattle.resp_proxy.specs.declared.intake.Intake.{Intake}
+use Rattle.resp_proxy.specs.declared.unfinished.Unfinished.{Unfinished}
+use Rattle.resp_scan.specs.Whole.{BeginsWith}
+use Rattle.resp_value.specs.Canonical.{canonical_text}
+use Rattle.resp_value.specs.Rules.{rules_under}
 use Rattle.resp_value.specs.Spellings.{IsSpelling}
 use Rattle.resp_value.specs.Words.{command_of}
 use Rattle.resp_value.specs.declared.version.Version.TheVariants.{Two}
 
--- a command of a client: its bytes, and the answer of the proxy itself, or None if the command was queued for the server
+-- what the proxy did with a part of a client's bytes
+pub data Deed : Type 0 where
+  -- it did nothing
+  Passes : Deed
+  -- it queued these bytes for the server
+  Queues : List ℕ → Deed
+  -- it gave this answer itself
+  Answers : List ℕ → Deed
+
+-- a part of a client's bytes, and what the proxy did with it
 pub record Taken : Type 0 where
   pub text : List ℕ
-  pub own : Option (List ℕ)
+  pub deed : Deed
 
--- the bytes of commands
+-- the bytes of these parts
 abbrev pub texts_taken : List Taken → List (List ℕ)
 texts_taken taken = map (λ (t : Taken). t.text) taken
 
--- The text is a command. The command was queued only if the table says that clients may share a connection for it.
-pub record IsTaken (limits : Bounds) (t : Taken) : Type 0 where
+-- the text is a command that may be sent, and these bytes were queued for it
+pub record IsQueued (terms : Terms) (text sent : List ℕ) : Type 0 where
   pub name : List ℕ
   pub arguments : List (List ℕ)
-  pub spelled : IsSpelling (rules_under Two limits) (command_of (name ∷ arguments)) t.text
-  pub shared : IfNone t.own (HasClass name arguments class.Shared)
+  pub request : IsRequestOf terms text sent (name ∷ arguments)
+  pub allowed : MayBeSent terms name arguments
 
--- a command of this client was queued, or has this answer
-abbrev pub with_one : ClientId → List ℕ → Option (List ℕ) → Passed → Passed
-with_one who text None p = with_command who text p
-with_one who text (Some answer) p = with_own who answer p
+-- the text is a command
+pub record IsAnswered (terms : Terms) (text : List ℕ) : Type 0 where
+  pub sent : List ℕ
+  pub name : List ℕ
+  pub arguments : List (List ℕ)
+  pub request : IsRequestOf terms text sent (name ∷ arguments)
 
--- these commands of this client were queued or answered, in order
+-- The text has no words, and nothing was done; or it is a command that may be sent, and it was queued; or it is a command, and
+-- it was answered.
+abbrev pub Fits : Terms → List ℕ → Deed → Type 0
+Fits terms text Passes = IsNoRequest terms text
+Fits terms text (Queues sent) = IsQueued terms text sent
+Fits terms text (Answers answer) = IsAnswered terms text
+
+abbrev pub IsTaken : Terms → Taken → Type 0
+IsTaken terms t = Fits terms t.text t.deed
+
+-- this was done for this client
+abbrev pub with_one : ClientId → Deed → Passed → Passed
+with_one who Passes p = p
+with_one who (Queues sent) p = with_command who sent p
+with_one who (Answers answer) p = with_own who answer p
+
+-- this was done for this client, in order
 abbrev pub with_taken : ClientId → List Taken → Passed → Passed
 with_taken who [] p = p
-with_taken who (t ∷ taken) p = with_taken who taken (with_one who t.text t.own p)
+with_taken who (t ∷ taken) p = with_taken who taken (with_one who t.deed p)
 
--- Bytes of a client are these whole commands and then other bytes, and the multiplexer has the commands.
-pub record Takes (limits : Bounds) (who : ClientId) (bytes after : List ℕ) (old new : Multiplexed) : Type 0 where
+-- Bytes of a client are these parts and then other bytes, and the multiplexer has the commands.
+pub record Takes (terms : Terms) (who : ClientId) (bytes after : List ℕ) (old new : Multiplexed) : Type 0 where
   pub taken : List Taken
   pub whole : bytes ≡ concat (texts_taken taken) ++ after
-  pub commands : AllByRecursion (IsTaken limits) taken
+  pub commands : AllByRecursion (IsTaken terms) taken
   pub passed : WherePassed old (λ p. HasPassed new (with_taken who taken p))
 
--- a command was queued, which needs the class of those that share a connection, or answered
-pub record CarriesOut (who : ClientId) (text : List ℕ) (found : Option Class) (old new : Multiplexed) : Type 0 where
-  pub own : Option (List ℕ)
-  pub shared : IfNone own (found ≡ Some class.Shared)
-  pub passed : WherePassed old (λ p. HasPassed new (with_one who text own p))
+-- the text begins with a command whose name is admitted
+pub record AdmitsText (terms : Terms) (text : List ℕ) : Type 0 where
+  pub name : List ℕ
+  pub arguments : List (List ℕ)
+  pub rest : List ℕ
+  pub begins : BeginsWith terms.rules.limits text (command_of (name ∷ arguments)) rest
+  pub admitted : IsAdmitted terms name
 
--- a command was taken, and nothing is begun
-pub record TakesCommand (rules : Rules) (who : ClientId) (text : List ℕ) (b : Begun) (old new : Multiplexed) : Type 0 where
-  pub own : Option (List ℕ)
-  pub command : IsTaken rules.limits (record { text = text; own = own })
-  pub begun : HasBegun rules b []
-  pub passed : WherePassed old (λ p. HasPassed new (with_one who text own p))
+-- a command of these words and this text was queued, if it may be sent, or answered
+abbrev pub Does : Terms → List ℕ → List (List ℕ) → List ℕ → Deed → Type 0
+Does terms name arguments text Passes = ⊥
+Does terms name arguments text (Queues sent) = (sent ≡ text) × MayBeSent terms name arguments
+Does terms name arguments text (Answers answer) = Unit {0}
 
--- no command has ended
-pub record TakesNone (rules : Rules) (front : List ℕ) (b : Begun) (old new : Multiplexed) : Type 0 where
-  pub begun : HasBegun rules b front
-  pub passed : KeepsPassed old new
+-- the text is a command, which was queued, if it may be sent, or answered
+pub record Carries (terms : Terms) (who : ClientId) (text : List ℕ) (old new : Multiplexed) : Type 0 where
+  pub name : List ℕ
+  pub arguments : List (List ℕ)
+  pub spelled : IsSpelling (rules_under Two terms.rules.limits) (command_of (name ∷ arguments)) text
+  pub deed : Deed
+  pub does : Does terms name arguments text deed
+  pub passed : WherePassed old (λ p. HasPassed new (with_one who deed p))
 
--- a command was taken that ends in the piece, or no command ends in it
-abbrev pub TakesOne : Rules → ClientId → List ℕ → List ℕ → Begun → Option ℕ → Multiplexed → Multiplexed → Type 0
-TakesOne rules who front piece begun found old new =
-    MatchOption found (TakesNone rules (front ++ piece) begun old new)
-    (λ used. TakesCommand rules who (front ++ take used piece) begun old new)
+-- the canonical text of a command of these words was queued, if it may be sent, or answered
+pub record CarriesWords (terms : Terms) (who : ClientId) (words : List (List ℕ)) (old new : Multiplexed) : Type 0 where
+  pub carries : Carries terms who (canonical_text Two (command_of words)) old new
+  pub same : carries.name ∷ carries.arguments ≡ words
+
+-- this was done with a part of the bytes
+pub record TakesPart (terms : Terms) (who : ClientId) (text : List ℕ) (old new : Multiplexed) : Type 0 where
+  pub deed : Deed
+  pub fits : Fits terms text deed
+  pub passed : WherePassed old (λ p. HasPassed new (with_one who deed p))
+
+-- a part was taken that is an array and ends in the piece, or no array ends in it
+abbrev pub TakesArray : Terms → ClientId → List ℕ → List ℕ → Begun → Option ℕ → Multiplexed → Multiplexed → Type 0
+TakesArray terms who front piece begun found old new =
+    MatchOption found (HasBegun terms.rules begun (front ++ piece) × KeepsPassed old new)
+    (λ used. HasBegun terms.rules begun [] × TakesPart terms who (front ++ take used piece) old new)
+
+-- the text is the whole line of these bytes
+pub record EndsLine (terms : Terms) (content text : List ℕ) : Type 0 where
+  pub lines : terms.lines ≡ true
+  pub within : IsWithinLine content
+  pub whole : text ≡ content ++ 10 ∷ []
+  pub begins : BeginsLine text
+
+-- a line goes on in the piece, or begins with it
+pub record GoesOn (terms : Terms) (front piece : List ℕ) : Type 0 where
+  pub lines : terms.lines ≡ true
+  pub within : IsWithinLine front
+  pub begins : BeginsLine (front ++ piece)
+
+-- a part was taken that is a line and ends in the piece, or no line ends in it
+abbrev pub TakesLine : Terms → ClientId → List ℕ → List ℕ → List ℕ → Option ℕ → Multiplexed → Multiplexed → Type 0
+TakesLine terms who front piece line found old new =
+    MatchOption found ((line ≡ front ++ piece) × IsWithinLine line × KeepsPassed old new)
+    (λ used. (line ≡ []) × TakesPart terms who (front ++ take used piece) old new)
+
+-- a part was taken that ends in the piece, or none ends in it
+abbrev pub TakesOne : Terms → ClientId → List ℕ → List ℕ → Unfinished → Option ℕ → Multiplexed → Multiplexed → Type 0
+TakesOne terms who front piece u found old new =
+    MatchOption found (HasUnfinished terms u (front ++ piece) × KeepsPassed old new)
+    (λ used. HasUnfinished terms u [] × TakesPart terms who (front ++ take used piece) old new)
 
 -- whole commands were taken from the bytes, and the others are begun, or lost after an error
-pub record TakesSome (rules : Rules) (who : ClientId) (bytes : List ℕ) (b : Begun) (end : Result (Unit {0}) ClientError)
+pub record TakesSome (terms : Terms) (who : ClientId) (bytes : List ℕ) (u : Unfinished) (end : Result (Unit {0}) ClientError)
     (old new : Multiplexed) : Type 0 where
   pub after : List ℕ
-  pub takes : Takes rules.limits who bytes after old new
-  pub begun : OnOk end (HasBegun rules b after)
+  pub takes : Takes terms who bytes after old new
+  pub begun : OnOk end (HasUnfinished terms u after)
 
 -- whole commands were taken from the bytes, and the client holds the others, or they are lost after an error
-pub record TakesHeld (rules : Rules) (who : ClientId) (bytes : List ℕ) (c : Client) (end : Result (Unit {0}) ClientError)
+pub record TakesHeld (terms : Terms) (who : ClientId) (bytes : List ℕ) (c : Client) (end : Result (Unit {0}) ClientError)
     (old new : Multiplexed) : Type 0 where
   pub after : List ℕ
-  pub takes : Takes rules.limits who bytes after old new
-  pub holds : OnOk end (Holds rules c after)
+  pub takes : Takes terms who bytes after old new
+  pub holds : OnOk end (Holds terms c after)
 
 -- the client has one more answer, or not
 abbrev pub with_last_answer : ClientId → Option (List ℕ) → Passed → Passed
@@ -100,24 +169,24 @@ pub record SaysLast (who : ClientId) (old new : Multiplexed) : Type 0 where
   pub answer : Option (List ℕ)
   pub passed : WherePassed old (λ p. HasPassed new (with_last_answer who answer p))
 
--- Bytes of a client are these whole commands, which were queued or answered, and other bytes. The client holds the other
+-- Bytes of a client are these parts, whose commands were queued or answered, and other bytes. The client holds the other
 -- bytes. After an error they are lost, the client is closing, and it may have one more answer.
-pub record TakesIn (rules : Rules) (who : ClientId) (bytes : List ℕ) (c : Client) (end : Result (Unit {0}) ClientError)
+pub record TakesIn (terms : Terms) (who : ClientId) (bytes : List ℕ) (c : Client) (end : Result (Unit {0}) ClientError)
     (old new : Multiplexed) : Type 0 where
   pub taken : List Taken
   pub after : List ℕ
   pub last : Option (List ℕ)
   pub whole : bytes ≡ concat (texts_taken taken) ++ after
-  pub commands : AllByRecursion (IsTaken rules.limits) taken
+  pub commands : AllByRecursion (IsTaken terms) taken
   pub passed : WherePassed old (λ p. HasPassed new (with_last_answer who last (with_taken who taken p)))
-  pub holds : OnOk end ((last ≡ None) × Holds rules c after)
-  pub shut : OnErr end (Holds rules c [] × (is_closing c ≡ true))
+  pub holds : OnOk end ((last ≡ None) × Holds terms c after)
+  pub shut : OnErr end (Holds terms c [] × (is_closing c ≡ true))
 
 -- these bytes of a piece were taken
-pub record HasTaken (frames : Frames) (b : Begun) (old : Multiplexed) (who : ClientId) (piece : List ℕ) (used : ℕ) (frames' : Frames) (b' : Begun)
-    (new : Multiplexed) : Type 0 where
+pub record HasTaken (intake : Intake) (u : Unfinished) (old : Multiplexed) (who : ClientId) (piece : List ℕ) (used : ℕ) (intake' : Intake)
+    (u' : Unfinished) (new : Multiplexed) : Type 0 where
   pub within : used ≤ length piece
-  pub ready : IsReady frames → IsReady frames'
-  pub same_rules : frame_rules frames' ≡ frame_rules frames
+  pub ready : IsReady intake.frames → IsReady intake'.frames
+  pub same_terms : terms_of intake' ≡ terms_of intake
   pub clients : KeepsClients old new
-  pub taken : WhereBegun frames b (λ front. TakesSome (frame_rules frames) who (front ++ take used piece) b' (Ok tt) old new)
+  pub taken : WhereUnfinished intake u (λ front. TakesSome (terms_of intake) who (front ++ take used piece) u' (Ok tt) old new)

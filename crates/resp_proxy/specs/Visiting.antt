@@ -10,6 +10,7 @@ use Rattle.resp_proxy.specs.declared.error.ClientError.{ClientError}
 use Rattle.resp_proxy.specs.declared.error.ServerError.{ServerError}
 use Rattle.resp_proxy.specs.Replying.{TakesReplies}
 use Rattle.resp_proxy.specs.Taking.{TakesIn}
+use Rattle.resp_proxy.specs.Terms.{Terms}
 use Rattle.resp_value.specs.Devices.{Appends}
 use Rattle.resp_value.specs.Rules.{Rules}
 
@@ -57,18 +58,18 @@ pub record SendsSome (out out' : Option (List ℕ)) (old new : Multiplexed) : Ty
   pub passed : WherePassed old (λ p. HasPassed new (with_sent gone p))
 
 -- Bytes were read, and they came from this client.
-pub record ReadsClient (rules : Rules) (who : ClientId) (left left' : Option (List ℕ)) (held : List ℕ) (c : Client)
+pub record ReadsClient (terms : Terms) (who : ClientId) (left left' : Option (List ℕ)) (held : List ℕ) (c : Client)
     (old new : Multiplexed) : Type 0 where
   pub came : List ℕ
   pub come : HaveCome left left' came
   pub end : Result (Unit {0}) ClientError
-  pub takes : TakesIn rules who (held ++ came) c end old new
+  pub takes : TakesIn terms who (held ++ came) c end old new
 
 -- Bytes were read, and they came from this client. Then bytes were written that this client was owed.
-pub record VisitsClient (rules : Rules) (who : ClientId) (left left' out out' : Option (List ℕ)) (held : List ℕ) (c : Client)
+pub record VisitsClient (terms : Terms) (who : ClientId) (left left' out out' : Option (List ℕ)) (held : List ℕ) (c : Client)
     (old new : Multiplexed) : Type 0 where
   pub between : Multiplexed
-  pub reads : ReadsClient rules who left left' held c old between
+  pub reads : ReadsClient terms who left left' held c old between
   pub gives : GivesSome out out' who between new
 
 -- Bytes were read, and they came from the server.

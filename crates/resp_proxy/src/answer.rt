@@ -1,7 +1,8 @@
 //! The replies of the proxy itself.
 
+use crate::error::ClientError;
 use resp_commands::{Class, entry};
-use resp_frames::{CommandFrame, FrameError};
+use resp_frames::CommandFrame;
 use resp_mux::ClientId;
 use resp_scan::whole;
 use resp_value::limits::Limits;
@@ -20,17 +21,28 @@ struct Asked<'a> {
     second: &'a [u8],
 }
 
-/// Returns the reply of the proxy to a command that is not sent to the server, or `None` if the
-/// command is QUIT. `label` is the name that the client has given itself.
+/// What the proxy does with a command that is not sent to the server.
+#[derive(Drop)]
+pub(crate) enum Answer {
+    /// It sends this reply.
+    Reply(Vec<u8>),
+    /// It closes the client, since the command is QUIT.
+    Quit,
+    /// It closes the client, since the command is a line of a request of HTTP.
+    Http,
+}
+
+/// Returns what the proxy does with a command that is not sent to the server. `label` is the name that
+/// the client has given itself.
 pub(crate) fn own_answer(
     alloc: Global,
     limits: &Limits,
     who: ClientId,
     label: &mut Vec<u8>,
     command: &CommandFrame,
-) -> Result<Option<Vec<u8>>, AllocError> {
+) -> Result<Answer, AllocError> {
     let Some(words) = whole::command(command.frame.text(), limits) else {
-        return some(b"-ERR no command\r\n".to_vec(alloc));
+        return reply(b"-ERR no command\r\n".to_vec(alloc));
     };
     let mut arguments = words.arguments;
     let asked = Asked {
@@ -40,14 +52,17 @@ pub(crate) fn own_answer(
         second: arguments.next().unwrap_or(b""),
     };
     if is(asked.name, b"QUIT") {
-        return Ok(None);
+        return Ok(Answer::Quit);
     }
-    some(answer_to(alloc, who, label, asked, command.words.class))
+    if is(asked.name, b"POST") || is(asked.name, b"HOST:") {
+        return Ok(Answer::Http);
+    }
+    reply(answer_to(alloc, who, label, asked, command.words.class))
 }
 
-fn some(text: Result<Vec<u8>, AllocError>) -> Result<Option<Vec<u8>>, AllocError> {
+fn reply(text: Result<Vec<u8>, AllocError>) -> Result<Answer, AllocError> {
     match text {
-        Ok(text) => Ok(Some(text)),
+        Ok(text) => Ok(Answer::Reply(text)),
         Err(error) => Err(error),
     }
 }
@@ -195,7 +210,7 @@ fn refusal(alloc: Global, asked: Asked<'_>, class: Option<Class>) -> Result<Vec<
     Ok(text.into_bytes())
 }
 
-/// Returns the error for a client that sent a byte that no command has, or a value that is no command.
-pub(crate) fn protocol_error(alloc: Global, error: FrameError) -> Result<Vec<u8>, AllocError> {
+/// Returns the error for a client that sent bytes that are no command.
+pub(crate) fn protocol_error(alloc: Global, error: ClientError) -> Result<Vec<u8>, AllocError> {
     Ok(format!(in alloc; "-ERR Protocol error: {error}\r\n")?.into_bytes())
 }

@@ -2,10 +2,10 @@
 
 ghost use Rattle.std.specs.Prelude.{◌≡◌, false, []};
 ghost use Rattle.resp_proxy.specs.Clients.{Holds, client_id, is_closing};
-ghost use Rattle.resp_value.specs.Rules.{Rules};
+ghost use Rattle.resp_proxy.specs.Terms.{Terms};
 
+use crate::unfinished::Unfinished;
 use bytes::BytesMut;
-use resp_frames::Begun;
 use resp_mux::ClientId;
 use std::alloc::Global;
 
@@ -16,7 +16,7 @@ use std::alloc::Global;
 pub struct Client {
     pub(crate) id: ClientId,
     /// The command that the client has begun.
-    pub(crate) begun: Begun,
+    pub(crate) unfinished: Unfinished,
     /// The bytes after it. They wait until there is room for more commands.
     pub(crate) rest: BytesMut,
     pub(crate) is_closing: bool,
@@ -28,12 +28,12 @@ impl Client {
     /// Returns a client that has sent nothing.
     pub(crate) fn new(alloc: Global, id: ClientId) -> Client
         ensures id { client_id result ≡ id }
-        ensures nothing { (rules : Rules) → Holds rules result [] }
+        ensures nothing { (terms : Terms) → Holds terms result [] }
         ensures open { is_closing result ≡ false }
     {
         Client {
             id,
-            begun: Begun::new(),
+            unfinished: Unfinished::new(alloc),
             rest: BytesMut::new(alloc),
             is_closing: false,
             label: Vec::new(alloc),

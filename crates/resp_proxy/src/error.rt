@@ -10,6 +10,18 @@ pub enum ClientError {
     /// A byte was rejected, or a value is no command.
     #[error(transparent)]
     Protocol(FrameError),
+    /// A line has a quote that is not closed, or a byte other than a space after a closing quote.
+    #[error("unbalanced quotes in request")]
+    Quotes,
+    /// A line has more than 65,536 bytes before its LF.
+    #[error("too big inline request")]
+    LongLine,
+    /// The words of a line exceed a limit on commands.
+    #[error("the command of the line exceeds a limit")]
+    OverLimits,
+    /// The client sent POST or `Host:`, with which requests of HTTP begin.
+    #[error("the client speaks HTTP")]
+    Http,
     /// The client sent QUIT.
     #[error("the client sent QUIT")]
     Quit,

@@ -5,16 +5,20 @@
 #![tactic(auto)]
 
 mod answer;
+mod carrying;
 mod client;
 mod commands;
 mod error;
 mod giving;
+mod intake;
+mod lines;
 mod local;
 mod proxy;
 mod replies;
 mod settings;
 mod taking;
 mod told;
+mod unfinished;
 mod visit;
 
 pub use client::Client;

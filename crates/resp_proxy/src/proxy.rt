@@ -13,11 +13,12 @@ ghost use Rattle.resp_proxy.specs.Telling.{Tells};
 ghost use Rattle.resp_proxy.specs.Visiting.{GivesSome, HasNothingFor, IsDone, SendsSome};
 ghost use Rattle.resp_value.specs.Devices.{count_after};
 ghost use Rattle.resp_value.specs.Rules.{Rules};
-ghost use Rattle.resp_proxy.specs.Proxies.{HasBegunBy, HasNoClient, HasRoomFor, WhereBegunBy, WhereHeld, lost_text, mux_of, replied_to, reply_rules_of, rules_of, server_begun, settings_of, with_replied};
+ghost use Rattle.resp_proxy.specs.Proxies.{HasBegunBy, HasNoClient, HasRoomFor, WhereBegunBy, WhereHeld, lost_text, mux_of, replied_to, reply_rules_of, terms_of, server_begun, settings_of, with_replied};
 
 use crate::client::Client;
 use crate::error::{ClientError, ServerError};
 use crate::giving::{Written, give, has_no_bytes, has_no_command, send};
+use crate::intake::Intake;
 use crate::replies::take_replies;
 use crate::settings::Settings;
 use crate::taking::{shut, take_in};
@@ -39,8 +40,8 @@ pub struct Proxy {
     alloc: Global,
     settings: Settings,
     mux: Mux,
-    /// Finds the commands of all clients.
-    commands: Frames,
+    /// The commands of all clients.
+    intake: Intake,
     /// Finds the replies of the server.
     replies: Frames,
     /// The reply that the server has begun.
@@ -52,19 +53,20 @@ pub struct Proxy {
 impl Model for Proxy {
     ghost use Rattle.resp_frames.specs.Framing.{frame_rules};
     ghost use Rattle.resp_proxy.specs.Proxies.{IsSound, Proxied};
+    ghost use Rattle.resp_proxy.specs.Unfinished.{terms_of as intake_terms};
 
     ghost Value = { Proxied };
 
     ghost view = { λ p. record {
       mux = p.mux;
       settings = p.settings;
-      rules = frame_rules p.commands;
+      terms = intake_terms p.intake;
       reply_rules = frame_rules p.replies;
       begun = p.begun;
       replied = p.replied.items;
     } };
 
-    ghost invariant = { λ p. IsSound p.commands p.replies };
+    ghost invariant = { λ p. IsSound p.intake.frames p.replies };
 }
 
 impl Proxy {
@@ -80,7 +82,7 @@ impl Proxy {
         ensures nobody { IfOk result (λ proxy. replied_to proxy ≡ []) }
         ensures settings { IfOk result (λ proxy. settings_of proxy ≡ settings) }
     {
-        let commands = Frames::new(alloc, Version::Two, &settings.limits)?;
+        let intake = Intake::new(alloc, &settings)?;
         let replies = Frames::new(alloc, Version::Two, &settings.limits)?;
         let bounds = Bounds {
             waiting: settings.waiting,
@@ -90,7 +92,7 @@ impl Proxy {
             alloc,
             settings,
             mux: Mux::new(alloc, bounds),
-            commands,
+            intake,
             replies,
             begun: Begun::new(),
             replied: VecDeque::new(alloc),
@@ -106,12 +108,12 @@ impl Proxy {
     pub fn open(&mut self) -> Result<Client, OpenError>
         ensures opened { IfOk result (λ client.
             HasOpened (mux_of self.old) (mux_of self.new) (client_id client)) }
-        ensures nothing { IfOk result (λ client. Holds (rules_of self.new) client []) }
+        ensures nothing { IfOk result (λ client. Holds (terms_of self.new) client []) }
         ensures is_open { IfOk result (λ client. is_closing client ≡ false) }
         ensures passed { KeepsPassed (mux_of self.old) (mux_of self.new) }
         ensures too_many { IsErrOf result OpenError.TooMany ↔ HasNoNumberLeft (mux_of self.old) }
         ensures unchanged { OnErr result (KeepsClients (mux_of self.old) (mux_of self.new)) }
-        ensures same_rules { rules_of self.new ≡ rules_of self.old }
+        ensures same_terms { terms_of self.new ≡ terms_of self.old }
         ensures same_replied { replied_to self.new ≡ replied_to self.old }
     {
         match self.mux.open() {
@@ -125,7 +127,7 @@ impl Proxy {
     pub fn close(&mut self, client: Client)
         ensures closed { HasClosed (mux_of self.old) (mux_of self.new) (client_id client) }
         ensures passed { KeepsPassed (mux_of self.old) (mux_of self.new) }
-        ensures same_rules { rules_of self.new ≡ rules_of self.old }
+        ensures same_terms { terms_of self.new ≡ terms_of self.old }
         ensures same_replied { replied_to self.new ≡ replied_to self.old }
     {
         self.mux.close(client.id);
@@ -149,20 +151,20 @@ impl Proxy {
     /// command are lost.
     pub fn from_client(&mut self, client: &mut Client, piece: &[u8]) -> Result<(), ClientError>
         ensures taken { WhereHeld self.old client.old (λ held.
-            TakesIn (rules_of self.old) (client_id client.old) (held ++ piece.now) client.new
+            TakesIn (terms_of self.old) (client_id client.old) (held ++ piece.now) client.new
             result (mux_of self.old) (mux_of self.new)) }
         // If there is room for more, no bytes wait for room.
         ensures all { OnOk result (HasRoomFor self.new client.new →
             waits_for_room client.new ≡ []) }
         ensures same_client { client_id client.new ≡ client_id client.old }
         ensures same_clients { KeepsClients (mux_of self.old) (mux_of self.new) }
-        ensures same_rules { rules_of self.new ≡ rules_of self.old }
+        ensures same_terms { terms_of self.new ≡ terms_of self.old }
         ensures same_replied { replied_to self.new ≡ replied_to self.old }
     {
         take_in(
             self.alloc,
             &self.settings,
-            &mut self.commands,
+            &mut self.intake,
             &mut self.mux,
             client,
             piece,
@@ -202,7 +204,7 @@ impl Proxy {
 
     /// Takes nothing more from a client. The bytes that it holds are lost.
     pub fn shut(&mut self, client: &mut Client)
-        ensures nothing { Holds (rules_of self.new) client.new [] }
+        ensures nothing { Holds (terms_of self.new) client.new [] }
         ensures closing { is_closing client.new ≡ true }
         ensures same_client { client_id client.new ≡ client_id client.old }
         ensures same_state { self.new ≡ self.old }
@@ -224,7 +226,7 @@ impl Proxy {
         ensures told { Tells (replied_to self.old) (replied_to self.new) (mux_of self.old)
             (mux_of self.new) }
         ensures same_clients { KeepsClients (mux_of self.old) (mux_of self.new) }
-        ensures same_rules { rules_of self.new ≡ rules_of self.old }
+        ensures same_terms { terms_of self.new ≡ terms_of self.old }
         ensures same_reply_rules { reply_rules_of self.new ≡ reply_rules_of self.old }
         ensures forgotten { OnErr result (HasBegunBy self.new []) }
     {
@@ -262,7 +264,7 @@ impl Proxy {
             (mux_of self.new) }
         ensures begun { HasBegunBy self.new [] }
         ensures same_clients { KeepsClients (mux_of self.old) (mux_of self.new) }
-        ensures same_rules { rules_of self.new ≡ rules_of self.old }
+        ensures same_terms { terms_of self.new ≡ terms_of self.old }
     {
         self.lose_by(LOST)
     }
@@ -278,7 +280,7 @@ impl Proxy {
             (mux_of self.new) }
         ensures begun { HasBegunBy self.new [] }
         ensures same_clients { KeepsClients (mux_of self.old) (mux_of self.new) }
-        ensures same_rules { rules_of self.new ≡ rules_of self.old }
+        ensures same_terms { terms_of self.new ≡ terms_of self.old }
     {
         forget(&mut self.begun);
         note_begun(&mut self.replied, &self.mux)?;
@@ -302,7 +304,7 @@ impl Proxy {
             (mux_of self.new) }
         ensures begun { HasBegunBy self.new [] }
         ensures same_clients { KeepsClients (mux_of self.old) (mux_of self.new) }
-        ensures same_rules { rules_of self.new ≡ rules_of self.old }
+        ensures same_terms { terms_of self.new ≡ terms_of self.old }
     {
         let all = self.mux.to_server().len();
         self.mux.sent(all);
@@ -328,7 +330,7 @@ impl Proxy {
         ensures once { HasNothingFor (mux_of self.old) (client_id client.now) ⊎
             (W.calls writer.new ≡ count_after 1 (W.calls writer.old)) }
         ensures same_clients { KeepsClients (mux_of self.old) (mux_of self.new) }
-        ensures same_rules { rules_of self.new ≡ rules_of self.old }
+        ensures same_terms { terms_of self.new ≡ terms_of self.old }
         ensures same_replied { replied_to self.new ≡ replied_to self.old }
     {
         give(&mut self.mux, client.id, writer)
@@ -343,7 +345,7 @@ impl Proxy {
         ensures once { (unsent (mux_of self.old) ≡ []) ⊎
             (W.calls writer.new ≡ count_after 1 (W.calls writer.old)) }
         ensures same_clients { KeepsClients (mux_of self.old) (mux_of self.new) }
-        ensures same_rules { rules_of self.new ≡ rules_of self.old }
+        ensures same_terms { terms_of self.new ≡ terms_of self.old }
         ensures same_replied { replied_to self.new ≡ replied_to self.old }
         ensures same_begun { server_begun self.new ≡ server_begun self.old }
     {

@@ -17,13 +17,16 @@ pub struct Settings {
     pub held: usize,
     /// No command is taken while more than this number of bytes wait for the server.
     pub unsent: usize,
+    /// Whether a line of words is a command too, as `PING` and LF.
+    pub lines: bool,
     /// Whether the proxy itself replies to PING.
     pub local_ping: bool,
 }
 
 impl Settings {
     /// Returns the default settings: the standard limits, 1,024 commands of a client, 1 MiB of
-    /// replies for a client, and 1 MiB of commands for the server. PING is sent to the server.
+    /// replies for a client, and 1 MiB of commands for the server. Lines are commands, and PING is sent
+    /// to the server.
     pub fn standard() -> Settings
         ensures waiting { result.waiting ≡ 1024 }
         ensures held { result.held ≡ 1048576 }
@@ -34,6 +37,7 @@ impl Settings {
             waiting: 1_024,
             held: 1_048_576,
             unsent: 1_048_576,
+            lines: true,
             local_ping: false,
         }
     }

@@ -1,20 +1,23 @@
 //! Takes the bytes of a client.
 
 ghost use Rattle.std.specs.Prelude.{◌≡◌, ◌++◌, ◌≤◌, List, ℕ, [], drop, length, true, OnOk};
-ghost use Rattle.resp_frames.specs.Framing.{IsReady, frame_rules};
+ghost use Rattle.resp_frames.specs.Framing.{IsReady};
 ghost use Rattle.resp_mux.specs.Multiplexing.{KeepsClients};
 ghost use Rattle.resp_proxy.specs.Clients.{Holds, client_id, is_closing, waits_for_room};
 ghost use Rattle.resp_proxy.specs.Room.{HasRoom};
 ghost use Rattle.resp_proxy.specs.Taking.{SaysLast, TakesHeld, TakesIn};
-ghost use Rattle.resp_value.specs.Rules.{Rules};
+ghost use Rattle.resp_proxy.specs.Terms.{Terms};
+ghost use Rattle.resp_proxy.specs.Unfinished.{terms_of};
 
 use crate::answer::protocol_error;
+use crate::carrying::own;
 use crate::client::Client;
-use crate::commands::{own, take_commands};
+use crate::commands::take_commands;
 use crate::error::ClientError;
+use crate::intake::Intake;
 use crate::settings::Settings;
+use crate::unfinished::Unfinished;
 use bytes::BytesMut;
-use resp_frames::{Begun, Frames};
 use resp_mux::{ClientId, Mux};
 use std::alloc::{AllocError, Global};
 
@@ -23,23 +26,23 @@ use std::alloc::{AllocError, Global};
 pub(crate) fn take_in(
     alloc: Global,
     settings: &Settings,
-    frames: &mut Frames,
+    intake: &mut Intake,
     mux: &mut Mux,
     client: &mut Client,
     piece: &[u8],
 ) -> Result<(), ClientError>
-    ensures taken { IsReady frames.old → (held : List ℕ) →
-        Holds (frame_rules frames.old) client.old held →
-        TakesIn (frame_rules frames.old) (client_id client.old) (held ++ piece.now) client.new
+    ensures taken { IsReady intake.old.frames → (held : List ℕ) →
+        Holds (terms_of intake.old) client.old held →
+        TakesIn (terms_of intake.old) (client_id client.old) (held ++ piece.now) client.new
         result mux.old mux.new }
     ensures all { OnOk result (HasRoom settings.now mux.new (client_id client.old) →
         waits_for_room client.new ≡ []) }
     ensures same_client { client_id client.new ≡ client_id client.old }
     ensures same_clients { KeepsClients mux.old mux.new }
-    ensures ready { IsReady frames.old → IsReady frames.new }
-    ensures same_rules { frame_rules frames.new ≡ frame_rules frames.old }
+    ensures ready { IsReady intake.old.frames → IsReady intake.new.frames }
+    ensures same_terms { terms_of intake.new ≡ terms_of intake.old }
 {
-    let taken = take_held(alloc, settings, frames, mux, client, piece);
+    let taken = take_held(alloc, settings, intake, mux, client, piece);
     if let Err(error) = taken {
         shut(alloc, client);
         say_last(alloc, mux, client.id, error);
@@ -51,29 +54,29 @@ pub(crate) fn take_in(
 fn take_held(
     alloc: Global,
     settings: &Settings,
-    frames: &mut Frames,
+    intake: &mut Intake,
     mux: &mut Mux,
     client: &mut Client,
     piece: &[u8],
 ) -> Result<(), ClientError>
-    ensures taken { IsReady frames.old → (held : List ℕ) →
-        Holds (frame_rules frames.old) client.old held →
-        TakesHeld (frame_rules frames.old) (client_id client.old) (held ++ piece.now) client.new
+    ensures taken { IsReady intake.old.frames → (held : List ℕ) →
+        Holds (terms_of intake.old) client.old held →
+        TakesHeld (terms_of intake.old) (client_id client.old) (held ++ piece.now) client.new
         result mux.old mux.new }
     ensures all { OnOk result (HasRoom settings.now mux.new (client_id client.old) →
         waits_for_room client.new ≡ []) }
     ensures same_client { client_id client.new ≡ client_id client.old }
     ensures same_clients { KeepsClients mux.old mux.new }
-    ensures ready { IsReady frames.old → IsReady frames.new }
-    ensures same_rules { frame_rules frames.new ≡ frame_rules frames.old }
+    ensures ready { IsReady intake.old.frames → IsReady intake.new.frames }
+    ensures same_terms { terms_of intake.new ≡ terms_of intake.old }
 {
     if client.is_closing {
         return Err(ClientError::Closing);
     }
     if client.rest.is_empty() {
-        take_piece(alloc, settings, frames, mux, client, piece)
+        take_piece(alloc, settings, intake, mux, client, piece)
     } else {
-        take_rest(alloc, settings, frames, mux, client, piece)
+        take_rest(alloc, settings, intake, mux, client, piece)
     }
 }
 
@@ -81,28 +84,28 @@ fn take_held(
 fn take_piece(
     alloc: Global,
     settings: &Settings,
-    frames: &mut Frames,
+    intake: &mut Intake,
     mux: &mut Mux,
     client: &mut Client,
     piece: &[u8],
 ) -> Result<(), ClientError>
     requires { client.old.rest.items ≡ [] }
-    ensures taken { IsReady frames.old → (held : List ℕ) →
-        Holds (frame_rules frames.old) client.old held →
-        TakesHeld (frame_rules frames.old) (client_id client.old) (held ++ piece.now) client.new
+    ensures taken { IsReady intake.old.frames → (held : List ℕ) →
+        Holds (terms_of intake.old) client.old held →
+        TakesHeld (terms_of intake.old) (client_id client.old) (held ++ piece.now) client.new
         result mux.old mux.new }
     ensures all { OnOk result (HasRoom settings.now mux.new (client_id client.old) →
         waits_for_room client.new ≡ []) }
     ensures same_client { client_id client.new ≡ client_id client.old }
     ensures same_clients { KeepsClients mux.old mux.new }
-    ensures ready { IsReady frames.old → IsReady frames.new }
-    ensures same_rules { frame_rules frames.new ≡ frame_rules frames.old }
+    ensures ready { IsReady intake.old.frames → IsReady intake.new.frames }
+    ensures same_terms { terms_of intake.new ≡ terms_of intake.old }
 {
     let taken = take_commands(
         alloc,
         settings,
-        frames,
-        &mut client.begun,
+        intake,
+        &mut client.unfinished,
         &mut client.label,
         mux,
         client.id,
@@ -117,7 +120,7 @@ fn take_piece(
 /// Holds bytes behind those that a client holds.
 fn keep(client: &mut Client, bytes: &[u8]) -> Result<(), ClientError>
     ensures kept { OnOk result (client.new.rest.items ≡ client.old.rest.items ++ bytes.now) }
-    ensures same_begun { client.new.begun ≡ client.old.begun }
+    ensures same_unfinished { client.new.unfinished ≡ client.old.unfinished }
     ensures same_client { client_id client.new ≡ client_id client.old }
 {
     match client.rest.extend_from_slice(bytes) {
@@ -130,21 +133,21 @@ fn keep(client: &mut Client, bytes: &[u8]) -> Result<(), ClientError>
 fn take_rest(
     alloc: Global,
     settings: &Settings,
-    frames: &mut Frames,
+    intake: &mut Intake,
     mux: &mut Mux,
     client: &mut Client,
     piece: &[u8],
 ) -> Result<(), ClientError>
-    ensures taken { IsReady frames.old → (held : List ℕ) →
-        Holds (frame_rules frames.old) client.old held →
-        TakesHeld (frame_rules frames.old) (client_id client.old) (held ++ piece.now) client.new
+    ensures taken { IsReady intake.old.frames → (held : List ℕ) →
+        Holds (terms_of intake.old) client.old held →
+        TakesHeld (terms_of intake.old) (client_id client.old) (held ++ piece.now) client.new
         result mux.old mux.new }
     ensures all { OnOk result (HasRoom settings.now mux.new (client_id client.old) →
         waits_for_room client.new ≡ []) }
     ensures same_client { client_id client.new ≡ client_id client.old }
     ensures same_clients { KeepsClients mux.old mux.new }
-    ensures ready { IsReady frames.old → IsReady frames.new }
-    ensures same_rules { frame_rules frames.new ≡ frame_rules frames.old }
+    ensures ready { IsReady intake.old.frames → IsReady intake.new.frames }
+    ensures same_terms { terms_of intake.new ≡ terms_of intake.old }
 {
     if let Err(error) = keep(client, piece) {
         return Err(error);
@@ -152,8 +155,8 @@ fn take_rest(
     let taken = take_commands(
         alloc,
         settings,
-        frames,
-        &mut client.begun,
+        intake,
+        &mut client.unfinished,
         &mut client.label,
         mux,
         client.id,
@@ -167,7 +170,7 @@ fn take_rest(
 fn remove(alloc: Global, client: &mut Client, count: usize)
     requires { count ≤ length client.old.rest.items }
     ensures rest { client.new.rest.items ≡ drop count client.old.rest.items }
-    ensures same_begun { client.new.begun ≡ client.old.begun }
+    ensures same_unfinished { client.new.unfinished ≡ client.old.unfinished }
     ensures same_client { client_id client.new ≡ client_id client.old }
 {
     if count == client.rest.len() {
@@ -179,11 +182,11 @@ fn remove(alloc: Global, client: &mut Client, count: usize)
 
 /// Takes nothing more from a client. The bytes that it holds are lost.
 pub(crate) fn shut(alloc: Global, client: &mut Client)
-    ensures nothing { (rules : Rules) → Holds rules client.new [] }
+    ensures nothing { (terms : Terms) → Holds terms client.new [] }
     ensures closing { is_closing client.new ≡ true }
     ensures same_client { client_id client.new ≡ client_id client.old }
 {
-    client.begun = Begun::new();
+    client.unfinished = Unfinished::new(alloc);
     client.rest = BytesMut::new(alloc);
     client.is_closing = true;
 }
@@ -197,8 +200,11 @@ fn say_last(alloc: Global, mux: &mut Mux, who: ClientId, error: ClientError)
         ClientError::Quit => {
             let _ = own(mux, who, b"+OK\r\n");
         }
-        ClientError::Protocol(fault) => {
-            if let Ok(text) = protocol_error(alloc, fault) {
+        ClientError::Protocol(_)
+        | ClientError::Quotes
+        | ClientError::LongLine
+        | ClientError::OverLimits => {
+            if let Ok(text) = protocol_error(alloc, error) {
                 let _ = own(mux, who, &text);
             }
         }

@@ -3,7 +3,7 @@
 ghost use Rattle.std.specs.Prelude.{◌≡◌, ◌<◌, [], length};
 ghost use Rattle.resp_mux.specs.Multiplexing.{KeepsClients, WherePassed, unsent};
 ghost use Rattle.resp_proxy.specs.Clients.{client_id, is_closing};
-ghost use Rattle.resp_proxy.specs.Proxies.{HasRoomFor, WhereBegunBy, WhereHeld, mux_of, replied_to, rules_of, reply_rules_of, server_begun};
+ghost use Rattle.resp_proxy.specs.Proxies.{HasRoomFor, WhereBegunBy, WhereHeld, mux_of, replied_to, terms_of, reply_rules_of, server_begun};
 ghost use Rattle.resp_proxy.specs.Telling.{Tells};
 ghost use Rattle.resp_proxy.specs.Visiting.{HasNothingFor, OthersKeep, ReadsClient, ReadsServer, VisitsClient, VisitsServer};
 ghost use Rattle.resp_value.specs.Devices.{count_after};
@@ -64,7 +64,7 @@ impl Proxy {
     ) -> Visit
         requires { 0 < length buffer.old }
         // The bytes read came from this client, and the bytes written are those that it was owed.
-        ensures visited { WhereHeld self.old client.old (λ held. VisitsClient (rules_of self.old)
+        ensures visited { WhereHeld self.old client.old (λ held. VisitsClient (terms_of self.old)
             (client_id client.old) (R.remaining reader.old) (R.remaining reader.new)
             (W.written writer.old) (W.written writer.new) held client.new
             (mux_of self.old) (mux_of self.new)) }
@@ -76,7 +76,7 @@ impl Proxy {
             HasNothingFor (mux_of self.new) (client_id client.old) }
         ensures same_client { client_id client.new ≡ client_id client.old }
         ensures same_clients { KeepsClients (mux_of self.old) (mux_of self.new) }
-        ensures same_rules { rules_of self.new ≡ rules_of self.old }
+        ensures same_terms { terms_of self.new ≡ terms_of self.old }
         ensures same_replied { replied_to self.new ≡ replied_to self.old }
     {
         let read = self.read_client(client, reader, buffer);
@@ -92,13 +92,13 @@ impl Proxy {
         buffer: &mut [u8],
     ) -> Read
         requires { 0 < length buffer.old }
-        ensures reads { WhereHeld self.old client.old (λ held. ReadsClient (rules_of self.old)
+        ensures reads { WhereHeld self.old client.old (λ held. ReadsClient (terms_of self.old)
             (client_id client.old) (R.remaining reader.old) (R.remaining reader.new) held client.new
             (mux_of self.old) (mux_of self.new)) }
         ensures nothing_read { (HasRoomFor self.old client.old → ⊥) → reader.new ≡ reader.old }
         ensures same_client { client_id client.new ≡ client_id client.old }
         ensures same_clients { KeepsClients (mux_of self.old) (mux_of self.new) }
-        ensures same_rules { rules_of self.new ≡ rules_of self.old }
+        ensures same_terms { terms_of self.new ≡ terms_of self.old }
         ensures same_replied { replied_to self.new ≡ replied_to self.old }
     {
         if client.is_closing {
@@ -141,7 +141,7 @@ impl Proxy {
         ensures all { result.written ≡ Written.All →
             unsent (mux_of self.new) ≡ [] }
         ensures same_clients { KeepsClients (mux_of self.old) (mux_of self.new) }
-        ensures same_rules { rules_of self.new ≡ rules_of self.old }
+        ensures same_terms { terms_of self.new ≡ terms_of self.old }
     {
         let (read, end) = self.read_server(reader, buffer);
         let written = if end.is_ok() {
@@ -166,7 +166,7 @@ impl Proxy {
             (mux_of self.new) }
         ensures once { R.calls reader.new ≡ count_after 1 (R.calls reader.old) }
         ensures same_clients { KeepsClients (mux_of self.old) (mux_of self.new) }
-        ensures same_rules { rules_of self.new ≡ rules_of self.old }
+        ensures same_terms { terms_of self.new ≡ terms_of self.old }
     {
         match reader.read(buffer) {
             Ok(count) => (Some(count), self.from_server(&buffer[..count])),

@@ -16,6 +16,12 @@ returns-in_err-local_ping-clause-none c =
     λ options has. c.in_err-local_ping.ensures.none _ has.flags in
     if_none _ _ none
 
+pub returns-in_err-refuses_lines-clause-none : goal.returns-in_err-refuses_lines-clause-none
+returns-in_err-refuses_lines-clause-none c =
+    let none : (options : ProxyOptions) → HasProxyOptions (rows_of (found_of c.args.matches.now)) options → ⊥ =
+    λ options has. c.in_err-refuses_lines.ensures.none _ has.refuses_lines in
+    if_none _ _ none
+
 pub returns-in_err-small_number_of-clause-none : goal.returns-in_err-small_number_of-clause-none
 returns-in_err-small_number_of-clause-none c =
     let none : (options : ProxyOptions) → HasProxyOptions (rows_of (found_of c.args.matches.now)) options → ⊥ =

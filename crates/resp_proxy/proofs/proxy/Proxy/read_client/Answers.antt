@@ -1,6 +1,6 @@
 use Rattle.std.proofs.Common.{[], subst, sym, take}
 use Rattle.resp_proxy.specs.Clients.{Holds}
-use Rattle.resp_proxy.specs.Proxies.{mux_of, rules_of}
+use Rattle.resp_proxy.specs.Proxies.{mux_of, terms_of}
 use Rattle.resp_proxy.specs.Visiting.{ReadsClient}
 use Rattle.resp_proxy.proofs.Readings.{ended, not-read, nothing-came, read-bytes, read-nothing}
 use Rattle.resp_proxy.proofs.proxy.Proxy.read_client.Goals as goal
@@ -8,24 +8,24 @@ use Rattle.resp_proxy.proofs.proxy.Proxy.read_client.Goals as goal
 pub returns-then-client-clause-reads : goal.returns-then-client-clause-reads
 returns-then-client-clause-reads g c held h =
     let left = g.R.Source.remaining c.args.reader.now in
-    nothing-came (rules_of c.args.self.now) c.args.client.now.id left left held c.args.client.now (mux_of c.args.self.now) (not-read left) h
+    nothing-came (terms_of c.args.self.now) c.args.client.now.id left left held c.args.client.now (mux_of c.args.self.now) (not-read left) h
 
 pub returns-then-not-has_room-clause-reads : goal.returns-then-not-has_room-clause-reads
 returns-then-not-has_room-clause-reads g c held h =
     let left = g.R.Source.remaining c.args.reader.now in
-    nothing-came (rules_of c.args.self.now) c.args.client.now.id left left held c.args.client.now (mux_of c.args.self.now) (not-read left) h
+    nothing-came (terms_of c.args.self.now) c.args.client.now.id left left held c.args.client.now (mux_of c.args.self.now) (not-read left) h
 
 pub returns-in-Ok-eq0-clause-reads : goal.returns-in-Ok-eq0-clause-reads
 returns-in-Ok-eq0-clause-reads g c held h =
     let left = g.R.Source.remaining c.args.reader.now in
     let left' = g.R.Source.remaining c.read.new.self in
     let shut = c.shut.new.client in
-    let rules = rules_of c.args.self.now in
+    let rules = terms_of c.args.self.now in
     let m = mux_of c.args.self.now in
     subst (λ s. ReadsClient rules c.args.client.now.id left left' held shut m (mux_of s)) (sym c.shut.ensures.same_state)
     (ended rules c.args.client.now.id left left' (take c.in-Ok-eq0.field-0 c.read.new.into) held shut m
     (read-bytes left left' c.read.new.into c.in-Ok-eq0.field-0 c.in-Ok-eq0.ensures.bytes)
-    (subst (λ s. Holds (rules_of s) shut []) c.shut.ensures.same_state c.shut.ensures.nothing) c.shut.ensures.closing)
+    (subst (λ s. Holds (terms_of s) shut []) c.shut.ensures.same_state c.shut.ensures.nothing) c.shut.ensures.closing)
 
 pub returns-in-Ok-clause-reads : goal.returns-in-Ok-clause-reads
 returns-in-Ok-clause-reads g c held h = record {
@@ -39,5 +39,5 @@ pub returns-in-Err-clause-reads : goal.returns-in-Err-clause-reads
 returns-in-Err-clause-reads g c held h =
     let left = g.R.Source.remaining c.args.reader.now in
     let left' = g.R.Source.remaining c.read.new.self in
-    nothing-came (rules_of c.args.self.now) c.args.client.now.id left left' held c.args.client.now (mux_of c.args.self.now)
+    nothing-came (terms_of c.args.self.now) c.args.client.now.id left left' held c.args.client.now (mux_of c.args.self.now)
     (read-nothing left left' c.read.new.into c.in-Err.field-0 c.in-Err.ensures.bytes) h

@@ -1,0 +1,21 @@
+use Rattle.std.proofs.Common.{◌∙◌, ◌++◌, [], ap, subst, sym}
+use Rattle.resp_frames.specs.Commands.{IsFrameOfWords}
+use Rattle.resp_value.specs.Canonical.{canonical_text}
+use Rattle.resp_value.specs.Rules.{rules_under}
+use Rattle.resp_value.specs.Spellings.{IsSpelling}
+use Rattle.resp_value.specs.Words.{command_of, texts_of}
+use Rattle.resp_value.specs.declared.version.Version.TheVariants.{Two}
+use Rattle.resp_proxy.proofs.Carryings.{words-carried}
+use Rattle.resp_proxy.specs.Unfinished.{terms_of}
+use Rattle.resp_proxy.proofs.lines.carry_out_words.Goals as goal
+
+pub returns-in-Some-clause-carried : goal.returns-in-Some-clause-carried
+returns-in-Some-clause-carried c =
+    let words = texts_of c.args.words.now in
+    let canonical = canonical_text Two (command_of words) in
+    let found = subst (λ limits. IsFrameOfWords limits [] c.as_slice.result.now c.in-Some.command) c.limits-limits.ensures c.in-Some.ensures.command in
+    words-carried c.no_spelling_begins_another.ensures c.carry_out.result (terms_of c.args.intake.now) c.args.who words c.as_slice.result.now
+    c.in-Some.command c.args.mux.now c.carry_out.new.mux
+    (c.as_slice.ensures ∙ c.in-Ok.ensures.whole_or_nothing.appended ∙ ap (λ items. items ++ canonical) c.new-text.ensures.items)
+    (subst (λ limits. IsSpelling (rules_under Two limits) (command_of words) canonical) c.limits-limits.ensures c.in-Ok.ensures.verdict.spelling) found
+    (c.carry_out.ensures.carried [] c.as_slice.result.now found)

@@ -1,0 +1,65 @@
+-- Which bytes of a client are commands, and which commands are sent to the server.
+use Rattle.std.specs.Prelude.{◌≡◌, ◌≢◌, ◌⊎◌, ℕ, ◌≤◌, Bool, true, List, [], ◌∷◌, ◌++◌, length, map, Contains}
+use Rattle.std.specs.Char.{to_ascii_lowercase}
+use Rattle.std.specs.List.{AllByRecursion}
+use Rattle.resp_commands.specs.Classes.{HasClass}
+use Rattle.resp_commands.specs.declared.command.Class.TheVariants as class
+use Rattle.resp_commands.specs.Names.{IsUnknown}
+use Rattle.resp_frames.specs.Requests.{IsEmptyArray}
+use Rattle.resp_line.specs.Lines.{AreWords}
+use Rattle.resp_value.specs.Canonical.{canonical_text}
+use Rattle.resp_value.specs.Rules.{Rules, rules_under}
+use Rattle.resp_value.specs.Spellings.{IsSpelling}
+use Rattle.resp_value.specs.Words.{command_of}
+use Rattle.resp_value.specs.declared.version.Version.TheVariants.{Two}
+
+pub record Terms : Type 0 where
+  -- the rules of arrays
+  pub rules : Rules
+  -- whether a line is a command too
+  pub lines : Bool
+  -- the names of commands that are sent although the table does not have them
+  pub admitted : List (List ℕ)
+
+-- the name is one of these, in upper, lower or mixed case
+pub record IsAmong (names : List (List ℕ)) (name : List ℕ) : Type 0 where
+  pub other : List ℕ
+  pub there : Contains names other
+  pub same : map to_ascii_lowercase other ≡ map to_ascii_lowercase name
+
+-- the table has no command of this name, which is admitted
+pub record IsAdmitted (terms : Terms) (name : List ℕ) : Type 0 where
+  pub unknown : IsUnknown name
+  pub among : IsAmong terms.admitted name
+
+-- a command of these words is sent
+abbrev pub MayBeSent : Terms → List ℕ → List (List ℕ) → Type 0
+MayBeSent terms name arguments = HasClass name arguments class.Shared ⊎ IsAdmitted terms name
+
+-- the text begins with a byte that begins no array
+abbrev pub BeginsLine : List ℕ → Type 0
+BeginsLine [] = ⊥
+BeginsLine (b ∷ rest) = b ≢ 42
+
+-- the bytes are those of a line before its LF, or the first of them
+pub record IsWithinLine (content : List ℕ) : Type 0 where
+  pub no_end : AllByRecursion (λ b. b ≢ 10) content
+  pub short : length content ≤ 65536
+
+-- the text is a line of these words, and its LF
+pub record IsLineOf (words : List (List ℕ)) (text : List ℕ) : Type 0 where
+  pub content : List ℕ
+  pub within : IsWithinLine content
+  pub whole : text ≡ content ++ 10 ∷ []
+  pub begins : BeginsLine text
+  pub are : AreWords words content
+
+-- The text is a command of these words, an array or a line. These bytes are sent for it: those of the array, or the words of
+-- the line as an array.
+pub record IsRequestOf (terms : Terms) (text sent : List ℕ) (words : List (List ℕ)) : Type 0 where
+  pub spelled : IsSpelling (rules_under Two terms.rules.limits) (command_of words) sent
+  pub form : (text ≡ sent) ⊎ ((terms.lines ≡ true) × IsLineOf words text × (sent ≡ canonical_text Two (command_of words)))
+
+-- the text is an array of no words, null, or a line of no words
+abbrev pub IsNoRequest : Terms → List ℕ → Type 0
+IsNoRequest terms text = IsEmptyArray text ⊎ ((terms.lines ≡ true) × IsLineOf [] text)

@@ -1,0 +1,93 @@
+//! Carries out the commands of a client.
+
+ghost use Rattle.std.specs.Prelude.{◌≡◌, ℕ, List, Some, IsTrue, OnErr, OnOk};
+ghost use Rattle.resp_frames.specs.Commands.{IsFrameOfWords};
+ghost use Rattle.resp_frames.specs.Texts.{text_of};
+ghost use Rattle.resp_mux.specs.Multiplexing.{HasPassed, KeepsClients, KeepsPassed, WherePassed};
+ghost use Rattle.resp_mux.specs.Passing.{with_command, with_own};
+ghost use Rattle.resp_proxy.specs.Unfinished.{terms_of};
+ghost use Rattle.resp_proxy.specs.Taking.{Carries};
+
+use crate::answer::{Answer, own_answer};
+use crate::error::ClientError;
+use crate::intake::Intake;
+use crate::local::local_answer;
+use crate::settings::Settings;
+use resp_commands::Class;
+use resp_frames::CommandFrame;
+use resp_mux::{ClientId, ForwardError, Mux, OwnError};
+use resp_value::laws::no_spelling_begins_another;
+use std::alloc::{AllocError, Global};
+
+/// Queues a command for the server if clients may share a connection for it, and the proxy does not reply
+/// to it although they may. Otherwise the proxy itself replies.
+pub(crate) fn carry_out(
+    alloc: Global,
+    settings: &Settings,
+    intake: &Intake,
+    label: &mut Vec<u8>,
+    mux: &mut Mux,
+    who: ClientId,
+    command: &CommandFrame,
+) -> Result<(), ClientError>
+    // A command that may not be sent is answered.
+    ensures carried { (front piece : List ℕ) →
+        IsFrameOfWords (terms_of intake.now).rules.limits front piece command.now →
+        OnOk result (Carries (terms_of intake.now) who (text_of command.now.frame) mux.old mux.new) }
+    ensures unchanged { OnErr result (KeepsPassed mux.old mux.new) }
+    ensures same_clients { KeepsClients mux.old mux.new }
+{
+    no_spelling_begins_another();
+    if is_shared(command) {
+        return match local_answer(alloc, settings, mux, command) {
+            Ok(Some(answer)) => own(mux, who, &answer),
+            Ok(None) => forward(mux, who, command.frame.text()),
+            Err(AllocError) => Err(ClientError::OutOfMemory),
+        };
+    }
+    if command.words.class.is_none() && intake.admits(command) {
+        return forward(mux, who, command.frame.text());
+    }
+    match own_answer(alloc, &settings.limits, who, label, command) {
+        Ok(Answer::Reply(answer)) => own(mux, who, &answer),
+        Ok(Answer::Quit) => Err(ClientError::Quit),
+        Ok(Answer::Http) => Err(ClientError::Http),
+        Err(AllocError) => Err(ClientError::OutOfMemory),
+    }
+}
+
+/// Returns whether clients may share a connection for a command.
+#[inline(always)]
+fn is_shared(command: &CommandFrame) -> bool
+    ensures { IsTrue result → command.now.words.class ≡ Some Class.Shared }
+{
+    command.words.class == Some(Class::Shared)
+}
+
+/// Queues a command for the server.
+fn forward(mux: &mut Mux, who: ClientId, text: &[u8]) -> Result<(), ClientError>
+    ensures passed { OnOk result (WherePassed mux.old (λ p.
+        HasPassed mux.new (with_command who text.now p))) }
+    ensures unchanged { OnErr result (KeepsPassed mux.old mux.new) }
+    ensures same_clients { KeepsClients mux.old mux.new }
+{
+    match mux.forward(who, text) {
+        Ok(()) => Ok(()),
+        Err(ForwardError::NoClient) => Err(ClientError::NoClient),
+        Err(_) => Err(ClientError::OutOfMemory),
+    }
+}
+
+/// Gives a client a reply of the proxy itself.
+pub(crate) fn own(mux: &mut Mux, who: ClientId, text: &[u8]) -> Result<(), ClientError>
+    ensures passed { OnOk result (WherePassed mux.old (λ p.
+        HasPassed mux.new (with_own who text.now p))) }
+    ensures unchanged { OnErr result (KeepsPassed mux.old mux.new) }
+    ensures same_clients { KeepsClients mux.old mux.new }
+{
+    match mux.own(who, text) {
+        Ok(()) => Ok(()),
+        Err(OwnError::NoClient) => Err(ClientError::NoClient),
+        Err(OwnError::OutOfMemory) => Err(ClientError::OutOfMemory),
+    }
+}

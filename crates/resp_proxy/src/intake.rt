@@ -1,0 +1,93 @@
+//! Which bytes of a client are commands, and which commands are sent.
+
+ghost use Rattle.std.specs.Prelude.{◌≡◌, List, ℕ, false, IfOk, IsTrue};
+ghost use Rattle.resp_frames.specs.Framing.{IsReady};
+ghost use Rattle.resp_frames.specs.Texts.{text_of};
+ghost use Rattle.resp_proxy.specs.Taking.{AdmitsText, GoesOn};
+ghost use Rattle.resp_proxy.specs.Terms.{BeginsLine, IsAmong};
+ghost use Rattle.resp_proxy.specs.Unfinished.{HasArray, HasBytes, HasUnfinished, terms_by, terms_of};
+ghost use Rattle.resp_value.specs.Words.{texts_of};
+
+use crate::settings::Settings;
+use crate::unfinished::Unfinished;
+use resp_commands::entry;
+use resp_frames::{CommandFrame, Frames};
+use resp_scan::whole;
+use resp_value::version::Version;
+use std::alloc::{AllocError, Global};
+
+/// The commands of all clients.
+#[derive(Drop)]
+pub(crate) struct Intake {
+    /// Finds the ends of arrays.
+    pub(crate) frames: Frames,
+    /// Whether a line is a command too.
+    pub(crate) lines: bool,
+    /// The names of commands that are sent although the table does not have them.
+    pub(crate) admitted: Vec<Vec<u8>>,
+}
+
+impl Intake {
+    /// Returns the intake of a proxy with these settings, which admits no command that the table does
+    /// not have.
+    pub(crate) fn new(alloc: Global, settings: &Settings) -> Result<Intake, AllocError>
+        ensures ready { IfOk result (λ intake. IsReady intake.frames) }
+        ensures terms { IfOk result (λ intake. terms_of intake ≡ terms_by settings.now) }
+    {
+        Ok(Intake {
+            frames: Frames::new(alloc, Version::Two, &settings.limits)?,
+            lines: settings.lines,
+            admitted: Vec::new(alloc),
+        })
+    }
+
+    /// Returns whether the next byte of a client belongs to a line.
+    pub(crate) fn is_line(&self, unfinished: &Unfinished, piece: &[u8]) -> bool
+        ensures line { (front : List ℕ) → HasUnfinished (terms_of self.now) unfinished.now front →
+            IsTrue result → GoesOn (terms_of self.now) front piece.now ×
+            HasBytes (terms_of self.now) unfinished.now front }
+        ensures array { (front : List ℕ) → HasUnfinished (terms_of self.now) unfinished.now front →
+            result ≡ false → HasArray (terms_of self.now) unfinished.now front }
+    {
+        if !unfinished.line.is_empty() {
+            return true;
+        }
+        self.lines && unfinished.begun.is_empty() && begins_line(piece)
+    }
+
+    /// Returns whether a command that the table does not have is sent: it is one of the admitted
+    /// commands, in upper, lower or mixed case.
+    pub(crate) fn admits(&self, command: &CommandFrame) -> bool
+        ensures { IsTrue result → AdmitsText (terms_of self.now) (text_of command.now.frame) }
+    {
+        if self.admitted.is_empty() {
+            return false;
+        }
+        let Some(words) = whole::command(command.frame.text(), &self.frames.limits()) else {
+            return false;
+        };
+        entry(words.name).is_none() && is_among(&self.admitted, words.name)
+    }
+}
+
+/// Returns whether the bytes begin with a byte that begins no array.
+fn begins_line(piece: &[u8]) -> bool
+    ensures { IsTrue result → BeginsLine piece.now }
+{
+    match piece.first() {
+        Some(byte) => *byte != b'*',
+        None => false,
+    }
+}
+
+/// Returns whether a name is one of these, in upper, lower or mixed case.
+fn is_among(names: &[Vec<u8>], name: &[u8]) -> bool
+    ensures { IsTrue result → IsAmong (texts_of names.now) name.now }
+{
+    for other in names {
+        if other.as_slice().eq_ignore_ascii_case(name) {
+            return true;
+        }
+    }
+    false
+}
