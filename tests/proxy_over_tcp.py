@@ -421,7 +421,7 @@ def lines():
 
 def own_replies():
     """The proxy replies to some commands itself, in their place, and refuses others by their name."""
-    with proxied() as (proxy, _, server), connect(proxy.port) as client, connect(proxy.port) as other:
+    with proxied("--own", "0") as (proxy, _, server), connect(proxy.port) as client, connect(proxy.port) as other:
         client.sendall(PING + command(b"SELECT", b"0") + command(b"MULTI") + command(b"BLPOP", b"list", b"0") +
                        command(b"SHUTDOWN") + command(b"NOSUCH") + get(b"a"))
         hear(server, PING)
@@ -561,8 +561,11 @@ def ping_of_the_proxy():
     with running("proxy", "127.0.0.1:0", f"127.0.0.1:{port}", "--local-ping") as proxy, connect(proxy.port) as client:
         ask(client, PING, PONG)
         ask(client, command(b"PING", b"word"), bulk(b"word"))
-        ask(client, command(b"INFO", b"proxy"), bulk(b"# Proxy\r\nclients:1\r\nclients_opened:1\r\n"
-                                                     b"commands_waiting:0\r\nbytes_unsent:0\r\n"))
+        counted = {"clients": 1, "clients_accepted": 1, "clients_rejected": 0, "clients_own": 0, "commands": 0,
+                   "commands_waiting": 0, "commands_failed": 0, "bytes_unsent": 0, "server_connections": 0,
+                   "reply_us_p50": 0, "reply_us_p99": 0, "reply_us_max": 0}
+        lines = "".join(f"{name}:{number}\r\n" for name, number in counted.items())
+        ask(client, command(b"INFO", b"proxy"), bulk(b"# Proxy\r\n" + lines.encode()))
         client.sendall(get(b"a"))
         assert line_of(client).startswith(NOT_CONNECTED)
 
@@ -574,15 +577,41 @@ def reports():
         hear(server, PING + PING)
         server.sendall(PONG)
         hear(client, PONG)
-        wanted = b"\nclients 1 accepted 1 rejected 0 commands 2 waiting 1 failed 0 unsent 0 connections 1\n"
+        wanted = b"\nclients 1 accepted 1 rejected 0 own 0 commands 2 waiting 1 failed 0 unsent 0 connections 1 p50 "
         until(lambda: wanted in proxy.printed(), "no line has the numbers")
         server.close()
         hear(client, LOST)
-        wanted = b"\nclients 1 accepted 1 rejected 0 commands 2 waiting 0 failed 1 unsent 0 connections 2\n"
+        wanted = b"\nclients 1 accepted 1 rejected 0 own 0 commands 2 waiting 0 failed 1 unsent 0 connections 2 p50 "
         until(lambda: wanted in proxy.printed(), "no line has the numbers after the loss")
         before = proxy.printed().count(b"\nclients ")
         time.sleep(2.5)
         assert 1 <= proxy.printed().count(b"\nclients ") - before <= 4, proxy.printed()
+
+
+def times_of_replies():
+    """`INFO proxy` has the median, the 99th percentile and the most of the times that replies took."""
+    with proxied() as (proxy, _, server), connect(proxy.port) as client, connect(proxy.port) as other:
+        for pause, count in ((0, 196), (0.2, 3), (0.6, 1)):
+            for _ in range(count):
+                client.sendall(PING)
+                hear(server, PING)
+                time.sleep(pause)
+                server.sendall(PONG)
+                hear(client, PONG)
+        client.sendall(command(b"INFO", b"proxy"))
+        head = line_of(client)
+        text = client.recv(int(head[1:]) + 2)
+        found = {name: int(number) for name, number in re.findall(rb"(\w+):(\d+)\r\n", text)}
+        assert found[b"commands"] == 200 and found[b"commands_waiting"] == 0, found
+        # 98 of 100 replies take no time, and the proxy reads the clock at each turn.
+        assert found[b"reply_us_p50"] < 150_000, found
+        assert 200_000 <= found[b"reply_us_p99"] < 500_000, found
+        assert 600_000 <= found[b"reply_us_max"] < 2_000_000, found
+        # A command whose connection is lost takes no time, and the next one is counted alone.
+        other.sendall(PING)
+        hear(server, PING)
+        server.close()
+        hear(other, LOST)
 
 
 def end_of_standard_input():
@@ -720,5 +749,5 @@ def own_address_of_proxy():
 TESTS = [pipelines_cut_at_random, client_that_goes, end_of_input, server_that_closes, server_that_ends_inside_a_reply,
          reply_that_nobody_waits_for, server_that_is_not_there, patience, protocol_error, own_replies, lines,
          client_that_does_not_read, server_that_does_not_read, one_command_at_a_time, login,
-         ping_of_the_proxy, reports, end_of_standard_input, most_of_proxy,
+         ping_of_the_proxy, reports, times_of_replies, end_of_standard_input, most_of_proxy,
          descriptors_of_proxy, busy_clients, own_address_of_proxy]

@@ -11,7 +11,7 @@ _resp() {
     case $before in
     --proto) COMPREPLY=($(compgen -W "2 3" -- "$word")) && return ;;
     --depth | --length | --total | --items | --piece | --clients | --held | --user | --window | \
-        --waiting | --unsent | --patience | --report) return ;;
+        --own | --waiting | --unsent | --patience | --report) return ;;
     esac
     case $command in
     show | check | canon) options="-2 -3 --proto $limits --doubles --piece --explain --no-explain -h --help" ;;
@@ -19,7 +19,7 @@ _resp() {
     serve) options="$limits --clients --held -h --help" ;;
     tap) options="$limits --clients --time --exit-with-output --keep-going --show-passwords -h --help" ;;
     proxy)
-        options="$limits --clients --waiting --held --unsent --patience --report --local-ping --no-inline --drain -h --help"
+        options="$limits --clients --own --waiting --held --unsent --patience --report --local-ping --no-inline --drain -h --help"
         ;;
     ask) options="-3 --user --window --count $limits -h --help" ;;
     help) [ "$COMP_CWORD" -ne 2 ] || COMPREPLY=($(compgen -W "$commands" -- "$word")) ;;

@@ -37,6 +37,7 @@ complete -c resp -n '__fish_seen_subcommand_from tap' -l exit-with-output -d 'En
 complete -c resp -n '__fish_seen_subcommand_from tap' -l keep-going -d 'Accepts clients after the output has failed'
 complete -c resp -n '__fish_seen_subcommand_from tap' -l show-passwords -d 'Prints the passwords in commands'
 
+complete -c resp -n '__fish_seen_subcommand_from proxy' -l own -x -d 'Maximum clients with a connection of their own, 0 to 65536'
 complete -c resp -n '__fish_seen_subcommand_from proxy' -l waiting -x -d 'Maximum commands of a client that wait, 1 to 1048576'
 complete -c resp -n '__fish_seen_subcommand_from proxy' -l unsent -x -d 'Maximum bytes waiting for the server, 1 to 1099511627776'
 complete -c resp -n '__fish_seen_subcommand_from proxy' -l patience -x -d 'Milliseconds to wait for a reply, 1 to 3600000'

@@ -65,6 +65,7 @@ impl Subject for Proxying {
                 lines: false,
                 ..Settings::standard()
             })?,
+            "own" => self.proxy.admit_own(true),
             "client" => self.hear_client(given, cut)?,
             "server" => self.hear_server(given, cut, said)?,
             "end" => self.end(given)?,
@@ -257,7 +258,8 @@ impl Proxying {
         Ok(())
     }
 
-    /// Prints what the server and the clients got, and which clients are closing.
+    /// Prints what the server and the clients got, which clients are closing, and which get a connection of
+    /// their own, with the bytes that are sent over it first.
     fn tell(&mut self, said: &mut String) -> Result<()> {
         if !self.sent.is_empty() {
             writeln!(said, "server {}", self.sent.escape_ascii())?;
@@ -274,6 +276,27 @@ impl Proxying {
                     _ => writeln!(said, "closing {}", seat.number)?,
                 }
             }
+        }
+        self.say_leaving(said)
+    }
+
+    /// Prints which clients get a connection of their own. They are opened anew at their next row.
+    fn say_leaving(&mut self, said: &mut String) -> Result<()> {
+        let mut place = 0;
+        while place < self.seats.len() {
+            if !self.proxy.may_leave(&self.seats[place].client) {
+                place += 1;
+                continue;
+            }
+            let Seat {
+                number,
+                client,
+                pending,
+                ..
+            } = self.seats.remove(place);
+            let mut first = self.proxy.leave(client);
+            first.extend_from_slice(pending.as_slice())?;
+            writeln!(said, "own {number} {}", first.as_slice().escape_ascii())?;
         }
         Ok(())
     }

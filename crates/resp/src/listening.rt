@@ -202,6 +202,7 @@ fn settings_of(options: &ProxyOptions) -> ProxySettings {
             lines: !options.refuses_lines,
         },
         most: options.clients,
+        own: options.own,
         patience: Duration::from_millis(options.patience),
         report: report_of(options.report),
         drains: options.drains,

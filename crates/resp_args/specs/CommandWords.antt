@@ -169,6 +169,7 @@ pub record HasProxyOptions (given : List Row) (options : ProxyOptions) : Type 0 
   pub in_limits : HasLimits given options.limits
   pub no_doubles : options.limits.doubles ≡ false
   pub at_once : HasSmallNumber given (codes "clients") options.clients
+  pub alone : HasNumberBetween given (codes "own") 0 65536 options.own
   pub unanswered : HasNumberBetween given (codes "waiting") 1 1048576 options.waiting
   pub for_client : HasNumber given (codes "held") options.held
   pub for_server : HasNumber given (codes "unsent") options.unsent
@@ -231,14 +232,16 @@ Enters (Some entered) asked = IsAsked entered.0 entered.1 asked
 abbrev pub AskFor : App → List Text → Asked → Type 0
 AskFor program words asked = (fault_of program words ≡ []) × Enters (subcommand_of program words) asked
 
--- The size of a read, the most clients at once, and the most commands that wait are from 1 to 65,536; for `proxy` a client
--- has from 1 to 1,048,576 commands that wait, patience ends within an hour, and reports follow one another within a day.
+-- The size of a read, the most clients at once, and the most commands that wait are from 1 to 65,536; for `proxy` at most
+-- 65,536 clients have a connection of their own, a client has from 1 to 1,048,576 commands that wait, patience ends within
+-- an hour, and reports follow one another within a day.
 abbrev pub IsInRange : Asked → Type 0
 IsInRange (Stream options) = (1 ≤ options.piece) × (options.piece ≤ 65536)
 IsInRange (Play explains never_explains file) = Unit {0}
 IsInRange (Serve serving) = (1 ≤ serving.clients) × (serving.clients ≤ 65536)
 IsInRange (Tap tapping) = (1 ≤ tapping.clients) × (tapping.clients ≤ 65536)
 IsInRange (Proxy proxying) = (1 ≤ proxying.options.clients) × (proxying.options.clients ≤ 65536) ×
+    (proxying.options.own ≤ 65536) ×
     (1 ≤ proxying.options.waiting) × (proxying.options.waiting ≤ 1048576) ×
     (1 ≤ proxying.options.patience) × (proxying.options.patience ≤ 3600000) × (proxying.options.report ≤ 86400)
 IsInRange (Ask asking) = (1 ≤ asking.options.window) × (asking.options.window ≤ 65536)

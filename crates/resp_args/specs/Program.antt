@@ -100,7 +100,8 @@ tap_options = listening_options
 -- the options of `proxy`
 abbrev pub proxy_options : List Rule
 proxy_options = listening_options
-    (number_option (codes "waiting") 1 1048576 (codes "1024") ∷
+    (number_option (codes "own") 0 65536 (codes "1000") ∷
+    number_option (codes "waiting") 1 1048576 (codes "1024") ∷
     number_option (codes "held") 1 1099511627776 (codes "1048576") ∷
     number_option (codes "unsent") 1 1099511627776 (codes "1048576") ∷
     number_option (codes "patience") 1 3600000 (codes "5000") ∷

@@ -16,13 +16,25 @@ const PROXY_HELP: &str = r"Examples:
   resp proxy --clients 10000 --patience 1000 6380 10.0.0.7:6379
 
 Clients connect to LISTEN instead of SERVER. All of them share one connection to
-the server. If the environment has RESP_PASSWORD, AUTH is sent first. The
-program runs until it is stopped, or with --drain until standard input ends.
+the server. A client that sends a command such as MULTI, SUBSCRIBE or HELLO 3
+gets a connection of its own from this command on. If the environment has
+RESP_PASSWORD, AUTH is sent first. The program runs until it is stopped, or with
+--drain until standard input ends.
 
 Exit status:
   0  With --drain: standard input ended, and all clients are closed
   2  Usage error
   3  Listening or a write failed, or memory is out";
+
+/// `--own`: the most clients that have a connection of their own.
+const OWN: NumberOption = NumberOption {
+    name: "own",
+    help: "Maximum clients with a connection of their own,\n0 to 65536",
+    least: 0,
+    most: 65_536,
+    default: "1000",
+    hides_default: false,
+};
 
 /// `--waiting`: the most commands of one client that wait for replies.
 const WAITING: NumberOption = NumberOption {
@@ -98,16 +110,18 @@ pub(crate) fn proxy_task<'a>(alloc: Global) -> Result<Command<'a>, clap::Error>
     with_addresses(alloc, task)
 }
 
-/// Adds the options that limit how much waits.
+/// Adds the options that limit connections of clients' own, and how much waits.
 fn with_bounds<'a>(
     alloc: Global,
     task: Result<Command<'a>, clap::Error>,
 ) -> Result<Command<'a>, clap::Error>
     ensures { (app : App) → MakesTask app task.entry → MakesTask (with_options app
-        (number_option (codes "waiting") 1 1048576 (codes "1024") ∷
+        (number_option (codes "own") 0 65536 (codes "1000") ∷
+        number_option (codes "waiting") 1 1048576 (codes "1024") ∷
         number_option (codes "held") 1 1099511627776 (codes "1048576") ∷
         number_option (codes "unsent") 1 1099511627776 (codes "1048576") ∷ [])) result }
 {
+    let task = with_arg(task, OWN.option(alloc));
     let task = with_arg(task, WAITING.option(alloc));
     let task = with_arg(task, HELD.option(alloc));
     with_arg(task, UNSENT.option(alloc))

@@ -30,6 +30,8 @@ pub struct ProxyOptions {
     pub limits: Limits,
     /// The most clients at once, from 1 to 65,536.
     pub clients: usize,
+    /// The most clients at once that have a connection of their own, from 0 to 65,536.
+    pub own: usize,
     /// The most commands of one client that wait for replies, from 1 to 1,048,576.
     pub waiting: u32,
     /// The most bytes that wait to be written to a client when its next command is taken.
@@ -122,6 +124,7 @@ fn options_of(matches: &ArgMatches<'_>) -> Option<ProxyOptions>
     Some(ProxyOptions {
         limits: limits_of(matches)?,
         clients: small_number_of(matches, "clients")?,
+        own: number_between(matches, "own", 0, 65_536)? as usize,
         waiting: number_between(matches, "waiting", 1, 1_048_576)? as u32,
         held: number_of(matches, "held")? as usize,
         unsent: number_of(matches, "unsent")? as usize,

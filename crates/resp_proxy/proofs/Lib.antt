@@ -8,3 +8,4 @@ pub mod Failings
 pub mod Gives
 pub mod Readings
 pub mod Others
+pub mod Leavings

@@ -11,8 +11,11 @@ use Rattle.resp_mux.specs.Multiplexing.{HasPassed, KeepsClients, KeepsPassed, Mu
 use Rattle.resp_mux.specs.Passing.{Passed}
 use Rattle.resp_proxy.specs.declared.error.ClientError.{ClientError}
 use Rattle.resp_proxy.specs.declared.intake.Intake.{Intake}
+use Rattle.resp_proxy.specs.declared.part.Part.{Part}
+use Rattle.resp_proxy.specs.declared.part.Part.TheVariants.{Aside, Partial, Whole}
 use Rattle.resp_proxy.specs.declared.unfinished.Unfinished.{Unfinished}
-use Rattle.resp_proxy.specs.Taking.{HasTaken, IsTaken, Taken, Takes, TakesOne, TakesPart, TakesSome, texts_taken, with_one, with_taken}
+use Rattle.resp_proxy.specs.Leaving.{NeedsOwn}
+use Rattle.resp_proxy.specs.Taking.{HasTaken, IsTaken, SetsAside, Taken, Takes, TakesOne, TakesPart, TakesSome, texts_taken, with_one, with_taken}
 use Rattle.resp_proxy.specs.Terms.{Terms}
 use Rattle.resp_proxy.specs.Unfinished.{HasUnfinished, WhereUnfinished, terms_of}
 
@@ -67,10 +70,10 @@ takes-part terms who bytes after more old mid new t c =
 
 -- the loop has taken one more part
 pub some-part : (terms terms' : Terms) (who : ClientId) (front piece : List ℕ) (used count : ℕ) (u u' : Unfinished) (old mid new : Multiplexed) →
-    terms' ≡ terms → TakesSome terms who (front ++ take used piece) u (Ok tt) old mid →
+    terms' ≡ terms → TakesSome terms who (front ++ take used piece) u None (Ok tt) old mid →
     ((after : List ℕ) → HasUnfinished terms' u after →
     HasUnfinished terms' u' [] × TakesPart terms' who (after ++ take count (drop used piece)) mid new) →
-    TakesSome terms who (front ++ take (used + count) piece) u' (Ok tt) old new
+    TakesSome terms who (front ++ take (used + count) piece) u' None (Ok tt) old new
 some-part terms terms' who front piece used count u u' old mid new same s next =
     let c : HasUnfinished terms u' [] × TakesPart terms who (s.after ++ take count (drop used piece)) mid new =
     subst (λ r. HasUnfinished r u' [] × TakesPart r who (s.after ++ take count (drop used piece)) mid new) same
@@ -94,13 +97,17 @@ taken-and-rest terms who front bytes after used old new t =
     subst (λ b. Takes terms who b (after ++ drop used bytes) old new) joined
     (takes-bytes terms who (front ++ take used bytes) after (drop used bytes) old new new t (λ p h. h))
 
-one-taken : (terms : Terms) (who : ClientId) (front piece : List ℕ) (u : Unfinished) (found : Option ℕ) (used : ℕ) (old new : Multiplexed) → found ≡ Some used →
-    TakesOne terms who front piece u found old new → HasUnfinished terms u [] × TakesPart terms who (front ++ take used piece) old new
-one-taken terms who front piece u found used old new e t = subst (λ o. TakesOne terms who front piece u o old new) e t
+one-taken : (terms : Terms) (who : ClientId) (front piece : List ℕ) (u : Unfinished) (part : Part) (used : ℕ) (old new : Multiplexed) → part ≡ Whole used →
+    TakesOne terms who front piece u part old new → HasUnfinished terms u [] × TakesPart terms who (front ++ take used piece) old new
+one-taken terms who front piece u part used old new e t = subst (λ p. TakesOne terms who front piece u p old new) e t
 
-none-taken : (terms : Terms) (who : ClientId) (front piece : List ℕ) (u : Unfinished) (found : Option ℕ) (old new : Multiplexed) → found ≡ None →
-    TakesOne terms who front piece u found old new → HasUnfinished terms u (front ++ piece) × KeepsPassed old new
-none-taken terms who front piece u found old new e t = subst (λ o. TakesOne terms who front piece u o old new) e t
+none-taken : (terms : Terms) (who : ClientId) (front piece : List ℕ) (u : Unfinished) (part : Part) (old new : Multiplexed) → part ≡ Partial →
+    TakesOne terms who front piece u part old new → HasUnfinished terms u (front ++ piece) × KeepsPassed old new
+none-taken terms who front piece u part old new e t = subst (λ p. TakesOne terms who front piece u p old new) e t
+
+-- what was done with a part
+abbrev pub one-aside : Terms → ClientId → List ℕ → List ℕ → Unfinished → Part → Multiplexed → Multiplexed → Type 0
+one-aside terms who front piece u part old new = TakesOne terms who front piece u part old new
 
 -- the bytes after the first, as a slice gives them
 abbrev pub rest-of : ℕ → List ℕ → List ℕ
@@ -110,31 +117,32 @@ pub whole-rest : (used : ℕ) (piece : List ℕ) → rest-of used piece ≡ drop
 whole-rest used piece = take_whole (length piece - used) (drop used piece) (sym (length-drop used piece))
 
 -- the loop has taken one more part
-pub more-taken : (i i1 i2 : Intake) (u u1 u2 : Unfinished) (old mid new : Multiplexed) (who : ClientId) (piece : List ℕ) (used count : ℕ) (found : Option ℕ) →
-    HasTaken i u old who piece used i1 u1 mid → found ≡ Some count → used + count ≤ length piece → KeepsClients mid new →
-    (IsReady i1.frames → IsReady i2.frames) → terms_of i2 ≡ terms_of i1 →
-    WhereUnfinished i1 u1 (λ front. TakesOne (terms_of i1) who front (rest-of used piece) u2 found mid new) →
+pub more-taken : (i i1 i2 : Intake) (u u1 u2 : Unfinished) (old mid new : Multiplexed) (who : ClientId) (piece : List ℕ) (used count : ℕ) (part : Part) →
+    HasTaken i u old who piece used i1 u1 mid → part ≡ Whole count → used + count ≤ length piece → KeepsClients mid new →
+    (IsReady i1.frames → IsReady i2.frames) → terms_of i2 ≡ terms_of i1 → i2.admits_own ≡ i1.admits_own →
+    WhereUnfinished i1 u1 (λ front. TakesOne (terms_of i1) who front (rest-of used piece) u2 part mid new) →
     HasTaken i u old who piece (used + count) i2 u2 new
-more-taken i i1 i2 u u1 u2 old mid new who piece used count found h e within clients ready same taken = record {
+more-taken i i1 i2 u u1 u2 old mid new who piece used count part h e within clients ready same own taken = record {
   within = within;
   ready = λ r. ready (h.ready r);
   same_terms = same ∙ h.same_terms;
+  same_own = own ∙ h.same_own;
   clients = kept-clients old mid new h.clients clients;
   taken = λ r front begun.
       some-part (terms_of i) (terms_of i1) who front piece used count u1 u2 old mid new h.same_terms (h.taken r front begun)
-      (λ after begun'. one-taken (terms_of i1) who after (drop used piece) u2 found count mid new e
-      (subst (λ rest. TakesOne (terms_of i1) who after rest u2 found mid new) (whole-rest used piece) (taken (h.ready r) after begun')));
+      (λ after begun'. one-taken (terms_of i1) who after (drop used piece) u2 part count mid new e
+      (subst (λ rest. TakesOne (terms_of i1) who after rest u2 part mid new) (whole-rest used piece) (taken (h.ready r) after begun')));
 }
 
 -- the loop has taken all bytes, and no command has ended
-pub all-taken : (i i1 : Intake) (u u1 u2 : Unfinished) (old mid new : Multiplexed) (who : ClientId) (piece : List ℕ) (used : ℕ) (found : Option ℕ) →
-    HasTaken i u old who piece used i1 u1 mid → found ≡ None →
-    WhereUnfinished i1 u1 (λ front. TakesOne (terms_of i1) who front (rest-of used piece) u2 found mid new) →
-    WhereUnfinished i u (λ front. TakesSome (terms_of i) who (front ++ take (length piece) piece) u2 (Ok tt) old new)
-all-taken i i1 u u1 u2 old mid new who piece used found h e taken r front begun =
+pub all-taken : (i i1 : Intake) (u u1 u2 : Unfinished) (old mid new : Multiplexed) (who : ClientId) (piece : List ℕ) (used : ℕ) (part : Part) →
+    HasTaken i u old who piece used i1 u1 mid → part ≡ Partial →
+    WhereUnfinished i1 u1 (λ front. TakesOne (terms_of i1) who front (rest-of used piece) u2 part mid new) →
+    WhereUnfinished i u (λ front. TakesSome (terms_of i) who (front ++ take (length piece) piece) u2 None (Ok tt) old new)
+all-taken i i1 u u1 u2 old mid new who piece used part h e taken r front begun =
     let s = h.taken r front begun in
-    let none = none-taken (terms_of i1) who s.after (drop used piece) u2 found mid new e
-    (subst (λ rest. TakesOne (terms_of i1) who s.after rest u2 found mid new) (whole-rest used piece)
+    let none = none-taken (terms_of i1) who s.after (drop used piece) u2 part mid new e
+    (subst (λ rest. TakesOne (terms_of i1) who s.after rest u2 part mid new) (whole-rest used piece)
     (taken (h.ready r) s.after (subst (λ terms. HasUnfinished terms u1 s.after) (sym h.same_terms) s.begun))) in
     let joined : (front ++ take used piece) ++ drop used piece ≡ front ++ take (length piece) piece =
     append_assoc front (take used piece) (drop used piece) ∙ ap (λ b. front ++ b) (take-append-drop used piece ∙ sym (take-length piece)) in
@@ -146,24 +154,50 @@ all-taken i i1 u u1 u2 old mid new who piece used found h e taken r front begun 
     }
 
 -- the loop has taken a part that ended where it began
-pub same-taken : (i i1 i2 : Intake) (u u1 u2 : Unfinished) (old mid new : Multiplexed) (who : ClientId) (piece : List ℕ) (used : ℕ) (found : Option ℕ)
+pub same-taken : (i i1 i2 : Intake) (u u1 u2 : Unfinished) (old mid new : Multiplexed) (who : ClientId) (piece : List ℕ) (used : ℕ) (part : Part)
     (error : ClientError) →
-    HasTaken i u old who piece used i1 u1 mid → found ≡ Some 0 → KeepsClients mid new → (IsReady i1.frames → IsReady i2.frames) →
-    terms_of i2 ≡ terms_of i1 →
-    WhereUnfinished i1 u1 (λ front. TakesOne (terms_of i1) who front (rest-of used piece) u2 found mid new) →
-    WhereUnfinished i u (λ front. TakesSome (terms_of i) who (front ++ take used piece) u2 (Err error) old new)
-same-taken i i1 i2 u u1 u2 old mid new who piece used found error h e clients ready same taken r front begun =
+    HasTaken i u old who piece used i1 u1 mid → part ≡ Whole 0 → KeepsClients mid new → (IsReady i1.frames → IsReady i2.frames) →
+    terms_of i2 ≡ terms_of i1 → i2.admits_own ≡ i1.admits_own →
+    WhereUnfinished i1 u1 (λ front. TakesOne (terms_of i1) who front (rest-of used piece) u2 part mid new) →
+    WhereUnfinished i u (λ front. TakesSome (terms_of i) who (front ++ take used piece) u2 None (Err error) old new)
+same-taken i i1 i2 u u1 u2 old mid new who piece used part error h e clients ready same own taken r front begun =
     let none : used + 0 ≡ used = omega arith in
     let within : used + 0 ≤ length piece = subst (λ n. n ≤ length piece) (sym none) h.within in
-    let next = more-taken i i1 i2 u u1 u2 old mid new who piece used 0 found h e within clients ready same taken in
+    let next = more-taken i i1 i2 u u1 u2 old mid new who piece used 0 part h e within clients ready same own taken in
     let t = next.taken r front begun in
-    subst (λ n. TakesSome (terms_of i) who (front ++ take n piece) u2 (Err error) old new) none
+    subst (λ n. TakesSome (terms_of i) who (front ++ take n piece) u2 None (Err error) old new) none
     (record { after = t.after; takes = t.takes; begun = tt })
+
+-- the next command was put aside
+pub aside-taken : (i i1 : Intake) (u u1 u2 : Unfinished) (old mid new : Multiplexed) (who : ClientId) (piece text : List ℕ) (used count : ℕ) (part : Part) →
+    HasTaken i u old who piece used i1 u1 mid →
+    ((terms : Terms) (front bytes : List ℕ) → one-aside terms who front bytes u2 part mid new →
+    HasUnfinished terms u2 [] × SetsAside terms (front ++ take count bytes) text mid new) →
+    WhereUnfinished i1 u1 (λ front. TakesOne (terms_of i1) who front (rest-of used piece) u2 part mid new) →
+    WhereUnfinished i u (λ front. TakesSome (terms_of i) who (front ++ take (used + count) piece) u2 (Some text) (Ok tt) old new)
+aside-taken i i1 u u1 u2 old mid new who piece text used count part h is taken r front begun =
+    let s = h.taken r front begun in
+    let more = take count (drop used piece) in
+    let one = is (terms_of i1) s.after (drop used piece)
+    (subst (λ rest. TakesOne (terms_of i1) who s.after rest u2 part mid new) (whole-rest used piece)
+    (taken (h.ready r) s.after (subst (λ terms. HasUnfinished terms u1 s.after) (sym h.same_terms) s.begun))) in
+    let joined : (front ++ take used piece) ++ more ≡ front ++ take (used + count) piece =
+    append_assoc front (take used piece) more ∙ ap (λ b. front ++ b) (sym (take-add used count piece)) in
+    record {
+      after = s.after ++ more;
+      takes = subst (λ b. Takes (terms_of i) who b (s.after ++ more) old new) joined
+          (takes-bytes (terms_of i) who (front ++ take used piece) s.after more old mid new s.takes one.1.kept);
+      begun = (
+        subst (λ terms. HasUnfinished terms u2 []) h.same_terms one.0,
+        one.1.same,
+        subst (λ terms. NeedsOwn terms (s.after ++ more)) h.same_terms one.1.needs,
+      );
+    }
 
 -- the loop ends at an error
 pub lost-taken : (i i1 : Intake) (u u1 u2 : Unfinished) (old mid new : Multiplexed) (who : ClientId) (piece : List ℕ) (used : ℕ) (error : ClientError) →
     HasTaken i u old who piece used i1 u1 mid → KeepsPassed mid new →
-    WhereUnfinished i u (λ front. TakesSome (terms_of i) who (front ++ take used piece) u2 (Err error) old new)
+    WhereUnfinished i u (λ front. TakesSome (terms_of i) who (front ++ take used piece) u2 None (Err error) old new)
 lost-taken i i1 u u1 u2 old mid new who piece used error h kept r front begun =
     let s = h.taken r front begun in
     record {

@@ -16,6 +16,9 @@ is_closing c = c.is_closing
 abbrev pub waits_for_room : Client → List ℕ
 waits_for_room c = c.rest.items
 
+abbrev pub is_leaving : Client → Bool
+is_leaving c = c.is_leaving
+
 -- these bytes came from the client, and are not yet a command
 pub record Holds (terms : Terms) (c : Client) (held : List ℕ) : Type 0 where
   pub front : List ℕ

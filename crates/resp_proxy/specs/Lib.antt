@@ -7,5 +7,6 @@ pub mod Room
 pub mod Taking
 pub mod Telling
 pub mod Visiting
+pub mod Leaving
 pub mod Terms
 pub mod Unfinished

@@ -1,5 +1,5 @@
 -- The state of a proxy.
-use Rattle.std.specs.Prelude.{◌≡◌, ℕ, List, None, codes}
+use Rattle.std.specs.Prelude.{◌≡◌, ℕ, Bool, List, None, codes}
 use Rattle.resp_frames.specs.declared.begun.Begun.{Begun}
 use Rattle.resp_frames.specs.declared.frames.Frames.{Frames}
 use Rattle.resp_frames.specs.Framing.{HasBegun, IsReady}
@@ -23,6 +23,8 @@ pub record Proxied : Type 0 where
   pub begun : Begun
   -- the clients that were replied to and were not asked for yet
   pub replied : List ClientId
+  -- whether a client may get a connection of its own
+  pub own : Bool
 
 abbrev pub mux_of : Proxied → Multiplexed
 mux_of p = p.mux
@@ -50,6 +52,23 @@ with_replied clients p = record {
   reply_rules = p.reply_rules;
   begun = p.begun;
   replied = clients;
+  own = p.own;
+}
+
+-- whether a client may get a connection of its own
+abbrev pub admits_own : Proxied → Bool
+admits_own p = p.own
+
+-- a client may get a connection of its own, or not, and all else is as it was
+abbrev pub with_own_admitted : Bool → Proxied → Proxied
+with_own_admitted own p = record {
+  mux = p.mux;
+  settings = p.settings;
+  terms = p.terms;
+  reply_rules = p.reply_rules;
+  begun = p.begun;
+  replied = p.replied;
+  own = own;
 }
 
 abbrev pub settings_of : Proxied → Settings

@@ -7,6 +7,9 @@ use Rattle.resp_mux.specs.declared.client_id.ClientId.{ClientId}
 use Rattle.resp_mux.specs.Multiplexing.{HasPassed, KeepsClients, KeepsPassed, Multiplexed, WherePassed}
 use Rattle.resp_mux.specs.Passing.{Passed, with_command, with_own}
 use Rattle.resp_proxy.specs.Clients.{Holds, is_closing}
+use Rattle.resp_proxy.specs.Leaving.{NeedsOwn}
+use Rattle.resp_proxy.specs.declared.part.Part.{Part}
+use Rattle.resp_proxy.specs.declared.part.Part.TheVariants.{Aside, Partial, Whole}
 use Rattle.resp_proxy.specs.Terms.{BeginsLine, IsAdmitted, IsNoRequest, IsRequestOf, IsWithinLine, MayBeSent, Terms}
 use Rattle.resp_proxy.specs.Unfinished.{HasUnfinished, WhereUnfinished, terms_of}
 use Rattle.resp_proxy.specs.declared.client.Client.{Client}
@@ -114,11 +117,19 @@ pub record TakesPart (terms : Terms) (who : ClientId) (text : List ℕ) (old new
   pub fits : Fits terms text deed
   pub passed : WherePassed old (λ p. HasPassed new (with_one who deed p))
 
--- a part was taken that is an array and ends in the piece, or no array ends in it
-abbrev pub TakesArray : Terms → ClientId → List ℕ → List ℕ → Begun → Option ℕ → Multiplexed → Multiplexed → Type 0
-TakesArray terms who front piece begun found old new =
-    MatchOption found (HasBegun terms.rules begun (front ++ piece) × KeepsPassed old new)
-    (λ used. HasBegun terms.rules begun [] × TakesPart terms who (front ++ take used piece) old new)
+-- these bytes are a command that needs a connection of the client's own, and nothing was done
+pub record SetsAside (terms : Terms) (bytes text : List ℕ) (old new : Multiplexed) : Type 0 where
+  pub same : text ≡ bytes
+  pub needs : NeedsOwn terms bytes
+  pub kept : KeepsPassed old new
+
+-- a part was taken or put aside that is an array and ends in the piece, or no array ends in it
+abbrev pub TakesArray : Terms → ClientId → List ℕ → List ℕ → Begun → Part → Multiplexed → Multiplexed → Type 0
+TakesArray terms who front piece begun Partial old new = HasBegun terms.rules begun (front ++ piece) × KeepsPassed old new
+TakesArray terms who front piece begun (Whole used) old new =
+    HasBegun terms.rules begun [] × TakesPart terms who (front ++ take used piece) old new
+TakesArray terms who front piece begun (Aside used text) old new =
+    HasBegun terms.rules begun [] × SetsAside terms (front ++ take used piece) text.items old new
 
 -- the text is the whole line of these bytes
 pub record EndsLine (terms : Terms) (content text : List ℕ) : Type 0 where
@@ -139,18 +150,25 @@ TakesLine terms who front piece line found old new =
     MatchOption found ((line ≡ front ++ piece) × IsWithinLine line × KeepsPassed old new)
     (λ used. (line ≡ []) × TakesPart terms who (front ++ take used piece) old new)
 
--- a part was taken that ends in the piece, or none ends in it
-abbrev pub TakesOne : Terms → ClientId → List ℕ → List ℕ → Unfinished → Option ℕ → Multiplexed → Multiplexed → Type 0
-TakesOne terms who front piece u found old new =
-    MatchOption found (HasUnfinished terms u (front ++ piece) × KeepsPassed old new)
-    (λ used. HasUnfinished terms u [] × TakesPart terms who (front ++ take used piece) old new)
+-- a part was taken or put aside that ends in the piece, or none ends in it
+abbrev pub TakesOne : Terms → ClientId → List ℕ → List ℕ → Unfinished → Part → Multiplexed → Multiplexed → Type 0
+TakesOne terms who front piece u Partial old new = HasUnfinished terms u (front ++ piece) × KeepsPassed old new
+TakesOne terms who front piece u (Whole used) old new =
+    HasUnfinished terms u [] × TakesPart terms who (front ++ take used piece) old new
+TakesOne terms who front piece u (Aside used text) old new =
+    HasUnfinished terms u [] × SetsAside terms (front ++ take used piece) text.items old new
 
--- whole commands were taken from the bytes, and the others are begun, or lost after an error
-pub record TakesSome (terms : Terms) (who : ClientId) (bytes : List ℕ) (u : Unfinished) (end : Result (Unit {0}) ClientError)
-    (old new : Multiplexed) : Type 0 where
+-- the client has begun a command with these bytes, or they are the command that was put aside
+abbrev pub IsLeft : Terms → Unfinished → List ℕ → Option (List ℕ) → Type 0
+IsLeft terms u after None = HasUnfinished terms u after
+IsLeft terms u after (Some text) = HasUnfinished terms u [] × (text ≡ after) × NeedsOwn terms after
+
+-- whole commands were taken from the bytes, and the others are begun or put aside, or lost after an error
+pub record TakesSome (terms : Terms) (who : ClientId) (bytes : List ℕ) (u : Unfinished) (aside : Option (List ℕ))
+    (end : Result (Unit {0}) ClientError) (old new : Multiplexed) : Type 0 where
   pub after : List ℕ
   pub takes : Takes terms who bytes after old new
-  pub begun : OnOk end (HasUnfinished terms u after)
+  pub begun : OnOk end (IsLeft terms u after aside)
 
 -- whole commands were taken from the bytes, and the client holds the others, or they are lost after an error
 pub record TakesHeld (terms : Terms) (who : ClientId) (bytes : List ℕ) (c : Client) (end : Result (Unit {0}) ClientError)
@@ -188,5 +206,6 @@ pub record HasTaken (intake : Intake) (u : Unfinished) (old : Multiplexed) (who 
   pub within : used ≤ length piece
   pub ready : IsReady intake.frames → IsReady intake'.frames
   pub same_terms : terms_of intake' ≡ terms_of intake
+  pub same_own : intake'.admits_own ≡ intake.admits_own
   pub clients : KeepsClients old new
-  pub taken : WhereUnfinished intake u (λ front. TakesSome (terms_of intake) who (front ++ take used piece) u' (Ok tt) old new)
+  pub taken : WhereUnfinished intake u (λ front. TakesSome (terms_of intake) who (front ++ take used piece) u' None (Ok tt) old new)

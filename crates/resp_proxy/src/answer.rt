@@ -1,5 +1,8 @@
 //! The replies of the proxy itself.
 
+ghost use Rattle.std.specs.Prelude.{IsTrue};
+ghost use Rattle.resp_proxy.specs.Leaving.{IsForOwn};
+
 use crate::error::ClientError;
 use resp_commands::{Class, entry};
 use resp_frames::CommandFrame;
@@ -19,6 +22,31 @@ struct Asked<'a> {
     count: u64,
     first: &'a [u8],
     second: &'a [u8],
+}
+
+/// Returns whether a command needs a connection of the client's own, and the proxy does not reply to it.
+pub(crate) fn needs_own(limits: &Limits, command: &CommandFrame) -> bool
+    ensures { IsTrue result → IsForOwn command.now.words.class }
+{
+    match command.words.class {
+        Some(Class::OwnConnection) => true,
+        Some(Class::Setting) => !keeps_settings(limits, command),
+        _ => false,
+    }
+}
+
+/// Returns whether a command leaves the client in version 2 and in database 0: HELLO, HELLO 2 and SELECT 0.
+fn keeps_settings(limits: &Limits, command: &CommandFrame) -> bool {
+    let Some(words) = whole::command(command.frame.text(), limits) else {
+        return false;
+    };
+    let count = command.words.arguments;
+    let mut arguments = words.arguments;
+    let first = arguments.next().unwrap_or(b"");
+    if is(words.name, b"HELLO") {
+        return count == 0 || count == 1 && first == b"2".as_slice();
+    }
+    is(words.name, b"SELECT") && count == 1 && first == b"0".as_slice()
 }
 
 /// What the proxy does with a command that is not sent to the server.
@@ -159,10 +187,12 @@ fn set_name(alloc: Global, label: &mut Vec<u8>, name: &[u8]) -> Result<Vec<u8>, 
 /// Returns the reply to HELLO: the client stays in version 2.
 fn answer_to_hello(alloc: Global, who: ClientId, asked: Asked<'_>) -> Result<Vec<u8>, AllocError> {
     if asked.count > 1 {
-        return b"-ERR 'HELLO' with options is not served by this proxy yet\r\n".to_vec(alloc);
+        return b"-ERR 'HELLO' with options needs a connection of its own, and no more are allowed\r\n".to_vec(
+            alloc,
+        );
     }
     if asked.count == 1 && asked.first != b"2".as_slice() {
-        return b"-NOPROTO 'HELLO' with another version than 2 is not served by this proxy yet\r\n".to_vec(
+        return b"-NOPROTO 'HELLO' with another version than 2 needs a connection of its own, and no more are allowed\r\n".to_vec(
             alloc,
         );
     }
@@ -203,7 +233,9 @@ fn refusal(alloc: Global, asked: Asked<'_>, class: Option<Class>) -> Result<Vec<
         }
         None => format!(in alloc; "-ERR unknown command '{name}'\r\n")?,
         Some(Class::Setting | Class::OwnConnection) => {
-            format!(in alloc; "-ERR '{name}' is not served by this proxy yet\r\n")?
+            format!(in alloc;
+                "-ERR '{name}' needs a connection of its own, and no more are allowed\r\n"
+            )?
         }
         Some(_) => format!(in alloc; "-ERR '{name}' is not served by this proxy\r\n")?,
     };

@@ -39,7 +39,7 @@ pub(crate) fn carry_out(
 {
     no_spelling_begins_another();
     if is_shared(command) {
-        return match local_answer(alloc, settings, mux, command) {
+        return match local_answer(alloc, settings, &intake.counts, mux, command) {
             Ok(Some(answer)) => own(mux, who, &answer),
             Ok(None) => forward(mux, who, command.frame.text()),
             Err(AllocError) => Err(ClientError::OutOfMemory),

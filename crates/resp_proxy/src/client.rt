@@ -1,7 +1,7 @@
 //! A client of a proxy.
 
 ghost use Rattle.std.specs.Prelude.{◌≡◌, false, []};
-ghost use Rattle.resp_proxy.specs.Clients.{Holds, client_id, is_closing};
+ghost use Rattle.resp_proxy.specs.Clients.{Holds, client_id, is_closing, is_leaving};
 ghost use Rattle.resp_proxy.specs.Terms.{Terms};
 
 use crate::unfinished::Unfinished;
@@ -20,6 +20,8 @@ pub struct Client {
     /// The bytes after it. They wait until there is room for more commands.
     pub(crate) rest: BytesMut,
     pub(crate) is_closing: bool,
+    /// Whether the next command, with which `rest` begins, needs a connection of the client's own.
+    pub(crate) is_leaving: bool,
     /// The name that the client has given itself.
     pub(crate) label: Vec<u8>,
 }
@@ -30,12 +32,14 @@ impl Client {
         ensures id { client_id result ≡ id }
         ensures nothing { (terms : Terms) → Holds terms result [] }
         ensures open { is_closing result ≡ false }
+        ensures stays { is_leaving result ≡ false }
     {
         Client {
             id,
             unfinished: Unfinished::new(alloc),
             rest: BytesMut::new(alloc),
             is_closing: false,
+            is_leaving: false,
             label: Vec::new(alloc),
         }
     }
@@ -53,5 +57,13 @@ impl Client {
         ensures { result ≡ is_closing self.now }
     {
         self.is_closing
+    }
+
+    /// Returns whether the next command of this client needs a connection of its own. Nothing more is
+    /// taken from this client. Call [`Proxy::leave`](crate::Proxy::leave) when all its replies were written.
+    pub fn is_leaving(&self) -> bool
+        ensures { result ≡ is_leaving self.now }
+    {
+        self.is_leaving
     }
 }

@@ -1,9 +1,10 @@
 //! Takes commands from the bytes of a client.
 
-ghost use Rattle.std.specs.Prelude.{◌≡◌, ◌++◌, ◌≤◌, length, take, IfOk, IfSome, OnErr, OnOk};
+ghost use Rattle.std.specs.Prelude.{◌≡◌, ◌++◌, ◌≤◌, None, length, option_map, take, true, IfOk, IsSome, OnErr, OnOk};
 ghost use Rattle.resp_frames.specs.Framing.{IsReady, WhereBegun, frame_rules};
 ghost use Rattle.resp_mux.specs.Multiplexing.{KeepsClients, KeepsPassed};
 ghost use Rattle.resp_proxy.specs.Room.{HasRoom};
+ghost use Rattle.resp_proxy.specs.Leaving.{IsAside, part_used};
 ghost use Rattle.resp_proxy.specs.Taking.{TakesArray, TakesOne, TakesSome};
 ghost use Rattle.resp_proxy.specs.Unfinished.{WhereUnfinished, terms_of};
 
@@ -11,17 +12,20 @@ use crate::carrying::carry_out;
 use crate::error::ClientError;
 use crate::intake::Intake;
 use crate::lines::take_line;
+use crate::part::{Part, part_of};
 use crate::settings::Settings;
 use crate::unfinished::Unfinished;
 use resp_frames::{Begun, Request};
 use resp_mux::{ClientId, Mux};
-use std::alloc::Global;
+use std::alloc::{AllocError, Global};
 
 /// The result of [`take_commands`].
-#[derive(Clone, Copy)]
+#[derive(Drop)]
 pub(crate) struct Taken {
-    /// The number of bytes that were taken.
+    /// The number of bytes that were taken, or that belong to the command that was put aside.
     pub(crate) used: usize,
+    /// The text of the next command, if it needs a connection of the client's own. It was not taken.
+    pub(crate) aside: Option<Vec<u8>>,
     pub(crate) end: Result<(), ClientError>,
 }
 
@@ -42,14 +46,16 @@ pub(crate) fn take_commands(
 ) -> Taken
     ensures taken { WhereUnfinished intake.old unfinished.old (λ front.
         TakesSome (terms_of intake.old) who (front ++ take result.used piece.now) unfinished.new
-        result.end mux.old mux.new) }
+        (option_map (λ text. text.items) result.aside) result.end mux.old mux.new) }
     ensures within { result.used ≤ length piece.now }
     // If there is room for more, all bytes were taken.
-    ensures all { OnOk result.end (HasRoom settings.now mux.new who →
+    ensures all { OnOk result.end (result.aside ≡ None → HasRoom settings.now mux.new who →
         result.used ≡ length piece.now) }
+    ensures admitted { IsSome result.aside → intake.old.admits_own ≡ true }
     ensures same_clients { KeepsClients mux.old mux.new }
     ensures ready { IsReady intake.old.frames → IsReady intake.new.frames }
     ensures same_terms { terms_of intake.new ≡ terms_of intake.old }
+    ensures same_own { intake.new.admits_own ≡ intake.old.admits_own }
 {
     let mut used = 0;
     while used < piece.len() && settings.has_room(mux, who) {
@@ -63,32 +69,35 @@ pub(crate) fn take_commands(
             who,
             &piece[used..],
         ) {
-            Ok(Some(0)) => {
+            Ok(Part::Whole(0)) => return ended(used, Err(ClientError::NoProgress)),
+            Ok(Part::Whole(count)) => used += count,
+            Ok(Part::Partial) => return ended(piece.len(), Ok(())),
+            Ok(Part::Aside(count, text)) => {
                 return Taken {
-                    used,
-                    end: Err(ClientError::NoProgress),
-                };
-            }
-            Ok(Some(count)) => used += count,
-            Ok(None) => {
-                return Taken {
-                    used: piece.len(),
+                    used: used + count,
+                    aside: Some(text),
                     end: Ok(()),
                 };
             }
-            Err(error) => {
-                return Taken {
-                    used,
-                    end: Err(error),
-                };
-            }
+            Err(error) => return ended(used, Err(error)),
         }
     }
-    Taken { used, end: Ok(()) }
+    ended(used, Ok(()))
 }
 
-/// Takes bytes up to the end of a command, and carries this command out. Returns the number of bytes,
-/// or `None` if no command ends in the piece. Then all bytes of the piece are held.
+/// Returns the result if no command was put aside.
+fn ended(used: usize, end: Result<(), ClientError>) -> Taken
+    ensures { result ≡ record { used = used; aside = None; end = end } }
+{
+    Taken {
+        used,
+        aside: None,
+        end,
+    }
+}
+
+/// Takes bytes up to the end of a command, and carries this command out, unless it needs a connection of the
+/// client's own.
 fn take_one(
     alloc: Global,
     settings: &Settings,
@@ -98,17 +107,19 @@ fn take_one(
     mux: &mut Mux,
     who: ClientId,
     piece: &[u8],
-) -> Result<Option<usize>, ClientError>
-    ensures taken { WhereUnfinished intake.old unfinished.old (λ front. IfOk result (λ found.
-        TakesOne (terms_of intake.old) who front piece.now unfinished.new found mux.old mux.new)) }
+) -> Result<Part, ClientError>
+    ensures taken { WhereUnfinished intake.old unfinished.old (λ front. IfOk result (λ part.
+        TakesOne (terms_of intake.old) who front piece.now unfinished.new part mux.old mux.new)) }
     ensures unchanged { OnErr result (KeepsPassed mux.old mux.new) }
-    ensures within { IfOk result (λ found. IfSome found (λ used. used ≤ length piece.now)) }
+    ensures within { IfOk result (λ part. part_used part ≤ length piece.now) }
+    ensures admitted { IfOk result (λ part. IsAside part → intake.old.admits_own ≡ true) }
     ensures same_clients { KeepsClients mux.old mux.new }
     ensures ready { IsReady intake.old.frames → IsReady intake.new.frames }
     ensures same_terms { terms_of intake.new ≡ terms_of intake.old }
+    ensures same_own { intake.new.admits_own ≡ intake.old.admits_own }
 {
     if intake.is_line(unfinished, piece) {
-        take_line(
+        match take_line(
             alloc,
             settings,
             intake,
@@ -117,7 +128,10 @@ fn take_one(
             mux,
             who,
             piece,
-        )
+        ) {
+            Ok(found) => Ok(part_of(found)),
+            Err(error) => Err(error),
+        }
     } else {
         take_array(
             alloc,
@@ -132,8 +146,8 @@ fn take_one(
     }
 }
 
-/// Takes bytes up to the end of an array, and carries out the command that it is. Returns the number of
-/// bytes, or `None` if the array does not end in the piece. Then all bytes of the piece are held.
+/// Takes bytes up to the end of an array, and carries out the command that it is, unless it needs a connection
+/// of the client's own.
 fn take_array(
     alloc: Global,
     settings: &Settings,
@@ -143,14 +157,16 @@ fn take_array(
     mux: &mut Mux,
     who: ClientId,
     piece: &[u8],
-) -> Result<Option<usize>, ClientError>
-    ensures taken { WhereBegun intake.old.frames begun.old (λ front. IfOk result (λ found.
-        TakesArray (terms_of intake.old) who front piece.now begun.new found mux.old mux.new)) }
+) -> Result<Part, ClientError>
+    ensures taken { WhereBegun intake.old.frames begun.old (λ front. IfOk result (λ part.
+        TakesArray (terms_of intake.old) who front piece.now begun.new part mux.old mux.new)) }
     ensures unchanged { OnErr result (KeepsPassed mux.old mux.new) }
-    ensures within { IfOk result (λ found. IfSome found (λ used. used ≤ length piece.now)) }
+    ensures within { IfOk result (λ part. part_used part ≤ length piece.now) }
+    ensures admitted { IfOk result (λ part. IsAside part → intake.old.admits_own ≡ true) }
     ensures same_clients { KeepsClients mux.old mux.new }
     ensures ready { IsReady intake.old.frames → IsReady intake.new.frames }
     ensures same_terms { terms_of intake.new ≡ terms_of intake.old }
+    ensures same_own { intake.new.admits_own ≡ intake.old.admits_own }
 {
     let found = match intake.frames.next_request(begun, piece) {
         Ok(found) => found,
@@ -158,11 +174,18 @@ fn take_array(
     };
     let command = match found {
         Some(Request::Command(command)) => command,
-        Some(Request::Empty(used)) => return Ok(Some(used)),
-        None => return Ok(None),
+        Some(Request::Empty(used)) => return Ok(Part::Whole(used)),
+        None => return Ok(Part::Partial),
     };
+    let used = command.frame.used();
+    if intake.sets_aside(&command) {
+        return match command.frame.text().to_vec(alloc) {
+            Ok(text) => Ok(Part::Aside(used, text)),
+            Err(AllocError) => Err(ClientError::OutOfMemory),
+        };
+    }
     match carry_out(alloc, settings, intake, label, mux, who, &command) {
-        Ok(()) => Ok(Some(command.frame.used())),
+        Ok(()) => Ok(Part::Whole(used)),
         Err(error) => Err(error),
     }
 }

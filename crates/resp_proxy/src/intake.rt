@@ -1,13 +1,16 @@
 //! Which bytes of a client are commands, and which commands are sent.
 
-ghost use Rattle.std.specs.Prelude.{◌≡◌, List, ℕ, false, IfOk, IsTrue};
+ghost use Rattle.std.specs.Prelude.{◌≡◌, List, ℕ, false, true, IfOk, IsTrue};
 ghost use Rattle.resp_frames.specs.Framing.{IsReady};
 ghost use Rattle.resp_frames.specs.Texts.{text_of};
+ghost use Rattle.resp_proxy.specs.Leaving.{IsForOwn};
 ghost use Rattle.resp_proxy.specs.Taking.{AdmitsText, GoesOn};
 ghost use Rattle.resp_proxy.specs.Terms.{BeginsLine, IsAmong};
 ghost use Rattle.resp_proxy.specs.Unfinished.{HasArray, HasBytes, HasUnfinished, terms_by, terms_of};
 ghost use Rattle.resp_value.specs.Words.{texts_of};
 
+use crate::answer::needs_own;
+use crate::counts::Counts;
 use crate::settings::Settings;
 use crate::unfinished::Unfinished;
 use resp_commands::entry;
@@ -25,6 +28,10 @@ pub(crate) struct Intake {
     pub(crate) lines: bool,
     /// The names of commands that are sent although the table does not have them.
     pub(crate) admitted: Vec<Vec<u8>>,
+    /// Whether a client may get a connection of its own.
+    pub(crate) admits_own: bool,
+    /// What the proxy has counted.
+    pub(crate) counts: Counts,
 }
 
 impl Intake {
@@ -38,6 +45,8 @@ impl Intake {
             frames: Frames::new(alloc, Version::Two, &settings.limits)?,
             lines: settings.lines,
             admitted: Vec::new(alloc),
+            admits_own: false,
+            counts: Counts::new(alloc),
         })
     }
 
@@ -53,6 +62,14 @@ impl Intake {
             return true;
         }
         self.lines && unfinished.begun.is_empty() && begins_line(piece)
+    }
+
+    /// Returns whether a command needs a connection of the client's own, and the client may get one.
+    pub(crate) fn sets_aside(&self, command: &CommandFrame) -> bool
+        ensures admitted { IsTrue result → self.now.admits_own ≡ true }
+        ensures needed { IsTrue result → IsForOwn command.now.words.class }
+    {
+        self.admits_own && needs_own(&self.frames.limits(), command)
     }
 
     /// Returns whether a command that the table does not have is sent: it is one of the admitted

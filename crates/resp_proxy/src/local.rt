@@ -1,5 +1,7 @@
 //! Replies of the proxy itself to commands that the server would reply to.
 
+use crate::counts::{Counts, Numbers};
+use crate::latency::Times;
 use crate::settings::Settings;
 use resp_frames::CommandFrame;
 use resp_mux::Mux;
@@ -15,6 +17,7 @@ const NAME: usize = 8;
 pub(crate) fn local_answer(
     alloc: Global,
     settings: &Settings,
+    counts: &Counts,
     mux: &Mux,
     command: &CommandFrame,
 ) -> Result<Option<Vec<u8>>, AllocError> {
@@ -25,7 +28,7 @@ pub(crate) fn local_answer(
         return Ok(None);
     };
     if name.eq_ignore_ascii_case(b"INFO") {
-        return info(alloc, settings, mux, command.frame.text());
+        return info(alloc, settings, counts, mux, command.frame.text());
     }
     if settings.local_ping && name.eq_ignore_ascii_case(b"PING") {
         return pong(alloc, settings, command.frame.text());
@@ -37,6 +40,7 @@ pub(crate) fn local_answer(
 fn info(
     alloc: Global,
     settings: &Settings,
+    counts: &Counts,
     mux: &Mux,
     text: &[u8],
 ) -> Result<Option<Vec<u8>>, AllocError> {
@@ -48,12 +52,30 @@ fn info(
     if !words.name.eq_ignore_ascii_case(b"INFO") || !section.eq_ignore_ascii_case(b"proxy") {
         return Ok(None);
     }
-    let (clients, opened) = (mux.open_clients(), mux.opened_clients());
-    let (waiting, unsent) = (mux.waiting(), mux.to_server().len());
-    let section = format!(in alloc;
-        "# Proxy\r\nclients:{clients}\r\nclients_opened:{opened}\r\ncommands_waiting:{waiting}\r\nbytes_unsent:{unsent}\r\n"
-    )?;
+    let section = section_of(alloc, counts, mux)?;
     bulk(alloc, section.as_str().as_bytes())
+}
+
+/// Returns the text of the section `proxy`.
+fn section_of(alloc: Global, counts: &Counts, mux: &Mux) -> Result<String, AllocError> {
+    let (waiting, unsent) = (mux.waiting(), mux.to_server().len());
+    let Numbers {
+        clients,
+        accepted,
+        rejected,
+        own,
+        commands,
+        failed,
+        connections,
+    } = counts.numbers(mux);
+    let Times {
+        median,
+        percentile_99,
+        most,
+    } = counts.times();
+    format!(in alloc;
+        "# Proxy\r\nclients:{clients}\r\nclients_accepted:{accepted}\r\nclients_rejected:{rejected}\r\nclients_own:{own}\r\ncommands:{commands}\r\ncommands_waiting:{waiting}\r\ncommands_failed:{failed}\r\nbytes_unsent:{unsent}\r\nserver_connections:{connections}\r\nreply_us_p50:{median}\r\nreply_us_p99:{percentile_99}\r\nreply_us_max:{most}\r\n"
+    )
 }
 
 /// Returns the reply to PING: PONG, or its word.

@@ -4,25 +4,29 @@ ghost use Rattle.std.specs.Prelude.{◌≡◌, ◌↔◌, ◌⊎◌, ◌++◌, t
 ghost use Rattle.resp_frames.specs.Framing.{HasBegun};
 ghost use Rattle.resp_mux.specs.Multiplexing.{HasAnsweredSome, HasClosed, HasNoNumberLeft, HasOpened, HasPassed, KeepsBytes, KeepsClients, KeepsPassed, WherePassed, begun_count, unsent, waiting_clients};
 ghost use Rattle.resp_mux.specs.Passing.{nothing_passed, with_loss};
-ghost use Rattle.resp_proxy.specs.Clients.{Holds, client_id, is_closing, waits_for_room};
+ghost use Rattle.resp_proxy.specs.Clients.{Holds, client_id, is_closing, is_leaving, waits_for_room};
 ghost use Rattle.resp_proxy.specs.Room.{HasRoom};
 ghost use Rattle.resp_proxy.specs.Failing.{Fails, FailsSome};
 ghost use Rattle.resp_proxy.specs.Replying.{TakesReplies};
 ghost use Rattle.resp_proxy.specs.Taking.{TakesIn};
 ghost use Rattle.resp_proxy.specs.Telling.{Tells};
-ghost use Rattle.resp_proxy.specs.Visiting.{GivesSome, HasNothingFor, IsDone, SendsSome};
+ghost use Rattle.resp_proxy.specs.Visiting.{GivesSome, HasNothingFor, IsDone, MayLeave, SendsSome};
 ghost use Rattle.resp_value.specs.Devices.{count_after};
 ghost use Rattle.resp_value.specs.Rules.{Rules};
-ghost use Rattle.resp_proxy.specs.Proxies.{HasBegunBy, HasNoClient, HasRoomFor, WhereBegunBy, WhereHeld, lost_text, mux_of, replied_to, reply_rules_of, terms_of, server_begun, settings_of, with_replied};
+ghost use Rattle.resp_proxy.specs.Leaving.{LeavesRightly};
+ghost use Rattle.resp_proxy.specs.Proxies.{HasBegunBy, HasNoClient, HasRoomFor, WhereBegunBy, WhereHeld, lost_text, admits_own, mux_of, replied_to, reply_rules_of, terms_of, server_begun, settings_of, with_own_admitted, with_replied};
 
 use crate::client::Client;
+use crate::counts::{Counted, Numbers};
 use crate::error::{ClientError, ServerError};
 use crate::giving::{Written, give, has_no_bytes, has_no_command, send};
 use crate::intake::Intake;
+use crate::latency::Times;
 use crate::replies::take_replies;
 use crate::settings::Settings;
 use crate::taking::{shut, take_in};
 use crate::told::note_begun;
+use bytes::BytesMut;
 use resp_frames::{Begun, Frames};
 use resp_mux::{Bounds, ClientId, Mux, OpenError};
 use resp_value::device::Sink;
@@ -64,6 +68,7 @@ impl Model for Proxy {
       reply_rules = frame_rules p.replies;
       begun = p.begun;
       replied = p.replied.items;
+      own = p.intake.admits_own;
     } };
 
     ghost invariant = { λ p. IsSound p.intake.frames p.replies };
@@ -154,8 +159,16 @@ impl Proxy {
             TakesIn (terms_of self.old) (client_id client.old) (held ++ piece.now) client.new
             result (mux_of self.old) (mux_of self.new)) }
         // If there is room for more, no bytes wait for room.
-        ensures all { OnOk result (HasRoomFor self.new client.new →
+        ensures all { OnOk result (is_leaving client.new ≡ false → HasRoomFor self.new client.new →
             waits_for_room client.new ≡ []) }
+        // The client is leaving only if its next command needs a connection of its own.
+        ensures leaves { WhereHeld self.old client.old (λ held.
+            LeavesRightly (terms_of self.old) client.old →
+            LeavesRightly (terms_of self.old) client.new) }
+        ensures stays { OnOk result (is_leaving client.old ≡ true →
+            mux_of self.new ≡ mux_of self.old) }
+        ensures admitted { is_leaving client.old ≡ false → is_leaving client.new ≡ true →
+            admits_own self.old ≡ true }
         ensures same_client { client_id client.new ≡ client_id client.old }
         ensures same_clients { KeepsClients (mux_of self.old) (mux_of self.new) }
         ensures same_terms { terms_of self.new ≡ terms_of self.old }
@@ -202,10 +215,61 @@ impl Proxy {
             && has_no_command(&self.mux, client.id)
     }
 
+    /// Sets whether a client may get a connection of its own. If not, the proxy replies by an error to each
+    /// command that needs one.
+    pub fn admit_own(&mut self, is_admitted: bool)
+        ensures { self.new ≡ with_own_admitted is_admitted self.old }
+    {
+        self.intake.admits_own = is_admitted;
+    }
+
+    /// Returns whether a client is leaving, no command of it waits, and all its replies were written. Call
+    /// [`Proxy::leave`] then.
+    pub fn may_leave(&self, client: &Client) -> bool
+        ensures { IsTrue result ↔ MayLeave (mux_of self.now) client.now }
+    {
+        client.is_leaving
+            && has_no_bytes(&self.mux, client.id)
+            && has_no_command(&self.mux, client.id)
+    }
+
+    /// Closes a client that is leaving, and counts it as one that has a connection of its own. Returns the
+    /// bytes that it holds. They begin with the command that needs this connection.
+    pub fn leave(&mut self, client: Client) -> BytesMut
+        ensures bytes { result.items ≡ waits_for_room client }
+        ensures closed { HasClosed (mux_of self.old) (mux_of self.new) (client_id client) }
+        ensures passed { KeepsPassed (mux_of self.old) (mux_of self.new) }
+        ensures same_terms { terms_of self.new ≡ terms_of self.old }
+        ensures same_replied { replied_to self.new ≡ replied_to self.old }
+    {
+        self.mux.close(client.id);
+        self.intake.counts.give_own();
+        let Client { rest, .. } = client;
+        rest
+    }
+
+    /// Counts. `INFO proxy` prints the numbers.
+    pub fn count(&mut self, counted: Counted)
+        ensures same_state { self.new ≡ self.old }
+    {
+        self.intake.counts.add(counted);
+    }
+
+    /// Returns what was counted.
+    pub fn numbers(&self) -> Numbers {
+        self.intake.counts.numbers(&self.mux)
+    }
+
+    /// Returns how long the replies of the last one to two minutes took, as it was counted.
+    pub fn times(&self) -> Times {
+        self.intake.counts.times()
+    }
+
     /// Takes nothing more from a client. The bytes that it holds are lost.
     pub fn shut(&mut self, client: &mut Client)
         ensures nothing { Holds (terms_of self.new) client.new [] }
         ensures closing { is_closing client.new ≡ true }
+        ensures stays { is_leaving client.new ≡ false }
         ensures same_client { client_id client.new ≡ client_id client.old }
         ensures same_state { self.new ≡ self.old }
     {

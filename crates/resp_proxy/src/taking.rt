@@ -1,9 +1,10 @@
 //! Takes the bytes of a client.
 
-ghost use Rattle.std.specs.Prelude.{◌≡◌, ◌++◌, ◌≤◌, List, ℕ, [], drop, length, true, OnOk};
+ghost use Rattle.std.specs.Prelude.{◌≡◌, ◌++◌, ◌≤◌, List, ℕ, [], drop, false, length, option_map, true, IsSome, OnOk};
 ghost use Rattle.resp_frames.specs.Framing.{IsReady};
 ghost use Rattle.resp_mux.specs.Multiplexing.{KeepsClients};
-ghost use Rattle.resp_proxy.specs.Clients.{Holds, client_id, is_closing, waits_for_room};
+ghost use Rattle.resp_proxy.specs.Clients.{Holds, client_id, is_closing, is_leaving, waits_for_room};
+ghost use Rattle.resp_proxy.specs.Leaving.{LeavesRightly, PutsBack};
 ghost use Rattle.resp_proxy.specs.Room.{HasRoom};
 ghost use Rattle.resp_proxy.specs.Taking.{SaysLast, TakesHeld, TakesIn};
 ghost use Rattle.resp_proxy.specs.Terms.{Terms};
@@ -35,8 +36,15 @@ pub(crate) fn take_in(
         Holds (terms_of intake.old) client.old held →
         TakesIn (terms_of intake.old) (client_id client.old) (held ++ piece.now) client.new
         result mux.old mux.new }
-    ensures all { OnOk result (HasRoom settings.now mux.new (client_id client.old) →
-        waits_for_room client.new ≡ []) }
+    ensures all { OnOk result (is_leaving client.new ≡ false →
+        HasRoom settings.now mux.new (client_id client.old) → waits_for_room client.new ≡ []) }
+    ensures leaves { IsReady intake.old.frames → (held : List ℕ) →
+        Holds (terms_of intake.old) client.old held →
+        LeavesRightly (terms_of intake.old) client.old →
+        LeavesRightly (terms_of intake.old) client.new }
+    ensures stays { OnOk result (is_leaving client.old ≡ true → mux.new ≡ mux.old) }
+    ensures admitted { is_leaving client.old ≡ false → is_leaving client.new ≡ true →
+        intake.old.admits_own ≡ true }
     ensures same_client { client_id client.new ≡ client_id client.old }
     ensures same_clients { KeepsClients mux.old mux.new }
     ensures ready { IsReady intake.old.frames → IsReady intake.new.frames }
@@ -63,8 +71,15 @@ fn take_held(
         Holds (terms_of intake.old) client.old held →
         TakesHeld (terms_of intake.old) (client_id client.old) (held ++ piece.now) client.new
         result mux.old mux.new }
-    ensures all { OnOk result (HasRoom settings.now mux.new (client_id client.old) →
-        waits_for_room client.new ≡ []) }
+    ensures all { OnOk result (is_leaving client.new ≡ false →
+        HasRoom settings.now mux.new (client_id client.old) → waits_for_room client.new ≡ []) }
+    ensures leaves { IsReady intake.old.frames → (held : List ℕ) →
+        Holds (terms_of intake.old) client.old held →
+        LeavesRightly (terms_of intake.old) client.old →
+        OnOk result (LeavesRightly (terms_of intake.old) client.new) }
+    ensures stays { OnOk result (is_leaving client.old ≡ true → mux.new ≡ mux.old) }
+    ensures admitted { is_leaving client.old ≡ false → is_leaving client.new ≡ true →
+        intake.old.admits_own ≡ true }
     ensures same_client { client_id client.new ≡ client_id client.old }
     ensures same_clients { KeepsClients mux.old mux.new }
     ensures ready { IsReady intake.old.frames → IsReady intake.new.frames }
@@ -72,6 +87,9 @@ fn take_held(
 {
     if client.is_closing {
         return Err(ClientError::Closing);
+    }
+    if client.is_leaving {
+        return keep(client, piece);
     }
     if client.rest.is_empty() {
         take_piece(alloc, settings, intake, mux, client, piece)
@@ -94,8 +112,13 @@ fn take_piece(
         Holds (terms_of intake.old) client.old held →
         TakesHeld (terms_of intake.old) (client_id client.old) (held ++ piece.now) client.new
         result mux.old mux.new }
-    ensures all { OnOk result (HasRoom settings.now mux.new (client_id client.old) →
-        waits_for_room client.new ≡ []) }
+    ensures all { OnOk result (is_leaving client.new ≡ false →
+        HasRoom settings.now mux.new (client_id client.old) → waits_for_room client.new ≡ []) }
+    ensures leaves { IsReady intake.old.frames → (held : List ℕ) →
+        Holds (terms_of intake.old) client.old held → is_leaving client.old ≡ false →
+        OnOk result (LeavesRightly (terms_of intake.old) client.new) }
+    ensures admitted { is_leaving client.old ≡ false → is_leaving client.new ≡ true →
+        intake.old.admits_own ≡ true }
     ensures same_client { client_id client.new ≡ client_id client.old }
     ensures same_clients { KeepsClients mux.old mux.new }
     ensures ready { IsReady intake.old.frames → IsReady intake.new.frames }
@@ -111,15 +134,19 @@ fn take_piece(
         client.id,
         piece,
     );
-    match taken.end {
-        Ok(()) => keep(client, &piece[taken.used..]),
-        Err(error) => Err(error),
+    if let Err(error) = taken.end {
+        return Err(error);
     }
+    if let Err(error) = keep(client, &piece[taken.used..]) {
+        return Err(error);
+    }
+    put_back(alloc, client, taken.aside)
 }
 
 /// Holds bytes behind those that a client holds.
 fn keep(client: &mut Client, bytes: &[u8]) -> Result<(), ClientError>
     ensures kept { OnOk result (client.new.rest.items ≡ client.old.rest.items ++ bytes.now) }
+    ensures same_leaving { is_leaving client.new ≡ is_leaving client.old }
     ensures same_unfinished { client.new.unfinished ≡ client.old.unfinished }
     ensures same_client { client_id client.new ≡ client_id client.old }
 {
@@ -142,8 +169,13 @@ fn take_rest(
         Holds (terms_of intake.old) client.old held →
         TakesHeld (terms_of intake.old) (client_id client.old) (held ++ piece.now) client.new
         result mux.old mux.new }
-    ensures all { OnOk result (HasRoom settings.now mux.new (client_id client.old) →
-        waits_for_room client.new ≡ []) }
+    ensures all { OnOk result (is_leaving client.new ≡ false →
+        HasRoom settings.now mux.new (client_id client.old) → waits_for_room client.new ≡ []) }
+    ensures leaves { IsReady intake.old.frames → (held : List ℕ) →
+        Holds (terms_of intake.old) client.old held → is_leaving client.old ≡ false →
+        OnOk result (LeavesRightly (terms_of intake.old) client.new) }
+    ensures admitted { is_leaving client.old ≡ false → is_leaving client.new ≡ true →
+        intake.old.admits_own ≡ true }
     ensures same_client { client_id client.new ≡ client_id client.old }
     ensures same_clients { KeepsClients mux.old mux.new }
     ensures ready { IsReady intake.old.frames → IsReady intake.new.frames }
@@ -163,13 +195,38 @@ fn take_rest(
         client.rest.as_slice(),
     );
     remove(alloc, client, taken.used);
-    taken.end
+    if let Err(error) = taken.end {
+        return Err(error);
+    }
+    put_back(alloc, client, taken.aside)
+}
+
+/// Puts a command that needs a connection of the client's own before the bytes that the client holds.
+fn put_back(alloc: Global, client: &mut Client, aside: Option<Vec<u8>>) -> Result<(), ClientError>
+    ensures put { OnOk result (PutsBack (option_map (λ text. text.items) aside) client.old client.new) }
+    ensures some { is_leaving client.old ≡ false → is_leaving client.new ≡ true → IsSome aside }
+    ensures same_client { client_id client.new ≡ client_id client.old }
+{
+    let Some(text) = aside else {
+        return Ok(());
+    };
+    let mut bytes = BytesMut::new(alloc);
+    let Ok(()) = bytes.extend_from_slice(&text) else {
+        return Err(ClientError::OutOfMemory);
+    };
+    let Ok(()) = bytes.extend_from_slice(client.rest.as_slice()) else {
+        return Err(ClientError::OutOfMemory);
+    };
+    client.rest = bytes;
+    client.is_leaving = true;
+    Ok(())
 }
 
 /// Removes the first bytes of those that wait for room. Without bytes it holds no memory.
 fn remove(alloc: Global, client: &mut Client, count: usize)
     requires { count ≤ length client.old.rest.items }
     ensures rest { client.new.rest.items ≡ drop count client.old.rest.items }
+    ensures same_leaving { is_leaving client.new ≡ is_leaving client.old }
     ensures same_unfinished { client.new.unfinished ≡ client.old.unfinished }
     ensures same_client { client_id client.new ≡ client_id client.old }
 {
@@ -183,12 +240,14 @@ fn remove(alloc: Global, client: &mut Client, count: usize)
 /// Takes nothing more from a client. The bytes that it holds are lost.
 pub(crate) fn shut(alloc: Global, client: &mut Client)
     ensures nothing { (terms : Terms) → Holds terms client.new [] }
+    ensures stays { is_leaving client.new ≡ false }
     ensures closing { is_closing client.new ≡ true }
     ensures same_client { client_id client.new ≡ client_id client.old }
 {
     client.unfinished = Unfinished::new(alloc);
     client.rest = BytesMut::new(alloc);
     client.is_closing = true;
+    client.is_leaving = false;
 }
 
 /// Gives a client the last reply before it is closed, if the error has a reply and memory suffices.

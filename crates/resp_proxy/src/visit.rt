@@ -3,6 +3,7 @@
 ghost use Rattle.std.specs.Prelude.{◌≡◌, ◌<◌, [], length};
 ghost use Rattle.resp_mux.specs.Multiplexing.{KeepsClients, WherePassed, unsent};
 ghost use Rattle.resp_proxy.specs.Clients.{client_id, is_closing};
+ghost use Rattle.resp_proxy.specs.Leaving.{LeavesRightly};
 ghost use Rattle.resp_proxy.specs.Proxies.{HasRoomFor, WhereBegunBy, WhereHeld, mux_of, replied_to, terms_of, reply_rules_of, server_begun};
 ghost use Rattle.resp_proxy.specs.Telling.{Tells};
 ghost use Rattle.resp_proxy.specs.Visiting.{HasNothingFor, OthersKeep, ReadsClient, ReadsServer, VisitsClient, VisitsServer};
@@ -72,6 +73,10 @@ impl Proxy {
         ensures others { WhereHeld self.old client.old (λ held. WherePassed (mux_of self.old) (λ p.
             OthersKeep (client_id client.old) (mux_of self.old) (mux_of self.new))) }
         ensures nothing_read { (HasRoomFor self.old client.old → ⊥) → reader.new ≡ reader.old }
+        // The client is leaving only if its next command needs a connection of its own.
+        ensures leaves { WhereHeld self.old client.old (λ held.
+            LeavesRightly (terms_of self.old) client.old →
+            LeavesRightly (terms_of self.old) client.new) }
         ensures all { result.written ≡ Written.All →
             HasNothingFor (mux_of self.new) (client_id client.old) }
         ensures same_client { client_id client.new ≡ client_id client.old }
@@ -96,6 +101,10 @@ impl Proxy {
             (client_id client.old) (R.remaining reader.old) (R.remaining reader.new) held client.new
             (mux_of self.old) (mux_of self.new)) }
         ensures nothing_read { (HasRoomFor self.old client.old → ⊥) → reader.new ≡ reader.old }
+        // The client is leaving only if its next command needs a connection of its own.
+        ensures leaves { WhereHeld self.old client.old (λ held.
+            LeavesRightly (terms_of self.old) client.old →
+            LeavesRightly (terms_of self.old) client.new) }
         ensures same_client { client_id client.new ≡ client_id client.old }
         ensures same_clients { KeepsClients (mux_of self.old) (mux_of self.new) }
         ensures same_terms { terms_of self.new ≡ terms_of self.old }

@@ -7,7 +7,7 @@ ghost use Rattle.resp_serve.specs.Waits.{IsNoWait};
 use crate::connection::refuse;
 use crate::service::{Cause, INPUT, Next, OWN_SOCKET, Service, Tokens};
 use mio::net::{TcpListener, TcpStream};
-use mio::{Events, Interest, Poll, Token};
+use mio::{Events, Interest, Poll, Registry, Token};
 use resp_schedule::{Backlog, OpenError, Schedule, State, Wait};
 use std::alloc::{AllocError, Global};
 use std::io;
@@ -205,7 +205,8 @@ impl<C: Drop> Loop<C> {
         ensures due { length (due_of self.new.schedule) ≤ length (due_of self.old.schedule) }
         ensures others { KeepsOthers self.old.connections.items self.new.connections.items place }
     {
-        let next = visit_one(&mut self.connections, service, place, cause);
+        let registry = self.poll.registry();
+        let next = visit_one(&mut self.connections, service, registry, place, cause);
         self.settle(service, place, next);
     }
 
@@ -319,6 +320,7 @@ fn accept(listener: &Option<TcpListener>) -> Result<TcpStream, Backlog> {
 fn visit_one<C: Drop, T: Service<C>>(
     connections: &mut Vec<Option<C>>,
     service: &mut T,
+    registry: &Registry,
     place: usize,
     cause: Cause,
 ) -> Next
@@ -326,7 +328,7 @@ fn visit_one<C: Drop, T: Service<C>>(
     ensures others { KeepsOthers connections.old.items connections.new.items place }
 {
     match connections.get_mut(place) {
-        Some(Some(connection)) => service.visit(connection, cause),
+        Some(Some(connection)) => service.visit(connection, registry, cause),
         _ => Next::Wait,
     }
 }

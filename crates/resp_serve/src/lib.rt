@@ -17,12 +17,15 @@
 mod connection;
 mod event_loop;
 mod input_end;
+mod lane;
 mod login;
 mod non_blocking;
+mod own;
 mod own_address;
 mod printer;
 mod proxied;
 mod proxying;
+mod register;
 mod relay;
 mod report;
 mod retry;

@@ -6,7 +6,6 @@ use crate::non_blocking::{Input, Output};
 use mio::net::TcpStream;
 use std::alloc::Global;
 use std::io::{Read, Write};
-use std::time::Duration;
 
 /// The reply to AUTH if the server accepts the password.
 const ACCEPTED: &[u8] = b"+OK\r\n";
@@ -27,12 +26,9 @@ pub(crate) enum Progress {
     Failed,
 }
 
-/// A connection over which the proxy logs in.
+/// How much of the login was sent over a connection, and what was replied.
 #[derive(Drop)]
 pub(crate) struct Login {
-    pub(crate) stream: TcpStream,
-    /// When the connection was begun.
-    pub(crate) since: Duration,
     /// The number of bytes of the command that were sent.
     sent: usize,
     /// The bytes of the reply.
@@ -40,33 +36,32 @@ pub(crate) struct Login {
 }
 
 impl Login {
-    /// Returns a login of which nothing was sent, over a connection that was begun at this time.
-    pub(crate) fn new(alloc: Global, stream: TcpStream, since: Duration) -> Self {
+    /// Returns a login of which nothing was sent.
+    pub(crate) fn new(alloc: Global) -> Self {
         Login {
-            stream,
-            since,
             sent: 0,
             reply: Vec::new(alloc),
         }
     }
 
-    /// Sends the rest of the command, as far as the socket accepts it, and reads the reply.
-    pub(crate) fn go_on(&mut self, command: &[u8]) -> Progress {
-        match write_some(&self.stream, command, self.sent) {
+    /// Sends the rest of the command over the connection, as far as the socket accepts it, and reads the
+    /// reply.
+    pub(crate) fn go_on(&mut self, stream: &TcpStream, command: &[u8]) -> Progress {
+        match write_some(stream, command, self.sent) {
             Some(count) => self.sent = self.sent.saturating_add(count),
             None => return Progress::Failed,
         }
         if self.sent < command.len() {
             return Progress::Waits;
         }
-        read_some(&self.stream, &mut self.reply)
+        read_some(stream, &mut self.reply)
     }
 }
 
-/// Writes a part of the command from this place on. Returns the number of bytes, or `None` if the
+/// Writes a part of these bytes from this place on. Returns the number of bytes, or `None` if the
 /// socket failed.
-fn write_some(stream: &TcpStream, command: &[u8], sent: usize) -> Option<usize> {
-    let rest = command.get(sent..)?;
+pub(crate) fn write_some(stream: &TcpStream, bytes: &[u8], sent: usize) -> Option<usize> {
+    let rest = bytes.get(sent..)?;
     if rest.is_empty() {
         return Some(0);
     }

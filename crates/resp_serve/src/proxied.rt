@@ -2,33 +2,40 @@
 
 ghost use Rattle.std.specs.Prelude.{◌<◌, length};
 
+use crate::lane::{Progress, after_write};
 use crate::non_blocking::{Input, Output};
-use crate::service::{Cause, Next};
+use crate::own::Own;
+use crate::service::{Cause, Next, Tokens};
+use mio::Registry;
 use mio::net::TcpStream;
 use resp_mux::ClientId;
 use resp_proxy::{Client, Proxy, Read, Written};
 use resp_value::device::Device;
+use std::alloc::Global;
+use std::net::{Net, SocketAddr};
+use std::{io, mem};
 
 /// The socket of a client, and the client. They were made together, and never part.
 #[derive(Drop)]
 pub(crate) struct Proxied {
     stream: TcpStream,
-    client: Client,
+    tokens: Tokens,
+    link: Link,
     /// Whether a read may return bytes.
     may_read: bool,
     /// Whether the input may have ended.
     is_at_end: bool,
 }
 
-/// The result of a write.
-#[derive(Clone, Copy, Debug, PartialEq, Eq)]
-enum Write {
-    /// No bytes wait, or the next write would block.
-    Waits,
-    /// Bytes wait, and the next write may accept some.
-    MayGoOn,
-    /// The socket failed.
-    Failed,
+/// How the commands of a client reach the server.
+#[derive(Drop)]
+pub(crate) enum Link {
+    /// Over the connection that clients share.
+    Shared(Client),
+    /// Over a connection of the client's own.
+    Own(Own),
+    /// Not any more: the connection is closed at the end of its visit.
+    Closed,
 }
 
 /// The result of a read and a write.
@@ -37,23 +44,27 @@ struct Exchanged {
     read: Read,
     /// Whether the next read would block.
     is_dry: bool,
-    written: Write,
+    written: Progress,
 }
 
 impl Proxied {
     /// Returns the connection of a client that has sent nothing.
-    pub(crate) fn new(stream: TcpStream, client: Client) -> Self {
+    pub(crate) fn new(stream: TcpStream, tokens: Tokens, client: Client) -> Self {
         Proxied {
             stream,
-            client,
+            tokens,
+            link: Link::Shared(client),
             may_read: false,
             is_at_end: false,
         }
     }
 
-    /// Returns the id of the client.
-    pub(crate) fn id(&self) -> ClientId {
-        self.client.id()
+    /// Returns the id of the client, while it shares a connection.
+    pub(crate) fn id(&self) -> Option<ClientId> {
+        match &self.link {
+            Link::Shared(client) => Some(client.id()),
+            _ => None,
+        }
     }
 
     /// Notes why the connection is visited.
@@ -66,14 +77,28 @@ impl Proxied {
 
     /// Reads nothing more from the client.
     pub(crate) fn shut(&mut self, proxy: &mut Proxy) {
-        if !self.client.is_closing() {
-            proxy.shut(&mut self.client);
+        match &mut self.link {
+            Link::Shared(client) if !client.is_closing() => proxy.shut(client),
+            Link::Own(own) => own.shut(),
+            _ => {}
         }
     }
 
     /// Returns whether bytes are to be read from the client as soon as there is room.
     pub(crate) fn waits_for_room(&self) -> bool {
-        self.may_read && !self.client.is_closing()
+        match &self.link {
+            Link::Shared(client) => self.may_read && may_take(client),
+            _ => false,
+        }
+    }
+
+    /// Returns whether the client shares a connection, and is to get its own one now: its next command needs
+    /// it, and all replies to the commands before were written.
+    pub(crate) fn leaves(&self, proxy: &Proxy) -> bool {
+        match &self.link {
+            Link::Shared(client) => proxy.may_leave(client),
+            _ => false,
+        }
     }
 
     /// Reads bytes of the client if there may be some, and writes bytes that wait for it, with at most
@@ -81,60 +106,118 @@ impl Proxied {
     pub(crate) fn visit(&mut self, proxy: &mut Proxy, buffer: &mut [u8]) -> Next
         requires { 0 < length buffer.old }
     {
-        if self.waits_for_room() {
-            self.exchange(proxy, buffer)
+        let waits = self.waits_for_room();
+        let Link::Shared(client) = &mut self.link else {
+            return Next::Wait;
+        };
+        let written = if waits {
+            let exchanged = exchange(
+                proxy,
+                client,
+                &self.stream,
+                &self.stream,
+                self.is_at_end,
+                buffer,
+            );
+            if exchanged.read == Read::Failed && !exchanged.is_dry {
+                return Next::Close;
+            }
+            if exchanged.is_dry && proxy.has_room(client) {
+                self.may_read = false;
+            }
+            exchanged.written
         } else {
-            self.give(proxy)
-        }
+            give(proxy, client, &self.stream)
+        };
+        next(proxy, client, self.may_read, written)
     }
 
-    /// Writes bytes that wait for the client.
-    fn give(&self, proxy: &mut Proxy) -> Next {
-        let mut writer = Device::new(Output::new(&self.stream));
-        let written = proxy.give(&self.client, &mut writer);
-        self.next(proxy, after_write(written, &writer.into_inner()))
+    /// Gives the client a connection of its own.
+    ///
+    /// # Errors
+    ///
+    /// The error of the system. The client is closed.
+    pub(crate) fn leave(
+        &mut self,
+        proxy: &mut Proxy,
+        net: &impl Net,
+        alloc: Global,
+        address: SocketAddr,
+        registry: &Registry,
+    ) -> io::Result<()> {
+        let link = mem::replace(&mut self.link, Link::Closed);
+        let Link::Shared(client) = link else {
+            return Ok(());
+        };
+        let first = proxy.leave(client);
+        let own = Own::connect(net, alloc, address, registry, self.tokens, first)?;
+        self.link = Link::Own(own);
+        Ok(())
     }
 
-    /// Reads bytes of the client, and writes bytes that wait for it.
-    fn exchange(&mut self, proxy: &mut Proxy, buffer: &mut [u8]) -> Next
+    /// Forwards bytes over the connection of the client's own. Returns `None` if it has none.
+    ///
+    /// # Errors
+    ///
+    /// Why that connection was not opened.
+    pub(crate) fn forward(
+        &mut self,
+        login: &[u8],
+        is_at_end: bool,
+        buffer: &mut [u8],
+    ) -> io::Result<Option<Next>>
         requires { 0 < length buffer.old }
     {
-        let stream = &self.stream;
-        let exchanged = exchange(
-            proxy,
-            &mut self.client,
-            stream,
-            stream,
-            self.is_at_end,
-            buffer,
-        );
-        if exchanged.read == Read::Failed && !exchanged.is_dry {
-            return Next::Close;
-        }
-        if exchanged.is_dry && proxy.has_room(&self.client) {
-            self.may_read = false;
-        }
-        self.next(proxy, exchanged.written)
-    }
-
-    /// Returns when the connection is visited next, after a visit whose write had this result.
-    fn next(&self, proxy: &Proxy, written: Write) -> Next {
-        if written == Write::Failed || proxy.is_done(&self.client) {
-            return Next::Close;
-        }
-        let reads = self.waits_for_room() && proxy.has_room(&self.client);
-        if written == Write::MayGoOn || reads {
-            Next::Again
-        } else {
-            Next::Wait
+        match &mut self.link {
+            Link::Shared(_) => Ok(None),
+            Link::Own(own) => {
+                let next = own.visit(&self.stream, login, is_at_end, buffer)?;
+                Ok(Some(next))
+            }
+            Link::Closed => Ok(Some(Next::Close)),
         }
     }
 
-    /// Closes the connection, and returns the client.
-    pub(crate) fn into_parts(self) -> (TcpStream, Client) {
-        let Proxied { stream, client, .. } = self;
-        (stream, client)
+    /// Returns the place of the connection.
+    pub(crate) fn place(&self) -> usize {
+        self.tokens.place
     }
+
+    /// Returns the socket.
+    pub(crate) fn stream(&self) -> &TcpStream {
+        &self.stream
+    }
+
+    /// Closes the connection, and returns the socket and the link.
+    pub(crate) fn into_parts(self) -> (TcpStream, Link) {
+        let Proxied { stream, link, .. } = self;
+        (stream, link)
+    }
+}
+
+/// Returns whether commands of a client may be taken if there is room.
+fn may_take(client: &Client) -> bool {
+    !client.is_closing() && !client.is_leaving()
+}
+
+/// Returns when a client is visited next, after a visit whose write had this result.
+fn next(proxy: &Proxy, client: &Client, may_read: bool, written: Progress) -> Next {
+    if written == Progress::Failed || proxy.is_done(client) {
+        return Next::Close;
+    }
+    let reads = may_read && may_take(client) && proxy.has_room(client);
+    if written == Progress::MayGoOn || reads {
+        Next::Again
+    } else {
+        Next::Wait
+    }
+}
+
+/// Writes bytes that wait for a client.
+fn give(proxy: &mut Proxy, client: &Client, stream: &TcpStream) -> Progress {
+    let mut writer = Device::new(Output::new(stream));
+    let written = proxy.give(client, &mut writer);
+    progress(written, &writer.into_inner())
 }
 
 /// Reads bytes of a client from the reader, and writes bytes that wait for it to the writer.
@@ -154,17 +237,15 @@ fn exchange(
     Exchanged {
         read: visit.read,
         is_dry: reader.into_inner().would_wait(),
-        written: after_write(visit.written, &writer.into_inner()),
+        written: progress(visit.written, &writer.into_inner()),
     }
 }
 
 /// Returns the result of a write.
-fn after_write<W>(written: Written, writer: &Output<W>) -> Write {
-    if writer.has_failed() {
-        Write::Failed
-    } else if written == Written::All || writer.would_wait() {
-        Write::Waits
+fn progress<W>(written: Written, writer: &Output<W>) -> Progress {
+    if written == Written::All && !writer.has_failed() {
+        Progress::Waits
     } else {
-        Write::MayGoOn
+        after_write(writer)
     }
 }

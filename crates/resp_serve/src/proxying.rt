@@ -5,11 +5,12 @@ use crate::event_loop::Loop;
 use crate::input_end::InputEnd;
 use crate::own_address::check_server;
 use crate::proxied::Proxied;
+use crate::register::register;
 use crate::relay::Relay;
 use crate::report::Report;
 use crate::service::{Cause, Next, Service, Tokens};
+use mio::Registry;
 use mio::net::TcpStream;
-use mio::{Interest, Registry};
 use resp_print::live::LiveSink;
 use std::alloc::Global;
 use std::fs::{File, Files};
@@ -39,6 +40,8 @@ pub struct ProxySettings {
     pub proxy: resp_proxy::Settings,
     /// The most clients at once.
     pub most: usize,
+    /// The most clients at once that have a connection of their own.
+    pub own: usize,
     /// The time without a reply after which the connection to the server is given up, if a command
     /// waits. A connection that is not open after this time is given up too.
     pub patience: Duration,
@@ -146,25 +149,20 @@ impl<R: Net + Clock + Eprint, I: Read + Drop, W: LiveSink> Service<Proxied>
         tokens: Tokens,
     ) -> io::Result<Proxied> {
         let mut client = client;
-        client.set_nodelay(true)?;
-        registry.register(
-            &mut client,
-            tokens.client,
-            Interest::READABLE | Interest::WRITABLE,
-        )?;
-        self.relay.open(client, tokens.place)
+        register(&mut client, registry, tokens.client)?;
+        self.relay.open(client, tokens)
     }
 
     fn lose(&mut self) {
-        self.relay.counts.reject();
+        self.relay.reject();
     }
 
     fn reject(&mut self) {
-        self.relay.counts.reject();
+        self.relay.reject();
     }
 
-    fn visit(&mut self, connection: &mut Proxied, cause: Cause) -> Next {
-        let next = self.relay.visit(connection, cause);
+    fn visit(&mut self, connection: &mut Proxied, registry: &Registry, cause: Cause) -> Next {
+        let next = self.relay.visit(self.rt, connection, registry, cause);
         self.relay.send_eagerly(self.rt);
         next
     }
@@ -194,14 +192,7 @@ impl<R: Net + Clock + Eprint, I: Read + Drop, W: LiveSink> Service<Proxied>
         }
         self.relay.work(self.rt, registry);
         if let Some(report) = &mut self.report {
-            let (waiting, unsent) = (self.relay.waiting(), self.relay.unsent());
-            report.go_on(
-                self.relay.now(),
-                &self.relay.counts,
-                waiting,
-                unsent,
-                self.out,
-            );
+            report.go_on(self.relay.now(), self.relay.proxy(), self.out);
         }
         Ok(())
     }

@@ -1,15 +1,16 @@
 //! The proxy with its connections: what it does with a client, and with the server.
 
-use crate::proxied::Proxied;
+use crate::connection::refuse;
+use crate::lane::PIECE;
+use crate::proxied::{Link, Proxied};
 use crate::proxying::ProxySettings;
-use crate::report::Counts;
 use crate::server_link::{Loss, ServerLink};
-use crate::service::{Cause, Next};
+use crate::service::{Cause, Next, Tokens};
 use crate::stalled::Stalled;
 use mio::Registry;
 use mio::net::TcpStream;
 use resp_mux::ClientId;
-use resp_proxy::Proxy;
+use resp_proxy::{Counted, Proxy};
 use std::alloc::{AllocError, Global};
 use std::io;
 use std::io::ErrorKind;
@@ -18,7 +19,7 @@ use std::rt::Clock;
 use std::time::Duration;
 
 /// The most bytes of one read of a client.
-const CLIENT_PIECE: usize = 16_384;
+const CLIENT_PIECE: usize = PIECE;
 
 /// The most bytes of one read of the server.
 const SERVER_PIECE: usize = 65_536;
@@ -37,8 +38,10 @@ pub(crate) struct Relay {
     proxy: Proxy,
     pub(crate) settings: ProxySettings,
     link: ServerLink,
-    /// The place of the connection of each client, by the place of the client's id.
+    /// The place of the connection of each client that shares one, by the place of the client's id.
     places: Vec<usize>,
+    /// The places of all connections are less than this number.
+    end: usize,
     stalled: Stalled,
     /// The next client that got a reply which was not written.
     next: Option<ClientId>,
@@ -50,7 +53,6 @@ pub(crate) struct Relay {
     is_losing: bool,
     /// The reply to commands that wait while there is no connection.
     failure: Vec<u8>,
-    pub(crate) counts: Counts,
     /// The places up to this one were named since the relay began to drain, or `None` before that.
     drained: Option<usize>,
     client_buffer: [u8; CLIENT_PIECE],
@@ -76,41 +78,43 @@ impl Relay {
             settings,
             link: ServerLink::new(net, alloc, server, login, settings.patience),
             places: Vec::new(alloc),
+            end: 0,
             stalled: Stalled::new(alloc),
             next: None,
             condemned: None,
             named: None,
             is_losing: false,
             failure: Vec::new(alloc),
-            counts: Counts::default(),
             drained: None,
             client_buffer: [0; CLIENT_PIECE],
             server_buffer: [0; SERVER_PIECE],
         })
     }
 
-    /// Opens a client for a connection in this place.
+    /// Opens a client for a connection with these tokens.
     ///
     /// # Errors
     ///
     /// An error of kind `OutOfMemory`. The socket is closed.
-    pub(crate) fn open(&mut self, stream: TcpStream, place: usize) -> io::Result<Proxied> {
+    pub(crate) fn open(&mut self, stream: TcpStream, tokens: Tokens) -> io::Result<Proxied> {
         let Ok(client) = self.proxy.open() else {
             return Err(ErrorKind::OutOfMemory.into());
         };
-        if set_at(&mut self.places, client.id().place, place).is_err() {
+        if set_at(&mut self.places, client.id().place, tokens.place).is_err() {
             self.proxy.close(client);
             return Err(ErrorKind::OutOfMemory.into());
         }
-        self.counts.accept();
-        Ok(Proxied::new(stream, client))
+        self.end = self.end.max(tokens.place.saturating_add(1));
+        Ok(Proxied::new(stream, tokens, client))
     }
 
     /// Closes the client of a connection, and returns the socket.
     pub(crate) fn close(&mut self, connection: Proxied) -> TcpStream {
-        let (stream, client) = connection.into_parts();
-        self.proxy.close(client);
-        self.counts.close();
+        let (stream, link) = connection.into_parts();
+        match link {
+            Link::Shared(client) => self.proxy.close(client),
+            Link::Own(_) | Link::Closed => self.proxy.count(Counted::OwnClosed),
+        }
         stream
     }
 
@@ -132,19 +136,20 @@ impl Relay {
         self.link.now()
     }
 
-    /// Returns the number of commands that wait for replies.
-    pub(crate) fn waiting(&self) -> usize {
-        self.proxy.waiting()
+    /// Returns the proxy.
+    pub(crate) fn proxy(&self) -> &Proxy {
+        &self.proxy
     }
 
-    /// Returns the number of bytes that wait for the server.
-    pub(crate) fn unsent(&self) -> usize {
-        self.proxy.unsent()
-    }
-
-    /// Reads and writes the socket of a client once.
-    pub(crate) fn visit(&mut self, connection: &mut Proxied, cause: Cause) -> Next {
-        if self.condemned == Some(connection.id()) {
+    /// Reads and writes the sockets of a client.
+    pub(crate) fn visit(
+        &mut self,
+        net: &impl Net,
+        connection: &mut Proxied,
+        registry: &Registry,
+        cause: Cause,
+    ) -> Next {
+        if self.condemned.is_some() && self.condemned == connection.id() {
             self.condemned = None;
             return Next::Close;
         }
@@ -152,18 +157,52 @@ impl Relay {
         if self.is_draining() {
             connection.shut(&mut self.proxy);
         }
+        let (login, is_at_end) = (self.link.login(), cause.is_at_end());
+        match connection.forward(login, is_at_end, &mut self.client_buffer) {
+            Ok(Some(next)) => return next,
+            Ok(None) => {}
+            Err(error) => return self.give_up(connection, &error),
+        }
+        let own = self.proxy.numbers().own;
+        self.proxy.admit_own(own < self.settings.own as u64);
         let before = self.proxy.waiting();
         let next = connection.visit(&mut self.proxy, &mut self.client_buffer);
-        self.counts.queue(before, self.proxy.waiting());
-        let is_stalled = next == Next::Wait && connection.waits_for_room() && self.is_line_full();
-        if is_stalled {
-            if let Some(place) = self.place_of(connection.id()) {
-                if self.stalled.add(place).is_err() {
-                    return Next::Close;
-                }
-            }
+        let queued = self.proxy.waiting().saturating_sub(before);
+        self.proxy.count(Counted::Queued(queued, self.link.now()));
+        if connection.leaves(&self.proxy) {
+            return self.leave(net, connection, registry);
+        }
+        if next == Next::Wait && connection.waits_for_room() && self.is_line_full() {
+            return self.stall(connection);
         }
         next
+    }
+
+    /// Gives a client a connection of its own.
+    fn leave(&mut self, net: &impl Net, connection: &mut Proxied, registry: &Registry) -> Next {
+        let server = self.link.server();
+        match connection.leave(&mut self.proxy, net, self.alloc, server, registry) {
+            Ok(()) => Next::Wait,
+            Err(error) => self.give_up(connection, &error),
+        }
+    }
+
+    /// Tells a client that it gets no connection of its own, and why.
+    fn give_up(&self, connection: &Proxied, error: &io::Error) -> Next {
+        let reply = format!(in self.alloc; "-ERR cannot connect to server: {error}\r\n");
+        match &reply {
+            Ok(reply) => refuse(connection.stream(), reply.as_str().as_bytes()),
+            Err(_) => refuse(connection.stream(), NOT_CONNECTED),
+        }
+        Next::Close
+    }
+
+    /// Visits a connection again when fewer bytes wait for the server.
+    fn stall(&mut self, connection: &Proxied) -> Next {
+        match self.stalled.add(connection.place()) {
+            Ok(()) => Next::Wait,
+            Err(AllocError) => Next::Close,
+        }
     }
 
     /// Returns whether more bytes wait for the server than a client's command may wait behind.
@@ -192,14 +231,16 @@ impl Relay {
 
     /// Returns whether a place was not named since the relay began to drain.
     fn has_to_drain(&self) -> bool {
-        matches!(self.drained, Some(drained) if drained < self.places.len())
+        matches!(self.drained, Some(drained) if drained < self.end)
     }
 
     /// Returns the next place that was not named since the relay began to drain.
     fn next_to_drain(&mut self) -> Option<usize> {
-        let drained = self.drained?;
-        let place = self.places.get(drained).copied()?;
-        self.drained = Some(drained.saturating_add(1));
+        let place = self.drained?;
+        if place >= self.end {
+            return None;
+        }
+        self.drained = Some(place.saturating_add(1));
         Some(place)
     }
 
@@ -262,7 +303,13 @@ impl Relay {
 
     /// Reads replies of the server, and writes commands to it.
     fn exchange<R: Net + Eprint>(&mut self, rt: &R) {
-        if let Err(loss) = self.link.exchange(&mut self.proxy, &mut self.server_buffer) {
+        let before = self.proxy.waiting();
+        let exchanged = self.link.exchange(&mut self.proxy, &mut self.server_buffer);
+        let replied = before.saturating_sub(self.proxy.waiting());
+        if replied > 0 {
+            self.proxy.count(Counted::Replied(replied, self.link.now()));
+        }
+        if let Err(loss) = exchanged {
             self.lose(rt, loss);
         }
     }
@@ -283,7 +330,7 @@ impl Relay {
             Ok(false) => {}
             Ok(true) => {
                 self.failure = Vec::new(self.alloc);
-                self.counts.connect();
+                self.proxy.count(Counted::Connected);
                 let _ = log.eprintln("server connected");
             }
             Err(error) => self.tell_failure(log, &error),
@@ -345,7 +392,7 @@ impl Relay {
         }
         let before = self.proxy.waiting();
         let lost = self.proxy.lose();
-        self.counts.fail(before, self.proxy.waiting());
+        self.count_failed(before);
         match lost {
             Ok(()) => self.is_losing = false,
             Err(AllocError) => self.condemn(),
@@ -359,12 +406,23 @@ impl Relay {
         }
         let before = self.proxy.waiting();
         let failed = self.proxy.fail(or_not_connected(&self.failure));
-        self.counts.fail(before, self.proxy.waiting());
+        self.count_failed(before);
         if failed.is_err() {
             // The commands that still wait count as begun now.
             self.is_losing = true;
             self.condemn();
         }
+    }
+
+    /// Counts the commands by which the number of commands that wait has fallen, since they failed.
+    fn count_failed(&mut self, before: usize) {
+        let failed = before.saturating_sub(self.proxy.waiting());
+        self.proxy.count(Counted::Failed(failed));
+    }
+
+    /// Counts a client that was rejected.
+    pub(crate) fn reject(&mut self) {
+        self.proxy.count(Counted::Rejected);
     }
 
     /// Closes the client of the first command at its next visit, which is soon.

@@ -2,66 +2,15 @@
 
 use crate::terminal::Terminal;
 use resp_print::live::LiveSink;
+use resp_proxy::{Numbers, Proxy, Times};
 use std::alloc::{AllocError, Global};
 use std::fs::{File, Files};
 use std::io;
 use std::net::Net;
 use std::time::Duration;
 
-/// What a proxy has counted since it began.
-#[derive(Clone, Copy, Debug, Default, PartialEq, Eq)]
-pub(crate) struct Counts {
-    /// The open clients.
-    pub(crate) clients: u64,
-    /// The clients that were accepted.
-    pub(crate) accepted: u64,
-    /// The clients that were rejected, because the most were open or memory was out.
-    pub(crate) rejected: u64,
-    /// The commands that were queued for the server.
-    pub(crate) commands: u64,
-    /// The commands whose reply was an error of a lost connection or of a missing one.
-    pub(crate) failed: u64,
-    /// The connections to the server that were opened.
-    pub(crate) connections: u64,
-}
-
-impl Counts {
-    /// Counts an accepted client.
-    pub(crate) fn accept(&mut self) {
-        self.clients = self.clients.saturating_add(1);
-        self.accepted = self.accepted.saturating_add(1);
-    }
-
-    /// Counts a client that was rejected.
-    pub(crate) fn reject(&mut self) {
-        self.rejected = self.rejected.saturating_add(1);
-    }
-
-    /// Counts a client that was closed.
-    pub(crate) fn close(&mut self) {
-        self.clients = self.clients.saturating_sub(1);
-    }
-
-    /// Counts the commands by which the number of commands that wait has grown.
-    pub(crate) fn queue(&mut self, before: usize, after: usize) {
-        let more = after.saturating_sub(before) as u64;
-        self.commands = self.commands.saturating_add(more);
-    }
-
-    /// Counts the commands by which the number of commands that wait has fallen, since they failed.
-    pub(crate) fn fail(&mut self, before: usize, after: usize) {
-        let fewer = before.saturating_sub(after) as u64;
-        self.failed = self.failed.saturating_add(fewer);
-    }
-
-    /// Counts a connection to the server.
-    pub(crate) fn connect(&mut self) {
-        self.connections = self.connections.saturating_add(1);
-    }
-}
-
-/// Prints the numbers of a proxy on standard output from time to time. A line is left out if standard
-/// output does not accept it without blocking.
+/// Prints the numbers of a proxy on standard output from time to time. If standard output accepts only a part
+/// of a line without blocking, the rest is printed in place of the next line.
 #[derive(Drop)]
 pub(crate) struct Report {
     alloc: Global,
@@ -100,20 +49,13 @@ impl Report {
     }
 
     /// Prints a line if it is time for one.
-    pub(crate) fn go_on<W: LiveSink>(
-        &mut self,
-        now: Duration,
-        counts: &Counts,
-        waiting: usize,
-        unsent: usize,
-        out: &mut W,
-    ) {
+    pub(crate) fn go_on<W: LiveSink>(&mut self, now: Duration, proxy: &Proxy, out: &mut W) {
         if now < self.next {
             return;
         }
         self.next = now.saturating_add(self.every);
         if self.rest.is_empty() {
-            match line_of(self.alloc, counts, waiting, unsent) {
+            match line_of(self.alloc, proxy) {
                 Ok(line) => self.rest = line,
                 Err(AllocError) => return,
             }
@@ -125,23 +67,25 @@ impl Report {
     }
 }
 
-/// Returns the line with these numbers.
-fn line_of(
-    alloc: Global,
-    counts: &Counts,
-    waiting: usize,
-    unsent: usize,
-) -> Result<Vec<u8>, AllocError> {
-    let Counts {
+/// Returns the line with the numbers of a proxy.
+fn line_of(alloc: Global, proxy: &Proxy) -> Result<Vec<u8>, AllocError> {
+    let (waiting, unsent) = (proxy.waiting(), proxy.unsent());
+    let Numbers {
         clients,
         accepted,
         rejected,
+        own,
         commands,
         failed,
         connections,
-    } = *counts;
+    } = proxy.numbers();
+    let Times {
+        median,
+        percentile_99,
+        most,
+    } = proxy.times();
     let line = format!(in alloc;
-        "clients {clients} accepted {accepted} rejected {rejected} commands {commands} waiting {waiting} failed {failed} unsent {unsent} connections {connections}\n"
+        "clients {clients} accepted {accepted} rejected {rejected} own {own} commands {commands} waiting {waiting} failed {failed} unsent {unsent} connections {connections} p50 {median} p99 {percentile_99} max {most}\n"
     )?;
     Ok(line.into_bytes())
 }

@@ -2,9 +2,10 @@
 
 use crate::connection::{Connection, Room};
 use crate::event_loop::Loop;
+use crate::register::register;
 use crate::service::{Cause, Next, Service, Tokens};
+use mio::Registry;
 use mio::net::TcpStream;
-use mio::{Interest, Registry};
 use resp_server::Hub;
 use resp_value::limits::Limits;
 use std::alloc::Global;
@@ -87,12 +88,7 @@ impl<S: BuildHasher + Drop> Service<Connection> for Replies<S> {
         tokens: Tokens,
     ) -> io::Result<Connection> {
         let mut client = client;
-        client.set_nodelay(true)?;
-        registry.register(
-            &mut client,
-            tokens.client,
-            Interest::READABLE | Interest::WRITABLE,
-        )?;
+        register(&mut client, registry, tokens.client)?;
         match self.hub.open() {
             Ok(id) => Ok(Connection::new(self.alloc, client, id)),
             Err(_) => Err(ErrorKind::OutOfMemory.into()),
@@ -103,7 +99,7 @@ impl<S: BuildHasher + Drop> Service<Connection> for Replies<S> {
 
     fn reject(&mut self) {}
 
-    fn visit(&mut self, connection: &mut Connection, cause: Cause) -> Next {
+    fn visit(&mut self, connection: &mut Connection, _registry: &Registry, cause: Cause) -> Next {
         connection.serve(&mut self.hub, &mut self.room, cause.is_at_end())
     }
 

@@ -4,11 +4,12 @@ ghost use Rattle.std.specs.Prelude.{◌<◌, length};
 
 use crate::login::{Login, Progress};
 use crate::non_blocking::{Input, Output, is_open};
+use crate::register::register;
 use crate::retry::next_pause;
 use crate::service::OWN_SOCKET;
 use crate::spare::Spare;
+use mio::Registry;
 use mio::net::TcpStream;
-use mio::{Interest, Registry};
 use resp_proxy::{Proxy, ServerError, Written};
 use resp_value::device::Device;
 use std::alloc::Global;
@@ -22,10 +23,10 @@ use thiserror::Error;
 const TURNS: usize = 16;
 
 /// Why no connection was opened, if the server rejected AUTH.
-const REJECTED: &str = "the server rejected AUTH";
+pub(crate) const REJECTED: &str = "the server rejected AUTH";
 
 /// Why no connection was opened, if the server closed it during the login.
-const CLOSED: &str = "closed during AUTH";
+pub(crate) const CLOSED: &str = "closed during AUTH";
 
 /// Why the connection to the server was lost.
 #[derive(Clone, Copy, Debug, PartialEq, Eq, Error)]
@@ -51,11 +52,20 @@ pub(crate) enum Loss {
 #[derive(Drop)]
 enum State {
     /// There is no connection. The next attempt is made at this time.
-    Down { until: Duration },
+    Down {
+        until: Duration,
+    },
     /// A connection was begun at this time.
-    Opening { stream: TcpStream, since: Duration },
-    /// The proxy logs in over the connection.
-    Greeting(Login),
+    Opening {
+        stream: TcpStream,
+        since: Duration,
+    },
+    /// The proxy logs in over the connection that was begun at this time.
+    Greeting {
+        stream: TcpStream,
+        since: Duration,
+        login: Login,
+    },
     /// The connection is open.
     Open(Line),
 }
@@ -131,6 +141,16 @@ impl ServerLink {
         }
     }
 
+    /// Returns the address of the server.
+    pub(crate) fn server(&self) -> SocketAddr {
+        self.server
+    }
+
+    /// Returns the command that logs in to the server, or no byte.
+    pub(crate) fn login(&self) -> &[u8] {
+        &self.login
+    }
+
     /// Notes the current time.
     pub(crate) fn set_now(&mut self, now: Duration) {
         self.now = now;
@@ -157,7 +177,7 @@ impl ServerLink {
         let until = match &self.state {
             State::Down { until } => *until,
             State::Opening { since, .. } => since.saturating_add(self.patience),
-            State::Greeting(login) => login.since.saturating_add(self.patience),
+            State::Greeting { since, .. } => since.saturating_add(self.patience),
             State::Open(line) if line.may_read => return Some(Duration::from_millis(0)),
             State::Open(line) if waits => line.quiet_since.saturating_add(self.patience),
             State::Open(_) => return None,
@@ -235,8 +255,8 @@ impl ServerLink {
                 self.in_time(*since)?;
                 Ok(Stage::Waits)
             }
-            State::Greeting(login) => {
-                self.in_time(login.since)?;
+            State::Greeting { since, .. } => {
+                self.in_time(*since)?;
                 Ok(Stage::LogsIn)
             }
             _ => Ok(Stage::Closed),
@@ -253,10 +273,10 @@ impl ServerLink {
 
     /// Goes on to log in. Returns whether the connection is open since this call.
     fn finish_login(&mut self) -> io::Result<bool> {
-        let State::Greeting(login) = &mut self.state else {
+        let State::Greeting { stream, login, .. } = &mut self.state else {
             return Ok(false);
         };
-        match login.go_on(&self.login) {
+        match login.go_on(stream, &self.login) {
             Progress::Waits => Ok(false),
             Progress::Accepted => {
                 self.start();
@@ -278,7 +298,11 @@ impl ServerLink {
         let until = self.now;
         let state = mem::replace(&mut self.state, State::Down { until });
         if let State::Opening { stream, since } = state {
-            self.state = State::Greeting(Login::new(self.alloc, stream, since));
+            self.state = State::Greeting {
+                stream,
+                since,
+                login: Login::new(self.alloc),
+            };
         }
     }
 
@@ -287,9 +311,7 @@ impl ServerLink {
         let until = self.now;
         let state = mem::replace(&mut self.state, State::Down { until });
         match state {
-            State::Opening { stream, .. } => self.state = State::Open(Line::new(stream, self.now)),
-            State::Greeting(login) => {
-                let Login { stream, .. } = login;
+            State::Opening { stream, .. } | State::Greeting { stream, .. } => {
                 self.state = State::Open(Line::new(stream, self.now));
             }
             _ => {}
@@ -463,11 +485,6 @@ fn open(
     registry: &Registry,
 ) -> io::Result<TcpStream> {
     let mut stream = spare.connect(net, server)?;
-    stream.set_nodelay(true)?;
-    registry.register(
-        &mut stream,
-        OWN_SOCKET,
-        Interest::READABLE | Interest::WRITABLE,
-    )?;
+    register(&mut stream, registry, OWN_SOCKET)?;
     Ok(stream)
 }

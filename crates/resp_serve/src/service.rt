@@ -69,8 +69,9 @@ pub(crate) trait Service<C> {
     /// Notes that an accepted client was closed at once, because the most connections are open.
     fn reject(&mut self);
 
-    /// Reads and writes the sockets of a connection, and says when to do so again.
-    fn visit(&mut self, connection: &mut C, cause: Cause) -> Next;
+    /// Reads and writes the sockets of a connection, and says when to do so again. A further socket of
+    /// the connection is registered in the registry.
+    fn visit(&mut self, connection: &mut C, registry: &Registry, cause: Cause) -> Next;
 
     /// Closes a connection.
     fn close(&mut self, connection: C);

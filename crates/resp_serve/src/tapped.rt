@@ -1,40 +1,19 @@
 //! One forwarded connection.
 
-use crate::non_blocking::{Input, Output, is_open};
+ghost use Rattle.std.specs.Prelude.{◌<◌, length};
+
+use crate::lane::{Forwarded, Lane, Progress, TURNS, next_of};
+use crate::non_blocking::is_open;
 use crate::printer::Printer;
 use crate::service::Next;
 use mio::net::TcpStream;
 use resp_tap::watch::Side;
-use resp_tap::way::{Visited, Way};
 use resp_tap::{Printing, TimedTap};
-use resp_value::device::{Device, Sink};
+use resp_value::device::Sink;
 use resp_value::limits::Limits;
-use std::alloc::{AllocError, Global};
+use std::alloc::Global;
 use std::io;
-use std::net::Shutdown;
 use std::rt::Clock;
-
-/// The most pieces that are forwarded in each direction before other connections are visited.
-const TURNS: usize = 16;
-
-/// One direction of a connection.
-#[derive(Drop)]
-struct Lane {
-    way: Way,
-    /// Whether the sending side has ended, and the other side was told.
-    has_ended: bool,
-}
-
-/// The result of visiting a lane.
-#[derive(Clone, Copy, Debug, PartialEq, Eq)]
-enum Lately {
-    /// The next visit would block, or the lane has ended.
-    Waits,
-    /// More bytes may be ready.
-    MayGoOn,
-    /// A socket failed.
-    Failed,
-}
 
 /// Whether the connection to the server is open.
 #[derive(Drop)]
@@ -61,57 +40,6 @@ pub(crate) struct Tapped {
     printing: Printing,
 }
 
-impl Lane {
-    /// Returns a lane that has forwarded nothing.
-    fn new(alloc: Global) -> Result<Lane, AllocError> {
-        Ok(Lane {
-            way: Way::new(alloc)?,
-            has_ended: false,
-        })
-    }
-
-    /// Visits the lane once, and gives the bytes that were read to the tap.
-    fn visit<W: Sink, C: Clock>(
-        &mut self,
-        from: &TcpStream,
-        to: &TcpStream,
-        is_at_end: bool,
-        see: &mut Seeing<'_, '_, W, C>,
-    ) -> Lately {
-        if self.has_ended {
-            return Lately::Waits;
-        }
-        let mut reader = Device::new(Input::new(from, is_at_end));
-        let mut writer = Device::new(Output::new(to));
-        let (count, visited) = self.way.visit(&mut reader, &mut writer);
-        see.piece(&self.way.piece()[..count]);
-        let would_wait = reader.into_inner().would_wait();
-        match visited {
-            Visited::Onward | Visited::NotRead if would_wait => Lately::Waits,
-            Visited::Onward => Lately::MayGoOn,
-            Visited::NotRead => Lately::Failed,
-            Visited::NotWritten => after_write(&writer.into_inner()),
-            Visited::Ended => {
-                self.has_ended = true;
-                see.end();
-                let _ = to.shutdown(Shutdown::Write);
-                Lately::Waits
-            }
-        }
-    }
-}
-
-/// Returns the result of a write that did not write all bytes.
-fn after_write<W>(writer: &Output<W>) -> Lately {
-    if writer.has_failed() {
-        Lately::Failed
-    } else if writer.would_wait() {
-        Lately::Waits
-    } else {
-        Lately::MayGoOn
-    }
-}
-
 /// Gives the pieces that one side sends to the tap, and prints the results.
 #[derive(Drop)]
 struct Seeing<'a, 'b, W, C> {
@@ -132,6 +60,15 @@ impl<W: Sink, C: Clock> Seeing<'_, '_, W, C> {
         }
     }
 
+    /// Receives what a visit of a lane has read.
+    fn all(&mut self, piece: &[u8], forwarded: Forwarded) -> Progress {
+        self.piece(piece);
+        if forwarded.has_ended {
+            self.end();
+        }
+        forwarded.progress
+    }
+
     /// Receives the end of the side. It is printed if the other side has not ended before.
     fn end(&mut self) {
         if self.is_first {
@@ -149,16 +86,16 @@ impl Tapped {
         server: TcpStream,
         limits: &Limits,
         printing: Printing,
-    ) -> Result<Self, AllocError> {
-        Ok(Tapped {
+    ) -> Self {
+        Tapped {
             client,
             server,
             is_connected: false,
-            to_server: Lane::new(alloc)?,
-            to_client: Lane::new(alloc)?,
+            to_server: Lane::new(alloc),
+            to_client: Lane::new(alloc),
             tap: TimedTap::new(alloc, limits),
             printing,
-        })
+        }
     }
 
     /// Returns whether the connection to the server is open. The system is asked until it does.
@@ -187,53 +124,53 @@ impl Tapped {
     }
 
     /// Forwards the bytes received, until each call would block or the allowed number of pieces was
-    /// forwarded. `is_at_end` says whether an input may have ended.
+    /// forwarded. Each piece is read into the buffer. `is_at_end` says whether an input may have ended.
     pub(crate) fn hand_on<W: Sink, C: Clock>(
         &mut self,
         is_at_end: bool,
+        buffer: &mut [u8],
         printer: &mut Printer<'_, W, C>,
-    ) -> Next {
+    ) -> Next
+        requires { 0 < length buffer.old }
+    {
         for _ in 0..TURNS {
-            let to_server = self.visit(Side::Client, is_at_end, printer);
-            let to_client = self.visit(Side::Server, is_at_end, printer);
-            match (to_server, to_client) {
-                (Lately::Failed, _) | (_, Lately::Failed) => return Next::Close,
-                (Lately::Waits, Lately::Waits) if self.has_ended() => return Next::Close,
-                (Lately::Waits, Lately::Waits) => return Next::Wait,
-                _ => {}
+            let to_server = self.visit(Side::Client, is_at_end, buffer, printer);
+            let to_client = self.visit(Side::Server, is_at_end, buffer, printer);
+            if let Some(next) = next_of(to_server, to_client, self.have_ended()) {
+                return next;
             }
         }
         Next::Again
     }
 
-    /// Visits the lane of the bytes that one side sends.
+    /// Visits the lane of the bytes that one side sends, and prints what came.
     fn visit<W: Sink, C: Clock>(
         &mut self,
         side: Side,
         is_at_end: bool,
+        buffer: &mut [u8],
         printer: &mut Printer<'_, W, C>,
-    ) -> Lately {
+    ) -> Progress
+        requires { 0 < length buffer.old }
+    {
+        let is_first = !self.to_server.has_ended() && !self.to_client.has_ended();
         let mut see = Seeing {
             tap: &mut self.tap,
             printing: self.printing,
             side,
-            is_first: !self.to_server.has_ended && !self.to_client.has_ended,
+            is_first,
             printer,
         };
-        match side {
-            Side::Client => {
-                self.to_server
-                    .visit(&self.client, &self.server, is_at_end, &mut see)
-            }
-            Side::Server => {
-                self.to_client
-                    .visit(&self.server, &self.client, is_at_end, &mut see)
-            }
-        }
+        let (client, server) = (&self.client, &self.server);
+        let forwarded = match side {
+            Side::Client => self.to_server.visit(client, server, is_at_end, buffer),
+            Side::Server => self.to_client.visit(server, client, is_at_end, buffer),
+        };
+        see.all(&buffer[..buffer.len().min(forwarded.count)], forwarded)
     }
 
     /// Returns whether both sides have ended.
-    fn has_ended(&self) -> bool {
-        self.to_server.has_ended && self.to_client.has_ended
+    fn have_ended(&self) -> bool {
+        self.to_server.has_ended() && self.to_client.has_ended()
     }
 }

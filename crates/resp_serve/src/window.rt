@@ -1,15 +1,17 @@
 //! The window: its loop, its screen, and what it does with a connection.
 
 use crate::event_loop::Loop;
+use crate::lane::PIECE;
 use crate::own_address::check_server;
 use crate::printer::Printer;
+use crate::register::register;
 use crate::service::{Cause, Next, Service, Tokens};
 use crate::spare::Spare;
 use crate::tapped::{Opening, Tapped};
 use crate::terminal::Terminal;
 use crate::timing::Timing;
+use mio::Registry;
 use mio::net::TcpStream;
-use mio::{Interest, Registry};
 use resp_print::live::LiveSink;
 use resp_tap::Printing;
 use resp_tap::screen::Screen;
@@ -104,6 +106,8 @@ struct View {
     /// Whether nothing is printed any more, because a write has failed.
     is_silent: bool,
     timing: Timing,
+    /// The bytes of one read of any connection.
+    buffer: [u8; PIECE],
 }
 
 /// A view with the runtime, and the output to which its text is printed.
@@ -195,6 +199,7 @@ impl View {
             has_failed: false,
             is_silent: false,
             timing,
+            buffer: [0; PIECE],
         })
     }
 
@@ -305,11 +310,11 @@ impl View {
         if self.terminal.may_wait() {
             let screen = as_long(!self.is_silent, &mut self.screen);
             let mut printer = Printer::new(clock, &mut self.timing, screen);
-            return connection.hand_on(is_at_end, &mut printer);
+            return connection.hand_on(is_at_end, &mut self.buffer, &mut printer);
         }
         let out = as_long(!self.is_silent, out);
         let mut printer = Printer::new(clock, &mut self.timing, out);
-        let next = connection.hand_on(is_at_end, &mut printer);
+        let next = connection.hand_on(is_at_end, &mut self.buffer, &mut printer);
         self.has_failed = self.has_failed || printer.has_failed();
         next
     }
@@ -325,35 +330,19 @@ impl View {
     ) -> io::Result<Tapped> {
         let mut client = client;
         let mut server = self.spare.connect(net, self.server)?;
-        register(&mut client, &mut server, registry, tokens)?;
+        register(&mut client, registry, tokens.client)?;
+        register(&mut server, registry, tokens.server)?;
         let printing = Printing {
             client: number,
             shows_passwords: self.settings.shows_passwords,
         };
-        match Tapped::new(self.alloc, client, server, &self.settings.limits, printing) {
-            Ok(tapped) => Ok(tapped),
-            Err(_) => Err(ErrorKind::OutOfMemory.into()),
-        }
+        Ok(Tapped::new(self.alloc, client, server, &self.settings.limits, printing))
     }
 }
 
 /// Returns a writer if it is used.
 fn as_long<W>(is_used: bool, writer: &mut W) -> Option<&mut W> {
     if is_used { Some(writer) } else { None }
-}
-
-/// Sets the options of both sockets, and registers them under their tokens.
-fn register(
-    client: &mut TcpStream,
-    server: &mut TcpStream,
-    registry: &Registry,
-    tokens: Tokens,
-) -> io::Result<()> {
-    client.set_nodelay(true)?;
-    server.set_nodelay(true)?;
-    let both = Interest::READABLE | Interest::WRITABLE;
-    registry.register(client, tokens.client, both)?;
-    registry.register(server, tokens.server, both)
 }
 
 impl<R: Net + Clock + Eprint, W: LiveSink> Service<Tapped> for Watching<'_, R, W> {
@@ -382,7 +371,7 @@ impl<R: Net + Clock + Eprint, W: LiveSink> Service<Tapped> for Watching<'_, R, W
         self.view.print_line(number, REJECTED, self.rt, self.out);
     }
 
-    fn visit(&mut self, connection: &mut Tapped, cause: Cause) -> Next {
+    fn visit(&mut self, connection: &mut Tapped, _registry: &Registry, cause: Cause) -> Next {
         self.view
             .visit(connection, cause.is_at_end(), self.rt, self.out)
     }

@@ -1,38 +1,27 @@
 //! Forwards the bytes of one direction.
 
-ghost use Rattle.std.specs.Prelude.{◌≡◌, ◌⊎◌, ◌++◌, ◌≤◌, [], length, IfOk, IsErr, OnErr};
+ghost use Rattle.std.specs.Prelude.{◌≡◌, ◌≢◌, ◌⊎◌, ◌++◌, ◌<◌, ◌≤◌, [], length, take};
 ghost use Rattle.resp_value.specs.Devices.{count_after};
 
+use bytes::BytesMut;
 use resp_value::device::{DeviceFault, Sink, Source};
 use std::alloc::{AllocError, Global};
 use std::marker::Model;
 
-/// The most bytes of one read.
-const PIECE: usize = 16_384;
-
-/// Forwards the bytes of one direction: it holds the piece that was read last, and the part of it
-/// that still waits to be written.
+/// Forwards the bytes of one direction: it holds the bytes that were read and still wait to be
+/// written. While no bytes wait it holds no memory.
 #[derive(Drop)]
 pub struct Way {
-    buffer: Vec<u8>,
-    /// The range of the bytes that wait to be written.
-    start: usize,
-    end: usize,
+    alloc: Global,
+    waiting: BytesMut,
 }
 
 impl Model for Way {
-    ghost use Rattle.std.specs.Prelude.{◌≡◌, ◌≤◌, length, take, drop};
     ghost use Rattle.resp_tap.specs.Ways.{WayState};
 
     ghost Value = { WayState };
 
-    ghost view = { λ w. record {
-      piece = take w.end w.buffer.items;
-      waiting = drop w.start (take w.end w.buffer.items);
-    } };
-
-    ghost invariant = { λ w. (w.start ≤ w.end) × (w.end ≤ length w.buffer.items) ×
-        (length w.buffer.items ≡ 16384) };
+    ghost view = { λ w. record { waiting = w.waiting.items } };
 }
 
 /// The result of a visit.
@@ -42,94 +31,51 @@ pub enum Visited {
     Onward,
     /// A read failed, for example because it would block.
     NotRead,
-    /// A write failed, for example because it would block, or wrote no byte. The bytes that were
-    /// not written wait.
+    /// A write failed, for example because it would block, or did not write all bytes. The bytes that
+    /// were not written wait.
     NotWritten,
     /// The input ended.
     Ended,
+    /// There is no memory for the bytes that were not written. They are lost, and the connection has to
+    /// be closed.
+    OutOfMemory,
 }
 
 impl Way {
-    ghost use Rattle.std.specs.Prelude.{IsTrue, take, ◌<◌, ◌↔◌};
-    ghost use Rattle.resp_tap.specs.Ways.{AtItsEnd, HandsOn, MovesOrFails, Sends, TakesIn};
+    ghost use Rattle.std.specs.Prelude.{IsTrue, ◌↔◌};
+    ghost use Rattle.resp_tap.specs.Ways.{AtItsEnd, HandsOn, HandsOnOrLoses, MovesOrFails, Sends, SendsOrLoses};
 
-    /// Returns a way that has read nothing. It allocates room for one piece.
-    ///
-    /// # Errors
-    ///
-    /// `AllocError` if the allocation fails.
-    pub fn new(alloc: Global) -> Result<Way, AllocError>
-        ensures { IfOk result (λ way. way ≡ record { piece = []; waiting = [] }) }
+    /// Returns a way that has read nothing. Does not allocate.
+    pub fn new(alloc: Global) -> Way
+        ensures { result ≡ record { waiting = [] } }
     {
-        Ok(Way {
-            buffer: vec![in alloc; 0u8; PIECE]?,
-            start: 0,
-            end: 0,
-        })
-    }
-
-    /// Returns the piece that was read last.
-    pub fn piece(&self) -> &[u8]
-        ensures { result.now ≡ self.now.piece }
-    {
-        &self.buffer[..self.end]
-    }
-
-    /// Returns the bytes that wait to be written.
-    fn waiting(&self) -> &[u8]
-        ensures { result.now ≡ self.now.waiting }
-    {
-        let read = &self.buffer[..self.end];
-        &read[self.start..]
+        Way {
+            alloc,
+            waiting: BytesMut::new(alloc),
+        }
     }
 
     /// Returns whether bytes wait to be written.
     pub fn waits(&self) -> bool
         ensures { IsTrue result ↔ (0 < length self.now.waiting) }
     {
-        self.start < self.end
+        !self.waiting.is_empty()
     }
 
-    /// Reads a piece of at most 16,384 bytes. It is empty only at the end of the input.
-    fn fill<R: Source>(&mut self, reader: &mut R) -> Result<usize, DeviceFault>
-        ensures read { TakesIn (R.remaining reader.old) (R.remaining reader.new) self.new }
-        ensures count { IfOk result (λ count. count ≡ length self.new.piece) }
-        ensures unread { OnErr result (self.new.piece ≡ []) }
-        ensures failed { IsErr result →
-            R.failures reader.new ≡ count_after 1 (R.failures reader.old) }
-        ensures end { IfOk result (λ count. count ≡ 0 →
-            AtItsEnd (R.remaining reader.old)) }
-        ensures once { R.calls reader.new ≡ count_after 1 (R.calls reader.old) }
-    {
-        self.start = 0;
-        self.end = 0;
-        let count = reader.read(self.buffer.as_mut_slice())?;
-        self.end = count;
-        Ok(count)
-    }
-
-    /// Writes the bytes that wait, as many as one write accepts.
-    fn send<W: Sink>(&mut self, writer: &mut W) -> Result<usize, DeviceFault>
-        ensures sent { Sends (W.written writer.old) (W.written writer.new) self.old.waiting
-            self.new.waiting }
-        ensures same_piece { self.new.piece ≡ self.old.piece }
-        ensures once { W.calls writer.new ≡ count_after 1 (W.calls writer.old) }
-        ensures progress { MovesOrFails self.old.waiting self.new.waiting
-            (W.failures writer.old) (W.failures writer.new) }
-    {
-        let count = writer.write(self.waiting())?;
-        self.start += count;
-        Ok(count)
-    }
-
-    /// Reads a piece if no bytes wait, and writes the bytes that wait, with at most one read and
-    /// one write. Returns the number of bytes that were read, which are the first bytes of
-    /// [`Way::piece`], and the result of the visit.
-    pub fn visit<R: Source, W: Sink>(&mut self, reader: &mut R, writer: &mut W) -> (usize, Visited)
-        ensures handed_on { HandsOn (R.remaining reader.old) (R.remaining reader.new)
+    /// Reads a piece into the buffer if no bytes wait, and writes the bytes that wait, with at most one
+    /// read and one write. Returns the number of bytes that were read, which are the first bytes of the
+    /// buffer, and the result of the visit. It allocates only if a write does not write all bytes.
+    pub fn visit<R: Source, W: Sink>(
+        &mut self,
+        reader: &mut R,
+        writer: &mut W,
+        buffer: &mut [u8],
+    ) -> (usize, Visited)
+        requires { 0 < length buffer.old }
+        ensures handed_on { HandsOnOrLoses (R.remaining reader.old) (R.remaining reader.new)
             (W.written writer.old) (W.written writer.new) self.old.waiting self.new.waiting
-            (take result.0 self.new.piece) }
-        ensures within_piece { result.0 ≤ length self.new.piece }
+            (take result.0 buffer.new) result.1 }
+        ensures within_buffer { result.0 ≤ length buffer.new }
         ensures nothing_read { 0 < length self.old.waiting → result.0 ≡ 0 }
         ensures onward { result.1 ≡ Visited.Onward → self.new.waiting ≡ [] }
         ensures end { result.1 ≡ Visited.Ended → (self.old.waiting ≡ []) ×
@@ -142,19 +88,17 @@ impl Way {
         ensures writes { (result.1 ≡ Visited.Onward) ⊎ (result.1 ≡ Visited.NotWritten) →
             W.calls writer.new ≡ count_after 1 (W.calls writer.old) }
         ensures progress { result.1 ≡ Visited.NotWritten →
-            MovesOrFails (self.old.waiting ++ take result.0 self.new.piece) self.new.waiting
+            MovesOrFails (self.old.waiting ++ take result.0 buffer.new) self.new.waiting
             (W.failures writer.old) (W.failures writer.new) }
     {
         if self.waits() {
             return (0, self.send_on(writer));
         }
-        let Ok(count) = self.fill(reader) else {
-            return (0, Visited::NotRead);
-        };
-        if count == 0 {
-            return (0, Visited::Ended);
+        match reader.read(buffer) {
+            Ok(0) => (0, Visited::Ended),
+            Ok(count) => (count, self.send_piece(&buffer[..count], writer)),
+            Err(DeviceFault) => (0, Visited::NotRead),
         }
-        (count, self.send_on(writer))
     }
 
     /// Writes the bytes that wait, with one write.
@@ -162,7 +106,6 @@ impl Way {
         requires { 0 < length self.old.waiting }
         ensures sent { Sends (W.written writer.old) (W.written writer.new) self.old.waiting
             self.new.waiting }
-        ensures same_piece { self.new.piece ≡ self.old.piece }
         ensures onward { result ≡ Visited.Onward → self.new.waiting ≡ [] }
         ensures or_not { (result ≡ Visited.Onward) ⊎ (result ≡ Visited.NotWritten) }
         ensures not_written { result ≡ Visited.NotWritten → 0 < length self.new.waiting }
@@ -170,11 +113,42 @@ impl Way {
         ensures progress { MovesOrFails self.old.waiting self.new.waiting
             (W.failures writer.old) (W.failures writer.new) }
     {
-        let _ = self.send(writer);
-        if self.waits() {
-            Visited::NotWritten
-        } else {
-            Visited::Onward
+        let count = match writer.write(self.waiting.as_slice()) {
+            Ok(count) => count,
+            Err(DeviceFault) => return Visited::NotWritten,
+        };
+        if count == self.waiting.len() {
+            self.waiting = BytesMut::new(self.alloc);
+            return Visited::Onward;
+        }
+        self.waiting.advance(count);
+        Visited::NotWritten
+    }
+
+    /// Writes a piece that was read, with one write, and holds the bytes that were not written.
+    fn send_piece<W: Sink>(&mut self, piece: &[u8], writer: &mut W) -> Visited
+        requires empty { self.old.waiting ≡ [] }
+        requires some { 0 < length piece.now }
+        ensures sent { SendsOrLoses (W.written writer.old) (W.written writer.new) piece.now
+            self.new.waiting result }
+        ensures onward { result ≡ Visited.Onward → self.new.waiting ≡ [] }
+        ensures read { (result ≡ Visited.Onward) ⊎ (result ≡ Visited.NotWritten) ⊎
+            (result ≡ Visited.OutOfMemory) }
+        ensures not_written { result ≡ Visited.NotWritten → 0 < length self.new.waiting }
+        ensures once { W.calls writer.new ≡ count_after 1 (W.calls writer.old) }
+        ensures progress { result ≡ Visited.NotWritten → MovesOrFails piece.now self.new.waiting
+            (W.failures writer.old) (W.failures writer.new) }
+    {
+        let count = match writer.write(piece) {
+            Ok(count) => count,
+            Err(DeviceFault) => 0,
+        };
+        if count == piece.len() {
+            return Visited::Onward;
+        }
+        match self.waiting.extend_from_slice(&piece[count..]) {
+            Ok(()) => Visited::NotWritten,
+            Err(AllocError) => Visited::OutOfMemory,
         }
     }
 }

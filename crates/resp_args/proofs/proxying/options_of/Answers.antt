@@ -31,7 +31,13 @@ returns-in_err-small_number_of-clause-none c =
 pub returns-in_err-number_between-clause-none : goal.returns-in_err-number_between-clause-none
 returns-in_err-number_between-clause-none c =
     let none : (options : ProxyOptions) → HasProxyOptions (rows_of (found_of c.args.matches.now)) options → ⊥ =
-    λ options has. c.in_err-number_between.ensures.none _ has.unanswered in
+    λ options has. c.in_err-number_between.ensures.none _ has.alone in
+    if_none _ _ none
+
+pub returns-in_err-number_between-2-clause-none : goal.returns-in_err-number_between-2-clause-none
+returns-in_err-number_between-2-clause-none c =
+    let none : (options : ProxyOptions) → HasProxyOptions (rows_of (found_of c.args.matches.now)) options → ⊥ =
+    λ options has. c.in_err-number_between-2.ensures.none _ has.unanswered in
     if_none _ _ none
 
 pub returns-in_err-number_of-clause-none : goal.returns-in_err-number_of-clause-none

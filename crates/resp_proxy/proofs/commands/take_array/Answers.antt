@@ -27,6 +27,6 @@ returns-in-Ok-carry_out-clause-taken c ready front h =
     Carries (record { rules = rules; lines = i.lines; admitted = texts_of i.admitted.items }) who (text_of command.frame) old new) c.in-Ok.ensures.same_rules
     c.in-Ok-carry_out.ensures.carried in (
       whole.1,
-      subst (λ n. TakesPart (terms_of i) who (front ++ take n piece) old new) (sym c.used.ensures)
+      subst (λ n. TakesPart (terms_of i) who (front ++ take n piece) old new) (sym c.used-used.ensures)
           (array-part (terms_of i) who front piece command old new whole.0 (carries front piece whole.0)),
     )

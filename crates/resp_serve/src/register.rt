@@ -1,0 +1,19 @@
+//! Sockets of connections in the registry of the loop.
+
+use mio::net::TcpStream;
+use mio::{Interest, Registry, Token};
+use std::io;
+
+/// Sends the bytes of each write at once, and registers the socket under its token.
+///
+/// # Errors
+///
+/// The error of the system.
+pub(crate) fn register(
+    stream: &mut TcpStream,
+    registry: &Registry,
+    token: Token,
+) -> io::Result<()> {
+    stream.set_nodelay(true)?;
+    registry.register(stream, token, Interest::READABLE | Interest::WRITABLE)
+}
