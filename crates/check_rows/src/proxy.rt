@@ -66,6 +66,7 @@ impl Subject for Proxying {
                 ..Settings::standard()
             })?,
             "own" => self.proxy.admit_own(true),
+            "admit" => self.proxy.admit(given.as_bytes())?,
             "client" => self.hear_client(given, cut)?,
             "server" => self.hear_server(given, cut, said)?,
             "end" => self.end(given)?,

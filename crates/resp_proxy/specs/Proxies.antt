@@ -71,6 +71,17 @@ with_own_admitted own p = record {
   own = own;
 }
 
+-- these bytes are commands and these commands are sent, and all else is as it was
+abbrev pub with_terms : Terms → Proxied → Proxied
+with_terms terms p = record {
+  mux = p.mux;
+  settings = p.settings;
+  terms = terms;
+  reply_rules = p.reply_rules;
+  begun = p.begun;
+  replied = p.replied;
+}
+
 abbrev pub settings_of : Proxied → Settings
 settings_of p = p.settings
 

@@ -21,6 +21,10 @@ pub record Terms : Type 0 where
   -- the names of commands that are sent although the table does not have them
   pub admitted : List (List ℕ)
 
+-- a command of this name is admitted too
+abbrev pub with_admitted : List ℕ → Terms → Terms
+with_admitted name t = record { rules = t.rules; lines = t.lines; admitted = t.admitted ++ name ∷ [] }
+
 -- the name is one of these, in upper, lower or mixed case
 pub record IsAmong (names : List (List ℕ)) (name : List ℕ) : Type 0 where
   pub other : List ℕ

@@ -1,11 +1,11 @@
 //! Which bytes of a client are commands, and which commands are sent.
 
-ghost use Rattle.std.specs.Prelude.{◌≡◌, List, ℕ, false, true, IfOk, IsTrue};
+ghost use Rattle.std.specs.Prelude.{◌≡◌, List, ℕ, false, true, IfOk, IsTrue, OnErr, OnOk};
 ghost use Rattle.resp_frames.specs.Framing.{IsReady};
 ghost use Rattle.resp_frames.specs.Texts.{text_of};
 ghost use Rattle.resp_proxy.specs.Leaving.{IsForOwn};
 ghost use Rattle.resp_proxy.specs.Taking.{AdmitsText, GoesOn};
-ghost use Rattle.resp_proxy.specs.Terms.{BeginsLine, IsAmong};
+ghost use Rattle.resp_proxy.specs.Terms.{BeginsLine, IsAmong, with_admitted};
 ghost use Rattle.resp_proxy.specs.Unfinished.{HasArray, HasBytes, HasUnfinished, terms_by, terms_of};
 ghost use Rattle.resp_value.specs.Words.{texts_of};
 
@@ -48,6 +48,20 @@ impl Intake {
             admits_own: false,
             counts: Counts::new(alloc),
         })
+    }
+
+    /// Admits a command of this name.
+    pub(crate) fn admit(&mut self, alloc: Global, name: &[u8]) -> Result<(), AllocError>
+        ensures admitted { OnOk result (terms_of self.new ≡
+            with_admitted name.now (terms_of self.old)) }
+        ensures unchanged { OnErr result (terms_of self.new ≡ terms_of self.old) }
+        ensures same_frames { self.new.frames ≡ self.old.frames }
+    {
+        let copy = name.to_vec(alloc)?;
+        match self.admitted.push(copy) {
+            Ok(()) => Ok(()),
+            Err(_) => Err(AllocError),
+        }
     }
 
     /// Returns whether the next byte of a client belongs to a line.

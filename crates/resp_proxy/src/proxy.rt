@@ -9,12 +9,14 @@ ghost use Rattle.resp_proxy.specs.Room.{HasRoom};
 ghost use Rattle.resp_proxy.specs.Failing.{Fails, FailsSome};
 ghost use Rattle.resp_proxy.specs.Replying.{TakesReplies};
 ghost use Rattle.resp_proxy.specs.Taking.{TakesIn};
+ghost use Rattle.resp_proxy.specs.Terms.{with_admitted};
+ghost use Rattle.resp_proxy.specs.Unfinished.{terms_by};
 ghost use Rattle.resp_proxy.specs.Telling.{Tells};
 ghost use Rattle.resp_proxy.specs.Visiting.{GivesSome, HasNothingFor, IsDone, MayLeave, SendsSome};
 ghost use Rattle.resp_value.specs.Devices.{count_after};
 ghost use Rattle.resp_value.specs.Rules.{Rules};
 ghost use Rattle.resp_proxy.specs.Leaving.{LeavesRightly};
-ghost use Rattle.resp_proxy.specs.Proxies.{HasBegunBy, HasNoClient, HasRoomFor, WhereBegunBy, WhereHeld, lost_text, admits_own, mux_of, replied_to, reply_rules_of, terms_of, server_begun, settings_of, with_own_admitted, with_replied};
+ghost use Rattle.resp_proxy.specs.Proxies.{HasBegunBy, HasNoClient, HasRoomFor, WhereBegunBy, WhereHeld, lost_text, admits_own, mux_of, replied_to, reply_rules_of, terms_of, server_begun, settings_of, with_own_admitted, with_replied, with_terms};
 
 use crate::client::Client;
 use crate::counts::{Counted, Numbers};
@@ -86,6 +88,8 @@ impl Proxy {
         ensures begun { IfOk result (λ proxy. HasBegunBy proxy []) }
         ensures nobody { IfOk result (λ proxy. replied_to proxy ≡ []) }
         ensures settings { IfOk result (λ proxy. settings_of proxy ≡ settings) }
+        // Whether lines are commands is a setting, and no command is admitted.
+        ensures terms { IfOk result (λ proxy. terms_of proxy ≡ terms_by settings) }
     {
         let intake = Intake::new(alloc, &settings)?;
         let replies = Frames::new(alloc, Version::Two, &settings.limits)?;
@@ -102,6 +106,21 @@ impl Proxy {
             begun: Begun::new(),
             replied: VecDeque::new(alloc),
         })
+    }
+
+    /// Admits a command of this name, in upper, lower or mixed case, if the table of commands does not have
+    /// it: from now on it is sent to the server, as a command for which clients may share a connection.
+    /// The caller knows that it has one reply, does not wait, and leaves nothing behind in the connection.
+    ///
+    /// # Errors
+    ///
+    /// `AllocError` if an allocation fails. Nothing changes.
+    pub fn admit(&mut self, name: &[u8]) -> Result<(), AllocError>
+        ensures admitted { OnOk result (self.new ≡
+            with_terms (with_admitted name.now (terms_of self.old)) self.old) }
+        ensures unchanged { OnErr result (self.new ≡ self.old) }
+    {
+        self.intake.admit(self.alloc, name)
     }
 
     /// Opens a client. No client had its id before.
