@@ -14,7 +14,7 @@ Most tests have a server of their own, which reads and replies step by step. The
 - --waiting and --clients limit what they say, and nothing is busy without work;
 - with a password AUTH is sent first, and commands only after its reply;
 - lines are commands, and with --no-inline they are not;
-- --local-ping, --report and --drain do what they say, and INFO proxy;
+- --also, --local-ping, --report and --drain do what they say, and INFO proxy;
 - clients wait while no descriptor is left, and the connection to the server is opened again even then.
 """
 import contextlib
@@ -554,6 +554,18 @@ def login():
             hear(client, PONG)
 
 
+def admitted_commands():
+    """With --also the commands of these names are sent, and no other that the table does not have or that is refused."""
+    with proxied("--also", "JSON.GET,,config") as (proxy, _, server), connect(proxy.port) as client:
+        ask(client, b"JSON.SET a\r\n", b"-ERR unknown command 'JSON.SET'\r\n")
+        ask(client, b"CONFIG GET save\r\n", b"-ERR 'CONFIG' is not served by this proxy\r\n")
+        sent = command(b"json.Get", b"a")
+        client.sendall(sent)
+        hear(server, sent)
+        server.sendall(PONG)
+        hear(client, PONG)
+
+
 def ping_of_the_proxy():
     """With --local-ping the proxy replies to PING without a server, and to INFO proxy always."""
     with socket.create_server(("127.0.0.1", 0)) as free:
@@ -749,5 +761,5 @@ def own_address_of_proxy():
 TESTS = [pipelines_cut_at_random, client_that_goes, end_of_input, server_that_closes, server_that_ends_inside_a_reply,
          reply_that_nobody_waits_for, server_that_is_not_there, patience, protocol_error, own_replies, lines,
          client_that_does_not_read, server_that_does_not_read, one_command_at_a_time, login,
-         ping_of_the_proxy, reports, times_of_replies, end_of_standard_input, most_of_proxy,
+         admitted_commands, ping_of_the_proxy, reports, times_of_replies, end_of_standard_input, most_of_proxy,
          descriptors_of_proxy, busy_clients, own_address_of_proxy]

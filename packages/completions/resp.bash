@@ -19,7 +19,7 @@ _resp() {
     serve) options="$limits --clients --held -h --help" ;;
     tap) options="$limits --clients --time --exit-with-output --keep-going --show-passwords -h --help" ;;
     proxy)
-        options="$limits --clients --own --waiting --held --unsent --patience --report --local-ping --no-inline --drain -h --help"
+        options="$limits --clients --own --waiting --held --unsent --patience --report --local-ping --no-inline --drain --also -h --help"
         ;;
     ask) options="-3 --user --window --count $limits -h --help" ;;
     help) [ "$COMP_CWORD" -ne 2 ] || COMPREPLY=($(compgen -W "$commands" -- "$word")) ;;

@@ -163,11 +163,27 @@ fn proxy<W: LiveSink>(
         login,
         settings,
     )?;
+    if admit(&mut server, proxying.also).is_err() {
+        return Err(ToolError::Memory.into());
+    }
     write_listening(alloc, server.address()?, writer)?;
     if writer.flush().is_err() {
         return Err(ToolError::Write.into());
     }
     Ok(server.run(rt, rt.stdin(), writer)?)
+}
+
+/// Admits the commands of these names, between commas.
+fn admit(server: &mut ProxyServer, names: Option<&str>) -> Result<(), AllocError> {
+    let Some(names) = names else {
+        return Ok(());
+    };
+    for name in names.split(',') {
+        if !name.is_empty() {
+            server.admit(name.as_bytes())?;
+        }
+    }
+    Ok(())
 }
 
 /// Returns the command AUTH with the password of the environment, or no byte if there is no password.

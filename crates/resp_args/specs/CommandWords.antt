@@ -187,7 +187,8 @@ pub record HasProxyWords (given : List Row) (address server : Text) (options : P
 abbrev pub HasProxying : List Row → Proxying → Type 0
 HasProxying given proxying = (server_text : Text) ×
     HasProxyWords given proxying.address_text.now server_text proxying.options ×
-    IsAddressText proxying.address_text.now proxying.address × IsAddressText server_text proxying.server
+    IsAddressText proxying.address_text.now proxying.address × IsAddressText server_text proxying.server ×
+    (option_map (λ names. names.now) proxying.also ≡ first_of (codes "also") given)
 
 -- the options of `ask` that are neither the address nor the words
 pub record HasAskOptions (given : List Row) (options : AskOptions) : Type 0 where

@@ -97,6 +97,10 @@ tap_options = listening_options
     (flag_option (codes "time") ∷ flag_option (codes "exit-with-output") ∷ flag_option (codes "keep-going") ∷
     flag_option (codes "show-passwords") ∷ address_word (codes "listen") ∷ address_word (codes "server") ∷ [])
 
+-- `--name VALUE`, an option with any value and without a default
+abbrev pub name_option : Text → Rule
+name_option name = record (new_rule name) { long = Some name; value_names = 1 }
+
 -- the options of `proxy`
 abbrev pub proxy_options : List Rule
 proxy_options = listening_options
@@ -107,11 +111,8 @@ proxy_options = listening_options
     number_option (codes "patience") 1 3600000 (codes "5000") ∷
     number_option (codes "report") 0 86400 (codes "0") ∷
     flag_option (codes "local-ping") ∷ flag_option (codes "no-inline") ∷ flag_option (codes "drain") ∷
+    name_option (codes "also") ∷
     address_word (codes "listen") ∷ address_word (codes "server") ∷ [])
-
--- `--name VALUE`, an option with any value and without a default
-abbrev pub name_option : Text → Rule
-name_option name = record (new_rule name) { long = Some name; value_names = 1 }
 
 -- the words of a command: an argument without a name, to which all words after its first one belong
 abbrev pub command_word : Rule

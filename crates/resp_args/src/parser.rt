@@ -482,7 +482,7 @@ fn with_asking_options<'a>(
 }
 
 /// Returns an option with a name, which has no default.
-fn name<'a>(alloc: Global, name: &'a str, help: &'static str) -> Arg<'a>
+pub(crate) fn name<'a>(alloc: Global, name: &'a str, help: &'static str) -> Arg<'a>
     ensures rule { rule_of result ≡ name_option name.entry.now }
     ensures here { result.global ≡ false }
 {

@@ -5,7 +5,7 @@ ghost use Rattle.clap.specs.Words.{App, new_app};
 ghost use Rattle.resp_args.specs.Program.{MakesTask, address_word, flag_option, number_option, proxy_options, with_options};
 
 use crate::parser::{
-    CLIENTS, MOST_TOTAL, NumberOption, address, bare_task, with_arg, with_flag, with_limits,
+    CLIENTS, MOST_TOTAL, NumberOption, address, bare_task, name, with_arg, with_flag, with_limits,
 };
 use clap::Command;
 use std::alloc::Global;
@@ -92,6 +92,10 @@ const LOCAL_PING: &str = "Replies to PING without the server";
 /// The help of `--no-inline`.
 const NO_INLINE: &str = "Rejects commands that are lines, such as PING";
 
+/// The help of `--also`.
+const ALSO: &str = r"Also sends these commands of modules, such as
+JSON.GET,JSON.SET; each must have one reply";
+
 /// The help of `--drain`.
 const DRAIN: &str = r"Ends when standard input ends; each client gets the
 replies to its commands first";
@@ -107,6 +111,7 @@ pub(crate) fn proxy_task<'a>(alloc: Global) -> Result<Command<'a>, clap::Error>
     let task = with_bounds(alloc, task);
     let task = with_times(alloc, task);
     let task = with_switches(alloc, task);
+    let task = with_arg(task, name(alloc, "also", ALSO));
     with_addresses(alloc, task)
 }
 

@@ -19,6 +19,9 @@ pub struct Proxying<'a> {
     pub address_text: &'a str,
     /// The address of the server.
     pub server: SocketAddr,
+    /// The names of the commands that are sent although the table does not have them, with a comma between
+    /// two of them, if they were given.
+    pub also: Option<&'a str>,
     /// The options that are no address.
     pub options: ProxyOptions,
 }
@@ -74,6 +77,7 @@ pub(crate) fn proxying_of<'a>(matches: &ArgMatches<'a>) -> Result<Proxying<'a>, 
             address,
             address_text: words.address,
             server,
+            also: text_of(matches, "also"),
             options: words.options,
         }),
         Err(nothing) => Err(nothing),

@@ -80,6 +80,7 @@ with_terms terms p = record {
   reply_rules = p.reply_rules;
   begun = p.begun;
   replied = p.replied;
+  own = p.own;
 }
 
 abbrev pub settings_of : Proxied → Settings

@@ -12,7 +12,7 @@ use crate::service::{Cause, Next, Service, Tokens};
 use mio::Registry;
 use mio::net::TcpStream;
 use resp_print::live::LiveSink;
-use std::alloc::Global;
+use std::alloc::{AllocError, Global};
 use std::fs::{File, Files};
 use std::io;
 use std::io::{ErrorKind, Read};
@@ -84,6 +84,15 @@ impl ProxyServer {
             Ok(relay) => Ok(ProxyServer { connections, relay }),
             Err(_) => Err(ErrorKind::OutOfMemory.into()),
         }
+    }
+
+    /// Admits a command of this name, as [`resp_proxy::Proxy::admit`] does.
+    ///
+    /// # Errors
+    ///
+    /// `AllocError` if an allocation fails.
+    pub fn admit(&mut self, name: &[u8]) -> Result<(), AllocError> {
+        self.relay.admit(name)
     }
 
     /// Returns the address that the proxy listens on.

@@ -60,6 +60,11 @@ pub(crate) struct Relay {
 }
 
 impl Relay {
+    /// Admits a command of this name, as [`Proxy::admit`] does.
+    pub(crate) fn admit(&mut self, name: &[u8]) -> Result<(), AllocError> {
+        self.proxy.admit(name)
+    }
+
     /// Returns a relay without clients, before the first attempt to connect to the server.
     ///
     /// # Errors
