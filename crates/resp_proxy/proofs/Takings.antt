@@ -1,5 +1,5 @@
 -- How commands are taken, one after another.
-use Rattle.std.proofs.Common.{◌≡◌, ◌∙◌, ℕ, ◌+◌, ◌-◌, ◌≤◌, List, [], ◌∷◌, ◌++◌, length, take, drop, Option, None, Some, Result, Ok, Err, ap, append_assoc, arith, length-drop, refl, subst, sym}
+use Rattle.std.proofs.Common.{◌≡◌, ◌∙◌, ℕ, ◌+◌, ◌-◌, ◌≤◌, List, [], ◌∷◌, ◌++◌, length, take, drop, Option, None, Some, Ok, Err, ap, append_assoc, arith, length-drop, refl, subst, sym}
 use Rattle.std.specs.List.{AllByRecursion, concat}
 use Rattle.std.proofs.Math.Seq.{take-add}
 use Rattle.std.proofs.lemmas.List.{append-nil, take-append-drop}
@@ -7,7 +7,7 @@ use Rattle.std.proofs.Math.Seq.{take-length}
 use Rattle.resp_frames.proofs.Ends.{take_whole}
 use Rattle.resp_frames.specs.Framing.{IsReady}
 use Rattle.resp_mux.specs.declared.client_id.ClientId.{ClientId}
-use Rattle.resp_mux.specs.Multiplexing.{HasPassed, KeepsClients, KeepsPassed, Multiplexed, WherePassed}
+use Rattle.resp_mux.specs.Multiplexing.{HasPassed, KeepsClients, KeepsPassed, Multiplexed}
 use Rattle.resp_mux.specs.Passing.{Passed}
 use Rattle.resp_proxy.specs.declared.error.ClientError.{ClientError}
 use Rattle.resp_proxy.specs.declared.intake.Intake.{Intake}

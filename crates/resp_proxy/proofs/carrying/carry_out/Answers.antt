@@ -1,5 +1,4 @@
 use Rattle.std.proofs.Common.{OnOk, refl, subst}
-use Rattle.resp_frames.specs.Texts.{text_of}
 use Rattle.resp_mux.specs.Multiplexing.{HasPassed, WherePassed}
 use Rattle.resp_mux.specs.Passing.{with_command}
 use Rattle.resp_proxy.proofs.Carryings.{carried-admitted, carried-own, carried-shared}
