@@ -56,6 +56,7 @@ impl Intake {
             with_admitted name.now (terms_of self.old)) }
         ensures unchanged { OnErr result (terms_of self.new ≡ terms_of self.old) }
         ensures same_frames { self.new.frames ≡ self.old.frames }
+        ensures same_own { self.new.admits_own ≡ self.old.admits_own }
     {
         let copy = name.to_vec(alloc)?;
         match self.admitted.push(copy) {
