@@ -5,3 +5,4 @@ pub mod LineLemmas
 pub mod TimeLemmas
 pub mod Streams
 pub mod Counting
+pub mod Fronts

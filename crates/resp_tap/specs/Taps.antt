@@ -29,9 +29,9 @@ tap_state t = record {
   limits = t.limits;
   commands = t.commands;
   line = line_of t.line;
-  reading = (rules_of t.values).version;
-  reads_commands = t.reads_commands;
-  reads_replies = t.reads_replies;
+  reading = (rules_of t.values.decoder).version;
+  reads_commands = t.requests.is_reading;
+  reads_replies = t.values.is_reading;
 }
 
 -- a new connection: nothing was read, and the version is 2

@@ -6,7 +6,7 @@ use Rattle.resp_tap.specs.Lines.{asked_at}
 use Rattle.resp_tap.specs.Taps.{TapState, at_front, tap_state}
 use Rattle.resp_tap.specs.Texts.{levels_of, seen_text}
 use Rattle.resp_tap.specs.Times.{HasTimes, KeepsTimes, stamp_of}
-use Rattle.resp_tap.specs.Watching.{KeepsRequest, KeepsValue, SeesTimed, SeesValue, WhereAnswered, WhereRequested}
+use Rattle.resp_tap.specs.Watching.{HasTakenSomeRequest, HasTakenSomeValue, KeepsRequest, KeepsValue, SeesTimed, SeesValue, WhereAnswered, WhereRequested}
 use Rattle.resp_tap.specs.declared.moment.Moment.{Moment}
 use Rattle.resp_tap.specs.declared.print.Printing.{Printing}
 use Rattle.resp_tap.specs.declared.seen.Seen.{Seen}
@@ -20,6 +20,11 @@ use Rattle.resp_tap.specs.declared.watch.Side.TheVariants.{Client, Server}
 abbrev pub KeepsOther : Side → Tap → Tap → Type 0
 KeepsOther Client old new = KeepsValue old new
 KeepsOther Server old new = KeepsRequest old new
+
+-- until the first error of this side, some bytes were read of its incomplete value
+abbrev pub HasSentSome : Side → Tap → Type 0
+HasSentSome Client t = HasTakenSomeRequest t
+HasSentSome Server t = HasTakenSomeValue t
 
 -- P holds of all bytes that were read of this side's incomplete value
 abbrev pub WhereSent : Side → Tap → (List ℕ → Type 0) → Type 0
@@ -39,6 +44,7 @@ is_read_of Server s = s.reads_replies
 -- The first result in a piece that arrived at this moment, and the number of bytes that were read for it.
 pub record SeesFirst (side : Side) (now : Option Moment) (old new : TimedTap) (piece : List ℕ) (used : ℕ)
     (what : Seen) : Type 0 where
+  pub some : HasSentSome side old.tap
   pub read : is_read_of side (tap_state old.tap) ≡ true → WhereSent side old.tap (λ front.
       SeesSent side now (tap_state old.tap) new.tap front piece used what × KeepsTimes now old new)
   pub unread : is_read_of side (tap_state old.tap) ≡ false → (new ≡ old) × (used ≡ length piece) × (what ≡ seen.Nothing)

@@ -1,5 +1,5 @@
 -- The results that a tap reports for the bytes of either side, in terms of texts and values.
-use Rattle.std.specs.Prelude.{◌≡◌, ◌≢◌, ◌⊎◌, ℕ, ◌+◌, ◌≤◌, ◌<◌, ◌^◌, false, if◌then◌else◌, Option, None, Some, IsSome, List, [], ◌∷◌, ◌++◌, length, take}
+use Rattle.std.specs.Prelude.{◌≡◌, ◌≢◌, ◌⊎◌, ℕ, ◌+◌, ◌≤◌, ◌<◌, ◌^◌, true, false, if◌then◌else◌, Option, None, Some, IsSome, List, [], ◌∷◌, ◌++◌, length, take}
 use Rattle.resp_value.specs.Bounds.{Bounds}
 use Rattle.resp_value.specs.Data.{Datum}
 use Rattle.resp_value.specs.Rules.{Rules, WithinTotal, rules_under}
@@ -39,11 +39,19 @@ value_rules s = rules_under s.reading s.limits
 -- The bytes that a tap has read of the client's incomplete value. Callers do not need the definition: `new` establishes
 -- this relation and the next one, and each call preserves them until the first error.
 abbrev pub HasTakenRequest : Tap → List ℕ → Type 0
-HasTakenRequest t front = decode.HasTaken t.requests front
+HasTakenRequest t front = decode.HasTaken t.requests.decoder front
 
 -- the bytes that a tap has read of the server's incomplete value
 abbrev pub HasTakenValue : Tap → List ℕ → Type 0
-HasTakenValue t front = decode.HasTaken t.values front
+HasTakenValue t front = decode.HasTaken t.values.decoder front
+
+-- Until the first error of the client, a tap has read some bytes of the client's incomplete value.
+abbrev pub HasTakenSomeRequest : Tap → Type 0
+HasTakenSomeRequest t = (tap_state t).reads_commands ≡ true → ∥ ((front : List ℕ) × HasTakenRequest t front) ∥₁
+
+-- until the first error of the server, it has read some bytes of the server's incomplete value
+abbrev pub HasTakenSomeValue : Tap → Type 0
+HasTakenSomeValue t = (tap_state t).reads_replies ≡ true → ∥ ((front : List ℕ) × HasTakenValue t front) ∥₁
 
 -- P holds of all bytes that were read of the client's incomplete value
 abbrev pub WhereRequested : Tap → (List ℕ → Type 0) → Type 0

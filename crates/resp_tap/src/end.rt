@@ -42,7 +42,7 @@ impl Tap {
             result ≡ cut_of (place.Command ((tap_state self.now).commands + 1)) front) }
         ensures unread { (tap_state self.now).reads_commands ≡ false → result ≡ None }
     {
-        if !self.reads_commands {
+        if !self.requests.is_reading() {
             return None;
         }
         cut_at(
@@ -58,7 +58,7 @@ impl Tap {
             result ≡ cut_of (place_of_value (tap_state self.now)) front) }
         ensures unread { (tap_state self.now).reads_replies ≡ false → result ≡ None }
     {
-        if !self.reads_replies {
+        if !self.values.is_reading() {
             return None;
         }
         cut_at(self.line.place(), self.values.taken())

@@ -18,6 +18,7 @@ pub mod screen;
 pub mod secrets;
 pub mod seen;
 mod shown;
+mod side_reader;
 pub mod stamp;
 pub mod tap;
 pub mod timed;

@@ -2,6 +2,7 @@
 
 ghost use Rattle.std.specs.Prelude.{◌≡◌, length};
 ghost use Rattle.resp_tap.specs.Taps.{tap_state};
+ghost use Rattle.resp_tap.specs.Watching.{HasTakenSomeRequest, HasTakenSomeValue};
 
 use crate::tap::Tap;
 
@@ -9,17 +10,19 @@ impl Tap {
     /// Returns whether the bytes of the client are still read. They are read until the first error
     /// in them.
     pub fn reads_commands(&self) -> bool
-        ensures { result ≡ (tap_state self.now).reads_commands }
+        ensures reads { result ≡ (tap_state self.now).reads_commands }
+        ensures some { HasTakenSomeRequest self.now }
     {
-        self.reads_commands
+        self.requests.is_reading()
     }
 
     /// Returns whether the bytes of the server are still read. They are read until the first error
     /// in them.
     pub fn reads_replies(&self) -> bool
-        ensures { result ≡ (tap_state self.now).reads_replies }
+        ensures reads { result ≡ (tap_state self.now).reads_replies }
+        ensures some { HasTakenSomeValue self.now }
     {
-        self.reads_replies
+        self.values.is_reading()
     }
 
     /// Returns the number of commands that wait for their replies. MONITOR and other commands after

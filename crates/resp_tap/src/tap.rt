@@ -9,7 +9,7 @@ ghost use Rattle.resp_tap.specs.declared.seen.Place.TheVariants as place;
 use crate::kind::command_kind;
 use crate::line::Line;
 use crate::seen::{Place, Seen, Step};
-use resp_decode::Decoder;
+use crate::side_reader::SideReader;
 use resp_session::words::{Asked, Words, asked_by};
 use resp_value::cause::Cause;
 use resp_value::limits::Limits;
@@ -65,21 +65,17 @@ const MOST_COMMANDS: u64 = 9_223_372_036_854_775_808;
 #[derive(Drop)]
 pub struct Tap {
     /// Reads the bytes of the client.
-    pub(crate) requests: Decoder,
+    pub(crate) requests: SideReader,
     /// The number of commands that were read.
     pub(crate) commands: u64,
     /// Reads the bytes of the server.
-    pub(crate) values: Decoder,
+    pub(crate) values: SideReader,
     /// The commands that wait.
     pub(crate) line: Line,
-    /// Whether the bytes of the client are still read.
-    pub(crate) reads_commands: bool,
-    /// Whether the bytes of the server are still read.
-    pub(crate) reads_replies: bool,
     pub(crate) limits: Limits,
     ghost in_range: { commands ≤ 2 ^ 63 },
-    ghost request_rules: { rules_of requests ≡ rules_under Two limits },
-    ghost value_limits: { (rules_of values).limits ≡ limits },
+    ghost request_rules: { rules_of requests.decoder ≡ rules_under Two limits },
+    ghost value_limits: { (rules_of values.decoder).limits ≡ limits },
 }
 
 impl Step {
@@ -116,7 +112,7 @@ impl Tap {
     ghost use Rattle.resp_tap.specs.Kinds.{command_kind};
     ghost use Rattle.resp_tap.specs.Lines.{number_for};
     ghost use Rattle.resp_tap.specs.Taps.{at_front, new_tap, tap_state, with_command, with_refused_command, with_refused_reply, with_value};
-    ghost use Rattle.resp_tap.specs.Watching.{HasTakenRequest, HasTakenValue, IsLeftOut, KeepsRequest, KeepsValue, LacksTime, SeesRequest, SeesValue, WhereAnswered, WhereRequested, place_of_value, request_rules};
+    ghost use Rattle.resp_tap.specs.Watching.{HasTakenRequest, HasTakenSomeRequest, HasTakenSomeValue, HasTakenValue, IsLeftOut, KeepsRequest, KeepsValue, LacksTime, SeesRequest, SeesValue, WhereAnswered, WhereRequested, place_of_value, request_rules};
 
     /// Returns a tap of a new connection, which is read within these limits. It allocates nothing.
     pub fn new(alloc: Global, limits: &Limits) -> Tap
@@ -125,12 +121,10 @@ impl Tap {
         ensures nothing_answered { HasTakenValue result [] }
     {
         Tap {
-            requests: Decoder::new(alloc, Version::Two, limits),
+            requests: SideReader::new(alloc, limits),
             commands: 0,
-            values: Decoder::new(alloc, Version::Two, limits),
+            values: SideReader::new(alloc, limits),
             line: Line::new(alloc),
-            reads_commands: true,
-            reads_replies: true,
             limits: *limits,
         }
     }
@@ -149,13 +143,14 @@ impl Tap {
         ensures seen { (tap_state self.old).reads_commands ≡ true →
             WhereRequested self.old (λ front.
             SeesRequest (tap_state self.old) self.new front piece.now result.used result.seen) }
+        ensures some { HasTakenSomeRequest self.old }
         ensures same_value { KeepsValue self.old self.new }
         ensures within_piece { result.used ≤ length piece.now }
         ensures uses_bytes { 0 < length piece.now → 0 < result.used }
         ensures unread { (tap_state self.old).reads_commands ≡ false → (self.new ≡ self.old) ×
             (result ≡ record { used = length piece.now; seen = Seen.Nothing }) }
     {
-        if !self.reads_commands {
+        if !self.requests.is_reading() {
             return Step::nothing(piece);
         }
         let fed = match self.requests.feed(piece) {
@@ -190,7 +185,7 @@ impl Tap {
         ensures after { tap_state self.new ≡ with_refused_command (tap_state self.old) }
         ensures same_value { KeepsValue self.old self.new }
     {
-        self.reads_commands = false;
+        self.requests.stop();
     }
 
     /// Stops reading the client's bytes, and reports an error in the next command.
@@ -220,7 +215,7 @@ impl Tap {
         } }
     {
         let place = self.line.place();
-        self.reads_replies = false;
+        self.values.stop();
         Step {
             used: piece.len(),
             seen: Seen::Refused { cause, at, place },
@@ -290,13 +285,14 @@ impl Tap {
         ensures seen { (tap_state self.old).reads_replies ≡ true → WhereAnswered self.old (λ front.
             SeesValue (at_front front piece.now (tap_state self.old)) self.new front piece.now
             result.used result.seen) }
+        ensures some { HasTakenSomeValue self.old }
         ensures same_request { KeepsRequest self.old self.new }
         ensures within_piece { result.used ≤ length piece.now }
         ensures uses_bytes { 0 < length piece.now → 0 < result.used }
         ensures unread { (tap_state self.old).reads_replies ≡ false → (self.new ≡ self.old) ×
             (result ≡ record { used = length piece.now; seen = Seen.Nothing }) }
     {
-        if !self.reads_replies {
+        if !self.values.is_reading() {
             return Step::nothing(piece);
         }
         self.begin(piece);
@@ -307,16 +303,18 @@ impl Tap {
     fn begin(&mut self, piece: &[u8])
         ensures begun { WhereAnswered self.old (λ front. HasTakenValue self.new front ×
             (tap_state self.new ≡ at_front front piece.now (tap_state self.old))) }
+        ensures same_reading { self.new.values.is_reading ≡ self.old.values.is_reading }
         ensures same_request { self.new.requests ≡ self.old.requests }
     {
         if self.values.taken() == 0 {
             self.line.settle(piece);
-            let _ = self.values.set_version(self.line.next_version());
+            self.values.set_version(self.line.next_version());
         }
     }
 
     /// Reads bytes of a value, in the version that was decided.
     fn read_value(&mut self, piece: &[u8]) -> Step
+        requires { self.old.values.is_reading ≡ true }
         ensures seen { WhereAnswered self.old (λ front. SeesValue (tap_state self.old) self.new
             front piece.now result.used result.seen) }
         ensures same_request { self.new.requests ≡ self.old.requests }
