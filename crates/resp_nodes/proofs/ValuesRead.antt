@@ -1,0 +1,234 @@
+-- The values that are read.
+use Rattle.std.proofs.Common.{◌≡◌, ℕ, zero, suc, drop, take, set, ◌+◌, ◌-◌, ◌<◌, ◌≤◌, List, [], ◌∷◌, ◌++◌, length, refl, sym, ap, subst, ◌∙◌, arith, append_assoc, append-nil, length-append, length-drop}
+use Rattle.std.proofs.Math.Seq.{take-append_seam}
+use Rattle.std.proofs.lemmas.List.{drop-drop, length-take-le, take-append-drop, take-take, take_more_set}
+use Rattle.resp_value.specs.Bytes.{crlf}
+use Rattle.resp_value.specs.Data as d
+use Rattle.resp_value.specs.Data.{Data, Datum}
+use Rattle.resp_value.specs.Kinds.{kind_of}
+use Rattle.resp_value.specs.declared.kind.OpenKind.{OpenKind}
+use Rattle.resp_value.specs.LocalRules.{HoldsFrom, HoldsFromEach, LeafKeeps, NodeKeeps}
+use Rattle.resp_value.specs.Rules.{Rules, WithinItems, Keeps}
+use Rattle.resp_value.specs.Trees.{Tree, Trees, leaf, node, none, more, Counted, leaf_line, leaf_rest, IsTree, AreTrees, count, text, texts, kind_byte}
+use Rattle.resp_value.specs.TreeValues.{value, values}
+use Rattle.resp_value.proofs.LocalRuleLemmas.{count-values, keeps_locally}
+use Rattle.resp_fronts.proofs.FrameLaws.FrontLaws.{all_rules}
+use Rattle.resp_nodes.specs.declared.node.Node.{Node}
+use Rattle.resp_nodes.specs.declared.reading.Filled.{Filled}
+use Rattle.resp_nodes.specs.Nodes.{AreNodesOf, AreNodesOfEach, aggregate_node}
+use Rattle.resp_nodes.specs.Numbers.{kind_form}
+use Rattle.resp_nodes.specs.Plain.{IsHeadAt, IsLeafAt, IsPlain, IsValueAt}
+
+-- trees, and one more after them
+abbrev pub with_tree : Trees → Tree → Trees
+with_tree none t = more t none
+with_tree (more u us) t = more u (with_tree us t)
+
+count_with : (ts : Trees) (t : Tree) → count (with_tree ts t) ≡ count ts + 1
+count_with none t = refl
+count_with (more u us) t = let h = count_with us t in omega (arith, h)
+
+texts_with : (ts : Trees) (t : Tree) → texts (with_tree ts t) ≡ texts ts ++ text t
+texts_with none t = append-nil (text t)
+texts_with (more u us) t = ap (λ l. text u ++ l) (texts_with us t) ∙ sym (append_assoc (text u) (texts us) (text t))
+
+trees_with : (ts : Trees) (t : Tree) → AreTrees ts → IsTree t → AreTrees (with_tree ts t)
+trees_with none t p q = (q, tt)
+trees_with (more u us) t p q = (p.0, trees_with us t p.1 q)
+
+holds_with : (r : Rules) (level : ℕ) (ts : Trees) (t : Tree) → HoldsFromEach (LeafKeeps r WithinItems) (NodeKeeps r WithinItems) level ts →
+    HoldsFrom (LeafKeeps r WithinItems) (NodeKeeps r WithinItems) level t → HoldsFromEach (LeafKeeps r WithinItems) (NodeKeeps r WithinItems) level (with_tree ts t)
+holds_with r level none t p q = (q, tt)
+holds_with r level (more u us) t p q = (p.0, holds_with r level us t p.1 q)
+
+nodes_with : (buffer : List ℕ) (ts : Trees) (t : Tree) (ns ns' : List Node) → AreNodesOfEach buffer (values ts) ns → AreNodesOf buffer (value t) ns' →
+    AreNodesOfEach buffer (values (with_tree ts t)) (ns ++ ns')
+nodes_with buffer none t ns ns' p is = record {
+  first = ns';
+  others = [];
+  nodes_are = ap (λ z. z ++ ns') p ∙ sym (append-nil ns');
+  is_first = is;
+  are_others = refl;
+}
+nodes_with buffer (more u us) t ns ns' p is = record {
+  first = p.first;
+  others = p.others ++ ns';
+  nodes_are = ap (λ z. z ++ ns') p.nodes_are ∙ append_assoc p.first p.others ns';
+  is_first = p.is_first;
+  are_others = nodes_with buffer us t p.others ns' p.are_others is;
+}
+
+-- what is the same up to a place is the same up to a place before it
+pub same_before : (k n : ℕ) (xs ys : List Node) → k ≤ n → take n xs ≡ take n ys → take k xs ≡ take k ys
+same_before zero n xs ys few e = refl
+same_before (suc k) zero xs ys few e = absurd (omega arith)
+same_before (suc k) (suc n) [] [] few e = refl
+same_before (suc k) (suc n) [] (y ∷ ys) few e = let h = ap length e in absurd (omega (arith, h))
+same_before (suc k) (suc n) (x ∷ xs) [] few e = let h = ap length e in absurd (omega (arith, h))
+same_before (suc k) (suc n) (x ∷ xs) (y ∷ ys) few e =
+    let h : x ≡ y = cc in
+    let t : take n xs ≡ take n ys = cc in
+    let r = same_before k n xs ys (omega arith) t in
+    cc
+
+-- the node before others is set
+set_head : (i k : ℕ) (old nodes own : List Node) (item : Node) → i < length old → take k nodes ≡ take (suc i) old ++ own →
+    take k (set nodes i item) ≡ take i old ++ item ∷ own
+set_head i k [] nodes own item within e = absurd (omega arith)
+set_head i zero (o ∷ old) nodes own item within e = let h = ap length e in absurd (omega (arith, h))
+set_head i (suc k) (o ∷ old) [] own item within e = let h = ap length e in absurd (omega (arith, h))
+set_head zero (suc k) (o ∷ old) (n ∷ nodes) own item within e =
+    let t : take k nodes ≡ own = cc in
+    ap (λ l. item ∷ l) t
+set_head (suc i) (suc k) (o ∷ old) (n ∷ nodes) own item within e =
+    let same : n ≡ o = cc in
+    let t : take k nodes ≡ take (suc i) old ++ own = cc in
+    let r = set_head i k old nodes own item (omega arith) t in
+    ap (λ l. n ∷ l) r ∙ ap (λ z. z ∷ (take i old ++ item ∷ own)) same
+
+-- a leaf is a value
+pub leaf_is_value : (r : Rules) (level : ℕ) (buffer : List ℕ) (before : Filled) (end : ℕ) (item : Node) (old : List Node) → before.count < length old →
+    length (set old before.count item) ≡ length old → IsLeafAt r buffer before.end end item →
+    IsValueAt r level buffer before (record { end = end; count = before.count + 1 }) old (set old before.count item)
+leaf_is_value r level buffer before end item old room same l = record {
+  tree = leaf l.leaf;
+  own = item ∷ [];
+  is_tree = l.is_leaf;
+  keeps = l.keeps level;
+  whole = l.whole;
+  within = l.within;
+  stand = record { node = item; alone = refl; one = l.one; is_leaf = l.stands };
+  filled = take_more_set old before.count item room;
+  counted = refl;
+  room = omega (arith, room, same);
+}
+
+-- The members that were read so far, after the head of an aggregate.
+pub record HasMembers (r : Rules) (level : ℕ) (buffer : List ℕ) (start : Filled) (inner : Filled) (old nodes : List Node) (n : ℕ) : Type 0 where
+  pub trees : Trees
+  pub own : List Node
+  pub are_trees : AreTrees trees
+  pub keeps : HoldsFromEach (LeafKeeps r WithinItems) (NodeKeeps r WithinItems) level trees
+  pub whole : drop start.end buffer ≡ texts trees ++ drop inner.end buffer
+  pub within : inner.end ≤ length buffer
+  pub stand : AreNodesOfEach buffer (values trees) own
+  pub filled : take inner.count nodes ≡ take start.count old ++ own
+  pub counted : inner.count ≡ start.count + length own
+  pub room : inner.count ≤ length nodes
+  pub many : count trees ≡ n
+  pub same_room : length nodes ≡ length old
+
+-- no member was read
+pub no_member : (r : Rules) (level : ℕ) (buffer : List ℕ) (start : Filled) (old : List Node) → start.end ≤ length buffer → start.count ≤ length old →
+    (n : ℕ) → n ≡ zero → HasMembers r level buffer start start old old n
+no_member r level buffer start old within room n e = record {
+  trees = none;
+  own = [];
+  are_trees = tt;
+  keeps = tt;
+  whole = refl;
+  within = within;
+  stand = refl;
+  filled = sym (append-nil (take start.count old));
+  counted = omega arith;
+  room = room;
+  many = sym e;
+  same_room = refl;
+}
+
+-- one member more was read
+pub one_member_more : (r : Rules) (level : ℕ) (buffer : List ℕ) (start inner next : Filled) (old nodes nodes' : List Node) (n m : ℕ) →
+    HasMembers r level buffer start inner old nodes n → IsValueAt r level buffer inner next nodes nodes' → length nodes' ≡ length nodes → m ≡ n + 1 →
+    HasMembers r level buffer start next old nodes' m
+one_member_more r level buffer start inner next old nodes nodes' n m h v same e = record {
+  trees = with_tree h.trees v.tree;
+  own = h.own ++ v.own;
+  are_trees = trees_with h.trees v.tree h.are_trees v.is_tree;
+  keeps = holds_with r level h.trees v.tree h.keeps v.keeps;
+  whole = h.whole ∙ ap (λ l. texts h.trees ++ l) v.whole ∙ sym (append_assoc (texts h.trees) (text v.tree) (drop next.end buffer)) ∙
+      ap (λ l. l ++ drop next.end buffer) (sym (texts_with h.trees v.tree));
+  within = v.within;
+  stand = nodes_with buffer h.trees v.tree h.own v.own h.stand v.stand;
+  filled = v.filled ∙ ap (λ l. l ++ v.own) h.filled ∙ append_assoc (take start.count old) h.own v.own;
+  counted = let a = h.counted in let b = v.counted in let c = length-append h.own v.own in omega (arith, a, b, c);
+  room = v.room;
+  many = count_with h.trees v.tree ∙ ap (λ k. k + 1) h.many ∙ sym e;
+  same_room = same ∙ h.same_room;
+}
+
+-- a head and its members are a value
+pub aggregate_is_value : (r : Rules) (level : ℕ) (buffer : List ℕ) (before start inner : Filled) (kind : OpenKind) (members : ℕ) (old nodes : List Node) →
+    IsHeadAt r level buffer before.end kind members start.end → start.count ≡ before.count + 1 → before.count < length old →
+    HasMembers r (level + 1) buffer start inner old nodes members → (size : ℕ) → size ≡ inner.count - before.count →
+    length (set nodes before.count (aggregate_node (kind_form (kind_of kind)) members size)) ≡ length nodes →
+    IsValueAt r level buffer before inner old (set nodes before.count (aggregate_node (kind_form (kind_of kind)) members size))
+aggregate_is_value r level buffer before start inner kind members old nodes h placed within m size sized same =
+    let agg = aggregate_node (kind_form (kind_of kind)) members size in
+    let many = m.many in
+    let counted = m.counted in
+    let up : level + 1 ≡ suc level = omega arith in
+    let next : start.count ≡ suc before.count = omega (arith, placed) in
+    record {
+      tree = node (kind_of kind) (Counted h.digits) m.trees;
+      own = agg ∷ m.own;
+      is_tree = ((h.are_digits, h.counted ∙ sym many), m.are_trees);
+      keeps = (
+        subst (λ n. NodeKeeps r WithinItems level (kind_of kind) (Counted h.digits) n) (sym many) h.keeps,
+        subst (λ l. HoldsFromEach (LeafKeeps r WithinItems) (NodeKeeps r WithinItems) l m.trees) up m.keeps,
+      );
+      whole = h.whole ∙ ap (λ l. (kind_byte (kind_of kind) ∷ h.digits) ++ crlf l) m.whole ∙
+          sym (aggregate_on (kind_byte (kind_of kind)) h.digits (texts m.trees) (drop inner.end buffer));
+      within = m.within;
+      stand = record {
+        node = agg;
+        inner = m.own;
+        parts = refl;
+        kind_is = refl;
+        form_is = refl;
+        counted = sym (count-values m.trees ∙ many);
+        sized = omega (arith, sized, counted, placed);
+        are_members = m.stand;
+      };
+      filled = set_head before.count inner.count old nodes m.own agg within (m.filled ∙ ap (λ k. take k old ++ m.own) next);
+      counted = omega (arith, counted, placed);
+      room = let room = m.room in omega (arith, same, room);
+    }
+  where
+    aggregate_on : (c : ℕ) (digits others rest : List ℕ) → ((c ∷ digits) ++ crlf (others ++ [])) ++ rest ≡ (c ∷ digits) ++ crlf (others ++ rest)
+    aggregate_on c digits others rest = append_assoc (c ∷ digits) (crlf (others ++ [])) rest ∙
+        ap (λ l. (c ∷ digits) ++ crlf (l ++ rest)) (append-nil others)
+
+-- a value within the limit of total is a reply
+pub value_is_plain : (r : Rules) (buffer : List ℕ) (before after : Filled) (old new : List Node) →
+    after.end - before.end ≤ r.limits.total → IsValueAt r zero buffer before after old new → IsPlain r buffer before after old new
+value_is_plain r buffer before after old new fits v =
+    let long = ap length v.whole ∙ length-append (text v.tree) (drop after.end buffer) in
+    let left = length-drop before.end buffer in
+    let right = length-drop after.end buffer in
+    let end = v.within in
+    let some = some_byte v.tree in
+    let size : length (text v.tree) ≡ after.end - before.end = omega (arith, long, left, right, end, some) in
+    record {
+      value = value v.tree;
+      own = v.own;
+      spelling = record {
+        tree = v.tree;
+        spells = record {
+          is_tree = v.is_tree;
+          spelled = sym (ap (λ k. take k (drop before.end buffer)) (sym size) ∙ ap (take (length (text v.tree))) v.whole ∙
+              take-append_seam (text v.tree) (drop after.end buffer));
+        };
+        keeps = all_rules r v.tree ((keeps_locally r WithinItems v.tree (omega arith)).1 v.keeps) (omega (arith, size, fits));
+        valued = refl;
+      };
+      forward = omega (arith, size, some);
+      within = v.within;
+      stand = v.stand;
+      filled = v.filled;
+      counted = v.counted;
+      room = v.room;
+    }
+  where
+    some_byte : (t : Tree) → 0 < length (text t)
+    some_byte (leaf l) = let h = length-append (leaf_line l) (crlf (leaf_rest l)) in omega (arith, h)
+    some_byte (node k form ts) = omega arith

@@ -1,0 +1,14 @@
+use Rattle.std.proofs.Common.{◌≡◌, ◌-◌, ◌+◌, take}
+use Rattle.resp_value.specs.Rules.{rules_under}
+use Rattle.resp_nodes.proofs.ValuesRead.{HasMembers}
+use Rattle.resp_nodes.proofs.reading.+value_at.Given as goal
+
+abbrev pub decreases-value_at : goal.decreases-value_at
+decreases-value_at l = 16 - l.level
+
+abbrev pub invariant-loop : goal.invariant-loop
+invariant-loop l = record {
+  members : HasMembers (rules_under l.version l.limits) (l.level + 1) l.buffer (record { end = l.head.end; count = l.count + 1 }) l.inner l.fn.nodes l.nodes
+      l.counter;
+  kept : take l.count l.nodes ≡ take l.count l.fn.nodes;
+}

@@ -1,0 +1,85 @@
+-- The contracts of a call that reads one value.
+use Rattle.std.specs.Prelude.{◌≡◌, ◌⊎◌, ℕ, ◌+◌, ◌-◌, ◌≤◌, ◌<◌, ◌^◌, List, [], ◌∷◌, ◌++◌, length, take, drop}
+use Rattle.std.specs.Str.{byte}
+use Rattle.resp_value.specs.Bytes.{IsLine, crlf}
+use Rattle.resp_value.specs.Data.{Datum, members_of}
+use Rattle.resp_value.specs.Kinds.{kind_of}
+use Rattle.resp_value.specs.declared.kind.OpenKind.{OpenKind}
+use Rattle.resp_value.specs.LocalRules.{HoldsFrom, LeafKeeps, NodeKeeps}
+use Rattle.resp_value.specs.Numbers.{IsDigits, IsNumber, number}
+use Rattle.resp_value.specs.Rules.{Rules, WithinItems}
+use Rattle.resp_value.specs.Spellings.{IsSpelling}
+use Rattle.resp_value.specs.Trees.{Counted, Leaf, StringKind, Tree, Verbatim, IsLeaf, IsTree, kind_byte, leaf_text, text}
+use Rattle.resp_value.specs.TreeValues.{leaf_value, value}
+use Rattle.resp_nodes.specs.declared.node.Node.{Node}
+use Rattle.resp_nodes.specs.declared.reading.Filled.{Filled}
+use Rattle.resp_nodes.specs.Nodes.{AreNodesOf, IsLeafNode}
+
+-- the text begins with digits of this number and CR LF, and then has this rest
+pub record BeginsWithNumber (text : List ℕ) (n : ℕ) (rest : List ℕ) : Type 0 where
+  pub digits : List ℕ
+  pub counted : IsNumber n digits
+  pub whole : text ≡ digits ++ crlf rest
+
+-- the text begins with a line of this length, and then has this rest
+pub record BeginsWithLine (text : List ℕ) (size : ℕ) (rest : List ℕ) : Type 0 where
+  pub line : List ℕ
+  pub is_line : IsLine line
+  pub sized : length line ≡ size
+  pub whole : text ≡ line ++ rest
+
+-- a null may begin with this byte in any version
+abbrev pub IsNullByte : ℕ → Type 0
+IsNullByte b = (b ≡ byte "$") ⊎ (b ≡ byte "*")
+
+-- the string has no format
+abbrev pub HasNoFormat : StringKind → Type 0
+HasNoFormat (Verbatim format) = ⊥
+HasNoFormat _ = Unit {0}
+
+-- the buffer has a value without members from this index up to that one, and the node is its node
+pub record IsLeafAt (rules : Rules) (buffer : List ℕ) (at end : ℕ) (node : Node) : Type 0 where
+  pub leaf : Leaf
+  pub is_leaf : IsLeaf leaf
+  pub keeps : (level : ℕ) → LeafKeeps rules WithinItems level leaf
+  pub whole : drop at buffer ≡ leaf_text leaf ++ drop end buffer
+  pub within : end ≤ length buffer
+  pub one : node.size ≡ 1
+  pub stands : IsLeafNode buffer node (leaf_value leaf)
+
+-- the buffer has the head of an aggregate of this kind from this index up to that one, this deep in others
+pub record IsHeadAt (rules : Rules) (level : ℕ) (buffer : List ℕ) (at : ℕ) (kind : OpenKind) (members end : ℕ) : Type 0 where
+  pub digits : List ℕ
+  pub are_digits : IsDigits digits
+  pub counted : members_of (kind_of kind) (number digits) ≡ members
+  pub keeps : NodeKeeps rules WithinItems level (kind_of kind) (Counted digits) members
+  pub whole : drop at buffer ≡ (kind_byte (kind_of kind) ∷ digits) ++ crlf (drop end buffer)
+  pub within : end ≤ length buffer
+  pub few : members < 2 ^ 62
+
+-- The buffer has a value from the one index up to the other, this deep in aggregates. Its nodes follow those that were
+-- filled.
+pub record IsValueAt (rules : Rules) (level : ℕ) (buffer : List ℕ) (before after : Filled) (old new : List Node) :
+    Type 0 where
+  pub tree : Tree
+  pub own : List Node
+  pub is_tree : IsTree tree
+  pub keeps : HoldsFrom (LeafKeeps rules WithinItems) (NodeKeeps rules WithinItems) level tree
+  pub whole : drop before.end buffer ≡ text tree ++ drop after.end buffer
+  pub within : after.end ≤ length buffer
+  pub stand : AreNodesOf buffer (value tree) own
+  pub filled : take after.count new ≡ take before.count old ++ own
+  pub counted : after.count ≡ before.count + length own
+  pub room : after.count ≤ length new
+
+-- The buffer has a spelling of a value from the one index up to the other. Its nodes follow those that were filled.
+pub record IsPlain (rules : Rules) (buffer : List ℕ) (before after : Filled) (old new : List Node) : Type 0 where
+  pub value : Datum
+  pub own : List Node
+  pub spelling : IsSpelling rules value (take (after.end - before.end) (drop before.end buffer))
+  pub forward : before.end < after.end
+  pub within : after.end ≤ length buffer
+  pub stand : AreNodesOf buffer value own
+  pub filled : take after.count new ≡ take before.count old ++ own
+  pub counted : after.count ≡ before.count + length own
+  pub room : after.count ≤ length new
