@@ -5,3 +5,4 @@ mod Hearing
 mod Heard
 mod Values
 mod Loops
+mod PlacesRead

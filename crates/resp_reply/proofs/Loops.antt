@@ -57,7 +57,8 @@ reads_none rules buffer s m nodes texts is reads same = record {
   same_rules = same;
 }
 
-spellings-more : (r : Rules) (xs : List Datum) (x : Datum) (front next : List ℕ) → AreSpellings r xs front → IsSpelling r x next →
+-- the spelling of a value more
+pub spellings-more : (r : Rules) (xs : List Datum) (x : Datum) (front next : List ℕ) → AreSpellings r xs front → IsSpelling r x next →
     AreSpellings r (xs ++ x ∷ []) (front ++ next)
 spellings-more r [] x front next are is = (next, [], is, refl, ap (λ z. z ++ next) are ∙ sym (append-nil next))
 spellings-more r (y ∷ ys) x front next are is =
@@ -147,7 +148,8 @@ nothing_of : (n : ℕ) → take {A = ℕ} n [] ≡ []
 nothing_of zero = refl
 nothing_of (suc n) = refl
 
-no_value_in_none : HasNoValue []
+-- no value is empty
+pub no_value_in_none : HasNoValue []
 no_value_in_none n tree spells =
     let some = text_at_least tree in
     absurd (omega (arith, some, ap length spells.spelled, ap length (nothing_of n)))

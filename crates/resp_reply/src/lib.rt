@@ -7,6 +7,7 @@
 
 mod end;
 mod filler;
+pub mod in_place;
 mod marks;
 mod node;
 mod reading;
