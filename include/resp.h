@@ -30,6 +30,7 @@
 #include <stdbool.h>
 #include <stddef.h>
 #include <stdint.h>
+#include <string.h>
 
 #ifdef __cplusplus
 extern "C" {
@@ -90,7 +91,9 @@ enum resp_cause {
     /* The command doesn't have exactly one reply, or changes the version in another way than HELLO. */
     RESP_CAUSE_UNPAIRED = 68,
     /* Another command that pushes answer waits. */
-    RESP_CAUSE_PUSHES_WAIT = 69
+    RESP_CAUSE_PUSHES_WAIT = 69,
+    /* A reply is whole, and resp_reply_read doesn't read its form. */
+    RESP_CAUSE_NOT_PLAIN = 70
 };
 
 /* Returns the name of an error, such as "Syntax", or "" if no error has this number. */
@@ -119,6 +122,7 @@ static inline const char *resp_cause_name(uint32_t cause) {
     case RESP_CAUSE_HELLO_WAITS: return "HelloWaits";
     case RESP_CAUSE_UNPAIRED: return "Unpaired";
     case RESP_CAUSE_PUSHES_WAIT: return "PushesWait";
+    case RESP_CAUSE_NOT_PLAIN: return "NotPlain";
     default: return "";
     }
 }
@@ -369,6 +373,91 @@ static inline const uint8_t *resp_event_part(const struct resp_event *event, con
  */
 static inline const uint8_t *resp_event_whole(const struct resp_event *event, const uint8_t *piece) {
     return piece + (event->used - event->part - 2);
+}
+
+/* A node of a flat reply: a value without members, or the beginning of an aggregate, whose members have
+ * the nodes that follow. */
+struct resp_node {
+    /* RESP_NULL, RESP_BOOL, RESP_INT, RESP_TEXT or RESP_OPEN. */
+    uint8_t kind;
+    /* The kind of a text, as an enum resp_text, or of an aggregate, as an enum resp_aggregate. */
+    uint8_t form;
+    /* The format of a verbatim string. */
+    uint8_t format[3];
+    /* An integer; or 1 for true, and 0 for false. */
+    int64_t number;
+    /* The index in the buffer of the first byte of a text. */
+    size_t start;
+    /* The number of bytes of a text, or of members of an aggregate. Keys and values of a map are its
+     * members. The members of an attribute are its keys and values, and then the value that it
+     * annotates. */
+    size_t length;
+    /* The number of nodes of the value, with this one. */
+    size_t size;
+};
+
+/* The result of resp_reply_read. */
+struct resp_replies {
+    /* The number of nodes written. */
+    size_t nodes;
+    /* The number of bytes read from the front of the buffer. */
+    size_t used;
+};
+
+/* Reads all replies that are whole in the buffer, and writes their nodes to an array of `room` nodes,
+ * the nodes of the first reply first. `replies` counts the nodes and the bytes of these replies, also
+ * after an error. Nodes after them have no meaning.
+ *
+ *     struct resp_node nodes[64];
+ *     struct resp_replies replies;
+ *     uint32_t cause = resp_reply_read(3, &limits, buffer, length, nodes, 64, &replies);
+ *     const struct resp_node *node = nodes, *end = nodes + replies.nodes;
+ *     for (; node < end; node = resp_node_next(node))
+ *         ...                                   // a reply; its texts are in the buffer
+ *
+ * Errors, each about the first byte after those read:
+ * - RESP_CAUSE_TRUNCATED: the bytes left are the beginning of a reply. Call again with these and more.
+ * - RESP_CAUSE_NO_ROOM: the next reply is whole, and fewer nodes are left than a third of its bytes. As
+ *   many nodes as a third of the bytes of the buffer are enough for each buffer.
+ * - RESP_CAUSE_NOT_PLAIN: the next reply is whole, and has a streamed string or a streamed aggregate, a
+ *   big number, an integer with a `+`, or more than 16 aggregates inside one another. Read it with a
+ *   scanner. With limits that don't allow streamed strings, these are RESP_CAUSE_STREAMED.
+ * - RESP_CAUSE_BAD_VERSION, RESP_CAUSE_BAD_LIMITS: nothing is written, and `replies` is unchanged.
+ * - the error that a scanner returns for the bytes left. */
+uint32_t resp_reply_read(uint32_t version, const struct resp_limits *limits, const uint8_t *buffer,
+                         size_t length, struct resp_node *nodes, size_t room,
+                         struct resp_replies *replies);
+
+/* Returns the `node->length` bytes of a text. `buffer` is the buffer that was read. */
+static inline const uint8_t *resp_node_text(const struct resp_node *node, const uint8_t *buffer) {
+    return buffer + node->start;
+}
+
+/* Returns the node after a value: its next sibling, if it has one. */
+static inline const struct resp_node *resp_node_next(const struct resp_node *node) { return node + node->size; }
+
+/* Returns the node of the first member of an aggregate, if `node->length` isn't 0. */
+static inline const struct resp_node *resp_node_first(const struct resp_node *node) { return node + 1; }
+
+/* Returns whether a node is a text with these bytes. */
+static inline bool resp_node_is(const struct resp_node *node, const uint8_t *buffer, const char *text,
+                                size_t length) {
+    return node->kind == RESP_TEXT && node->length == length &&
+           (length == 0 || memcmp(buffer + node->start, text, length) == 0);
+}
+
+/* Returns the value of the first key of a map that is a text with these bytes, or NULL if there is no
+ * such key or the node is no map. It looks at each key in turn. */
+static inline const struct resp_node *resp_node_value(const struct resp_node *map, const uint8_t *buffer,
+                                                      const char *key, size_t length) {
+    if (map->kind != RESP_OPEN || map->form != RESP_MAP) return NULL;
+    const struct resp_node *member = resp_node_first(map), *end = resp_node_next(map);
+    while (member < end) {
+        const struct resp_node *value = resp_node_next(member);
+        if (resp_node_is(member, buffer, key, length)) return value;
+        member = resp_node_next(value);
+    }
+    return NULL;
 }
 
 /* Tracks which command each reply belongs to, and in which version it is read. The caller owns it,

@@ -894,6 +894,63 @@ static void nulls(void) {
     check(resp_command_kind(2, NULL, 0, NULL, 0) == RESP_COMMAND_ONE_REPLY, "NULL", "another kind");
 }
 
+/* Whether a call with these bytes and so much room returns this, and reads so many nodes and bytes. */
+static bool reads(const char *text, size_t room, uint32_t cause, size_t nodes, size_t used) {
+    struct resp_limits limits;
+    struct resp_replies replies = {99, 99};
+    size_t length = strlen(text);
+    /* Both have exactly these sizes, which lets a sanitizer find an access outside them. */
+    uint8_t *buffer = malloc(length ? length : 1);
+    struct resp_node *made = malloc(room ? room * sizeof *made : 1);
+    if (!buffer || !made)
+        exit(3);
+    memcpy(buffer, text, length);
+    resp_limits_standard(&limits);
+    uint32_t told = resp_reply_read(3, &limits, length ? buffer : NULL, length, room ? made : NULL, room, &replies);
+    free(buffer);
+    free(made);
+    return told == cause && replies.nodes == nodes && replies.used == used;
+}
+
+/* Whole replies as nodes. */
+static void flat_replies(void) {
+    static const char TEXT[] = "%2\r\n$4\r\nrole\r\n+master\r\n+list\r\n*2\r\n:-7\r\n*1\r\n=7\r\ntxt:a\r\n\r\n#t\r\n";
+    const uint8_t *text = (const uint8_t *)TEXT;
+    struct resp_limits limits;
+    struct resp_node nodes[9];
+    struct resp_replies replies;
+    resp_limits_standard(&limits);
+    check(resp_reply_read(3, &limits, text, strlen(TEXT), nodes, 9, &replies) == RESP_OK && replies.nodes == 9 &&
+          replies.used == strlen(TEXT), "nodes", "another result");
+    check(nodes[0].kind == RESP_OPEN && nodes[0].form == RESP_MAP && nodes[0].length == 4 && nodes[0].size == 8, "nodes", "no map");
+    check(resp_node_next(nodes) == nodes + 8 && nodes[8].kind == RESP_BOOL && nodes[8].number == 1, "nodes", "no boolean");
+    const struct resp_node *role = resp_node_value(nodes, text, "role", 4), *list = resp_node_value(nodes, text, "list", 4);
+    check(role == nodes + 2 && resp_node_is(role, text, "master", 6) && !resp_node_is(role, text, "maste", 5), "nodes", "no role");
+    check(list == nodes + 4 && list->length == 2 && resp_node_first(list)->number == -7, "nodes", "no list");
+    const struct resp_node *inner = resp_node_next(resp_node_first(list));
+    check(inner->form == RESP_ARRAY && inner->size == 2 && !memcmp(inner[1].format, "txt", 3) && inner[1].length == 3 &&
+          !memcmp(resp_node_text(&inner[1], text), "a\r\n", 3), "nodes", "no verbatim string");
+    check(!resp_node_value(nodes, text, "", 0) && !resp_node_value(list, text, "role", 4), "nodes", "a value of no key");
+    check(reads("", 0, RESP_OK, 0, 0) && reads("+", 0, RESP_CAUSE_TRUNCATED, 0, 0), "nodes", "no bytes");
+    check(reads("+\r\n", 0, RESP_CAUSE_NO_ROOM, 0, 0) && reads("+\r\n*1\r\n_\r\n", 2, RESP_CAUSE_NO_ROOM, 1, 3), "nodes", "no room");
+    check(reads(":1\r\n$?\r\n;1\r\na\r\n;0\r\n", 9, RESP_CAUSE_NOT_PLAIN, 1, 4), "nodes", "a streamed string");
+    check(reads(":1\r\n:+1\r\n", 9, RESP_CAUSE_NOT_PLAIN, 1, 4) && reads("(1\r\n", 9, RESP_CAUSE_NOT_PLAIN, 0, 0), "nodes", "numbers");
+    check(reads(":1\r\n$4\r\nabcde\r\n", 9, RESP_CAUSE_SYNTAX, 1, 4), "nodes", "a long text");
+    check(reads("$18446744073709551615\r\n", 9, RESP_CAUSE_LENGTH, 0, 0), "nodes", "a great length");
+    check(reads("*18446744073709551615\r\n", 9, RESP_CAUSE_TOTAL, 0, 0), "nodes", "a great array");
+    check(reads("%9223372036854775808\r\n", 9, RESP_CAUSE_TOTAL, 0, 0), "nodes", "a great map");
+    check(reads("*999999999\r\n", 9, RESP_CAUSE_TOTAL, 0, 0) && reads("*99999\r\n", 9, RESP_CAUSE_TRUNCATED, 0, 0), "nodes", "members");
+    replies = (struct resp_replies){99, 99};
+    check(resp_reply_read(4, &limits, text, 3, nodes, 9, &replies) == RESP_CAUSE_BAD_VERSION && replies.used == 99, "nodes", "version 4");
+    check(resp_reply_read(2, &limits, text, 3, nodes, 9, &replies) == RESP_CAUSE_VERSION && replies.used == 0, "nodes", "version 2");
+    limits.depth = 3;
+    replies.used = 99;
+    check(resp_reply_read(3, &limits, text, 3, nodes, 9, &replies) == RESP_CAUSE_BAD_LIMITS && replies.used == 99, "nodes", "limits");
+    limits.depth = 32, limits.streamed = false;
+    check(resp_reply_read(3, &limits, (const uint8_t *)"*?\r\n.\r\n", 7, nodes, 9, &replies) == RESP_CAUSE_STREAMED, "nodes", "a stream");
+    check(!strcmp(resp_cause_name(RESP_CAUSE_NOT_PLAIN), "NotPlain"), "nodes", "another name");
+}
+
 /* A scanner on the stack, and the names of what it returns. */
 static void on_the_stack(void) {
     union resp_scanner_memory memory;
@@ -920,10 +977,11 @@ int main(void) {
     check(resp_version() == RESP_VERSION_NUMBER && RESP_VERSION_NUMBER == 0x000200 && !strcmp(RESP_VERSION, "0.2.0"), "version",
           "another one");
     check(sizeof(void *) != 8 || (sizeof(struct resp_event) == 48 && sizeof(struct resp_pairing) == 64 &&
-          sizeof(struct resp_limits) == 40 && sizeof(struct resp_scanned) == 16), "structs", "have other sizes");
+          sizeof(struct resp_limits) == 40 && sizeof(struct resp_scanned) == 16 && sizeof(struct resp_node) == 40), "structs", "have other sizes");
     appends();
     on_the_stack();
     nulls();
+    flat_replies();
     writes();
     great_writes();
     great_commands();

@@ -25,12 +25,14 @@ mod command;
 mod decoder;
 mod pairing;
 mod raw;
+mod reply;
 mod scan;
 mod value;
 
 pub use command::{command, command_into, CommandError};
 pub use decoder::Decoder;
 pub use pairing::{PairError, Paired, Pairing, QueueError};
+pub use reply::{replies, Kind, Members, Node, Replies, Reply, Stop};
 pub use scan::Scan;
 pub use value::{AppendError, Value};
 

@@ -6,12 +6,27 @@ use std::ffi::c_void;
 pub const OK: u32 = 0;
 pub const LENGTH: u32 = 7;
 pub const TOTAL: u32 = 8;
+pub const TRUNCATED: u32 = 9;
 pub const ITEMS: u32 = 13;
 pub const BAD_LINE: u32 = 60;
+pub const BAD_LIMITS: u32 = 63;
 pub const NO_ROOM: u32 = 65;
 pub const HELLO_WAITS: u32 = 67;
 pub const UNPAIRED: u32 = 68;
 pub const PUSHES_WAIT: u32 = 69;
+pub const NOT_PLAIN: u32 = 70;
+
+/// `RESP_NULL` of a node.
+pub const NULL_NODE: u8 = 1;
+
+/// `RESP_BOOL` of a node.
+pub const BOOL_NODE: u8 = 2;
+
+/// `RESP_INT` of a node.
+pub const INT_NODE: u8 = 3;
+
+/// `RESP_TEXT` of a node.
+pub const TEXT_NODE: u8 = 4;
 
 /// `RESP_COMMAND_SUBSCRIBING`.
 pub const SUBSCRIBING: u32 = 16;
@@ -68,6 +83,25 @@ pub struct Scanned {
 }
 
 #[repr(C)]
+#[derive(Clone, Copy, Debug, Default)]
+pub struct Node {
+    pub kind: u8,
+    pub form: u8,
+    pub format: [u8; 3],
+    pub number: i64,
+    pub start: usize,
+    pub length: usize,
+    pub size: usize,
+}
+
+#[repr(C)]
+#[derive(Default)]
+pub struct Replies {
+    pub nodes: usize,
+    pub used: usize,
+}
+
+#[repr(C)]
 #[derive(Default)]
 pub struct Pairing {
     pub version: u32,
@@ -101,6 +135,15 @@ extern "C" {
     pub fn resp_scanner_depth(scanner: *mut Scanner) -> usize;
     pub fn resp_scanner_taken(scanner: *mut Scanner) -> u64;
     pub fn resp_scanner_needed(scanner: *mut Scanner) -> u64;
+    pub fn resp_reply_read(
+        version: u32,
+        limits: *const Limits,
+        buffer: *const u8,
+        length: usize,
+        nodes: *mut Node,
+        room: usize,
+        replies: *mut Replies,
+    ) -> u32;
     pub fn resp_pairing_init(pairing: *mut Pairing);
     pub fn resp_command_kind(
         count: usize,

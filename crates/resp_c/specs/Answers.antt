@@ -24,3 +24,7 @@ unpaired = 68
 -- a command that pushes answer waits
 abbrev pub pushes_wait : ℕ
 pushes_wait = 69
+
+-- the reply is not plain
+abbrev pub not_plain : ℕ
+not_plain = 70

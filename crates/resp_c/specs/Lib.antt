@@ -12,6 +12,8 @@ pub mod Memory
 pub mod Lent
 -- The texts that are written.
 pub mod Writes
+-- The nodes that are filled.
+pub mod Replies
 -- The reply that an event belongs to.
 pub mod CommandKinds
 pub mod Pairs

@@ -19,3 +19,6 @@ pub(crate) const UNPAIRED: u32 = 68;
 
 /// The error number of a command that pushes answer, while another such command waits.
 pub(crate) const PUSHES_WAIT: u32 = 69;
+
+/// The error number of a reply that lies whole in a buffer and is not plain.
+pub(crate) const NOT_PLAIN: u32 = 70;

@@ -23,6 +23,7 @@ pub mod memory;
 mod number;
 pub mod pairing;
 pub mod release;
+pub mod reply;
 mod room;
 pub mod scan;
 pub mod scanner;
