@@ -1,7 +1,8 @@
 -- The digits of a number, and lines.
-use Rattle.std.proofs.Common.{◌≡◌, ℕ, suc, drop, get_or, ◌+◌, ◌-◌, ◌*◌, ◌<◌, ◌≤◌, List, [], ◌∷◌, ◌++◌, length, refl, sym, ap, ◌∙◌, arith, append_assoc, length-append}
+use Rattle.std.proofs.Common.{◌≡◌, ℕ, zero, suc, take, drop, get_or, ◌+◌, ◌-◌, ◌*◌, ◌<◌, ◌≤◌, List, [], ◌∷◌, ◌++◌, length, refl, sym, ap, ◌∙◌, arith, append_assoc, length-append}
 use Rattle.std.specs.List.{AllByRecursion}
 use Rattle.std.proofs.Math.Seq.{drop-cons}
+use Rattle.std.proofs.lemmas.List.{length-take-le, take-append-drop}
 use Rattle.resp_value.specs.Bytes.{IsLine, IsPlain, crlf}
 use Rattle.resp_value.specs.Numbers.{IsDigit, number}
 use Rattle.resp_value.proofs.DigitLemmas.{number-digit}
@@ -56,4 +57,24 @@ one_byte_more text many byte rest after b is plain next e = record {
   is_line = all_append IsPlain b.line (byte ∷ []) b.is_line (plain, tt);
   sized = length-append b.line (byte ∷ []) ∙ ap (λ k. k + 1) b.sized ∙ sym e;
   whole = b.whole ∙ ap (λ l. b.line ++ l) is ∙ sym (append_assoc b.line (byte ∷ []) after);
+}
+
+-- the first bytes are neither CR nor LF
+plain_first : (n : ℕ) (text : List ℕ) → ((j : ℕ) → j < n → get_or text j 0 ≡ 13 → ⊥) → ((j : ℕ) → j < n → get_or (take n text) j 0 ≡ 10 → ⊥) →
+    IsLine (take n text)
+plain_first zero text no_cr no_lf = tt
+plain_first (suc n) [] no_cr no_lf = tt
+plain_first (suc n) (b ∷ bs) no_cr no_lf = (
+  (λ e. no_cr zero (omega arith) e, λ e. no_lf zero (omega arith) e),
+  plain_first n bs (λ j l. no_cr (suc j) (omega arith)) (λ j l. no_lf (suc j) (omega arith)),
+)
+
+-- the bytes before the first CR, if they have no LF
+pub line_found : (text : List ℕ) (n m : ℕ) (after : List ℕ) → n ≤ length text → m ≡ n → drop n text ≡ after → ((j : ℕ) → j < n → get_or text j 0 ≡ 13 → ⊥) →
+    ((j : ℕ) → j < n → get_or (take n text) j 0 ≡ 10 → ⊥) → BeginsWithLine text m after
+line_found text n m after within e left no_cr no_lf = record {
+  line = take n text;
+  is_line = plain_first n text no_cr no_lf;
+  sized = length-take-le n text within ∙ sym e;
+  whole = sym (take-append-drop n text) ∙ ap (λ l. take n text ++ l) left;
 }

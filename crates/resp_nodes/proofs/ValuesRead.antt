@@ -156,6 +156,25 @@ one_member_more r level buffer start inner next old nodes nodes' n m h v same e 
   same_room = same ∙ h.same_room;
 }
 
+-- the members are as they were
+pub same_members : (r : Rules) (level : ℕ) (buffer : List ℕ) (start inner : Filled) (old nodes nodes' : List Node) (n : ℕ) →
+    HasMembers r level buffer start inner old nodes n → take inner.count nodes' ≡ take inner.count nodes → length nodes' ≡ length nodes →
+    HasMembers r level buffer start inner old nodes' n
+same_members r level buffer start inner old nodes nodes' n h kept same = record {
+  trees = h.trees;
+  own = h.own;
+  are_trees = h.are_trees;
+  keeps = h.keeps;
+  whole = h.whole;
+  within = h.within;
+  stand = h.stand;
+  filled = kept ∙ h.filled;
+  counted = h.counted;
+  room = let room = h.room in omega (arith, room, same);
+  many = h.many;
+  same_room = same ∙ h.same_room;
+}
+
 -- a head and its members are a value
 pub aggregate_is_value : (r : Rules) (level : ℕ) (buffer : List ℕ) (before start inner : Filled) (kind : OpenKind) (members : ℕ) (old nodes : List Node) →
     IsHeadAt r level buffer before.end kind members start.end → start.count ≡ before.count + 1 → before.count < length old →

@@ -5,6 +5,8 @@ ghost use Rattle.std.specs.Bool.{MatchBool};
 ghost use Rattle.resp_value.specs.Bytes.{crlf};
 ghost use Rattle.resp_nodes.specs.Plain.{BeginsWithLine, BeginsWithNumber};
 
+use memchr::memchr;
+
 /// A number, and the index after the CR LF that follows it.
 #[derive(Clone, Copy)]
 pub(crate) struct Number {
@@ -38,35 +40,38 @@ pub(crate) fn number_line(buffer: &[u8], at: usize, most: u64) -> Option<Number>
         (found.number ≤ most) × (found.end ≤ length buffer.now)) }
 {
     let mut number = 0;
-    for end in at..buffer.len() {
+    let mut end = at;
+    while end < buffer.len() {
         let digit = buffer[end];
         if digit < b'0' || b'9' < digit {
-            if end == at || !is_line_end(buffer, end) {
-                return None;
-            }
-            return Some(Number {
-                number,
-                end: end + 2,
-            });
+            break;
         }
         if number > MOST {
             return None;
         }
         number = number * 10 + u64::from(digit - b'0');
-        if number > most {
-            return None;
-        }
+        end += 1;
     }
-    None
+    if number > most || end <= at || end > buffer.len() || !is_line_end(buffer, end) {
+        return None;
+    }
+    Some(Number {
+        number,
+        end: end + 2,
+    })
 }
+
+/// The number of bytes of a line that are looked at one by one.
+const NEAR: usize = 12;
 
 /// Returns the index of the CR LF that ends a line, if its bytes before that are neither CR nor LF.
 #[inline(always)]
 pub(crate) fn line_end(buffer: &[u8], at: usize) -> Option<usize>
+    requires { at ≤ length buffer.now }
     ensures line { IfSome result (λ end. BeginsWithLine (drop at buffer.now) (end - at) (crlf (drop (end + 2) buffer.now))) }
     ensures within { IfSome result (λ end. (at ≤ end) × (end + 2 ≤ length buffer.now)) }
 {
-    for end in at..buffer.len() {
+    for end in at..buffer.len().min(at.saturating_add(NEAR)) {
         let byte = buffer[end];
         if byte == b'\r' || byte == b'\n' {
             return if is_line_end(buffer, end) {
@@ -76,5 +81,27 @@ pub(crate) fn line_end(buffer: &[u8], at: usize) -> Option<usize>
             };
         }
     }
-    None
+    let run = far_line(&buffer[at..])?;
+    Some(at + run)
+}
+
+/// Returns the number of bytes of the line at the beginning of a text, which CR LF follows. Uses vector
+/// instructions.
+#[inline(never)]
+fn far_line(text: &[u8]) -> Option<usize>
+    ensures line { IfSome result (λ run.
+        BeginsWithLine text.now run (crlf (drop (run + 2) text.now))) }
+    ensures within { IfSome result (λ run. run + 2 ≤ length text.now) }
+{
+    let run = memchr(b'\r', text)?;
+    match memchr(b'\n', &text[..run]) {
+        Some(_) => None,
+        None => {
+            if is_line_end(text, run) {
+                Some(run)
+            } else {
+                None
+            }
+        }
+    }
 }

@@ -1,6 +1,6 @@
 //! Reads one plain reply.
 
-ghost use Rattle.std.specs.Prelude.{◌≡◌, ◌-◌, ◌<◌, ◌^◌, ◌≤◌, IfSome, length, take};
+ghost use Rattle.std.specs.Prelude.{◌≡◌, ◌-◌, ◌<◌, ◌^◌, ◌≤◌, IfSome, ℕ, length, take};
 ghost use Rattle.resp_value.specs.Data.{items_of, members_of};
 ghost use Rattle.resp_value.specs.Kinds.{kind_of};
 ghost use Rattle.resp_value.specs.LocalRules.{IsNoPushBelow};
@@ -108,8 +108,34 @@ fn head_at(version: Version, limits: &Limits, buffer: &[u8], at: usize, level: u
     })
 }
 
-/// Reads the value at this index, which is this deep in aggregates.
-fn value_at(
+/// Reads the value without members at this index.
+#[inline(always)]
+fn leaf_into(
+    version: Version,
+    limits: &Limits,
+    buffer: &[u8],
+    filled: Filled,
+    nodes: &mut [Node],
+) -> Option<Filled>
+    ensures value { (level : ℕ) → IfSome result (λ found. IsValueAt (rules_under version limits.now)
+        level buffer.now filled found nodes.old nodes.new) }
+    ensures kept { take filled.count nodes.new ≡ take filled.count nodes.old }
+    ensures same_room { length nodes.new ≡ length nodes.old }
+{
+    let count = filled.count;
+    if count >= nodes.len() {
+        return None;
+    }
+    let found = leaf_at(version, limits, buffer, filled.end)?;
+    nodes[count] = found.node;
+    Some(Filled {
+        end: found.end,
+        count: count + 1,
+    })
+}
+
+/// Reads the aggregate at this index, which is this deep in others.
+fn aggregate_at(
     version: Version,
     limits: &Limits,
     buffer: &[u8],
@@ -123,21 +149,11 @@ fn value_at(
     ensures same_room { length nodes.new ≡ length nodes.old }
 {
     let count = filled.count;
-    if count >= nodes.len() {
-        return None;
-    }
-    if let Some(found) = leaf_at(version, limits, buffer, filled.end) {
-        nodes[count] = found.node;
-        return Some(Filled {
-            end: found.end,
-            count: count + 1,
-        });
-    }
     if level >= DEPTH {
         return None;
     }
     let head = head_at(version, limits, buffer, filled.end, level)?;
-    if (nodes.len() - count) as u64 <= head.members {
+    if nodes.len().saturating_sub(count) as u64 <= head.members {
         return None;
     }
     let mut inner = Filled {
@@ -145,21 +161,42 @@ fn value_at(
         count: count + 1,
     };
     for _ in 0..head.members {
-        inner = value_at(version, limits, buffer, inner, level + 1, nodes)?;
+        if let Some(next) = leaf_into(version, limits, buffer, inner, nodes) {
+            inner = next;
+            continue;
+        }
+        inner = aggregate_at(version, limits, buffer, inner, level + 1, nodes)?;
     }
-    nodes[count] = aggregate(
-        form(head.kind),
-        head.members as usize,
-        inner.count.saturating_sub(count),
-    );
+    let size = inner.count.saturating_sub(count);
+    nodes[count] = aggregate(form(head.kind), head.members as usize, size);
     Some(inner)
+}
+
+/// Reads the value at this index, which is in no aggregate.
+#[inline(always)]
+fn value_at(
+    version: Version,
+    limits: &Limits,
+    buffer: &[u8],
+    filled: Filled,
+    nodes: &mut [Node],
+) -> Option<Filled>
+    ensures value { IfSome result (λ found. IsValueAt (rules_under version limits.now) 0
+        buffer.now filled found nodes.old nodes.new) }
+    ensures kept { take filled.count nodes.new ≡ take filled.count nodes.old }
+    ensures same_room { length nodes.new ≡ length nodes.old }
+{
+    if let Some(found) = leaf_into(version, limits, buffer, filled, nodes) {
+        return Some(found);
+    }
+    aggregate_at(version, limits, buffer, filled, 0, nodes)
 }
 
 /// Reads the plain reply at this index of the buffer. Fills the nodes after those that are filled.
 ///
 /// Returns `None` if no reply lies whole there, or if it is not plain, or if there is no room for its
 /// nodes.
-#[inline]
+#[inline(always)]
 pub fn plain(
     version: Version,
     limits: &Limits,
@@ -172,7 +209,7 @@ pub fn plain(
     ensures kept { take filled.count nodes.new ≡ take filled.count nodes.old }
     ensures same_room { length nodes.new ≡ length nodes.old }
 {
-    let found = value_at(version, limits, buffer, filled, 0, nodes)?;
+    let found = value_at(version, limits, buffer, filled, nodes)?;
     if found.end.saturating_sub(filled.end) as u64 > limits.total() {
         return None;
     }

@@ -1,10 +1,10 @@
 use Rattle.std.proofs.Common.{◌≡◌, ◌-◌, ◌+◌, take}
 use Rattle.resp_value.specs.Rules.{rules_under}
 use Rattle.resp_nodes.proofs.ValuesRead.{HasMembers}
-use Rattle.resp_nodes.proofs.reading.+value_at.Given as goal
+use Rattle.resp_nodes.proofs.reading.+aggregate_at.Given as goal
 
-abbrev pub decreases-value_at : goal.decreases-value_at
-decreases-value_at l = 16 - l.level
+abbrev pub decreases-aggregate_at : goal.decreases-aggregate_at
+decreases-aggregate_at l = 16 - l.level
 
 abbrev pub invariant-loop : goal.invariant-loop
 invariant-loop l = record {
