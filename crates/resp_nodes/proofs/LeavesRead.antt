@@ -1,18 +1,17 @@
 -- The leaves that are read.
 use Rattle.std.proofs.Common.{◌≡◌, ℕ, zero, suc, ℤ, pos, drop, take, get_or, ◌+◌, ◌-◌, ◌<◌, ◌≤◌, Bool, false, inl, inr, List, [], ◌∷◌, ◌++◌, length, refl, sym, ap, subst, ◌∙◌, arith, append_assoc, length-append, length-drop}
-use Rattle.std.specs.List.{AllByRecursion}
 use Rattle.std.proofs.Math.Seq.{take-append_seam}
 use Rattle.resp_value.specs.Bytes.{IsByte, IsText, crlf}
 use Rattle.resp_value.specs.LocalRules.{LeafKeeps, LeafMeets}
-use Rattle.resp_value.specs.Numbers.{IsNumber, Unsigned, Minus}
+use Rattle.resp_value.specs.Numbers.{Unsigned, Minus}
 use Rattle.std.proofs.Common.{neg_ℤ}
 use Rattle.resp_value.specs.declared.version.Version.TheVariants.{Two}
 use Rattle.resp_fronts.proofs.FrameLaws.KeptNodes.{at_each_rule, leaf_keeps}
 use Rattle.std.proofs.lemmas.List.{drop-drop, length-take-le, take-append-drop}
 use Rattle.resp_nodes.specs.Numbers.{line_form, string_form, truth_number}
 use Rattle.resp_value.specs.Rules.{Rules, WithinItems, IsInRange, IsLeafInTwo, IsNoDouble}
-use Rattle.resp_value.specs.Trees.{Leaf, LineKind, Simple, Error, Double, NumberKind, Int, StringKind, Bulk, BulkError, Verbatim, NullForm, BulkNull, ArrayNull, PlainNull, line, numeral, null, truth, string, null_line, truth_line, IsLeaf, HasFormat, leaf_line, leaf_text, line_byte, string_byte, payload}
-use Rattle.resp_value.specs.TreeValues.{leaf_value, line_value, string_value}
+use Rattle.resp_value.specs.Trees.{LineKind, Simple, Error, Double, Int, StringKind, Bulk, BulkError, Verbatim, NullForm, BulkNull, ArrayNull, PlainNull, line, numeral, null, truth, string, null_line, truth_line, HasFormat, line_byte, string_byte, payload}
+use Rattle.resp_value.specs.TreeValues.{line_value, string_value}
 use Rattle.resp_value.proofs.FirstBytes.{all_front}
 use Rattle.resp_nodes.specs.declared.node.Node.{Node}
 use Rattle.resp_nodes.specs.Nodes.{IsLeafNode, IsTextNode, leaf_node, text_node, verbatim_node}

@@ -1,14 +1,12 @@
 -- The values that are read.
 use Rattle.std.proofs.Common.{◌≡◌, ℕ, zero, suc, drop, take, set, ◌+◌, ◌-◌, ◌<◌, ◌≤◌, List, [], ◌∷◌, ◌++◌, length, refl, sym, ap, subst, ◌∙◌, arith, append_assoc, append-nil, length-append, length-drop}
 use Rattle.std.proofs.Math.Seq.{take-append_seam}
-use Rattle.std.proofs.lemmas.List.{drop-drop, length-take-le, take-append-drop, take-take, take_more_set}
+use Rattle.std.proofs.lemmas.List.{take_more_set}
 use Rattle.resp_value.specs.Bytes.{crlf}
-use Rattle.resp_value.specs.Data as d
-use Rattle.resp_value.specs.Data.{Data, Datum}
 use Rattle.resp_value.specs.Kinds.{kind_of}
 use Rattle.resp_value.specs.declared.kind.OpenKind.{OpenKind}
 use Rattle.resp_value.specs.LocalRules.{HoldsFrom, HoldsFromEach, LeafKeeps, NodeKeeps}
-use Rattle.resp_value.specs.Rules.{Rules, WithinItems, Keeps}
+use Rattle.resp_value.specs.Rules.{Rules, WithinItems}
 use Rattle.resp_value.specs.Trees.{Tree, Trees, leaf, node, none, more, Counted, leaf_line, leaf_rest, IsTree, AreTrees, count, text, texts, kind_byte}
 use Rattle.resp_value.specs.TreeValues.{value, values}
 use Rattle.resp_value.proofs.LocalRuleLemmas.{count-values, keeps_locally}

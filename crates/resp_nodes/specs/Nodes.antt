@@ -1,5 +1,5 @@
 -- The values that nodes stand for, with the texts in the buffer.
-use Rattle.std.specs.Prelude.{◌≡◌, ℕ, ℤ, pos, ◌+◌, ◌≤◌, Bool, true, false, List, [], ◌∷◌, ◌++◌, length, take, drop}
+use Rattle.std.specs.Prelude.{◌≡◌, ℕ, ℤ, pos, ◌+◌, ◌≤◌, List, [], ◌∷◌, ◌++◌, length, take, drop}
 use Rattle.resp_value.specs.Data.{Scalar, Datum, Data, Kind, scalar, aggregate, none, more, count}
 use Rattle.resp_value.specs.Data as d
 use Rattle.resp_nodes.specs.declared.node.Node.{Node}

@@ -1,5 +1,5 @@
 -- The contracts of a call that reads one value.
-use Rattle.std.specs.Prelude.{◌≡◌, ◌⊎◌, ℕ, ◌+◌, ◌-◌, ◌≤◌, ◌<◌, ◌^◌, List, [], ◌∷◌, ◌++◌, length, take, drop}
+use Rattle.std.specs.Prelude.{◌≡◌, ◌⊎◌, ℕ, ◌+◌, ◌-◌, ◌≤◌, ◌<◌, ◌^◌, List, ◌∷◌, ◌++◌, length, take, drop}
 use Rattle.std.specs.Str.{byte}
 use Rattle.resp_value.specs.Bytes.{IsLine, crlf}
 use Rattle.resp_value.specs.Data.{Datum, members_of}

@@ -34,6 +34,7 @@ pub(crate) fn is_line_end(buffer: &[u8], at: usize) -> bool
 /// Returns the number from this index on, if it is at most this one and CR LF follows it.
 #[inline(always)]
 pub(crate) fn number_line(buffer: &[u8], at: usize, most: u64) -> Option<Number>
+    requires { at ≤ length buffer.now }
     ensures number { IfSome result (λ found.
         BeginsWithNumber (drop at buffer.now) found.number (drop found.end buffer.now)) }
     ensures within { IfSome result (λ found.
@@ -52,7 +53,7 @@ pub(crate) fn number_line(buffer: &[u8], at: usize, most: u64) -> Option<Number>
         number = number * 10 + u64::from(digit - b'0');
         end += 1;
     }
-    if number > most || end <= at || end > buffer.len() || !is_line_end(buffer, end) {
+    if number > most || end <= at || !is_line_end(buffer, end) {
         return None;
     }
     Some(Number {
@@ -62,7 +63,7 @@ pub(crate) fn number_line(buffer: &[u8], at: usize, most: u64) -> Option<Number>
 }
 
 /// The number of bytes of a line that are looked at one by one.
-const NEAR: usize = 12;
+const NEAR: usize = 8;
 
 /// Returns the index of the CR LF that ends a line, if its bytes before that are neither CR nor LF.
 #[inline(always)]

@@ -1,5 +1,5 @@
 use Rattle.std.proofs.Common.{◌+◌, ◌-◌, ◌*◌, drop, get_or, sym, subst, arith}
-use Rattle.resp_nodes.proofs.Digits.{HasDigits, byte_first, number_found, one_digit_more}
+use Rattle.resp_nodes.proofs.Digits.{HasDigits, byte_first, one_digit_more}
 use Rattle.resp_nodes.proofs.heads.number_line.Goals as goal
 
 pub loop-end-preserved : goal.loop-end-preserved
@@ -13,4 +13,5 @@ loop-end-preserved c =
           (byte_first c.args.buffer.now c.loop-end.end c.loop-end-test.true) c.if-digit-lt48.false c.if-digit-gt57.false
           (c.loop-end.end + 1 - c.args.at) (omega (arith, forward)));
       forward = omega (arith, forward);
+      within = omega (arith, c.loop-end-test.true);
     }

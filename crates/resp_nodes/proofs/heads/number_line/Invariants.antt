@@ -6,6 +6,7 @@ abbrev pub invariant-loop-end : goal.invariant-loop-end
 invariant-loop-end l = record {
   begins : HasDigits (drop l.at l.buffer) (l.end - l.at) l.number (drop l.end l.buffer);
   forward : l.at ≤ l.end;
+  within : l.end ≤ length l.buffer;
 }
 
 abbrev pub decreases-loop-end : goal.decreases-loop-end

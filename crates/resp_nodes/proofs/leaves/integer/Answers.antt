@@ -1,5 +1,4 @@
-use Rattle.std.proofs.Common.{◌≡◌, ◌+◌, ◌-◌, zero, pos, to_z, of_z, w64, inl, inr, true, false, drop, get_or, refl, sym, ap, subst, ◌∙◌, arith, rules}
-use Rattle.resp_value.specs.Rules.{rules_under}
+use Rattle.std.proofs.Common.{◌≡◌, to_z, of_z, w64, drop, refl, sym, ap, subst, ◌∙◌, arith, rules}
 use Rattle.resp_nodes.specs.Nodes.{leaf_node}
 use Rattle.resp_nodes.specs.Plain.{BeginsWithNumber, IsLeafAt}
 use Rattle.resp_nodes.proofs.LeavesRead.{integer_read, negative_read}

@@ -1,4 +1,4 @@
-use Rattle.std.proofs.Common.{◌≡◌, ◌+◌, ◌-◌, zero, pos, inl, inr, true, false, drop, get_or, refl, sym, ap, subst, ◌∙◌, arith, rules}
+use Rattle.std.proofs.Common.{◌+◌, ◌-◌, sym, ap, subst, ◌∙◌, arith}
 use Rattle.resp_value.specs.Rules.{rules_under}
 use Rattle.resp_nodes.specs.Nodes.{text_node}
 use Rattle.resp_nodes.specs.Plain.{IsLeafAt}

@@ -1,5 +1,4 @@
-use Rattle.std.proofs.Common.{◌≡◌, ◌+◌, ◌-◌, zero, pos, inl, inr, true, false, drop, get_or, refl, sym, ap, subst, ◌∙◌, arith, rules}
-use Rattle.resp_value.specs.Rules.{rules_under}
+use Rattle.std.proofs.Common.{◌≡◌, ◌+◌, drop, sym, subst, arith}
 use Rattle.resp_nodes.specs.Plain.{IsLeafAt}
 use Rattle.resp_value.specs.Bytes.{crlf}
 use Rattle.resp_nodes.proofs.LeavesRead.{null_read}

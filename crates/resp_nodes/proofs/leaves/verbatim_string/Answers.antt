@@ -1,4 +1,4 @@
-use Rattle.std.proofs.Common.{◌+◌, ◌-◌, sym, subst, arith}
+use Rattle.std.proofs.Common.{◌+◌, sym, subst, arith}
 use Rattle.resp_value.specs.Rules.{rules_under}
 use Rattle.resp_nodes.specs.Plain.{IsLeafAt}
 use Rattle.resp_nodes.proofs.LeavesRead.{is_text, verbatim_read}

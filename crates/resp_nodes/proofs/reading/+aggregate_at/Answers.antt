@@ -1,5 +1,5 @@
-use Rattle.std.proofs.Common.{◌≡◌, ◌+◌, ◌-◌, ◌<◌, ◌≤◌, length, take, set, refl, sym, ap, subst, ◌∙◌, arith}
-use Rattle.std.proofs.lemmas.List.{length-set, take-set}
+use Rattle.std.proofs.Common.{◌+◌, set, refl, sym, ap, subst, ◌∙◌, arith}
+use Rattle.std.proofs.lemmas.List.{length-set}
 use Rattle.resp_value.specs.Kinds.{kind_of}
 use Rattle.resp_value.specs.Rules.{rules_under}
 use Rattle.resp_nodes.specs.declared.reading.Filled.{Filled}

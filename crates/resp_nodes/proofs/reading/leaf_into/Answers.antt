@@ -1,5 +1,5 @@
-use Rattle.std.proofs.Common.{set, arith}
-use Rattle.std.proofs.lemmas.List.{length-set, take-set}
+use Rattle.std.proofs.Common.{arith}
+use Rattle.std.proofs.lemmas.List.{length-set}
 use Rattle.resp_value.specs.Rules.{rules_under}
 use Rattle.resp_nodes.proofs.ValuesRead.{leaf_is_value}
 use Rattle.resp_nodes.proofs.reading.leaf_into.Goals as goal
