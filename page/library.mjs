@@ -12,6 +12,7 @@ export const CAUSES = {
   1: 'Syntax', 2: 'Double', 3: 'Version', 4: 'NestedPush', 5: 'Range', 6: 'Depth', 7: 'Length', 8: 'Total',
   9: 'Truncated', 12: 'Streamed', 13: 'Items', 20: 'Unasked', 24: 'TooMany', 62: 'Busy', 63: 'BadLimits',
   64: 'BadVersion', 65: 'NoRoom', 67: 'HelloWaits', 68: 'Unpaired', 69: 'PushesWait',
+  70: 'NotPlain',
 };
 
 export const STREAMED = 0xffffffffffffffffn;

@@ -11,6 +11,7 @@ mod content;
 mod device;
 mod digits;
 mod framed;
+mod in_place;
 mod lifetimes;
 mod limits;
 mod line;
