@@ -59,4 +59,7 @@ stopped_as H K r bytes (Err (stop.Stopped n)) so stops = record {
   within = stops.within;
   viable = stops.viable;
   first_due = stops.first_due;
+  later = stops.later;
+  all_due = stops.all_due;
+  begins_one = stops.begins_one;
 }

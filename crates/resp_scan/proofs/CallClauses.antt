@@ -6,6 +6,7 @@ pub mod Heard
 pub mod Answered
 pub mod Hearing
 pub mod Nearer
+pub mod Begins
 pub mod Turns
 pub mod WholeTexts
 pub mod SlotSteps

@@ -22,3 +22,17 @@ open_count (event ∷ es) = open_count_of event + open_count es
 abbrev pub close_count : List Event → ℕ
 close_count [] = 0
 close_count (event ∷ es) = close_count_of event + close_count es
+
+-- 1 for an event with which a value begins
+abbrev pub begin_count_of : Event → ℕ
+begin_count_of e.Null = 1
+begin_count_of (e.Bool truth) = 1
+begin_count_of (e.Int number) = 1
+begin_count_of (e.Text kind) = 1
+begin_count_of (e.Open k n) = 1
+begin_count_of _ = 0
+
+-- the number of values that begin, at any level
+abbrev pub begin_count : List Event → ℕ
+begin_count [] = 0
+begin_count (event ∷ es) = begin_count_of event + begin_count es

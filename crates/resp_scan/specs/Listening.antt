@@ -12,7 +12,7 @@ use Rattle.resp_scan.specs.declared.event.Scanned.{Scanned}
 use Rattle.resp_scan.specs.declared.event.ScanError as error
 use Rattle.resp_scan.specs.declared.event.ScanError.TheVariants as stop
 use Rattle.resp_value.specs.declared.cause.Cause.TheVariants as cause
-use Rattle.resp_scan.specs.Counts.{close_count, open_count}
+use Rattle.resp_scan.specs.Counts.{begin_count, close_count, open_count}
 use Rattle.resp_scan.specs.Kinds.{content_events, rules_of, text_kind_of}
 use Rattle.resp_scan.specs.Machine.Tokens.{Place}
 use Rattle.resp_scan.specs.Reading.{AreDue, BeginDue, Events, HasNoValue, HasRead, IsRefused, IsValue}
@@ -82,7 +82,8 @@ pub record HearsRefusal (r : Rules) (HasHeard : Events → Type 0) (front piece 
   pub refused : IsRefused r front heard piece fault
   pub has_heard : HasHeard heard
 
--- The listener has stopped, after the first of the events of the bytes read. These bytes are viable.
+-- The listener has stopped, after the first of the events of the bytes read. These bytes are viable. At most one value
+-- begins in the events of these bytes that the listener was not told, so no byte was read beyond that value.
 pub record StopsAfter (r : Rules) (HasStopped : Events → Type 0) (front piece : List ℕ) (taken : ℕ) : Type 0 where
   pub told : Events
   pub has_stopped : HasStopped told
@@ -90,6 +91,9 @@ pub record StopsAfter (r : Rules) (HasStopped : Events → Type 0) (front piece 
   pub within : taken ≤ length (front ++ piece)
   pub viable : IsViable r WithinTotal (take taken (front ++ piece))
   pub first_due : BeginDue (take taken (front ++ piece)) told
+  pub later : Events
+  pub all_due : AreDue (take taken (front ++ piece)) (told ++ later)
+  pub begins_one : begin_count later ≤ 1
 
 -- this holds of every front that the scanner has read, and of every origin since which the listener has received the
 -- events given of it

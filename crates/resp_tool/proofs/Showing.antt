@@ -281,6 +281,9 @@ stopped_as H K r front piece (Err (stop.Stopped n)) so stops = record {
   within = stops.within;
   viable = stops.viable;
   first_due = stops.first_due;
+  later = stops.later;
+  all_due = stops.all_due;
+  begins_one = stops.begins_one;
 }
 
 -- What comes of a piece.

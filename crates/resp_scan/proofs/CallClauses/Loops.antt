@@ -199,6 +199,9 @@ stop_heard s₀ s t H₀ H H' M piece used turned r v stopped since front given 
       viable = subst (IsViable (rules_of s₀) WithinTotal) (sym cut)
           (subst (λ x. IsViable x WithinTotal ((front ++ take used piece) ++ take turned.used (drop used piece))) r.rules b.viable);
       first_due = subst (λ z. BeginDue z b.told) (sym cut) b.first_due;
+      later = b.later;
+      all_due = subst (λ z. AreDue z (b.told ++ b.later)) (sym cut) b.all_due;
+      begins_one = b.begins_one;
     }
 
 -- A fault that stands is answered again, and nothing else.

@@ -1,6 +1,6 @@
 -- One turn of the loop over a piece.
 use Rattle.std.specs.Prelude.{Bool, true, false, take, drop, None, MatchBool}
-use Rattle.std.proofs.Common.{◌≡◌, ℕ, ◌+◌, ◌-◌, ◌<◌, List, [], ◌∷◌, ◌++◌, length, refl, sym, ap, subst, ◌∙◌, arith, append_assoc}
+use Rattle.std.proofs.Common.{◌≡◌, ℕ, ◌+◌, ◌-◌, ◌<◌, ◌≤◌, List, [], ◌∷◌, ◌++◌, length, refl, sym, ap, subst, ◌∙◌, arith, append_assoc}
 use Rattle.resp_value.specs.Bytes.{IsText}
 use Rattle.resp_value.specs.Rules.{WithinTotal}
 use Rattle.resp_value.specs.Spellings.{IsViable}
@@ -11,6 +11,7 @@ use Rattle.resp_scan.specs.declared.machine.Machine.{Machine}
 use Rattle.resp_scan.specs.declared.machine.Taken.{Taken}
 use Rattle.resp_scan.specs.declared.listen.Turn.TheVariants as turn
 use Rattle.resp_scan.specs.declared.listen.Turned.{Turned}
+use Rattle.resp_scan.specs.Counts.{begin_count}
 use Rattle.resp_scan.specs.Kinds.{content_events, event_of, rules_of}
 use Rattle.resp_value.specs.declared.cause.Cause.{Cause}
 use Rattle.resp_scan.specs.Reading.{BeginDue, Events, HasRead, IsFaulted}
@@ -23,10 +24,12 @@ use Rattle.resp_scan.specs.Machine.Sound.{IsSound}
 use Rattle.resp_scan.specs.Machine.StepOutcomes.{after_bytes, after_step}
 use Rattle.resp_scan.specs.Machine.Turns.{IsTurn, OutcomeOfTurn, turn_of}
 use Rattle.resp_scan.proofs.CallClauses.Answered.{answered}
+use Rattle.resp_scan.proofs.CallClauses.Begins.{begins-append, content_begins, one_event, owed_begins}
 use Rattle.resp_scan.proofs.CallClauses.Calls.{begin_due}
 use Rattle.resp_scan.proofs.CallClauses.LeastNeeded.{followed_is_viable}
 use Rattle.resp_scan.proofs.CallClauses.Nearer.{IsNearer, is_nearer}
 use Rattle.resp_scan.proofs.CallClauses.Steps.{Shown, shown, follows, heard_is, refused_is, value_is}
+use Rattle.resp_scan.proofs.DueEvents.EventsDue.{events_are_due}
 use Rattle.resp_scan.proofs.DueEvents.GivenCounts.{events_are_few, opens_are_frames}
 use Rattle.resp_scan.proofs.Soundness.Counted.{IsCounted, counted_out, place_counted}
 use Rattle.resp_scan.proofs.Soundness.Kept.{IsOut, is_advanced}
@@ -55,10 +58,10 @@ begin_fewer front given more due rest whole spells = let d = due rest whole spel
 
 -- A listener that was told more events goes on, or stops where it may.
 pub turn_told : (s t : Place) (HasHeard HasStopped : Events → Type 0) (front : List ℕ) (given : Events) (p : List ℕ) (n : ℕ) (more : Events) (goes_on : Bool) →
-    IsSound t → rules_of t ≡ rules_of s → HasRead t (front ++ take n p) (given ++ more) →
+    IsSound t → rules_of t ≡ rules_of s → begin_count more ≤ 1 → HasRead t (front ++ take n p) (given ++ more) →
     (MayBeGiven (given ++ more) → MatchBool goes_on (HasHeard (given ++ more)) (StopsWithin HasStopped given more)) →
     OutcomeOfTurn s t HasHeard HasStopped front given p n (turn_of goes_on)
-turn_told s t HasHeard HasStopped front given p n more goes_on sound rules w hears =
+turn_told s t HasHeard HasStopped front given p n more goes_on sound rules few w hears =
     by_answer goes_on (hears (may_be t (front ++ take n p) (given ++ more) sound w))
   where
     by_answer : (x : Bool) → MatchBool x (HasHeard (given ++ more)) (StopsWithin HasStopped given more) →
@@ -70,6 +73,11 @@ turn_told s t HasHeard HasStopped front given p n more goes_on sound rules w hea
       first_due = begin_fewer (front ++ take n p) (given ++ h.told) h.later
           (subst (BeginDue (front ++ take n p)) (ap (λ z. given ++ z) h.parts ∙ sym (append_assoc given h.told h.later))
           (begin_due t (front ++ take n p) (given ++ more) sound w));
+      later = h.later ++ events_owed t;
+      all_due = λ rest whole spells. events_are_due t 0 (front ++ take n p) (given ++ more) sound w.stands rest whole spells ∙
+          ap (λ z. (given ++ z) ++ events_owed t) h.parts ∙ ap (λ z. z ++ events_owed t) (sym (append_assoc given h.told h.later)) ∙
+          append_assoc (given ++ h.told) h.later (events_owed t);
+      begins_one = omega (arith, few, ap begin_count h.parts, begins-append h.told h.later, begins-append h.later (events_owed t), owed_begins t);
       viable = subst (λ r. IsViable r WithinTotal (front ++ take n p)) rules (read_is_viable t (front ++ take n p) (given ++ more) sound w);
       taken = w.taken;
     }
@@ -79,6 +87,14 @@ abbrev pub events_told : List ℕ → Out → Events
 events_told p (Gave n x t) = event_of x ∷ []
 events_told p (Part k n t) = content_events (drop k (take n p))
 events_told p _ = []
+
+-- At most one value begins in it.
+told_begins : (p : List ℕ) (o : Out) → begin_count (events_told p o) ≤ 1
+told_begins p (Gave n x t) = one_event (event_of x)
+told_begins p (Part k n t) = omega (arith, content_begins (drop k (take n p)))
+told_begins p (More n t) = omega arith
+told_begins p (Whole t) = omega arith
+told_begins p (Bad n c t) = omega arith
 
 -- The answer's bytes counted, what was read is more by what it tells.
 abbrev ReadsOn : Place → List ℕ → Events → List ℕ → Out → Type 0
@@ -164,7 +180,8 @@ outcome_told tag.More n m s p HasHeard HasStopped goes_on telling sound rules fr
 outcome_told tag.Failed n m s p HasHeard HasStopped goes_on telling sound rules front given reads hears = absurd telling
 outcome_told tag.Done n m s p HasHeard HasStopped goes_on telling sound rules front given reads hears = absurd telling
 outcome_told w n m s p HasHeard HasStopped goes_on telling sound rules front given reads hears =
-    turn_told s (after_bytes n (place_of m)) HasHeard HasStopped front given p n (events_told p (out_by w n m)) goes_on sound rules reads hears
+    turn_told s (after_bytes n (place_of m)) HasHeard HasStopped front given p n (events_told p (out_by w n m)) goes_on sound rules
+    (told_begins p (out_by w n m)) reads hears
 
 -- The listener was told what the answer tells.
 is_told : {O : Type 0} (w : EventTag) (taken : Taken) (m : Machine) (s : Place) (p : List ℕ) (HadHeard HasHeard HasStopped : O → Events →

@@ -28,6 +28,7 @@ use Rattle.resp_scan.specs.Machine.Scan.{Bad, Gave, Part, out_from}
 use Rattle.resp_scan.specs.Machine.Sound.{IsSound, IsTokenSound}
 use Rattle.resp_scan.specs.Machine.StepOutcomes.{after_bytes}
 use Rattle.resp_scan.specs.Machine.Turns.{EndsAt, IsLineTag, IsTurn, LeavesContent, OutcomeOfTurn, turn_of}
+use Rattle.resp_scan.proofs.CallClauses.Begins.{whole_text_begins}
 use Rattle.resp_scan.proofs.CallClauses.Turns.{from_dead, not_more, reads_more, turn_told}
 use Rattle.resp_scan.proofs.Soundness.Counted.{counted_out}
 use Rattle.resp_scan.proofs.Soundness.Kept.{IsOut, is_advanced}
@@ -175,7 +176,7 @@ whole_turn {O = O} s m m' n run k t p HadHeard HasHeard HasStopped goes_on turne
           let more = whole_text_events k (take run (drop n p)) in
           subst (OutcomeOfTurn s last (HasHeard since) (HasStopped since) front given p turned.used) (sym is_turn)
           (turn_told s last (HasHeard since) (HasStopped since) front given p turned.used more goes_on sound_last same_rules
-          (subst (λ z. HasRead last z (given ++ more)) bytes
+          (whole_text_begins k (take run (drop n p))) (subst (λ z. HasRead last z (given ++ more)) bytes
           (subst (HasRead last ((front ++ take n p) ++ take (run + 2) (drop n p)))
           (append_assoc given (e.Text (text_kind_of k) ∷ []) (content_events (take run (drop n p)) ++ e.TextEnd ∷ [])) read))
           (hears since given had));

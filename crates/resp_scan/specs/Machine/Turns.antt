@@ -13,11 +13,12 @@ use Rattle.resp_scan.specs.declared.machine.EventTag.{EventTag}
 use Rattle.resp_scan.specs.declared.machine.EventTag.TheVariants as tag
 use Rattle.resp_scan.specs.declared.event.TextKind.{TextKind}
 use Rattle.resp_scan.specs.declared.event.TextKind.TheVariants as text
+use Rattle.resp_scan.specs.Counts.{begin_count}
 use Rattle.resp_scan.specs.Kinds.{rules_of}
 use Rattle.resp_scan.specs.Machine.Tokens.{Place}
 use Rattle.resp_scan.specs.Machine.Owed.{events_owed}
 use Rattle.resp_scan.specs.Machine.Sound.{IsSound}
-use Rattle.resp_scan.specs.Reading.{BeginDue, EndsValue, Events, HasRead, IsFaulted, IsRefused, UsesUp}
+use Rattle.resp_scan.specs.Reading.{AreDue, BeginDue, EndsValue, Events, HasRead, IsFaulted, IsRefused, UsesUp}
 
 -- the bytes used were read, and the listener has received their events too
 pub record GoesOn (t : Place) (HasHeard : Events → Type 0) (front : List ℕ) (given : Events) (piece : List ℕ)
@@ -32,11 +33,14 @@ pub record LeadsToFault (r : Rules) (t : Place) (front : List ℕ) (given : Even
   pub kept : IsFaulted t fault
   pub refused : IsRefused r front given piece fault
 
--- the listener has stopped, after the first of the events of the bytes read
+-- The listener has stopped, after the first of the events of the bytes read. At most one value begins in the others.
 pub record Stops (r : Rules) (t : Place) (HasStopped : Events → Type 0) (front piece : List ℕ) (used : ℕ) : Type 0 where
   pub told : Events
   pub has_stopped : HasStopped told
+  pub later : Events
   pub first_due : BeginDue (front ++ take used piece) told
+  pub all_due : AreDue (front ++ take used piece) (told ++ later)
+  pub begins_one : begin_count later ≤ 1
   pub viable : IsViable r WithinTotal (front ++ take used piece)
   pub taken : t.taken ≡ length (front ++ take used piece)
 
