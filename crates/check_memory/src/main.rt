@@ -9,6 +9,7 @@ mod asking;
 mod decoding;
 mod encoding;
 mod engines;
+mod forwarding;
 mod frames;
 mod framing;
 mod given;
@@ -65,7 +66,7 @@ fn print(rt: &impl Print, parts: &[Part]) -> Result<()> {
 }
 
 /// Runs each part, and returns their outcomes in order.
-fn parts(alloc: Global) -> [Part; 43] {
+fn parts(alloc: Global) -> [Part; 46] {
     [
         ("decode a piece", decoding::of_one_piece(alloc)),
         ("decode bytes", decoding::of_single_bytes(alloc)),
@@ -103,9 +104,11 @@ fn parts(alloc: Global) -> [Part; 43] {
         ("mux lose", multiplexing::of_lose(alloc)),
         ("frames", frames::of_next(alloc)),
         ("take reply", frames::of_join(alloc)),
+        ("way", forwarding::of_way(alloc)),
         ("proxy open", proxying::of_open(alloc)),
         ("proxy client", proxying::of_client(alloc)),
         ("proxy lines", proxying::of_lines(alloc)),
+        ("proxy leaving", proxying::of_leaving(alloc)),
         ("proxy server", proxying::of_server(alloc)),
         ("world", worlds::of_run(alloc)),
         ("framed values in", framing::of_values_in(alloc)),

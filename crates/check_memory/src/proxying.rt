@@ -88,6 +88,51 @@ fn of_pieces(alloc: Global, pieces: [&[u8]; 4]) -> Outcome {
     Outcome::of(proxy.waiting() == 1 && !first.is_closing())
 }
 
+/// A client whose second command needs a connection of its own, in three pieces. It gets this connection after
+/// the reply to the first one.
+pub(crate) fn of_leaving(alloc: Global) -> Outcome {
+    let Ok((mut proxy, mut first, mut second)) = two_clients(alloc) else {
+        return Outcome::OutOfMemory;
+    };
+    proxy.admit_own(true);
+    for piece in [
+        PING,
+        b"*1\r\n$5\r\nMU".as_slice(),
+        b"LTI\r\n*1\r\n".as_slice(),
+        b"$4\r\nEXEC\r\n".as_slice(),
+    ] {
+        match proxy.from_client(&mut first, piece) {
+            Ok(()) => {}
+            Err(ClientError::OutOfMemory | ClientError::Protocol(_)) => {
+                return Outcome::refused(goes_on(&mut proxy, &first, &mut second));
+            }
+            Err(_) => return Outcome::Wrong,
+        }
+    }
+    if proxy.may_leave(&first) || !first.is_leaving() {
+        return Outcome::Wrong;
+    }
+    let Ok(mut server) = MemorySink::new(alloc, 100, 100) else {
+        return Outcome::OutOfMemory;
+    };
+    let _ = proxy.send(&mut server);
+    if proxy.from_server(b"+PONG\r\n").is_err() {
+        return Outcome::OutOfMemory;
+    }
+    let Ok(mut writer) = MemorySink::new(alloc, 100, 100) else {
+        return Outcome::OutOfMemory;
+    };
+    let _ = proxy.give(&first, &mut writer);
+    if !proxy.may_leave(&first) {
+        return Outcome::Wrong;
+    }
+    let held = proxy.leave(first);
+    Outcome::of(
+        held.as_slice() == b"*1\r\n$5\r\nMULTI\r\n*1\r\n$4\r\nEXEC\r\n".as_slice()
+            && proxy.numbers().own == 1,
+    )
+}
+
 /// Returns whether each of these clients was replied to if bytes wait for it.
 fn is_told(alloc: Global, proxy: &mut Proxy, clients: [&Client; 2]) -> Result<bool, AllocError> {
     let mut told = Vec::new(alloc);

@@ -5,6 +5,10 @@ ghost use Rattle.std.specs.Prelude.{◌≡◌, ◌++◌, ◌≤◌, [], length, 
 use std::alloc::{AllocError, Global};
 use std::marker::Model;
 
+/// The least number of bytes for which memory is allocated, so that a row of short replies needs one
+/// allocation.
+const FIRST: usize = 256;
+
 /// Bytes that are added at the end and removed at the front. It is smaller than a `BytesMut`, and
 /// holds no memory while it is empty.
 #[derive(Drop)]
@@ -56,6 +60,9 @@ impl Text {
         ensures unchanged { OnErr result (self.new ≡ self.old) }
     {
         let before = self.bytes.len();
+        if before == 0 {
+            self.bytes.reserve(FIRST)?;
+        }
         self.bytes.extend_from_slice(first)?;
         if self.bytes.extend_from_slice(second).is_err() {
             self.bytes.truncate(before);
