@@ -54,11 +54,48 @@ great = bytes(range(256)) * 40_000
 assert client.set("great", great) is True and client.get("great") == great
 
 # The error of a command that the proxy does not serve names it, and the connection goes on.
-for words in (("MULTI",), ("BLPOP", "list", "0"), ("SUBSCRIBE", "a"), ("SELECT", "1"), ("CONFIG", "GET", "save")):
-    try:
-        client.execute_command(*words)
-    except redis.ResponseError as error:
-        assert f"'{words[0]}'" in str(error), error
-    else:
-        raise AssertionError(f"{words} was answered")
+try:
+    client.execute_command("CONFIG", "GET", "save")
+except redis.ResponseError as error:
+    assert "'CONFIG'" in str(error), error
+else:
+    raise AssertionError("CONFIG was answered")
 assert client.ping() is True
+
+# Transactions, watched keys, subscriptions, blocking commands and another database: over connections of clients' own.
+port = int(sys.argv[1])
+own = redis.Redis(port=port)
+own.set("counted", 1)
+pipeline = own.pipeline(transaction=True)
+pipeline.incr("counted")
+pipeline.incr("counted")
+assert pipeline.execute() == [2, 3]
+with own.pipeline() as pipeline:
+    pipeline.watch("counted")
+    number = int(pipeline.get("counted"))
+    client.set("counted", 10)
+    pipeline.multi()
+    pipeline.set("counted", number + 1)
+    try:
+        pipeline.execute()
+    except redis.WatchError:
+        pass
+    else:
+        raise AssertionError("a watched key was changed, and EXEC succeeded")
+assert client.get("counted") == b"10"
+subscription = redis.Redis(port=port).pubsub()
+subscription.subscribe("news")
+assert subscription.get_message(timeout=10)["type"] == "subscribe"
+assert client.publish("news", "hello") == 1
+assert subscription.get_message(timeout=10)["data"] == b"hello"
+popped = []
+waiting = threading.Thread(target=lambda: popped.append(redis.Redis(port=port).blpop("blocking list", timeout=20)))
+waiting.start()
+while client.info("clients")["blocked_clients"] == 0:
+    pass
+assert client.rpush("blocking list", "value") == 1
+waiting.join()
+assert popped == [(b"blocking list", b"value")], popped
+third = redis.Redis(port=port, db=3)
+assert third.set("in database 3", "value") is True
+assert third.get("in database 3") == b"value" and client.get("in database 3") is None
