@@ -19,8 +19,19 @@ async function work(number) {
     await client.del(`hash:${number}`);
     assert.strictEqual(await client.hSet(`hash:${number}`, { a: "1", b: "2" }), 2);
     assert.deepStrictEqual({ ...(await client.hGetAll(`hash:${number}`)) }, { a: "1", b: "2" });
-    await assert.rejects(client.sendCommand(["BLPOP", "list", "0"]), /'BLPOP'/);
+    await assert.rejects(client.sendCommand(["CONFIG", "GET", "save"]), /'CONFIG'/);
     assert.strictEqual(await client.echo(`${number}`), `${number}`);
+    // From here on the client has a connection of its own.
+    await client.del([`counted:${number}`, `waiting:${number}`]);
+    assert.deepStrictEqual(await client.multi().incr(`counted:${number}`).incr(`counted:${number}`).exec(), [1, 2]);
+    await client.rPush(`waiting:${number}`, "value");
+    assert.deepStrictEqual({ ...(await client.blPop(`waiting:${number}`, 0)) }, { key: `waiting:${number}`, element: "value" });
+    const subscriber = client.duplicate();
+    await subscriber.connect();
+    const heard = new Promise((resolve) => subscriber.subscribe(`channel:${number}`, resolve).then(
+        () => client.publish(`channel:${number}`, `for ${number}`)));
+    assert.strictEqual(await heard, `for ${number}`);
+    await subscriber.quit();
     await client.quit();
 }
 
