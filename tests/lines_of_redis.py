@@ -25,7 +25,9 @@ def answer(port, text, source):
                 size = source.randint(1, len(text))
                 stream.sendall(text[:size])
                 text = text[size:]
-            stream.shutdown(socket.SHUT_WR)
+            # The system refuses this if the other side has closed the connection.
+            with contextlib.suppress(OSError):
+                stream.shutdown(socket.SHUT_WR)
             while piece := stream.recv(65536):
                 heard += piece
         return heard
