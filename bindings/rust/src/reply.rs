@@ -190,9 +190,9 @@ impl<'a> Reply<'a> {
     /// Returns the value of the first key of a map that is a text of these bytes. It looks at each key in
     /// turn.
     pub fn get(&self, key: &[u8]) -> Option<Reply<'a>> {
-        let Kind::Aggregate(Aggregate::Map, _) = self.kind() else {
+        if !matches!(self.kind(), Kind::Aggregate(Aggregate::Map, _)) {
             return None;
-        };
+        }
         let mut members = self.members();
         while let (Some(name), Some(value)) = (members.next(), members.next()) {
             if matches!(name.kind(), Kind::Text(_, text) if text == key) {
