@@ -1,6 +1,8 @@
 //! Runs a proxy with two clients in every order of nine events, and compares what each client gets with
 //! an independent replay.
 //!
+//! A client of another proxy is not served.
+//!
 //! Each client sends two commands. Twice the server receives thirty bytes, which is one command and a part
 //! of the next, and twice it replies to a command. Once the connection to the server is lost, or a client
 //! goes. After the nine events everything is sent and replied to.
@@ -13,6 +15,7 @@ mod world;
 use anyhow::Result;
 use orders::next_order;
 use replay::{Fault, Replay};
+use resp_proxy::{ClientError, Proxy, Settings};
 use std::alloc::Global;
 use world::World;
 
@@ -29,7 +32,27 @@ fn main(rt: HostRuntime) -> Result<()> {
         let (orders, same) = run_all(alloc, fault)?;
         println!(rt; "{name}: {orders} orders, {same} as in the replay")?;
     }
+    let (first, second) = told_to_a_stranger(alloc)?;
+    println!(rt; "a client of another proxy: {first}, then {second}")?;
     Ok(())
+}
+
+/// Returns the errors of the first two pieces of a client that another proxy has opened.
+fn told_to_a_stranger(alloc: Global) -> Result<(String, String)> {
+    let mut own = Proxy::new(alloc, Settings::standard())?;
+    let mut other = Proxy::new(alloc, Settings::standard())?;
+    let mut client = own.open()?;
+    let first = told(alloc, other.from_client(&mut client, b"PING\r\n"))?;
+    let second = told(alloc, other.from_client(&mut client, b""))?;
+    Ok((first, second))
+}
+
+/// Returns the text of an error, or `taken`.
+fn told(alloc: Global, taken: std::result::Result<(), ClientError>) -> Result<String> {
+    match taken {
+        Ok(()) => Ok(format!(in alloc; "taken")?),
+        Err(error) => Ok(format!(in alloc; "{error}")?),
+    }
 }
 
 /// Runs each order of the events. Returns their number, and the number of those in which the proxy and

@@ -1,3 +1,4 @@
 pub mod Ends
 pub mod Others
 pub mod SameWords
+pub mod WholeTexts

@@ -1,5 +1,5 @@
 -- Commands of clients.
-use Rattle.std.specs.Prelude.{◌≡◌, ℕ, ◌≤◌, List, ◌∷◌, ◌++◌, length, take, MatchOption}
+use Rattle.std.specs.Prelude.{◌≡◌, ℕ, ◌<◌, ◌≤◌, List, ◌∷◌, ◌++◌, length, take, MatchOption}
 use Rattle.resp_value.specs.Bounds.{Bounds}
 use Rattle.resp_value.specs.Rules.{Rules, rules_under}
 use Rattle.resp_value.specs.Spellings.{IsSpelling}
@@ -18,10 +18,11 @@ pub record IsCommand (limits : Bounds) (text : List ℕ) : Type 0 where
   pub arguments : List (List ℕ)
   pub spelled : IsSpelling (rules_under Two limits) (command_of (name ∷ arguments)) text
 
--- the frame is a command: these bytes and the first of the piece
+-- the frame is a command: these bytes and the first of the piece, at least one
 pub record IsCommandFrame (limits : Bounds) (front piece : List ℕ) (frame : Frame) : Type 0 where
   pub text : text_of frame ≡ front ++ take (used_of frame) piece
   pub within : used_of frame ≤ length piece
+  pub some : 0 < used_of frame
   pub command : IsCommand limits (text_of frame)
 
 -- the number and the class of these words

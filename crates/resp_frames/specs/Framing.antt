@@ -1,10 +1,10 @@
 -- The bytes of a value that a connection has begun, and the value's end.
-use Rattle.std.specs.Prelude.{◌≡◌, ℕ, ◌≤◌, List, [], ◌++◌, length, take, MatchOption}
+use Rattle.std.specs.Prelude.{◌≡◌, ℕ, ◌<◌, ◌≤◌, List, [], ◌++◌, length, take, MatchOption}
 use Rattle.resp_value.specs.Bounds.{Bounds}
 use Rattle.resp_value.specs.Rules.{Rules, rules_under}
 use Rattle.resp_scan.specs.declared.event.Fault.{Fault}
 use Rattle.resp_scan.specs.Kinds.{rules_of}
-use Rattle.resp_scan.specs.Reading.{Events, HasRead, IsRefused, IsSpelled}
+use Rattle.resp_scan.specs.Reading.{Events, HasNoValue, HasRead, IsRefused, IsSpelled}
 use Rattle.resp_frames.specs.declared.begun.Begun.{Begun}
 use Rattle.resp_frames.specs.declared.begun.Held.{Held}
 use Rattle.resp_frames.specs.declared.error.FrameError.{FrameError}
@@ -21,12 +21,13 @@ frame_rules f = rules_under f.version f.limits
 abbrev pub frame_limits : Frames → Bounds
 frame_limits f = f.limits
 
--- these bytes are held, and a scanner with these rules has read them
+-- these bytes are held, a scanner with these rules has read them, and no value has ended
 pub record IsHeld (rules : Rules) (held : Held) (front : List ℕ) : Type 0 where
   pub bytes : held.bytes.items ≡ front
   pub given : Events
   pub read : HasRead held.scanner.value front given
   pub same_rules : rules_of held.scanner.value ≡ rules
+  pub no_value : HasNoValue front
 
 -- a connection has begun a value with these bytes, or none
 abbrev pub HasBegun : Rules → Begun → List ℕ → Type 0
@@ -41,10 +42,11 @@ pub record IsReady (f : Frames) : Type 0 where
 abbrev pub WhereBegun : Frames → Begun → (List ℕ → Type 0) → Type 0
 WhereBegun f b P = IsReady f → (front : List ℕ) → HasBegun (frame_rules f) b front → P front
 
--- the frame is a spelling: these bytes and the first of the piece
+-- the frame is a spelling: these bytes and the first of the piece, at least one
 pub record IsFrame (rules : Rules) (front piece : List ℕ) (frame : Frame) : Type 0 where
   pub text : text_of frame ≡ front ++ take (used_of frame) piece
   pub within : used_of frame ≤ length piece
+  pub some : 0 < used_of frame
   pub spelled : IsSpelled rules (text_of frame)
 
 -- a byte of the piece was rejected, with this fault
@@ -58,8 +60,9 @@ OnFault (error.Fault fault) P = P fault
 OnFault error.NotACommand P = Unit {0}
 OnFault error.OutOfMemory P = Unit {0}
 
--- the value that is held ends after this many bytes of the piece, and all its bytes are held
+-- the value that is held ends after this many bytes of the piece, at least one, and all its bytes are held
 pub record EndsWithin (rules : Rules) (held : Held) (front piece : List ℕ) (used : ℕ) : Type 0 where
   pub bytes : held.bytes.items ≡ front ++ take used piece
   pub within : used ≤ length piece
+  pub some : 0 < used
   pub spelled : IsSpelled rules (front ++ take used piece)

@@ -1,5 +1,5 @@
 -- Commands of clients, and arrays of no words.
-use Rattle.std.specs.Prelude.{◌≡◌, ◌⊎◌, ℕ, ◌≤◌, List, ◌++◌, length, take, codes}
+use Rattle.std.specs.Prelude.{◌≡◌, ◌⊎◌, ℕ, ◌<◌, ◌≤◌, List, ◌++◌, length, take, codes}
 use Rattle.resp_value.specs.Bounds.{Bounds}
 use Rattle.resp_value.specs.Rules.{Rules}
 use Rattle.resp_scan.specs.Reading.{IsSpelled}
@@ -17,9 +17,10 @@ abbrev pub request_used : Request → ℕ
 request_used (Command found) = used_of found.frame
 request_used (Empty used) = used
 
--- these bytes and the first of the piece are an array of no words, or null
+-- these bytes and the first of the piece, at least one, are an array of no words, or null
 pub record EndsEmpty (front piece : List ℕ) (used : ℕ) : Type 0 where
   pub within : used ≤ length piece
+  pub some : 0 < used
   pub empty : IsEmptyArray (front ++ take used piece)
 
 -- these bytes and the first of the piece are this command, or an array of no words or null

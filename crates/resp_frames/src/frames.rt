@@ -14,6 +14,7 @@ use crate::frame::Frame;
 use resp_scan::event::{ScanError, Scanned};
 use resp_scan::nobody::Nobody;
 use resp_scan::scanner::Scanner;
+use resp_value::laws::no_spelling_is_empty;
 use resp_value::limits::Limits;
 use resp_value::version::Version;
 use std::alloc::{AllocError, Global};
@@ -156,6 +157,7 @@ impl Frames {
         ensures ready { IsReady self.old → IsReady self.new }
         ensures same_rules { frame_rules self.new ≡ frame_rules self.old }
     {
+        no_spelling_is_empty();
         let scanned = match scan::<LOOP>(&mut self.scanner, piece) {
             Ok(scanned) => scanned,
             Err(error) => {
@@ -186,6 +188,7 @@ impl Frames {
     fn keep(&mut self, begun: &mut Begun, piece: &[u8]) -> Result<(), AllocError>
         ensures held { (given : Events) → HasRead self.old.scanner.value piece.now given →
             rules_of self.old.scanner.value ≡ frame_rules self.old → begun.old.held ≡ None →
+            HasNoValue piece.now →
             OnOk result (HasBegun (frame_rules self.old) begun.new piece.now) }
         ensures nothing_begun { OnErr result (begun.new ≡ begun.old) }
         ensures ready { IsReady self.new }

@@ -1,13 +1,15 @@
 //! The words of a command.
 
-ghost use Rattle.std.specs.Prelude.{◌≡◌, ◌↔◌, [], IfNone, IfSome, IsTrue};
+ghost use Rattle.std.specs.Prelude.{◌≡◌, ◌↔◌, ◌∷◌, List, ℕ, [], IfNone, IfSome, IsTrue};
 ghost use Rattle.resp_frames.specs.Commands.{HasWords, IsCommand, IsFrameOfWords, TellsWords};
 ghost use Rattle.resp_frames.specs.Requests.{IsEmptyArray, request_used};
+ghost use Rattle.resp_scan.specs.Whole.{BeginsWith};
+ghost use Rattle.resp_value.specs.Words.{command_of};
 
 use crate::frame::Frame;
 use resp_commands::{Class, class_of};
 use resp_scan::whole;
-use resp_value::laws::no_spelling_begins_another;
+use resp_value::laws::{no_spelling_begins_another, no_spelling_is_empty};
 use resp_value::limits::Limits;
 
 /// The number of words of a command, and its class.
@@ -65,7 +67,10 @@ fn words_by(name: &[u8], arguments: whole::Words<'_>) -> CommandWords
 #[inline(always)]
 pub fn command_of_piece<'a>(piece: &'a [u8], limits: &Limits) -> Option<CommandFrame<'a>>
     ensures command { IfSome result (λ found. IsFrameOfWords limits.now [] piece.now found) }
+    ensures none { IfNone result ((name : List ℕ) (arguments : List (List ℕ)) (rest : List ℕ) →
+        BeginsWith limits.now piece.now (command_of (name ∷ arguments)) rest → ⊥) }
 {
+    no_spelling_is_empty();
     let command = whole::command(piece, limits)?;
     let used = piece.len() - command.rest.len();
     Some(CommandFrame {

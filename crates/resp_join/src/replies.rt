@@ -1,11 +1,12 @@
 //! Bytes that the server sent.
 
-ghost use Rattle.std.specs.Prelude.{◌≡◌, ◌≢◌, ◌++◌, ◌≤◌, ◌∷◌, Some, [], length, slice_get, take, IfNone, IfOk, IfSome, OnErr, OnOk};
+ghost use Rattle.std.specs.Prelude.{◌≡◌, ◌≢◌, ◌++◌, ◌<◌, ◌≤◌, ◌∷◌, Some, [], length, slice_get, take, IfErr, IfNone, IfOk, IfSome, OnErr, OnOk};
 ghost use Rattle.std.specs.Str.{byte};
 ghost use Rattle.resp_frames.specs.Framing.{HasBegun, IsReady, WhereBegun, frame_rules};
 ghost use Rattle.resp_frames.specs.Texts.{text_of, used_of};
 ghost use Rattle.resp_mux.specs.Multiplexing.{HasPassed, KeepsBytes, KeepsClients, KeepsOthers, KeepsPassed, WherePassed, waiting_clients};
 ghost use Rattle.resp_mux.specs.Passing.{with_reply};
+ghost use Rattle.resp_join.specs.Rejecting.{IsNoReply, RejectsReply};
 ghost use Rattle.resp_scan.specs.Reading.{HasNoValue, IsSpelled};
 
 use crate::error::ReplyError;
@@ -55,7 +56,13 @@ pub fn take_reply(
     ensures no_push { WhereBegun frames.old begun.old (λ front. IfOk result (λ found.
         IfSome found (λ replied.
         slice_get (front ++ take replied.used piece.now) 0 ≢ Some (byte ">")))) }
+    // The error has its cause in the bytes that came since the last reply.
+    ensures refused { WhereBegun frames.old begun.old (λ front. WherePassed mux.old (λ p.
+        IfErr result (RejectsReply (frame_rules frames.old) p (front ++ piece.now)))) }
     ensures unchanged { OnErr result (KeepsPassed mux.old mux.new × KeepsBytes mux.old mux.new) }
+    // A reply that was taken has at least one byte of the piece.
+    ensures progress { WhereBegun frames.old begun.old (λ front. IfOk result (λ found.
+        IfSome found (λ replied. 0 < replied.used))) }
     ensures within_piece { IfOk result (λ found. IfSome found (λ replied.
         replied.used ≤ length piece.now)) }
     ensures ready { IsReady frames.old → IsReady frames.new }
@@ -69,7 +76,11 @@ pub fn take_reply(
     let Some(frame) = found else {
         return Ok(None);
     };
-    Ok(Some(give(mux, &frame)?))
+    let replied = match give(mux, &frame) {
+        Ok(replied) => replied,
+        Err(error) => return Err(error),
+    };
+    Ok(Some(replied))
 }
 
 /// Gives a whole value to the client of the first command that waits.
@@ -81,6 +92,8 @@ fn give(mux: &mut Mux, frame: &Frame) -> Result<Replied, ReplyError>
         (waiting_clients mux.old ≡ replied.client ∷ waiting_clients mux.new) ×
         KeepsOthers (replied.client ∷ []) mux.old mux.new) }
     ensures no_push { OnOk result (slice_get (text_of frame.now) 0 ≢ Some (byte ">")) }
+    ensures refused { WherePassed mux.old (λ p.
+        IfErr result (λ error. IsNoReply p error (text_of frame.now))) }
     ensures unchanged { OnErr result (KeepsPassed mux.old mux.new × KeepsBytes mux.old mux.new) }
     ensures same_clients { KeepsClients mux.old mux.new }
 {

@@ -1,20 +1,23 @@
 -- How the bytes of a client are taken and held.
 use Rattle.std.proofs.Common.{◌≡◌, ◌∙◌, ℕ, true, false, List, [], ◌++◌, take, drop, Option, None, Some, Result, Ok, Err, ap, append_assoc, subst, sym}
 use Rattle.std.proofs.lemmas.Bool.{false≢true}
-use Rattle.std.specs.Prelude.{OnErr, OnOk}
+use Rattle.std.specs.Prelude.{IfErr, OnErr, OnOk}
 use Rattle.resp_frames.specs.Framing.{IsReady}
 use Rattle.resp_mux.specs.declared.client_id.ClientId.{ClientId}
 use Rattle.resp_mux.specs.Multiplexing.{HasPassed, KeepsPassed, Multiplexed, WherePassed}
 use Rattle.resp_mux.specs.Passing.{with_own}
-use Rattle.resp_proxy.specs.Clients.{Holds, is_leaving}
+use Rattle.resp_proxy.specs.Clients.{Holds, is_closing, is_leaving}
 use Rattle.resp_proxy.specs.Leaving.{LeavesRightly, NeedsOwn, PutsBack}
 use Rattle.resp_proxy.specs.declared.client.Client.{Client}
 use Rattle.resp_proxy.specs.declared.intake.Intake.{Intake}
 use Rattle.resp_proxy.specs.declared.unfinished.Unfinished.{Unfinished}
+use Rattle.resp_proxy.specs.Refusing.{Refuses}
 use Rattle.resp_proxy.specs.Terms.{Terms}
 use Rattle.resp_proxy.specs.Unfinished.{HasUnfinished, WhereUnfinished, terms_of}
 use Rattle.resp_proxy.specs.declared.error.ClientError.{ClientError}
-use Rattle.resp_proxy.specs.Taking.{IsLeft, SaysLast, Takes, TakesHeld, TakesSome}
+use Rattle.resp_proxy.specs.declared.error.ClientError.TheVariants as error
+use Rattle.resp_proxy.specs.Taking.{IsLeft, SaysLast, Takes, TakesHeld, TakesIn, TakesSome, with_taken}
+use Rattle.resp_proxy.proofs.Refusals.{memory-refused}
 use Rattle.resp_proxy.proofs.Takings.{rest-of, taken-and-rest, takes-nothing, whole-rest}
 
 -- whole commands were taken from the bytes that a client holds and those that came
@@ -22,8 +25,9 @@ pub held-taken : (i : Intake) (c c' : Client) (who : ClientId) (held piece : Lis
     (old new : Multiplexed) → IsReady i.frames → Holds (terms_of i) c held →
     WhereUnfinished i c.unfinished (λ front. TakesSome (terms_of i) who (front ++ take used (c.rest.items ++ piece)) b' aside end old new) →
     ((after : List ℕ) → OnOk end (IsLeft (terms_of i) b' after aside) → OnOk end' (Holds (terms_of i) c' (after ++ drop used (c.rest.items ++ piece)))) →
+    ((after : List ℕ) → IfErr end (Refuses (terms_of i) after) → IfErr end' (Refuses (terms_of i) (after ++ drop used (c.rest.items ++ piece)))) →
     TakesHeld (terms_of i) who (held ++ piece) c' end' old new
-held-taken i c c' who held piece used b' aside end end' old new ready h taken holds =
+held-taken i c c' who held piece used b' aside end end' old new ready h taken holds refused =
     let s = taken ready h.front h.begun in
     let all = c.rest.items ++ piece in
     let joined : h.front ++ all ≡ held ++ piece = sym (append_assoc h.front c.rest.items piece) ∙ ap (λ b. b ++ piece) (sym h.whole) in
@@ -32,11 +36,13 @@ held-taken i c c' who held piece used b' aside end end' old new ready h taken ho
       takes = subst (λ b. Takes (terms_of i) who b (s.after ++ drop used all) old new) joined
           (taken-and-rest (terms_of i) who h.front all s.after used old new s.takes);
       holds = holds s.after s.begun;
+      refused = refused s.after s.refused;
     }
 
 -- nothing was taken before an error
-pub nothing-taken : (terms : Terms) (who : ClientId) (bytes : List ℕ) (c : Client) (e : ClientError) (m : Multiplexed) → TakesHeld terms who bytes c (Err e) m m
-nothing-taken terms who bytes c e m = record { after = bytes; takes = takes-nothing terms who bytes m; holds = tt }
+pub nothing-taken : (terms : Terms) (who : ClientId) (bytes : List ℕ) (c : Client) (e : ClientError) (m : Multiplexed) → Refuses terms bytes e →
+    TakesHeld terms who bytes c (Err e) m m
+nothing-taken terms who bytes c e m refused = record { after = bytes; takes = takes-nothing terms who bytes m; holds = tt; refused = refused }
 
 -- the client holds the bytes after those that were taken, and the command that was put back before them
 pub holds-put : (aside : Option (List ℕ)) (terms : Terms) (c c' : Client) (b : Unfinished) (after rest : List ℕ) → c.unfinished ≡ b → c.rest.items ≡ rest →
@@ -71,17 +77,35 @@ pub said-last : (result : Result (Unit {0}) ClientError) (who : ClientId) (text 
 said-last (Ok x) who text old new said kept = record { answer = Some text; passed = said }
 said-last (Err e) who text old new said kept = record { answer = None; passed = kept }
 
+-- after an error the client is shut, and the error is said or not
+pub shut-taken : (terms : Terms) (who : ClientId) (bytes : List ℕ) (c c' : Client) (e : ClientError) (old mid new : Multiplexed) →
+    TakesHeld terms who bytes c (Err e) old mid → SaysLast who mid new → Holds terms c' [] → is_closing c' ≡ true → TakesIn terms who bytes c' (Err e) old new
+shut-taken terms who bytes c c' e old mid new t s none closing = record {
+  taken = t.takes.taken;
+  after = t.after;
+  last = s.answer;
+  whole = t.takes.whole;
+  commands = t.takes.commands;
+  passed = λ p passed. s.passed (with_taken who t.takes.taken p) (t.takes.passed p passed);
+  holds = tt;
+  refused = t.refused;
+  shut = (none, closing);
+}
+
 -- whole commands were taken from the bytes that came, and the client held none that wait for room
 pub held-piece : (i : Intake) (c c' : Client) (who : ClientId) (held piece : List ℕ) (used : ℕ) (b' : Unfinished) (aside : Option (List ℕ)) (end end' : Result (Unit {0}) ClientError)
     (old new : Multiplexed) → c.rest.items ≡ [] → IsReady i.frames → Holds (terms_of i) c held →
     WhereUnfinished i c.unfinished (λ front. TakesSome (terms_of i) who (front ++ take used piece) b' aside end old new) →
     ((after : List ℕ) → OnOk end (IsLeft (terms_of i) b' after aside) → OnOk end' (Holds (terms_of i) c' (after ++ drop used piece))) →
+    ((after : List ℕ) → IfErr end (Refuses (terms_of i) after) → IfErr end' (Refuses (terms_of i) (after ++ drop used piece))) →
     TakesHeld (terms_of i) who (held ++ piece) c' end' old new
-held-piece i c c' who held piece used b' aside end end' old new e ready h taken holds =
+held-piece i c c' who held piece used b' aside end end' old new e ready h taken holds refused =
     held-taken i c c' who held piece used b' aside end end' old new ready h
     (subst (λ rest. WhereUnfinished i c.unfinished (λ front. TakesSome (terms_of i) who (front ++ take used (rest ++ piece)) b' aside end old new)) (sym e) taken)
     (subst (λ rest. (after : List ℕ) → OnOk end (IsLeft (terms_of i) b' after aside) →
     OnOk end' (Holds (terms_of i) c' (after ++ drop used (rest ++ piece)))) (sym e) holds)
+    (subst (λ rest. (after : List ℕ) → IfErr end (Refuses (terms_of i) after) →
+    IfErr end' (Refuses (terms_of i) (after ++ drop used (rest ++ piece)))) (sym e) refused)
 
 -- the client holds the bytes that were not taken
 pub kept-piece : (end result : Result (Unit {0}) ClientError) (x : Unit {0}) (aside : Option (List ℕ)) (terms : Terms) (c mid c' : Client) (b' : Unfinished)
@@ -99,13 +123,16 @@ pub rest-taken : (i : Intake) (c mid last c' : Client) (held piece slice : List 
     WhereUnfinished i mid.unfinished (λ front. TakesSome (terms_of i) mid.id (front ++ take used slice) b' aside end old new) → last.unfinished ≡ b' →
     last.rest.items ≡ drop used slice →
     ((after : List ℕ) → OnOk end (IsLeft (terms_of i) b' after aside) → last.rest.items ≡ drop used (c.rest.items ++ piece) →
-    OnOk end' (Holds (terms_of i) c' (after ++ drop used (c.rest.items ++ piece)))) → TakesHeld (terms_of i) c.id (held ++ piece) c' end' old new
-rest-taken i c mid last c' held piece slice used b' aside end end' old new whole same_begun same_id ready h taken begun items holds =
+    OnOk end' (Holds (terms_of i) c' (after ++ drop used (c.rest.items ++ piece)))) →
+    ((after : List ℕ) → IfErr end (Refuses (terms_of i) after) → IfErr end' (Refuses (terms_of i) (after ++ drop used slice))) →
+    TakesHeld (terms_of i) c.id (held ++ piece) c' end' old new
+rest-taken i c mid last c' held piece slice used b' aside end end' old new whole same_begun same_id ready h taken begun items holds refused =
     held-taken i c c' c.id held piece used b' aside end end' old new ready h
     (subst (λ b. WhereUnfinished i b (λ front. TakesSome (terms_of i) c.id (front ++ take used (c.rest.items ++ piece)) b' aside end old new)) same_begun
     (subst (λ who. WhereUnfinished i mid.unfinished (λ front. TakesSome (terms_of i) who (front ++ take used (c.rest.items ++ piece)) b' aside end old new)) same_id
     (subst (λ s. WhereUnfinished i mid.unfinished (λ front. TakesSome (terms_of i) mid.id (front ++ take used s) b' aside end old new)) whole taken)))
     (λ after has. holds after has (items ∙ ap (drop used) whole))
+    (subst (λ s. (after : List ℕ) → IfErr end (Refuses (terms_of i) after) → IfErr end' (Refuses (terms_of i) (after ++ drop used s))) whole refused)
 
 -- a client that was not leaving is leaving after commands were taken only if the next one was put aside
 pub leaves-after : (result end : Result (Unit {0}) ClientError) (x : Unit {0}) (aside : Option (List ℕ)) (terms : Terms) (mid c' : Client) (b' : Unfinished)
@@ -117,8 +144,9 @@ leaves-after (Err e) end x aside terms mid c' b' who bytes old new is s same sta
 
 -- a client that is leaving holds more bytes
 pub more-held : (result : Result (Unit {0}) ClientError) (terms : Terms) (c c' : Client) (who : ClientId) (held piece : List ℕ) (m : Multiplexed) →
-    OnOk result (c'.rest.items ≡ c.rest.items ++ piece) → c'.unfinished ≡ c.unfinished → Holds terms c held → TakesHeld terms who (held ++ piece) c' result m m
-more-held (Ok x) terms c c' who held piece m kept same h = record {
+    OnOk result (c'.rest.items ≡ c.rest.items ++ piece) → IfErr result (λ e. e ≡ error.OutOfMemory) → c'.unfinished ≡ c.unfinished → Holds terms c held →
+    TakesHeld terms who (held ++ piece) c' result m m
+more-held (Ok x) terms c c' who held piece m kept memory same h = record {
   after = held ++ piece;
   takes = takes-nothing terms who (held ++ piece) m;
   holds = record {
@@ -126,8 +154,10 @@ more-held (Ok x) terms c c' who held piece m kept same h = record {
     begun = subst (λ u. HasUnfinished terms u h.front) (sym same) h.begun;
     whole = ap (λ z. z ++ piece) h.whole ∙ append_assoc h.front c.rest.items piece ∙ ap (λ z. h.front ++ z) (sym kept);
   };
+  refused = tt;
 }
-more-held (Err e) terms c c' who held piece m kept same h = nothing-taken terms who (held ++ piece) c' e m
+more-held (Err e) terms c c' who held piece m kept memory same h =
+    nothing-taken terms who (held ++ piece) c' e m (memory-refused terms (held ++ piece) e memory)
 
 -- a client that holds more bytes is leaving as before
 pub still-leaves : (result : Result (Unit {0}) ClientError) (terms : Terms) (c c' : Client) (piece : List ℕ) →

@@ -9,3 +9,4 @@ pub mod Gives
 pub mod Readings
 pub mod Others
 pub mod Leavings
+pub mod Refusals

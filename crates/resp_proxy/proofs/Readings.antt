@@ -50,6 +50,7 @@ nothing-came terms who left left' held c m come h = record {
     commands = tt;
     passed = λ p passed. passed;
     holds = (refl, h);
+    refused = tt;
     shut = tt;
   };
 }
@@ -69,6 +70,7 @@ ended terms who left left' came held c m come h closing = record {
     commands = tt;
     passed = λ p passed. passed;
     holds = tt;
+    refused = tt;
     shut = (h, closing);
   };
 }
@@ -79,7 +81,7 @@ pub no-reply-came : (rules : Rules) (left left' : Option (List ℕ)) (front : Li
 no-reply-came rules left left' front b m come h = record {
   came = [];
   come = come;
-  takes = λ p passed. record { replies = []; after = front; whole = append-nil front; spelled = tt; passed = passed; begun = h };
+  takes = λ p passed. record { replies = []; after = front; whole = append-nil front; spelled = tt; passed = passed; begun = h; refused = tt };
 }
 
 begun-none : (unbegun : List ℕ) (left : ℕ) → BeginsMore 0 unbegun left unbegun left
@@ -112,4 +114,4 @@ none-sent out m = record { gone = []; written = appends-none out; front = (m.uns
 pub replies-lost : (rules : Rules) (bytes : List ℕ) (b b' : Begun) (e : ServerError) (p : Passed) (m : Multiplexed) → TakesReplies rules bytes b (Err e) p m →
     TakesReplies rules bytes b' (Err e) p m
 replies-lost rules bytes b b' e p m t =
-    record { replies = t.replies; after = t.after; whole = t.whole; spelled = t.spelled; passed = t.passed; begun = tt }
+    record { replies = t.replies; after = t.after; whole = t.whole; spelled = t.spelled; passed = t.passed; begun = tt; refused = t.refused }

@@ -1,5 +1,5 @@
 -- How replies are taken, one after another.
-use Rattle.std.proofs.Common.{◌≡◌, ◌∙◌, ℕ, ◌+◌, ◌≤◌, List, [], ◌∷◌, ◌++◌, length, take, drop, Option, None, Some, IfNone, IfSome, OnOk, Result, Ok, Err, ap, append_assoc, arith, refl, subst, sym}
+use Rattle.std.proofs.Common.{◌≡◌, ◌∙◌, ℕ, ◌+◌, ◌<◌, ◌≤◌, List, [], ◌∷◌, ◌++◌, length, take, drop, Option, None, Some, IfNone, IfSome, IfErr, OnOk, Result, Ok, Err, ap, append_assoc, arith, refl, subst, sym}
 use Rattle.std.specs.List.{AllByRecursion, concat}
 use Rattle.std.proofs.Math.Seq.{take-add, take-length}
 use Rattle.std.proofs.lemmas.List.{append-nil, take-append-drop}
@@ -12,7 +12,7 @@ use Rattle.resp_mux.specs.declared.client_id.ClientId.{ClientId}
 use Rattle.resp_mux.specs.Multiplexing.{HasPassed, KeepsBytes, KeepsClients, KeepsOthers, KeepsPassed, Multiplexed, WherePassed, waiting_clients}
 use Rattle.resp_mux.specs.Passing.{Passed, with_reply}
 use Rattle.resp_proxy.specs.declared.error.ServerError.{ServerError}
-use Rattle.resp_proxy.specs.Replying.{HasReplied, TakesReplies, with_each_reply}
+use Rattle.resp_proxy.specs.Replying.{HasReplied, RefusesReply, TakesReplies, with_each_reply}
 use Rattle.resp_proxy.specs.Telling.{Notes, Tells}
 use Rattle.resp_proxy.proofs.Takings.{kept-clients, rest-of, whole-rest}
 use Rattle.resp_proxy.proofs.Tellings.{answers-one, tells-none, tells-one}
@@ -46,19 +46,21 @@ takes-reply rules bytes more b b' p mid new t one =
       spelled = all-last (IsSpelled rules) t.replies reply t.spelled one.0;
       passed = subst (HasPassed new) (sym (replies-last t.replies reply p)) one.2;
       begun = one.1;
+      refused = tt;
     }
 
 -- more bytes came, and no reply has ended
 takes-more : (rules : Rules) (bytes more : List ℕ) (b b' : Begun) (end : Result (Unit {0}) ServerError) (p : Passed) (mid new : Multiplexed)
     (t : TakesReplies rules bytes b (Ok tt) p mid) → HasPassed new (with_each_reply t.replies p) → OnOk end (HasBegun rules b' (t.after ++ more)) →
-    TakesReplies rules (bytes ++ more) b' end p new
-takes-more rules bytes more b b' end p mid new t kept begun = record {
+    IfErr end (RefusesReply rules (with_each_reply t.replies p) (t.after ++ more)) → TakesReplies rules (bytes ++ more) b' end p new
+takes-more rules bytes more b b' end p mid new t kept begun refused = record {
   replies = t.replies;
   after = t.after ++ more;
   whole = ap (λ z. z ++ more) t.whole ∙ append_assoc (concat t.replies) t.after more;
   spelled = t.spelled;
   passed = kept;
   begun = begun;
+  refused = refused;
 }
 
 one-reply : (rules : Rules) (front piece : List ℕ) (b : Begun) (found : Option Replied) (reply : Replied) (p : Passed) (new : Multiplexed) → found ≡ Some reply →
@@ -108,7 +110,8 @@ more-replied f f1 f2 b b1 b2 old mid new queued queued1 queued2 piece used found
 pub rest-replied : (f f1 : Frames) (b b1 b2 : Begun) (old mid new : Multiplexed) (queued queued1 : List ClientId) (piece : List ℕ) (used : ℕ)
     (end : Result (Unit {0}) ServerError) → HasReplied f b old queued piece used f1 b1 mid queued1 →
     (IsReady f → (after : List ℕ) (q : Passed) → HasBegun (frame_rules f) b1 after → HasPassed mid q →
-    HasPassed new q × OnOk end (HasBegun (frame_rules f) b2 (after ++ drop used piece))) →
+    HasPassed new q × OnOk end (HasBegun (frame_rules f) b2 (after ++ drop used piece)) ×
+    IfErr end (RefusesReply (frame_rules f) q (after ++ drop used piece))) →
     WhereBegun f b (λ front. WherePassed old (λ p. TakesReplies (frame_rules f) (front ++ piece) b2 end p new))
 rest-replied f f1 b b1 b2 old mid new queued queued1 piece used end h rest r front begun p passed =
     let t = h.taken r front begun p passed in
@@ -116,7 +119,7 @@ rest-replied f f1 b b1 b2 old mid new queued queued1 piece used end h rest r fro
     let joined : (front ++ take used piece) ++ drop used piece ≡ front ++ piece =
     append_assoc front (take used piece) (drop used piece) ∙ ap (λ z. front ++ z) (take-append-drop used piece) in
     subst (λ bytes. TakesReplies (frame_rules f) bytes b2 end p new) joined
-    (takes-more (frame_rules f) (front ++ take used piece) (drop used piece) b1 b2 end p mid new t left.0 left.1)
+    (takes-more (frame_rules f) (front ++ take used piece) (drop used piece) b1 b2 end p mid new t left.0 left.1 left.2)
 
 no-reply : (rules : Rules) (text : List ℕ) (b : Begun) (found : Option Replied) (q : Passed) (new : Multiplexed) → found ≡ None →
     IfNone found (HasNoValue text × HasBegun rules b text × HasPassed new q) → HasPassed new q × HasBegun rules b text
@@ -137,6 +140,7 @@ begun-replied f f1 b b1 b2 old mid new queued queued1 piece used found h e more 
       none.0,
       subst (λ rest. HasBegun (frame_rules f) b2 (after ++ rest)) (whole-rest used piece)
           (subst (λ rules. HasBegun rules b2 (after ++ rest-of used piece)) h.same_rules none.1),
+      tt,
     ))
 
 -- nobody more was replied to
@@ -145,23 +149,31 @@ pub nobody-told : (found : Option Replied) (f f1 : Frames) (b b1 : Begun) (old m
 nobody-told found f f1 b b1 old mid new queued queued1 piece used h e none =
     tells-none queued queued1 old mid new h.tells (subst (λ o. IfNone o (KeepsBytes mid new)) e none)
 
--- the connection is not usable
+-- the connection is not usable, since these bytes bring no reply
 pub end-replied : (f f1 : Frames) (b b1 b2 : Begun) (old mid new : Multiplexed) (queued queued1 : List ClientId) (piece : List ℕ) (used : ℕ) (e : ServerError) →
     HasReplied f b old queued piece used f1 b1 mid queued1 → KeepsPassed mid new →
+    WhereBegun f1 b1 (λ front. WherePassed mid (λ p. RefusesReply (frame_rules f1) p (front ++ rest-of used piece) e)) →
     WhereBegun f b (λ front. WherePassed old (λ p. TakesReplies (frame_rules f) (front ++ piece) b2 (Err e) p new))
-end-replied f f1 b b1 b2 old mid new queued queued1 piece used e h kept =
-    rest-replied f f1 b b1 b2 old mid new queued queued1 piece used (Err e) h (λ r after q begun passed. (kept q passed, tt))
+end-replied f f1 b b1 b2 old mid new queued queued1 piece used e h kept refused =
+    rest-replied f f1 b b1 b2 old mid new queued queued1 piece used (Err e) h
+    (λ r after q begun passed. (
+      kept q passed,
+      tt,
+      subst (λ rest. RefusesReply (frame_rules f) q (after ++ rest) e) (whole-rest used piece)
+          (subst (λ rules. RefusesReply rules q (after ++ rest-of used piece) e) h.same_rules
+          (refused (h.ready r) after (subst (λ rules. HasBegun rules b1 after) (sym h.same_rules) begun) q passed)),
+    ))
 
--- a reply ended where it began
-pub stuck-replied : (f f1 f2 : Frames) (b b1 b2 : Begun) (old mid new : Multiplexed) (queued queued1 queued2 : List ClientId) (piece : List ℕ) (used : ℕ)
-    (found : Option Replied) (reply : Replied) (e : ServerError) →
-    HasReplied f b old queued piece used f1 b1 mid queued1 → found ≡ Some reply → used + reply.used ≤ length piece → KeepsClients mid new →
-    (IsReady f1 → IsReady f2) → frame_rules f2 ≡ frame_rules f1 → IfSome found (λ r. IsFor r.client mid new) → Notes reply.client queued1 queued2 →
-    WhereBegun f1 b1 (λ front. WherePassed mid (λ p. IfSome found (λ r. OneReply (frame_rules f1) front (rest-of used piece) b2 r.used p new))) →
-    WhereBegun f b (λ front. WherePassed old (λ p. TakesReplies (frame_rules f) (front ++ piece) b2 (Err e) p new))
-stuck-replied f f1 f2 b b1 b2 old mid new queued queued1 queued2 piece used found reply e h is within clients ready same for notes taken =
-    end-replied f f2 b b2 b2 old new new queued queued2 piece (used + reply.used) e
-    (more-replied f f1 f2 b b1 b2 old mid new queued queued1 queued2 piece used found reply h is within clients ready same for notes taken) (λ p passed. passed)
+-- no reply ends where it began
+pub stuck-replied : (f f1 : Frames) (b b1 b2 : Begun) (old mid new : Multiplexed) (queued queued1 : List ClientId) (piece : List ℕ) (used : ℕ)
+    (found : Option Replied) (reply : Replied) → HasReplied f b old queued piece used f1 b1 mid queued1 → found ≡ Some reply → reply.used ≡ 0 →
+    WhereBegun f1 b1 (λ front. IfSome found (λ r. 0 < r.used)) →
+    WhereBegun f b (λ front. WherePassed old (λ p. TakesReplies (frame_rules f) (front ++ piece) b2 (Ok tt) p new))
+stuck-replied f f1 b b1 b2 old mid new queued queued1 piece used found reply h is none some r front begun p passed =
+    let t = h.taken r front begun p passed in
+    let byte : 0 < reply.used =
+    subst (λ o. IfSome o (λ r. 0 < r.used)) is (some (h.ready r) t.after (subst (λ rules. HasBegun rules b1 t.after) (sym h.same_rules) t.begun)) in
+    absurd (omega (arith, byte, none))
 
 -- all bytes were taken
 pub all-replied : (f f1 : Frames) (b b1 : Begun) (old new : Multiplexed) (queued queued1 : List ClientId) (piece : List ℕ) (used : ℕ) →

@@ -1,5 +1,5 @@
 -- How commands are taken, one after another.
-use Rattle.std.proofs.Common.{◌≡◌, ◌∙◌, ℕ, ◌+◌, ◌-◌, ◌≤◌, List, [], ◌∷◌, ◌++◌, length, take, drop, Option, None, Some, Ok, Err, ap, append_assoc, arith, length-drop, refl, subst, sym}
+use Rattle.std.proofs.Common.{◌≡◌, ◌∙◌, ℕ, ◌+◌, ◌-◌, ◌<◌, ◌≤◌, List, [], ◌∷◌, ◌++◌, length, take, drop, None, Some, Ok, Err, ap, append_assoc, arith, length-drop, refl, subst, sym}
 use Rattle.std.specs.List.{AllByRecursion, concat}
 use Rattle.std.proofs.Math.Seq.{take-add}
 use Rattle.std.proofs.lemmas.List.{append-nil, take-append-drop}
@@ -12,9 +12,11 @@ use Rattle.resp_mux.specs.Passing.{Passed}
 use Rattle.resp_proxy.specs.declared.error.ClientError.{ClientError}
 use Rattle.resp_proxy.specs.declared.intake.Intake.{Intake}
 use Rattle.resp_proxy.specs.declared.part.Part.{Part}
-use Rattle.resp_proxy.specs.declared.part.Part.TheVariants.{Aside, Partial, Whole}
+use Rattle.resp_proxy.specs.declared.part.Part.TheVariants.{Partial, Whole}
 use Rattle.resp_proxy.specs.declared.unfinished.Unfinished.{Unfinished}
 use Rattle.resp_proxy.specs.Leaving.{NeedsOwn}
+use Rattle.resp_proxy.specs.Reasons.{MovesOn}
+use Rattle.resp_proxy.specs.Refusing.{Refuses}
 use Rattle.resp_proxy.specs.Taking.{HasTaken, IsTaken, SetsAside, Taken, Takes, TakesOne, TakesPart, TakesSome, texts_taken, with_one, with_taken}
 use Rattle.resp_proxy.specs.Terms.{Terms}
 use Rattle.resp_proxy.specs.Unfinished.{HasUnfinished, WhereUnfinished, terms_of}
@@ -86,6 +88,7 @@ some-part terms terms' who front piece used count u u' old mid new same s next =
       takes = subst (λ b. Takes terms who b [] old new) (sym joined)
           (takes-part terms who (front ++ take used piece) s.after more old mid new s.takes c.1);
       begun = c.0;
+      refused = tt;
     }
 
 -- bytes after those that were taken
@@ -151,22 +154,17 @@ all-taken i i1 u u1 u2 old mid new who piece used part h e taken r front begun =
       takes = subst (λ b. Takes (terms_of i) who b (s.after ++ drop used piece) old new) joined
           (takes-bytes (terms_of i) who (front ++ take used piece) s.after (drop used piece) old mid new s.takes none.1);
       begun = subst (λ terms. HasUnfinished terms u2 (s.after ++ drop used piece)) h.same_terms none.0;
+      refused = tt;
     }
 
--- the loop has taken a part that ended where it began
-pub same-taken : (i i1 i2 : Intake) (u u1 u2 : Unfinished) (old mid new : Multiplexed) (who : ClientId) (piece : List ℕ) (used : ℕ) (part : Part)
-    (error : ClientError) →
-    HasTaken i u old who piece used i1 u1 mid → part ≡ Whole 0 → KeepsClients mid new → (IsReady i1.frames → IsReady i2.frames) →
-    terms_of i2 ≡ terms_of i1 → i2.admits_own ≡ i1.admits_own →
-    WhereUnfinished i1 u1 (λ front. TakesOne (terms_of i1) who front (rest-of used piece) u2 part mid new) →
-    WhereUnfinished i u (λ front. TakesSome (terms_of i) who (front ++ take used piece) u2 None (Err error) old new)
-same-taken i i1 i2 u u1 u2 old mid new who piece used part error h e clients ready same own taken r front begun =
-    let none : used + 0 ≡ used = omega arith in
-    let within : used + 0 ≤ length piece = subst (λ n. n ≤ length piece) (sym none) h.within in
-    let next = more-taken i i1 i2 u u1 u2 old mid new who piece used 0 part h e within clients ready same own taken in
-    let t = next.taken r front begun in
-    subst (λ n. TakesSome (terms_of i) who (front ++ take n piece) u2 None (Err error) old new) none
-    (record { after = t.after; takes = t.takes; begun = tt })
+-- no part ends where it began
+pub never-same : (i i1 : Intake) (u u1 u2 : Unfinished) (old mid new : Multiplexed) (who : ClientId) (piece : List ℕ) (used : ℕ) (part : Part) →
+    HasTaken i u old who piece used i1 u1 mid → part ≡ Whole 0 → WhereUnfinished i1 u1 (λ front. MovesOn part) →
+    WhereUnfinished i u (λ front. TakesSome (terms_of i) who (front ++ take (length piece) piece) u2 None (Ok tt) old new)
+never-same i i1 u u1 u2 old mid new who piece used part h e moves r front begun =
+    let s = h.taken r front begun in
+    let byte : 0 < 0 = subst MovesOn e (moves (h.ready r) s.after (subst (λ terms. HasUnfinished terms u1 s.after) (sym h.same_terms) s.begun)) in
+    absurd (omega (arith, byte))
 
 -- the next command was put aside
 pub aside-taken : (i i1 : Intake) (u u1 u2 : Unfinished) (old mid new : Multiplexed) (who : ClientId) (piece text : List ℕ) (used count : ℕ) (part : Part) →
@@ -192,21 +190,24 @@ aside-taken i i1 u u1 u2 old mid new who piece text used count part h is taken r
         one.1.same,
         subst (λ terms. NeedsOwn terms (s.after ++ more)) h.same_terms one.1.needs,
       );
+      refused = tt;
     }
 
--- the loop ends at an error
+-- the loop ends at an error, whose cause is in the bytes after those that were taken
 pub lost-taken : (i i1 : Intake) (u u1 u2 : Unfinished) (old mid new : Multiplexed) (who : ClientId) (piece : List ℕ) (used : ℕ) (error : ClientError) →
     HasTaken i u old who piece used i1 u1 mid → KeepsPassed mid new →
-    WhereUnfinished i u (λ front. TakesSome (terms_of i) who (front ++ take used piece) u2 None (Err error) old new)
-lost-taken i i1 u u1 u2 old mid new who piece used error h kept r front begun =
+    WhereUnfinished i1 u1 (λ front. Refuses (terms_of i1) (front ++ rest-of used piece) error) →
+    WhereUnfinished i u (λ front. TakesSome (terms_of i) who (front ++ take (length piece) piece) u2 None (Err error) old new)
+lost-taken i i1 u u1 u2 old mid new who piece used error h kept refused r front begun =
     let s = h.taken r front begun in
+    let joined : (front ++ take used piece) ++ drop used piece ≡ front ++ take (length piece) piece =
+    append_assoc front (take used piece) (drop used piece) ∙ ap (λ b. front ++ b) (take-append-drop used piece ∙ sym (take-length piece)) in
     record {
-      after = s.after;
-      takes = record {
-        taken = s.takes.taken;
-        whole = s.takes.whole;
-        commands = s.takes.commands;
-        passed = λ p passed. kept (with_taken who s.takes.taken p) (s.takes.passed p passed);
-      };
+      after = s.after ++ drop used piece;
+      takes = subst (λ b. Takes (terms_of i) who b (s.after ++ drop used piece) old new) joined
+          (takes-bytes (terms_of i) who (front ++ take used piece) s.after (drop used piece) old mid new s.takes kept);
       begun = tt;
+      refused = subst (λ rest. Refuses (terms_of i) (s.after ++ rest) error) (whole-rest used piece)
+          (subst (λ terms. Refuses terms (s.after ++ rest-of used piece) error) h.same_terms
+          (refused (h.ready r) s.after (subst (λ terms. HasUnfinished terms u1 s.after) (sym h.same_terms) s.begun)));
     }

@@ -4,9 +4,12 @@ pub mod Failing
 pub mod Proxies
 pub mod Replying
 pub mod Room
+pub mod Refusing
 pub mod Taking
 pub mod Telling
 pub mod Visiting
 pub mod Leaving
 pub mod Terms
 pub mod Unfinished
+-- The internal contracts of the parts, which no public contract names.
+pub mod Reasons

@@ -1,5 +1,5 @@
 -- The commands that are taken from the bytes of a client.
-use Rattle.std.specs.Prelude.{◌≡◌, ℕ, ◌≤◌, List, [], ◌∷◌, ◌++◌, length, map, take, Ok, Option, None, Some, MatchOption, OnOk, OnErr, Result, true}
+use Rattle.std.specs.Prelude.{◌≡◌, ℕ, ◌≤◌, List, [], ◌∷◌, ◌++◌, length, map, take, Ok, Option, None, Some, MatchOption, OnOk, OnErr, IfErr, Result, true}
 use Rattle.std.specs.List.{AllByRecursion, concat}
 use Rattle.resp_frames.specs.declared.begun.Begun.{Begun}
 use Rattle.resp_frames.specs.Framing.{HasBegun, IsReady}
@@ -8,6 +8,7 @@ use Rattle.resp_mux.specs.Multiplexing.{HasPassed, KeepsClients, KeepsPassed, Mu
 use Rattle.resp_mux.specs.Passing.{Passed, with_command, with_own}
 use Rattle.resp_proxy.specs.Clients.{Holds, is_closing}
 use Rattle.resp_proxy.specs.Leaving.{NeedsOwn}
+use Rattle.resp_proxy.specs.Refusing.{Refuses}
 use Rattle.resp_proxy.specs.declared.part.Part.{Part}
 use Rattle.resp_proxy.specs.declared.part.Part.TheVariants.{Aside, Partial, Whole}
 use Rattle.resp_proxy.specs.Terms.{BeginsLine, IsAdmitted, IsNoRequest, IsRequestOf, IsWithinLine, MayBeSent, Terms}
@@ -163,19 +164,23 @@ abbrev pub IsLeft : Terms → Unfinished → List ℕ → Option (List ℕ) → 
 IsLeft terms u after None = HasUnfinished terms u after
 IsLeft terms u after (Some text) = HasUnfinished terms u [] × (text ≡ after) × NeedsOwn terms after
 
--- whole commands were taken from the bytes, and the others are begun or put aside, or lost after an error
+-- Whole commands were taken from the bytes, and the others are begun or put aside. After an error the others are its cause, and
+-- they are lost.
 pub record TakesSome (terms : Terms) (who : ClientId) (bytes : List ℕ) (u : Unfinished) (aside : Option (List ℕ))
     (end : Result (Unit {0}) ClientError) (old new : Multiplexed) : Type 0 where
   pub after : List ℕ
   pub takes : Takes terms who bytes after old new
   pub begun : OnOk end (IsLeft terms u after aside)
+  pub refused : IfErr end (Refuses terms after)
 
--- whole commands were taken from the bytes, and the client holds the others, or they are lost after an error
+-- Whole commands were taken from the bytes, and the client holds the others. After an error the others are its cause, and they
+-- are lost.
 pub record TakesHeld (terms : Terms) (who : ClientId) (bytes : List ℕ) (c : Client) (end : Result (Unit {0}) ClientError)
     (old new : Multiplexed) : Type 0 where
   pub after : List ℕ
   pub takes : Takes terms who bytes after old new
   pub holds : OnOk end (Holds terms c after)
+  pub refused : IfErr end (Refuses terms after)
 
 -- the client has one more answer, or not
 abbrev pub with_last_answer : ClientId → Option (List ℕ) → Passed → Passed
@@ -188,7 +193,7 @@ pub record SaysLast (who : ClientId) (old new : Multiplexed) : Type 0 where
   pub passed : WherePassed old (λ p. HasPassed new (with_last_answer who answer p))
 
 -- Bytes of a client are these parts, whose commands were queued or answered, and other bytes. The client holds the other
--- bytes. After an error they are lost, the client is closing, and it may have one more answer.
+-- bytes. After an error they are its cause, and they are lost. The client is closing, and it may have one more answer.
 pub record TakesIn (terms : Terms) (who : ClientId) (bytes : List ℕ) (c : Client) (end : Result (Unit {0}) ClientError)
     (old new : Multiplexed) : Type 0 where
   pub taken : List Taken
@@ -198,6 +203,7 @@ pub record TakesIn (terms : Terms) (who : ClientId) (bytes : List ℕ) (c : Clie
   pub commands : AllByRecursion (IsTaken terms) taken
   pub passed : WherePassed old (λ p. HasPassed new (with_last_answer who last (with_taken who taken p)))
   pub holds : OnOk end ((last ≡ None) × Holds terms c after)
+  pub refused : IfErr end (Refuses terms after)
   pub shut : OnErr end (Holds terms c [] × (is_closing c ≡ true))
 
 -- these bytes of a piece were taken

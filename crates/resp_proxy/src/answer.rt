@@ -1,7 +1,10 @@
 //! The replies of the proxy itself.
 
-ghost use Rattle.std.specs.Prelude.{IsTrue};
+ghost use Rattle.std.specs.Prelude.{IfOk, IsTrue};
+ghost use Rattle.resp_frames.specs.Texts.{text_of};
 ghost use Rattle.resp_proxy.specs.Leaving.{IsForOwn};
+ghost use Rattle.resp_proxy.specs.Reasons.{FitsAnswer};
+ghost use Rattle.resp_proxy.specs.Refusing.{SameLetters};
 
 use crate::error::ClientError;
 use resp_commands::{Class, entry};
@@ -68,9 +71,11 @@ pub(crate) fn own_answer(
     who: ClientId,
     label: &mut Vec<u8>,
     command: &CommandFrame,
-) -> Result<Answer, AllocError> {
+) -> Result<Answer, AllocError>
+    ensures { IfOk result (FitsAnswer limits.now (text_of command.now.frame)) }
+{
     let Some(words) = whole::command(command.frame.text(), limits) else {
-        return reply(b"-ERR no command\r\n".to_vec(alloc));
+        return Ok(Answer::Reply(b"-ERR no command\r\n".to_vec(alloc)?));
     };
     let mut arguments = words.arguments;
     let asked = Asked {
@@ -85,18 +90,14 @@ pub(crate) fn own_answer(
     if is(asked.name, b"POST") || is(asked.name, b"HOST:") {
         return Ok(Answer::Http);
     }
-    reply(answer_to(alloc, who, label, asked, command.words.class))
-}
-
-fn reply(text: Result<Vec<u8>, AllocError>) -> Result<Answer, AllocError> {
-    match text {
-        Ok(text) => Ok(Answer::Reply(text)),
-        Err(error) => Err(error),
-    }
+    let text = answer_to(alloc, who, label, asked, command.words.class)?;
+    Ok(Answer::Reply(text))
 }
 
 /// Returns whether a word is this one, in upper or lower case.
-fn is(word: &[u8], wanted: &[u8]) -> bool {
+fn is(word: &[u8], wanted: &[u8]) -> bool
+    ensures { IsTrue result → SameLetters word.now wanted.now }
+{
     word.eq_ignore_ascii_case(wanted)
 }
 

@@ -1,11 +1,14 @@
 //! Carries out the commands of a client.
 
-ghost use Rattle.std.specs.Prelude.{◌≡◌, ℕ, List, Some, IsTrue, OnErr, OnOk};
+ghost use Rattle.std.specs.Prelude.{◌≡◌, ℕ, List, None, Some, IfErr, IsTrue, OnErr, OnOk};
 ghost use Rattle.resp_frames.specs.Commands.{IsFrameOfWords};
 ghost use Rattle.resp_frames.specs.Texts.{text_of};
-ghost use Rattle.resp_mux.specs.Multiplexing.{HasPassed, KeepsClients, KeepsPassed, WherePassed};
+ghost use Rattle.resp_mux.specs.Multiplexing.{HasPassed, KeepsClients, KeepsPassed, WherePassed, waiting_for};
 ghost use Rattle.resp_mux.specs.Passing.{with_command, with_own};
 ghost use Rattle.resp_proxy.specs.Unfinished.{terms_of};
+ghost use Rattle.resp_value.specs.Bounds.{Bounds};
+ghost use Rattle.resp_proxy.specs.Reasons.{RefusesArray};
+ghost use Rattle.resp_proxy.specs.Refusing.{IsOfBytes};
 ghost use Rattle.resp_proxy.specs.Taking.{Carries};
 
 use crate::answer::{Answer, own_answer};
@@ -34,6 +37,9 @@ pub(crate) fn carry_out(
     ensures carried { (front piece : List ℕ) →
         IsFrameOfWords (terms_of intake.now).rules.limits front piece command.now →
         OnOk result (Carries (terms_of intake.now) who (text_of command.now.frame) mux.old mux.new) }
+    ensures refused { IfErr result
+        (RefusesArray (terms_of intake.now).rules.limits (text_of command.now.frame)) }
+    ensures open { (waiting_for mux.old who ≡ None → ⊥) → IfErr result IsOfBytes }
     ensures unchanged { OnErr result (KeepsPassed mux.old mux.new) }
     ensures same_clients { KeepsClients mux.old mux.new }
 {
@@ -48,7 +54,7 @@ pub(crate) fn carry_out(
     if command.words.class.is_none() && intake.admits(command) {
         return forward(mux, who, command.frame.text());
     }
-    match own_answer(alloc, &settings.limits, who, label, command) {
+    match own_answer(alloc, &intake.frames.limits(), who, label, command) {
         Ok(Answer::Reply(answer)) => own(mux, who, &answer),
         Ok(Answer::Quit) => Err(ClientError::Quit),
         Ok(Answer::Http) => Err(ClientError::Http),
@@ -68,6 +74,9 @@ fn is_shared(command: &CommandFrame) -> bool
 fn forward(mux: &mut Mux, who: ClientId, text: &[u8]) -> Result<(), ClientError>
     ensures passed { OnOk result (WherePassed mux.old (λ p.
         HasPassed mux.new (with_command who text.now p))) }
+    ensures refused { (limits : Bounds) (command : List ℕ) →
+        IfErr result (RefusesArray limits command) }
+    ensures open { (waiting_for mux.old who ≡ None → ⊥) → IfErr result IsOfBytes }
     ensures unchanged { OnErr result (KeepsPassed mux.old mux.new) }
     ensures same_clients { KeepsClients mux.old mux.new }
 {
@@ -82,6 +91,9 @@ fn forward(mux: &mut Mux, who: ClientId, text: &[u8]) -> Result<(), ClientError>
 pub(crate) fn own(mux: &mut Mux, who: ClientId, text: &[u8]) -> Result<(), ClientError>
     ensures passed { OnOk result (WherePassed mux.old (λ p.
         HasPassed mux.new (with_own who text.now p))) }
+    ensures refused { (limits : Bounds) (command : List ℕ) →
+        IfErr result (RefusesArray limits command) }
+    ensures open { (waiting_for mux.old who ≡ None → ⊥) → IfErr result IsOfBytes }
     ensures unchanged { OnErr result (KeepsPassed mux.old mux.new) }
     ensures same_clients { KeepsClients mux.old mux.new }
 {

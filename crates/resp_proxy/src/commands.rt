@@ -1,10 +1,12 @@
 //! Takes commands from the bytes of a client.
 
-ghost use Rattle.std.specs.Prelude.{◌≡◌, ◌++◌, ◌≤◌, None, length, option_map, take, true, IfOk, IsSome, OnErr, OnOk};
+ghost use Rattle.std.specs.Prelude.{◌≡◌, ◌++◌, ◌≤◌, None, [], drop, length, option_map, take, true, IfErr, IfOk, IsSome, OnErr, OnOk};
 ghost use Rattle.resp_frames.specs.Framing.{IsReady, WhereBegun, frame_rules};
-ghost use Rattle.resp_mux.specs.Multiplexing.{KeepsClients, KeepsPassed};
+ghost use Rattle.resp_mux.specs.Multiplexing.{KeepsClients, KeepsPassed, waiting_for};
 ghost use Rattle.resp_proxy.specs.Room.{HasRoom};
 ghost use Rattle.resp_proxy.specs.Leaving.{IsAside, part_used};
+ghost use Rattle.resp_proxy.specs.Reasons.{MovesOn};
+ghost use Rattle.resp_proxy.specs.Refusing.{IsOfBytes, Refuses};
 ghost use Rattle.resp_proxy.specs.Taking.{TakesArray, TakesOne, TakesSome};
 ghost use Rattle.resp_proxy.specs.Unfinished.{WhereUnfinished, terms_of};
 
@@ -33,7 +35,8 @@ pub(crate) struct Taken {
 ///
 /// # Errors
 ///
-/// `end` is an error if the client is to be closed. The command that caused it is not carried out.
+/// `end` is an error if the client is to be closed. The command that caused it is not carried out. The
+/// whole piece counts as taken.
 pub(crate) fn take_commands(
     alloc: Global,
     settings: &Settings,
@@ -48,6 +51,8 @@ pub(crate) fn take_commands(
         TakesSome (terms_of intake.old) who (front ++ take result.used piece.now) unfinished.new
         (option_map (λ text. text.items) result.aside) result.end mux.old mux.new) }
     ensures within { result.used ≤ length piece.now }
+    ensures open { IfErr result.end IsOfBytes }
+    ensures whole { OnErr result.end (drop result.used piece.now ≡ []) }
     // If there is room for more, all bytes were taken.
     ensures all { OnOk result.end (result.aside ≡ None → HasRoom settings.now mux.new who →
         result.used ≡ length piece.now) }
@@ -69,7 +74,8 @@ pub(crate) fn take_commands(
             who,
             &piece[used..],
         ) {
-            Ok(Part::Whole(0)) => return ended(used, Err(ClientError::NoProgress)),
+            // This never happens, since a part has a byte. It shows that the loop ends.
+            Ok(Part::Whole(0)) => return ended(piece.len(), Ok(())),
             Ok(Part::Whole(count)) => used += count,
             Ok(Part::Partial) => return ended(piece.len(), Ok(())),
             Ok(Part::Aside(count, text)) => {
@@ -79,7 +85,7 @@ pub(crate) fn take_commands(
                     end: Ok(()),
                 };
             }
-            Err(error) => return ended(used, Err(error)),
+            Err(error) => return ended(piece.len(), Err(error)),
         }
     }
     ended(used, Ok(()))
@@ -110,6 +116,10 @@ fn take_one(
 ) -> Result<Part, ClientError>
     ensures taken { WhereUnfinished intake.old unfinished.old (λ front. IfOk result (λ part.
         TakesOne (terms_of intake.old) who front piece.now unfinished.new part mux.old mux.new)) }
+    ensures refused { WhereUnfinished intake.old unfinished.old (λ front.
+        IfErr result (Refuses (terms_of intake.old) (front ++ piece.now))) }
+    ensures open { (waiting_for mux.old who ≡ None → ⊥) → IfErr result IsOfBytes }
+    ensures progress { WhereUnfinished intake.old unfinished.old (λ front. IfOk result MovesOn) }
     ensures unchanged { OnErr result (KeepsPassed mux.old mux.new) }
     ensures within { IfOk result (λ part. part_used part ≤ length piece.now) }
     ensures admitted { IfOk result (λ part. IsAside part → intake.old.admits_own ≡ true) }
@@ -160,6 +170,10 @@ fn take_array(
 ) -> Result<Part, ClientError>
     ensures taken { WhereBegun intake.old.frames begun.old (λ front. IfOk result (λ part.
         TakesArray (terms_of intake.old) who front piece.now begun.new part mux.old mux.new)) }
+    ensures refused { WhereBegun intake.old.frames begun.old (λ front.
+        IfErr result (Refuses (terms_of intake.old) (front ++ piece.now))) }
+    ensures open { (waiting_for mux.old who ≡ None → ⊥) → IfErr result IsOfBytes }
+    ensures progress { WhereBegun intake.old.frames begun.old (λ front. IfOk result MovesOn) }
     ensures unchanged { OnErr result (KeepsPassed mux.old mux.new) }
     ensures within { IfOk result (λ part. part_used part ≤ length piece.now) }
     ensures admitted { IfOk result (λ part. IsAside part → intake.old.admits_own ≡ true) }

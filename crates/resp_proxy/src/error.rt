@@ -4,7 +4,8 @@ use resp_frames::FrameError;
 use resp_join::ReplyError;
 use thiserror::Error;
 
-/// Why a client is closed. The client is closing after it: nothing more is taken from it.
+/// Why a client is closed. The client is closing after it: nothing more is taken from it. The bytes after
+/// the commands that were taken justify each error except the last three.
 #[derive(Clone, Copy, Debug, PartialEq, Eq, Error)]
 pub enum ClientError {
     /// A byte was rejected, or a value is no command.
@@ -28,10 +29,7 @@ pub enum ClientError {
     /// The client is closing.
     #[error("the client is closing")]
     Closing,
-    /// A command ended before its first byte. This cannot happen, and no clause says so.
-    #[error("a command has no byte")]
-    NoProgress,
-    /// The proxy does not have this client.
+    /// The proxy does not have this client: another proxy opened it.
     #[error("no client with this id is open")]
     NoClient,
     /// An allocation failed.
@@ -47,7 +45,4 @@ pub enum ServerError {
     /// out.
     #[error(transparent)]
     Reply(ReplyError),
-    /// A reply ended before its first byte. This cannot happen, and no clause says so.
-    #[error("a reply has no byte")]
-    NoProgress,
 }

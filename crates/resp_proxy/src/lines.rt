@@ -1,7 +1,9 @@
 //! Commands that a client sends as lines.
 
-ghost use Rattle.std.specs.Prelude.{◌≡◌, ◌++◌, ◌≤◌, ℕ, List, length, IfOk, IfSome, OnErr, OnOk};
-ghost use Rattle.resp_mux.specs.Multiplexing.{KeepsClients, KeepsPassed};
+ghost use Rattle.std.specs.Prelude.{◌≡◌, ◌⊎◌, ◌++◌, ◌<◌, ◌≤◌, ℕ, List, None, [], length, IfErr, IfOk, IfSome, OnErr, OnOk};
+ghost use Rattle.resp_mux.specs.Multiplexing.{KeepsClients, KeepsPassed, waiting_for};
+ghost use Rattle.resp_proxy.specs.Reasons.{RefusesLine, RefusesWords};
+ghost use Rattle.resp_proxy.specs.Refusing.{IsOfBytes, Refuses};
 ghost use Rattle.resp_proxy.specs.Taking.{CarriesWords, EndsLine, GoesOn, TakesLine, TakesPart};
 ghost use Rattle.resp_proxy.specs.Unfinished.{terms_of};
 ghost use Rattle.resp_value.specs.Words.{texts_of};
@@ -37,7 +39,11 @@ pub(crate) fn take_line(
     ensures taken { GoesOn (terms_of intake.now) line.old.items piece.now → IfOk result (λ found.
         TakesLine (terms_of intake.now) who line.old.items piece.now line.new.items found
         mux.old mux.new) }
+    ensures refused { GoesOn (terms_of intake.now) line.old.items piece.now →
+        IfErr result (Refuses (terms_of intake.now) (line.old.items ++ piece.now)) }
+    ensures open { (waiting_for mux.old who ≡ None → ⊥) → IfErr result IsOfBytes }
     ensures unchanged { OnErr result (KeepsPassed mux.old mux.new) }
+    ensures progress { IfOk result (λ found. IfSome found (λ used. 0 < used)) }
     ensures within { IfOk result (λ found. IfSome found (λ used. used ≤ length piece.now)) }
     ensures same_clients { KeepsClients mux.old mux.new }
 {
@@ -61,6 +67,8 @@ pub(crate) fn take_line(
 fn hold(line: &mut Vec<u8>, bytes: &[u8]) -> Result<(), ClientError>
     ensures held { OnOk result (line.new.items ≡ line.old.items ++ bytes.now) }
     ensures short { OnOk result (length line.new.items ≤ 65536) }
+    ensures refused { IfErr result (λ error. (error ≡ ClientError.OutOfMemory) ⊎
+        ((error ≡ ClientError.LongLine) × (65536 < length (line.old.items ++ bytes.now)))) }
 {
     if line.len().saturating_add(bytes.len()) > LONGEST {
         return Err(ClientError::LongLine);
@@ -83,6 +91,8 @@ fn carry_out_line(
 ) -> Result<(), ClientError>
     ensures carried { OnOk result ((text : List ℕ) → EndsLine (terms_of intake.now) line.now text →
         TakesPart (terms_of intake.now) who text mux.old mux.new) }
+    ensures refused { IfErr result (RefusesLine (terms_of intake.now).rules.limits line.now) }
+    ensures open { (waiting_for mux.old who ≡ None → ⊥) → IfErr result IsOfBytes }
     ensures unchanged { OnErr result (KeepsPassed mux.old mux.new) }
     ensures same_clients { KeepsClients mux.old mux.new }
 {
@@ -109,6 +119,9 @@ fn carry_out_words(
 ) -> Result<(), ClientError>
     ensures carried { OnOk result (CarriesWords (terms_of intake.now) who (texts_of words.now)
         mux.old mux.new) }
+    ensures refused { (texts_of words.now ≡ [] → ⊥) → IfErr result
+        (RefusesWords (terms_of intake.now).rules.limits (texts_of words.now)) }
+    ensures open { (waiting_for mux.old who ≡ None → ⊥) → IfErr result IsOfBytes }
     ensures unchanged { OnErr result (KeepsPassed mux.old mux.new) }
     ensures same_clients { KeepsClients mux.old mux.new }
 {

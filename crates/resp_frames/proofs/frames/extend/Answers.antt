@@ -1,6 +1,6 @@
 use Rattle.std.proofs.Common.{◌≡◌, ◌∙◌, ◌++◌, ap, arith, take}
 use Rattle.std.proofs.lemmas.Grind.{common_steps}
-use Rattle.resp_frames.proofs.Ends.{rejected, spelled, take_whole}
+use Rattle.resp_frames.proofs.Ends.{rejected, some_more, spelled, take_whole}
 use Rattle.resp_frames.proofs.frames.extend.Goals as goal
 
 pub returns-in-Err-clause-refused : goal.returns-in-Err-clause-refused
@@ -13,10 +13,12 @@ returns-clause-whole c rules front h whole =
     let heard = c.in-Ok.ensures.value_whole front h.given h.read whole in
     let text = take c.in-Ok.scanned.used c.args.piece.now in
     let added : c.extend_from_slice.new.self.items ≡ c.args.held.now.bytes.items ++ text = grind (arith, common_steps) in
+    let is = spelled _ _ _ _ (front ++ text) h.same_rules heard in
     record {
       bytes = added ∙ ap (λ bytes. bytes ++ text) h.bytes;
       within = c.in-Ok.ensures.within_piece;
-      spelled = spelled _ _ _ _ (front ++ text) h.same_rules heard;
+      some = some_more rules front c.args.piece.now c.in-Ok.scanned.used h.no_value is;
+      spelled = is;
     }
 
 pub returns-clause-more : goal.returns-clause-more
@@ -31,5 +33,6 @@ returns-clause-more c rules front h more =
         given = heard.heard;
         read = heard.reads;
         same_rules = c.in-Ok.ensures.same_rules ∙ h.same_rules;
+        no_value = heard.no_value;
       },
     )

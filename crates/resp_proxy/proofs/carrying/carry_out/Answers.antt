@@ -1,4 +1,5 @@
 use Rattle.std.proofs.Common.{OnOk, refl, subst}
+use Rattle.resp_frames.specs.Texts.{text_of}
 use Rattle.resp_mux.specs.Multiplexing.{HasPassed, WherePassed}
 use Rattle.resp_mux.specs.Passing.{with_command}
 use Rattle.resp_proxy.proofs.Carryings.{carried-admitted, carried-own, carried-shared}
@@ -30,3 +31,15 @@ returns-in-Ok-Reply-clause-carried c front piece f =
     let own = c.own-in-Ok-Reply in
     carried-own own.result (terms_of c.args.intake.now) c.args.who c.deref-in-Ok-Reply.result.now front piece c.args.command.now c.args.mux.now own.new.mux f
     own.ensures.passed
+
+pub returns-in-Ok-Some-clause-refused : goal.returns-in-Ok-Some-clause-refused
+returns-in-Ok-Some-clause-refused c = c.own.ensures.refused c.args.intake.now.frames.limits (text_of c.args.command.now.frame)
+
+pub returns-in-Ok-None-clause-refused : goal.returns-in-Ok-None-clause-refused
+returns-in-Ok-None-clause-refused c = c.forward.ensures.refused c.args.intake.now.frames.limits (text_of c.args.command.now.frame)
+
+pub returns-then-admits-clause-refused : goal.returns-then-admits-clause-refused
+returns-then-admits-clause-refused c = c.forward-then-admits.ensures.refused c.args.intake.now.frames.limits (text_of c.args.command.now.frame)
+
+pub returns-in-Ok-Reply-clause-refused : goal.returns-in-Ok-Reply-clause-refused
+returns-in-Ok-Reply-clause-refused c = c.own-in-Ok-Reply.ensures.refused c.args.intake.now.frames.limits (text_of c.args.command.now.frame)

@@ -1,4 +1,4 @@
-use Rattle.std.proofs.Common.{◌≡◌, ◌++◌, List, ℕ, [], Some, arith, subst, sym, take}
+use Rattle.std.proofs.Common.{◌≡◌, ◌++◌, List, ℕ, [], Some, Err, ap, arith, subst, sym, take}
 use Rattle.std.specs.Prelude.{IfSome}
 use Rattle.resp_frames.specs.Commands.{IsFrameOfWords}
 use Rattle.resp_frames.specs.declared.words.Request.TheVariants.{Command}
@@ -8,6 +8,8 @@ use Rattle.resp_frames.specs.Texts.{text_of}
 use Rattle.resp_proxy.specs.Taking.{Carries, TakesPart}
 use Rattle.resp_proxy.specs.Unfinished.{terms_of}
 use Rattle.resp_proxy.proofs.Carryings.{array-part}
+use Rattle.resp_proxy.proofs.Refusals.{array-refused, frame-refused}
+use Rattle.resp_proxy.specs.Reasons.{RefusesArray}
 use Rattle.resp_proxy.proofs.commands.take_array.Goals as goal
 use Rattle.resp_value.specs.Words.{texts_of}
 
@@ -30,3 +32,20 @@ returns-in-Ok-carry_out-clause-taken c ready front h =
       subst (λ n. TakesPart (terms_of i) who (front ++ take n piece) old new) (sym c.used-used.ensures)
           (array-part (terms_of i) who front piece command old new whole.0 (carries front piece whole.0)),
     )
+
+pub returns-in-Err-clause-refused : goal.returns-in-Err-clause-refused
+returns-in-Err-clause-refused c ready front h =
+    frame-refused (terms_of c.args.intake.now) front c.args.piece.now c.in-Err.error (c.in-Err.ensures.refused ready front h)
+    (λ is. c.in-Err.ensures.no_request ready front h (ap Err is))
+
+pub returns-clause-refused : goal.returns-clause-refused
+returns-clause-refused c ready front h =
+    let i = c.args.intake.now in
+    let piece = c.args.piece.now in
+    let command = c.in-Some-Command.command in
+    let error = c.in-Err-carry_out.error in
+    let is : c.in-Ok.found ≡ Some (Command command) = grind arith in
+    let whole = subst (λ o. IfSome o (λ request. IsRequest (frame_limits i.frames) front piece request × HasBegun (frame_rules i.frames) c.next_request.new.begun []))
+    is (c.in-Ok.ensures.whole ready front h) in
+    array-refused (terms_of i) front piece command error whole.0
+    (subst (λ rules. RefusesArray rules.limits (text_of command.frame) error) c.in-Ok.ensures.same_rules c.in-Err-carry_out.ensures.refused)

@@ -1,10 +1,9 @@
 use Rattle.resp_proxy.specs.Leaving.{IsAside}
 use Rattle.std.proofs.Common.{◌≡◌, ◌∙◌, true, arith, subst, sym, ◌++◌, take, option_map}
 use Rattle.resp_proxy.specs.declared.commands.Taken.{Taken}
-use Rattle.resp_proxy.specs.declared.error.ClientError.TheVariants as error
 use Rattle.resp_proxy.specs.Taking.{TakesSome}
 use Rattle.resp_proxy.specs.Unfinished.{WhereUnfinished, terms_of}
-use Rattle.resp_proxy.proofs.Takings.{all-taken, aside-taken, lost-taken, more-taken, one-aside, same-taken}
+use Rattle.resp_proxy.proofs.Takings.{all-taken, aside-taken, lost-taken, more-taken, never-same, one-aside}
 use Rattle.resp_proxy.proofs.commands.take_commands.Goals as goal
 
 pub returns-in-Ok-Whole-eq0-clause-taken : goal.returns-in-Ok-Whole-eq0-clause-taken
@@ -13,9 +12,8 @@ returns-in-Ok-Whole-eq0-clause-taken c =
     subst (λ (r : Taken). WhereUnfinished c.args.intake.now c.args.unfinished.now (λ front. TakesSome (terms_of c.args.intake.now) c.args.who
     (front ++ take r.used c.args.piece.now) c.take_one.new.unfinished (option_map (λ text. text.items) r.aside) r.end c.args.mux.now c.take_one.new.mux))
     (sym c.ended.ensures)
-    (same-taken c.args.intake.now l.intake c.take_one.new.intake c.args.unfinished.now l.unfinished c.take_one.new.unfinished c.args.mux.now l.mux
-    c.take_one.new.mux c.args.who c.args.piece.now l.used c.in-Ok-Whole-eq0.field-0 error.NoProgress l.invariant (grind arith)
-    c.take_one.ensures.same_clients c.take_one.ensures.ready c.take_one.ensures.same_terms c.take_one.ensures.same_own c.in-Ok-Whole-eq0.ensures.taken)
+    (never-same c.args.intake.now l.intake c.args.unfinished.now l.unfinished c.take_one.new.unfinished c.args.mux.now l.mux c.take_one.new.mux c.args.who
+    c.args.piece.now l.used c.in-Ok-Whole-eq0.field-0 l.invariant (grind arith) c.in-Ok-Whole-eq0.ensures.progress)
 
 pub loop-used-preserved : goal.loop-used-preserved
 loop-used-preserved c =
@@ -48,7 +46,7 @@ returns-in-Err-clause-taken c =
     (front ++ take r.used c.args.piece.now) c.take_one.new.unfinished (option_map (λ text. text.items) r.aside) r.end c.args.mux.now c.take_one.new.mux))
     (sym c.ended-in-Err.ensures)
     (lost-taken c.args.intake.now l.intake c.args.unfinished.now l.unfinished c.take_one.new.unfinished c.args.mux.now l.mux c.take_one.new.mux c.args.who
-    c.args.piece.now l.used c.in-Err.error l.invariant c.in-Err.ensures.unchanged)
+    c.args.piece.now l.used c.in-Err.error l.invariant c.in-Err.ensures.unchanged c.in-Err.ensures.refused)
 
 pub returns-in-Ok-Aside-clause-admitted : goal.returns-in-Ok-Aside-clause-admitted
 returns-in-Ok-Aside-clause-admitted c some =

@@ -1,6 +1,7 @@
 use Rattle.std.proofs.Common.{◌++◌, Err, take, ◌∙◌}
 use Rattle.resp_proxy.specs.Unfinished.{terms_of}
 use Rattle.resp_proxy.proofs.Holdings.{held-piece, kept-piece, leaves-after}
+use Rattle.resp_proxy.proofs.Refusals.{ended-refused, memory-refused, memory-refused-in}
 use Rattle.resp_proxy.proofs.taking.take_piece.Goals as goal
 
 pub returns-in-Err-clause-taken : goal.returns-in-Err-clause-taken
@@ -16,6 +17,8 @@ returns-in-Err-clause-taken c ready held h =
       label = taken.new.label;
     }) client.id held c.args.piece.now taken.result.used taken.new.unfinished _ taken.result.end (Err c.in-Err.error) c.args.mux.now taken.new.mux c.requires ready h
     taken.ensures.taken (λ after begun. tt)
+    (λ after refused. ended-refused taken.result.end (terms_of c.args.intake.now) c.in-Err.error after c.args.piece.now taken.result.used c.in-Err.is
+    taken.ensures.whole refused)
 
 pub returns-in-Err-keep-clause-taken : goal.returns-in-Err-keep-clause-taken
 returns-in-Err-keep-clause-taken c ready held h =
@@ -23,6 +26,7 @@ returns-in-Err-keep-clause-taken c ready held h =
     let taken = c.take_commands-taken in
     held-piece c.args.intake.now client c.keep.new.client client.id held c.args.piece.now taken.result.used taken.new.unfinished _ taken.result.end
     (Err c.in-Err-keep.error) c.args.mux.now taken.new.mux c.requires ready h taken.ensures.taken (λ after begun. tt)
+    (λ after refused. memory-refused (terms_of c.args.intake.now) _ c.in-Err-keep.error c.in-Err-keep.ensures.memory)
 
 pub returns-clause-taken : goal.returns-clause-taken
 returns-clause-taken c ready held h =
@@ -34,6 +38,7 @@ returns-clause-taken c ready held h =
     (λ after left. kept-piece taken.result.end c.put_back.result c.in_default.field-0 _ (terms_of f) client c.keep.new.client c.put_back.new.client
     taken.new.unfinished after c.args.piece.now taken.result.used c.in_default.is c.requires c.keep.ensures.same_unfinished c.in_default-keep.ensures.kept
     c.put_back.ensures.put left)
+    (λ after refused. memory-refused-in c.put_back.result (terms_of f) _ c.put_back.ensures.memory)
 
 pub returns-clause-leaves : goal.returns-clause-leaves
 returns-clause-leaves c ready held h stays =

@@ -41,3 +41,11 @@ returns-in-Err-clause-reads g c held h =
     let left' = g.R.Source.remaining c.read.new.self in
     nothing-came (terms_of c.args.self.now) c.args.client.now.id left left' held c.args.client.now (mux_of c.args.self.now)
     (read-nothing left left' c.read.new.into c.in-Err.field-0 c.in-Err.ensures.bytes) h
+
+pub returns-then-not-is_empty-clause-reads : goal.returns-then-not-is_empty-clause-reads
+returns-then-not-is_empty-clause-reads g c held h = record {
+  came = [];
+  come = not-read (g.R.Source.remaining c.args.reader.now);
+  end = c.from_client.result;
+  takes = c.from_client.ensures.taken held h;
+}

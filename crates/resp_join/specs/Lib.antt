@@ -1,0 +1,2 @@
+-- The definitions that callers read.
+pub mod Rejecting
