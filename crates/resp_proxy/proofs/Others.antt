@@ -11,6 +11,7 @@ use Rattle.resp_mux.specs.Passing.{Asked, Passed, due_to, is_same, with_given}
 use Rattle.resp_mux.specs.Seats.{client_in}
 use Rattle.resp_proxy.specs.Taking.{Answers, Deed, Passes, Queues, Taken, with_last_answer, with_one, with_taken}
 use Rattle.resp_proxy.specs.declared.client.Client.{Client as Handle}
+use Rattle.resp_proxy.specs.declared.visit.Read.{Read}
 use Rattle.resp_proxy.specs.Visiting.{GivesSome, OthersKeep, ReadsClient}
 use Rattle.resp_proxy.specs.Terms.{Terms}
 
@@ -62,10 +63,10 @@ others-keep who other old new p q same clients before after =
     (clients.are_open other) (before.stands.served other) (after.stands.served other)
 
 -- a visit leaves each other client the bytes that it had
-pub visit-others : (terms : Terms) (who who' : ClientId) (left left' out out' : Option (List ℕ)) (held : List ℕ) (c : Handle) (old between new : Multiplexed)
-    (p : Passed) → who' ≡ who → ReadsClient terms who left left' held c old between → GivesSome out out' who' between new → KeepsClients old new →
+pub visit-others : (terms : Terms) (who who' : ClientId) (left left' out out' : Option (List ℕ)) (held : List ℕ) (c : Handle) (result : Read)
+    (old between new : Multiplexed) (p : Passed) → who' ≡ who → ReadsClient terms who left left' held c result old between → GivesSome out out' who' between new → KeepsClients old new →
     HasPassed old p → OthersKeep who old new
-visit-others terms who who' left left' out out' held c old between new p same r g clients passed other differs =
+visit-others terms who who' left left' out out' held c result old between new p same r g clients passed other differs =
     let gives : GivesSome out out' who between new = subst (λ w. GivesSome out out' w between new) same g in
     let taken = with_taken who r.takes.taken p in
     let answered = with_last_answer who r.takes.last taken in

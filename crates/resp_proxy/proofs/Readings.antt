@@ -1,5 +1,6 @@
 -- How bytes are read.
-use Rattle.std.proofs.Common.{◌≡◌, ◌∙◌, ℕ, true, List, [], ◌++◌, length, take, drop, Option, None, Some, Ok, Err, ap, arith, refl, sym}
+use Rattle.std.proofs.Common.{◌≡◌, ◌∙◌, ℕ, true, List, [], ◌++◌, length, take, drop, Option, None, Some, Result, Ok, Err, inl, ap, arith, refl, subst, sym}
+use Rattle.std.specs.Prelude.{IfErr, OnOk}
 use Rattle.std.proofs.lemmas.List.{append-nil, take-append-drop}
 use Rattle.resp_frames.specs.declared.begun.Begun.{Begun}
 use Rattle.resp_frames.specs.Framing.{HasBegun}
@@ -9,11 +10,14 @@ use Rattle.resp_mux.specs.Multiplexing.{BeginsMore, HasPassed, Multiplexed}
 use Rattle.resp_mux.specs.Passing.{Passed, with_sent}
 use Rattle.resp_proxy.specs.Clients.{Holds, is_closing}
 use Rattle.resp_proxy.specs.declared.client.Client.{Client}
+use Rattle.resp_proxy.specs.declared.error.ClientError.{ClientError}
 use Rattle.resp_proxy.specs.declared.error.ClientError.TheVariants as error
 use Rattle.resp_proxy.specs.declared.error.ServerError.{ServerError}
+use Rattle.resp_proxy.specs.declared.visit.Read.{Read}
+use Rattle.resp_proxy.specs.declared.visit.Read.TheVariants as read
 use Rattle.resp_proxy.specs.Terms.{Terms}
 use Rattle.resp_proxy.specs.Replying.{TakesReplies}
-use Rattle.resp_proxy.specs.Visiting.{HaveCome, ReadsClient, ReadsServer, SendsSome}
+use Rattle.resp_proxy.specs.Visiting.{HaveCome, ReadsClient, ReadsServer, SendsSome, TellsRead}
 use Rattle.resp_proxy.proofs.Gives.{appends-none}
 use Rattle.resp_value.specs.declared.device.DeviceFault.{DeviceFault}
 use Rattle.resp_value.specs.Devices.{Reads}
@@ -37,11 +41,12 @@ not-read (Some left) = (left, refl, refl)
 
 -- no byte came from the client
 pub nothing-came : (terms : Terms) (who : ClientId) (left left' : Option (List ℕ)) (held : List ℕ) (c : Client) (m : Multiplexed) → HaveCome left left' [] →
-    Holds terms c held → ReadsClient terms who left left' held c m m
-nothing-came terms who left left' held c m come h = record {
+    Holds terms c held → (read : Read) → TellsRead read (Ok tt) [] → ReadsClient terms who left left' held c read m m
+nothing-came terms who left left' held c m come h read told = record {
   came = [];
   come = come;
   end = Ok tt;
+  told = told;
   takes = record {
     taken = [];
     after = held;
@@ -55,16 +60,17 @@ nothing-came terms who left left' held c m come h = record {
   };
 }
 
--- the client is closing, and what it holds is lost
-pub ended : (terms : Terms) (who : ClientId) (left left' : Option (List ℕ)) (came held : List ℕ) (c : Client) (m : Multiplexed) → HaveCome left left' came →
-    Holds terms c [] → is_closing c ≡ true → ReadsClient terms who left left' held c m m
-ended terms who left left' came held c m come h closing = record {
-  came = came;
+-- the input ended, the client is closing, and what it holds is lost
+pub ended : (terms : Terms) (who : ClientId) (left left' : Option (List ℕ)) (held : List ℕ) (c : Client) (m : Multiplexed) → HaveCome left left' [] →
+    Holds terms c [] → is_closing c ≡ true → ReadsClient terms who left left' held c read.Ended m m
+ended terms who left left' held c m come h closing = record {
+  came = [];
   come = come;
   end = Err error.Closing;
+  told = (refl, refl);
   takes = record {
     taken = [];
-    after = held ++ came;
+    after = held ++ [];
     last = None;
     whole = refl;
     commands = tt;
@@ -77,12 +83,19 @@ ended terms who left left' came held c m come h closing = record {
 
 -- no byte came from the server
 pub no-reply-came : (rules : Rules) (left left' : Option (List ℕ)) (front : List ℕ) (b : Begun) (m : Multiplexed) → HaveCome left left' [] →
-    HasBegun rules b front → ReadsServer rules left left' front b (Ok tt) m m
+    HasBegun rules b front → ReadsServer rules left left' front b None (Ok tt) m m
 no-reply-came rules left left' front b m come h = record {
   came = [];
   come = come;
+  counted = refl;
   takes = λ p passed. record { replies = []; after = front; whole = append-nil front; spelled = tt; passed = passed; begun = h; refused = tt };
 }
+
+-- the result of a read tells what was taken
+pub told-taken : (taken : Result (Unit {0}) ClientError) (result : Read) (came : List ℕ) → OnOk taken (result ≡ read.Some) →
+    IfErr taken (λ e. result ≡ read.Closing e) → TellsRead result taken came
+told-taken (Ok x) result came some closing = subst (λ r. TellsRead r (Ok tt) came) (sym some) refl
+told-taken (Err e) result came some closing = subst (λ r. TellsRead r (Err e) came) (sym closing) (inl refl)
 
 begun-none : (unbegun : List ℕ) (left : ℕ) → BeginsMore 0 unbegun left unbegun left
 begun-none unbegun left =

@@ -1,5 +1,5 @@
 -- The bytes that a visit reads and writes.
-use Rattle.std.specs.Prelude.{◌≡◌, ℕ, true, false, List, [], ◌++◌, Option, None, Some, IfSome, MatchOption, Result}
+use Rattle.std.specs.Prelude.{◌≡◌, ◌⊎◌, ℕ, true, false, List, [], ◌++◌, length, Option, None, Some, IfSome, MatchOption, Result, Ok, Err}
 use Rattle.resp_frames.specs.declared.begun.Begun.{Begun}
 use Rattle.resp_mux.specs.declared.client_id.ClientId.{ClientId}
 use Rattle.resp_mux.specs.Multiplexing.{HasPassed, Multiplexed, WherePassed, unsent, waiting_count, waiting_for}
@@ -7,7 +7,10 @@ use Rattle.resp_mux.specs.Passing.{due_to, is_same, with_given, with_sent}
 use Rattle.resp_proxy.specs.Clients.{client_id, is_closing, is_leaving}
 use Rattle.resp_proxy.specs.declared.client.Client.{Client}
 use Rattle.resp_proxy.specs.declared.error.ClientError.{ClientError}
+use Rattle.resp_proxy.specs.declared.error.ClientError.TheVariants as error
 use Rattle.resp_proxy.specs.declared.error.ServerError.{ServerError}
+use Rattle.resp_proxy.specs.declared.visit.Read.{Read}
+use Rattle.resp_proxy.specs.declared.visit.Read.TheVariants as read
 use Rattle.resp_proxy.specs.Replying.{TakesReplies}
 use Rattle.resp_proxy.specs.Taking.{TakesIn}
 use Rattle.resp_proxy.specs.Terms.{Terms}
@@ -63,33 +66,43 @@ pub record SendsSome (out out' : Option (List ℕ)) (old new : Multiplexed) : Ty
   pub front : BeginWith (unsent old) gone
   pub passed : WherePassed old (λ p. HasPassed new (with_sent gone p))
 
+-- Bytes were taken, and no command was refused. Or none was read. Or the client is closing because of this error.
+abbrev pub TellsRead : Read → Result (Unit {0}) ClientError → List ℕ → Type 0
+TellsRead read.Some end came = end ≡ Ok tt
+TellsRead read.Full end came = (end ≡ Ok tt) × (came ≡ [])
+TellsRead read.Failed end came = (end ≡ Ok tt) × (came ≡ [])
+TellsRead read.Ended end came = (end ≡ Err error.Closing) × (came ≡ [])
+TellsRead (read.Closing e) end came = (end ≡ Err e) ⊎ ((e ≡ error.Closing) × (end ≡ Ok tt) × (came ≡ []))
+
 -- Bytes were read, and they came from this client.
-pub record ReadsClient (terms : Terms) (who : ClientId) (left left' : Option (List ℕ)) (held : List ℕ) (c : Client)
+pub record ReadsClient (terms : Terms) (who : ClientId) (left left' : Option (List ℕ)) (held : List ℕ) (c : Client) (result : Read)
     (old new : Multiplexed) : Type 0 where
   pub came : List ℕ
   pub come : HaveCome left left' came
   pub end : Result (Unit {0}) ClientError
+  pub told : TellsRead result end came
   pub takes : TakesIn terms who (held ++ came) c end old new
 
 -- Bytes were read, and they came from this client. Then bytes were written that this client was owed.
-pub record VisitsClient (terms : Terms) (who : ClientId) (left left' out out' : Option (List ℕ)) (held : List ℕ) (c : Client)
+pub record VisitsClient (terms : Terms) (who : ClientId) (left left' out out' : Option (List ℕ)) (held : List ℕ) (c : Client) (result : Read)
     (old new : Multiplexed) : Type 0 where
   pub between : Multiplexed
-  pub reads : ReadsClient terms who left left' held c old between
+  pub reads : ReadsClient terms who left left' held c result old between
   pub gives : GivesSome out out' who between new
 
--- Bytes were read, and they came from the server.
-pub record ReadsServer (rules : Rules) (left left' : Option (List ℕ)) (front : List ℕ) (b : Begun) (end : Result (Unit {0}) ServerError)
-    (old new : Multiplexed) : Type 0 where
+-- This many bytes were read, or none if there is no number, and they came from the server.
+pub record ReadsServer (rules : Rules) (left left' : Option (List ℕ)) (front : List ℕ) (b : Begun) (count : Option ℕ)
+    (end : Result (Unit {0}) ServerError) (old new : Multiplexed) : Type 0 where
   pub came : List ℕ
   pub come : HaveCome left left' came
+  pub counted : MatchOption count (came ≡ []) (λ n. length came ≡ n)
   pub takes : WherePassed old (λ p. TakesReplies rules (front ++ came) b end p new)
 
 -- Bytes were read, and they came from the server. Then bytes were written that waited for it.
-pub record VisitsServer (rules : Rules) (left left' out out' : Option (List ℕ)) (front : List ℕ) (b : Begun) (end : Result (Unit {0}) ServerError)
-    (old new : Multiplexed) : Type 0 where
+pub record VisitsServer (rules : Rules) (left left' out out' : Option (List ℕ)) (front : List ℕ) (b : Begun) (count : Option ℕ)
+    (end : Result (Unit {0}) ServerError) (old new : Multiplexed) : Type 0 where
   pub between : Multiplexed
-  pub reads : ReadsServer rules left left' front b end old between
+  pub reads : ReadsServer rules left left' front b count end old between
   pub sends : SendsSome out out' between new
 
 -- each other client has the bytes that it had

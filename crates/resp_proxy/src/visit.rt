@@ -1,6 +1,6 @@
 //! Visits of connections.
 
-ghost use Rattle.std.specs.Prelude.{◌≡◌, ◌<◌, [], length};
+ghost use Rattle.std.specs.Prelude.{◌≡◌, ◌↔◌, ◌<◌, [], false, length, true, IfErr, OnOk};
 ghost use Rattle.resp_mux.specs.Multiplexing.{KeepsClients, WherePassed, unsent};
 ghost use Rattle.resp_proxy.specs.Clients.{client_id, is_closing};
 ghost use Rattle.resp_proxy.specs.Leaving.{LeavesRightly};
@@ -67,8 +67,12 @@ impl Proxy {
         // The bytes read came from this client, and the bytes written are those that it was owed.
         ensures visited { WhereHeld self.old client.old (λ held. VisitsClient (terms_of self.old)
             (client_id client.old) (R.remaining reader.old) (R.remaining reader.new)
-            (W.written writer.old) (W.written writer.new) held client.new
+            (W.written writer.old) (W.written writer.new) held client.new result.read
             (mux_of self.old) (mux_of self.new)) }
+        ensures closing { (result.read ≡ Read.Closing ClientError.Closing) ↔
+            (is_closing client.old ≡ true) }
+        ensures full { (result.read ≡ Read.Full) ↔ ((is_closing client.old ≡ false) ×
+            (HasRoomFor self.old client.old → ⊥)) }
         // Each other client has the bytes that it had.
         ensures others { WhereHeld self.old client.old (λ held. WherePassed (mux_of self.old) (λ p.
             OthersKeep (client_id client.old) (mux_of self.old) (mux_of self.new))) }
@@ -99,7 +103,11 @@ impl Proxy {
         requires { 0 < length buffer.old }
         ensures reads { WhereHeld self.old client.old (λ held. ReadsClient (terms_of self.old)
             (client_id client.old) (R.remaining reader.old) (R.remaining reader.new) held client.new
-            (mux_of self.old) (mux_of self.new)) }
+            result (mux_of self.old) (mux_of self.new)) }
+        ensures closing { (result ≡ Read.Closing ClientError.Closing) ↔
+            (is_closing client.old ≡ true) }
+        ensures full { (result ≡ Read.Full) ↔ ((is_closing client.old ≡ false) ×
+            (HasRoomFor self.old client.old → ⊥)) }
         ensures nothing_read { (HasRoomFor self.old client.old → ⊥) → reader.new ≡ reader.old }
         // The client is leaving only if its next command needs a connection of its own.
         ensures leaves { WhereHeld self.old client.old (λ held.
@@ -141,7 +149,7 @@ impl Proxy {
         // The bytes read came from the server, and the bytes written waited for it.
         ensures visited { WhereBegunBy self.old (λ front. VisitsServer (reply_rules_of self.old)
             (R.remaining reader.old) (R.remaining reader.new) (W.written writer.old)
-            (W.written writer.new) front (server_begun self.new) result.end
+            (W.written writer.new) front (server_begun self.new) result.read result.end
             (mux_of self.old) (mux_of self.new)) }
         // Each client whose bytes are other than before is returned by `next_replied`.
         ensures told { Tells (replied_to self.old) (replied_to self.new) (mux_of self.old)
@@ -169,7 +177,8 @@ impl Proxy {
     ) -> (Option<usize>, Result<(), ServerError>)
         requires { 0 < length buffer.old }
         ensures reads { WhereBegunBy self.old (λ front. ReadsServer (reply_rules_of self.old)
-            (R.remaining reader.old) (R.remaining reader.new) front (server_begun self.new) result.1
+            (R.remaining reader.old) (R.remaining reader.new) front (server_begun self.new)
+            result.0 result.1
             (mux_of self.old) (mux_of self.new)) }
         ensures told { Tells (replied_to self.old) (replied_to self.new) (mux_of self.old)
             (mux_of self.new) }
@@ -185,7 +194,10 @@ impl Proxy {
 }
 
 /// Returns what was read, by what was taken.
-fn read_result(taken: Result<(), ClientError>) -> Read {
+fn read_result(taken: Result<(), ClientError>) -> Read
+    ensures taken { OnOk taken (result ≡ Read.Some) }
+    ensures refused { IfErr taken (λ error. result ≡ Read.Closing error) }
+{
     match taken {
         Ok(()) => Read::Some,
         Err(error) => Read::Closing(error),

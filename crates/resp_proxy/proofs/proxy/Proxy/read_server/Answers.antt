@@ -1,4 +1,5 @@
-use Rattle.std.proofs.Common.{take}
+use Rattle.std.proofs.Common.{arith, length-take, take}
+use Rattle.std.proofs.lemmas.Grind.{common_steps}
 use Rattle.resp_proxy.specs.Proxies.{mux_of, reply_rules_of, server_begun}
 use Rattle.resp_proxy.proofs.Readings.{no-reply-came, read-bytes, read-nothing}
 use Rattle.resp_proxy.proofs.proxy.Proxy.read_server.Goals as goal
@@ -7,6 +8,7 @@ pub returns-in-Ok-clause-reads : goal.returns-in-Ok-clause-reads
 returns-in-Ok-clause-reads g c front h = record {
   came = take c.in-Ok.count c.read.new.into;
   come = read-bytes (g.R.Source.remaining c.args.reader.now) (g.R.Source.remaining c.read.new.self) c.read.new.into c.in-Ok.count c.in-Ok.ensures.bytes;
+  counted = grind (arith, common_steps, length-take);
   takes = c.from_server.ensures.taken front h;
 }
 
