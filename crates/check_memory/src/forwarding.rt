@@ -1,8 +1,12 @@
-//! A part that forwards bytes. After a failed allocation the bytes that were not written are lost.
+//! Parts that forward bytes and print traffic. After a failed allocation the bytes that were not
+//! written are lost, and the words of a command that waits are not known.
 
 use crate::outcome::Outcome;
+use resp_tap::filtered::watch_filtered;
+use resp_tap::watch::Side;
 use resp_tap::way::{Visited, Way};
-use resp_value::{MemorySink, MemorySource};
+use resp_tap::{Filter, FilteredTap, Printing};
+use resp_value::{Limits, MemorySink, MemorySource};
 use std::alloc::Global;
 
 /// A piece of which the writer accepts four bytes at a time.
@@ -24,4 +28,36 @@ pub(crate) fn of_way(alloc: Global) -> Outcome {
         }
     }
     Outcome::of(!way.waits() && writer.bytes() == b"eight bytes".as_slice())
+}
+
+/// A command that is printed with its reply, because the reply is an error.
+pub(crate) fn of_filtered_tap(alloc: Global) -> Outcome {
+    let mut filter = Filter::all(alloc);
+    filter.errors = true;
+    let printing = Printing {
+        client: 1,
+        shows_passwords: false,
+    };
+    let mut tap = FilteredTap::new(alloc, &Limits::standard());
+    let Ok(mut text) = MemorySink::new(alloc, 4_096, 4_096) else {
+        return Outcome::OutOfMemory;
+    };
+    for (side, piece) in [
+        (Side::Client, b"*1\r\n$1\r\na\r\n".as_slice()),
+        (Side::Server, b"-E\r\n".as_slice()),
+    ] {
+        if watch_filtered(&mut tap, &filter, printing, side, piece, None, &mut text).is_err() {
+            return Outcome::Wrong;
+        }
+    }
+    let text = text.bytes();
+    if text.starts_with(b"client 1 refused OutOfMemory at byte ") {
+        return Outcome::OutOfMemory;
+    }
+    if text == b"client 1 command 1\n  ..\nclient 1 reply 1\n  error \"E\" 1\n".as_slice() {
+        return Outcome::OutOfMemory;
+    }
+    Outcome::of(
+        text == b"client 1 command 1\n  \"a\"\nclient 1 reply 1\n  error \"E\" 1\n".as_slice(),
+    )
 }

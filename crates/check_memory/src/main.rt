@@ -66,7 +66,7 @@ fn print(rt: &impl Print, parts: &[Part]) -> Result<()> {
 }
 
 /// Runs each part, and returns their outcomes in order.
-fn parts(alloc: Global) -> [Part; 46] {
+fn parts(alloc: Global) -> [Part; 47] {
     [
         ("decode a piece", decoding::of_one_piece(alloc)),
         ("decode bytes", decoding::of_single_bytes(alloc)),
@@ -105,6 +105,7 @@ fn parts(alloc: Global) -> [Part; 46] {
         ("frames", frames::of_next(alloc)),
         ("take reply", frames::of_join(alloc)),
         ("way", forwarding::of_way(alloc)),
+        ("filtered tap", forwarding::of_filtered_tap(alloc)),
         ("proxy open", proxying::of_open(alloc)),
         ("proxy client", proxying::of_client(alloc)),
         ("proxy lines", proxying::of_lines(alloc)),

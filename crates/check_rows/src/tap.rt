@@ -6,10 +6,11 @@ use crate::subject::Subject;
 use crate::text::bytes;
 use anyhow::{Result, bail};
 use resp_tap::end::write_end;
+use resp_tap::filtered::watch_filtered;
 use resp_tap::screen::Screen;
 use resp_tap::stamp::Stamp;
-use resp_tap::watch::{Side, watch};
-use resp_tap::{Moment, Printing, TimedTap};
+use resp_tap::watch::Side;
+use resp_tap::{Filter, FilteredTap, Moment, Printing};
 use resp_value::Limits;
 use std::alloc::Global;
 use std::str;
@@ -21,22 +22,24 @@ const MOST: usize = 65_536;
 #[derive(Drop)]
 pub(crate) struct Tapping {
     alloc: Global,
-    tap: TimedTap,
+    tap: FilteredTap,
     /// The time at which the next bytes pass, if the row sets a time.
     now: Option<Moment>,
     printing: Printing,
+    filter: Filter,
 }
 
 impl Subject for Tapping {
     fn new(alloc: Global) -> Result<Tapping> {
         Ok(Tapping {
             alloc,
-            tap: TimedTap::new(alloc, &Limits::standard().with_doubles(true)),
+            tap: FilteredTap::new(alloc, &Limits::standard().with_doubles(true)),
             now: None,
             printing: Printing {
                 client: 1,
                 shows_passwords: false,
             },
+            filter: Filter::all(alloc),
         })
     }
 
@@ -52,6 +55,13 @@ impl Subject for Tapping {
                 self.printing.shows_passwords = true;
                 Ok(())
             }
+            "errors" => {
+                self.filter.errors = true;
+                Ok(())
+            }
+            "slower" => self.set_slower(given),
+            "command" => self.add_name(given),
+            "only" => self.set_client(given),
             "client" => self.pass(Side::Client, given, cut, said),
             "server" => self.pass(Side::Server, given, cut, said),
             "end" => self.end(given, said),
@@ -63,7 +73,7 @@ impl Subject for Tapping {
 impl Tapping {
     /// `tap LIMITS` begins a tap of a new connection.
     fn renew(&mut self, limits: &str) -> Result<()> {
-        self.tap = TimedTap::new(self.alloc, &bounds::limits(limits)?);
+        self.tap = FilteredTap::new(self.alloc, &bounds::limits(limits)?);
         Ok(())
     }
 
@@ -77,6 +87,26 @@ impl Tapping {
             of_day: of_day.parse()?,
             steady: steady.parse()?,
         });
+        Ok(())
+    }
+
+    /// `slower MICROSECONDS` prints only commands that waited longer.
+    fn set_slower(&mut self, micros: &str) -> Result<()> {
+        self.filter.slower = Some(micros.parse()?);
+        Ok(())
+    }
+
+    /// `command NAME` prints only commands with this name, and with those of such rows before.
+    fn add_name(&mut self, name: &str) -> Result<()> {
+        self.filter
+            .names
+            .push(Vec::from_slice(self.alloc, name.as_bytes())?)?;
+        Ok(())
+    }
+
+    /// `only NUMBER` prints only the lines about the client with this number.
+    fn set_client(&mut self, number: &str) -> Result<()> {
+        self.filter.client = Some(number.parse()?);
         Ok(())
     }
 
@@ -103,8 +133,9 @@ impl Tapping {
         let text = bytes(alloc, given)?;
         let mut screen = Screen::new(alloc, MOST);
         for piece in pieces(alloc, text.as_slice(), cut)? {
-            watch(
+            watch_filtered(
                 &mut self.tap,
+                &self.filter,
                 self.printing,
                 side,
                 piece,

@@ -6,3 +6,4 @@ pub mod TimeLemmas
 pub mod Streams
 pub mod Counting
 pub mod Fronts
+pub mod PieceLemmas

@@ -15,6 +15,9 @@ pub mod Times
 pub mod Screens
 pub mod Watches
 pub mod Ends
+pub mod Filters
+pub mod Noted
+pub mod Filtering
 -- What the steps of a tap promise one another, which no public clause names.
 pub mod SeenOf
 pub mod Streams

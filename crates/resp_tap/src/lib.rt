@@ -8,10 +8,13 @@
 #![tactic(auto)]
 
 pub mod end;
+pub mod filter;
+pub mod filtered;
 pub mod kind;
 pub mod laws;
 mod line;
 pub mod moment;
+mod note;
 mod notice;
 pub mod print;
 pub mod screen;
@@ -26,6 +29,8 @@ pub mod watch;
 pub mod way;
 
 pub use end::Cut;
+pub use filter::Filter;
+pub use filtered::FilteredTap;
 pub use moment::Moment;
 pub use print::Printing;
 pub use seen::{Place, Seen, Step};

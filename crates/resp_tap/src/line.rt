@@ -192,7 +192,7 @@ fn is_push(value: &Value) -> bool
 }
 
 /// Returns whether a reply is an error.
-fn is_refusal(value: &Value) -> bool
+pub(crate) fn is_refusal(value: &Value) -> bool
     ensures { result ≡ is_refusal (datum_of value.now) }
 {
     match value.without_attributes() {

@@ -147,7 +147,7 @@ fn write_command<W: Sink>(
 }
 
 /// Returns the secret words of a command that are not printed.
-fn secrets_for(printing: Printing, words: &Words) -> Secrets
+pub(crate) fn secrets_for(printing: Printing, words: &Words) -> Secrets
     ensures { redacted_after result [] words.now ≡
         printed_words printing.shows_passwords words.now }
 {
@@ -159,7 +159,7 @@ fn secrets_for(printing: Printing, words: &Words) -> Secrets
 }
 
 /// Writes the heading of a command or a reply, with its number.
-fn write_numbered_line<W: Sink>(
+pub(crate) fn write_numbered_line<W: Sink>(
     client: u64,
     what: &[u8],
     number: u64,
@@ -234,7 +234,11 @@ fn write_words_line<W: Sink>(
 }
 
 /// Writes words in quotes, each after a space, without those that are secret.
-fn write_words<W: Sink>(words: &Words, secrets: Secrets, writer: &mut W) -> Result<(), DeviceFault>
+pub(crate) fn write_words<W: Sink>(
+    words: &Words,
+    secrets: Secrets,
+    writer: &mut W,
+) -> Result<(), DeviceFault>
     ensures { WritesText (W.written writer.old) (W.written writer.new) (W.failures writer.old)
         (W.failures writer.new) result (words_text (redacted_after secrets [] words.now)) }
 {

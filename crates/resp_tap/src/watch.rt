@@ -31,7 +31,7 @@ pub struct Watched {
 }
 
 /// Reads bytes that one side sent, until there is a result or the piece ends.
-fn step(tap: &mut TimedTap, side: Side, piece: &[u8], now: Option<Moment>) -> Step
+pub(crate) fn step(tap: &mut TimedTap, side: Side, piece: &[u8], now: Option<Moment>) -> Step
     ensures sees { SeesFirst side now tap.old tap.new piece.now result.used result.seen }
     ensures other_side { KeepsOther side tap.old.tap tap.new.tap }
     ensures within_piece { result.used ≤ length piece.now }
@@ -54,7 +54,7 @@ fn waited_of(now: Moment, asked: Option<u64>, seen: &Seen) -> Option<u64>
 }
 
 /// Returns the stamp of what was seen, if a moment is given.
-fn stamp_of(now: Option<Moment>, asked: Option<u64>, seen: &Seen) -> Option<Stamp>
+pub(crate) fn stamp_of(now: Option<Moment>, asked: Option<u64>, seen: &Seen) -> Option<Stamp>
     ensures { result ≡ stamp_of now asked seen.now }
 {
     match now {
@@ -103,7 +103,7 @@ pub fn watch_some<W: Sink>(
 }
 
 /// Returns the first of two results of printing that is an error.
-fn first_error(
+pub(crate) fn first_error(
     first: Result<(), PrintError>,
     next: Result<(), PrintError>,
 ) -> Result<(), PrintError>

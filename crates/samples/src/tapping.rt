@@ -1,8 +1,9 @@
 //! The traffic of a connection that is forwarded.
 
 use anyhow::Result;
+use resp_tap::filtered::watch_filtered;
 use resp_tap::watch::{Side, watch};
-use resp_tap::{Moment, Printing, Seen, Tap, TimedTap};
+use resp_tap::{Filter, FilteredTap, Moment, Printing, Seen, Tap, TimedTap};
 use resp_value::{Limits, MemorySink};
 use std::alloc::Global;
 use std::str;
@@ -10,7 +11,8 @@ use std::str;
 pub(crate) fn run(rt: &impl Print, alloc: Global) -> Result<()> {
     pair_reply(rt, alloc)?;
     measure_reply(rt, alloc)?;
-    print_traffic(rt, alloc)
+    print_traffic(rt, alloc)?;
+    print_errors(rt, alloc)
 }
 
 fn pair_reply(rt: &impl Print, alloc: Global) -> Result<()> {
@@ -47,6 +49,40 @@ fn print_traffic(rt: &impl Print, alloc: Global) -> Result<()> {
     let get = b"*2\r\n$3\r\nGET\r\n$4\r\nhits\r\n";
     watch(&mut tap, printing, Side::Client, get, None, &mut text)?;
     watch(&mut tap, printing, Side::Server, b":7\r\n", None, &mut text)?;
+    print!(rt; "{}", str::from_utf8(text.bytes())?)?;
+    Ok(())
+}
+
+fn print_errors(rt: &impl Print, alloc: Global) -> Result<()> {
+    let mut filter = Filter::all(alloc);
+    filter.errors = true;
+    println!(rt; "{}", filter.is_by_reply())?;
+    let mut tap = FilteredTap::new(alloc, &Limits::standard());
+    let mut text = MemorySink::new(alloc, 4_096, 4_096)?;
+    let printing = Printing {
+        client: 1,
+        shows_passwords: false,
+    };
+    let sent = b"*1\r\n$4\r\nPING\r\n*2\r\n$4\r\nINCR\r\n$1\r\na\r\n";
+    watch_filtered(
+        &mut tap,
+        &filter,
+        printing,
+        Side::Client,
+        sent,
+        None,
+        &mut text,
+    )?;
+    let heard = b"+PONG\r\n-WRONGTYPE not a number\r\n";
+    watch_filtered(
+        &mut tap,
+        &filter,
+        printing,
+        Side::Server,
+        heard,
+        None,
+        &mut text,
+    )?;
     print!(rt; "{}", str::from_utf8(text.bytes())?)?;
     Ok(())
 }

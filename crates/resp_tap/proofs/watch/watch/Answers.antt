@@ -1,30 +1,8 @@
-use Rattle.std.proofs.Common.{rules, ◌≡◌, ◌∙◌, ℕ, List, [], ◌∷◌, length, Result, Ok, Err, ap, refl, subst, sym}
+use Rattle.std.proofs.Common.{rules, ◌≡◌, ◌∙◌, [], ◌∷◌, Ok, ap, refl, subst, sym}
 use Rattle.std.proofs.lemmas.List.{take_rest}
-use Rattle.resp_print.specs.declared.print_error.PrintError.{PrintError}
-use Rattle.resp_tap.specs.Watches.{KeepsOther, WatchesAll, first_error}
-use Rattle.resp_tap.specs.declared.tap.Tap.{Tap}
-use Rattle.resp_tap.specs.declared.watch.Side.{Side}
-use Rattle.resp_tap.specs.declared.watch.Side.TheVariants.{Client, Server}
+use Rattle.resp_tap.specs.Watches.{WatchesAll, first_error}
+use Rattle.resp_tap.proofs.PieceLemmas.{error_of_three, keeps_on, no_bytes, no_error_after}
 use Rattle.resp_tap.proofs.watch.watch.Goals as goal
-
--- a list without a length is empty
-no_bytes : (bytes : List ℕ) → length bytes ≡ 0 → bytes ≡ []
-no_bytes [] none = refl
-no_bytes (byte ∷ bytes) none = absurd (cc)
-
-keeps_on : (side : Side) (first next last : Tap) → KeepsOther side first next → KeepsOther side next last → KeepsOther side first last
-keeps_on Client first next last keeps more = λ front taken. more front (keeps front taken)
-keeps_on Server first next last keeps more = λ front taken. more front (keeps front taken)
-
--- a success after a result changes nothing
-no_error_after : (a : Result (Unit {0}) PrintError) → first_error a (Ok tt) ≡ a
-no_error_after (Ok done) = refl
-no_error_after (Err error) = refl
-
--- the first error of three results
-error_of_three : (a b c : Result (Unit {0}) PrintError) → first_error a (first_error b c) ≡ first_error (first_error a b) c
-error_of_three (Ok done) b c = refl
-error_of_three (Err error) b c = refl
 
 pub loop-rest-preserved : goal.loop-rest-preserved
 loop-rest-preserved g c =

@@ -1,0 +1,30 @@
+use Rattle.std.proofs.Common.{rules, arith, ◌≡◌, ◌<◌, ◌-◌, ℕ, List, Bool, true, Option, subst, sym}
+use Rattle.std.specs.Prelude.{nat_lt, ◌&&◌}
+use Rattle.resp_tap.specs.Filters.{is_selective}
+use Rattle.resp_tap.specs.Noted.{IsAdded, NotesAfter, NotesBy}
+use Rattle.resp_tap.specs.Times.{waits_in}
+use Rattle.resp_tap.specs.declared.filter.Filter.{Filter}
+use Rattle.resp_tap.specs.declared.moment.Moment.{Moment}
+use Rattle.resp_tap.specs.declared.note.Note.{Note}
+use Rattle.resp_tap.specs.declared.print.Printing.{Printing}
+use Rattle.resp_tap.specs.declared.seen.Seen.{Seen}
+use Rattle.resp_tap.specs.declared.seen.Seen.TheVariants as seen
+use Rattle.resp_tap.proofs.filtered.FilteredTap.follow.Goals as goal
+
+-- one more command waits, and only some are let through
+both_hold : (before after : ℕ) (some : Bool) → before < after → some ≡ true → (nat_lt before after && some) ≡ true
+both_hold before after some less is = grind (arith, less, is)
+
+one_more : (f : Filter) (p : Printing) (now : Option Moment) (what : Seen) (number : ℕ) (words : List (List ℕ)) (before after : ℕ) (old new : List Note) →
+    what ≡ seen.Command number words → before < after → is_selective f ≡ true → IsAdded f p now words old new →
+    NotesAfter f p now what before after old new
+one_more f p now what number words before after old new is less some added =
+    subst (λ w. NotesBy (nat_lt before after && is_selective f) f p now w (before - after) old new) (sym is)
+    (subst (λ b. NotesBy b f p now (seen.Command number words) (before - after) old new) (sym (both_hold before after (is_selective f) less some)) added)
+
+pub returns-in-Command-clause-notes : goal.returns-in-Command-clause-notes
+returns-in-Command-clause-notes c =
+    let more : c.args.before < waits_in c.args.self.now.timed = search rules in
+    let some : is_selective c.args.filter.now ≡ true = search rules in
+    one_more c.args.filter.now c.args.printing c.args.now c.args.seen.now c.in-Command.number c.in-Command.words c.args.before
+    (waits_in c.args.self.now.timed) c.args.self.now.notes.items c.add.new.self.notes.items c.in-Command.is more some c.add.ensures.notes

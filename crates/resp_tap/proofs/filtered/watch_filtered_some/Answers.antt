@@ -1,0 +1,51 @@
+use Rattle.std.proofs.Common.{◌≡◌, ◌∙◌, ℕ, List, Option, length, refl, ap, sym, subst}
+use Rattle.std.specs.Prelude.{None, Some, option_map, slice_get}
+use Rattle.std.specs.Slice.{IsItemAt}
+use Rattle.std.specs.Borrow.{Bor}
+use Rattle.std.proofs.lemmas.Option.{slice_get_past, slice_get_read}
+use Rattle.resp_print.specs.Printed.{Prints}
+use Rattle.resp_tap.specs.Lines.{asked_at}
+use Rattle.resp_tap.specs.Noted.{NotesAfter, filtered_text}
+use Rattle.resp_tap.specs.Taps.{tap_state}
+use Rattle.resp_tap.specs.Texts.{levels_of}
+use Rattle.resp_tap.specs.Times.{stamp_of, waits_in}
+use Rattle.resp_tap.specs.Watches.{SeesFirst}
+use Rattle.resp_tap.specs.declared.note.Note.{Note}
+use Rattle.resp_tap.specs.declared.stamp.Stamp.{Stamp}
+use Rattle.resp_tap.specs.declared.timed.TimedTap.{TimedTap}
+use Rattle.resp_tap.proofs.filtered.watch_filtered_some.Goals as goal
+
+-- what is kept at an index, as it is read
+note_at : (notes : List Note) (i : ℕ) (r : Option (Bor Note)) → IsItemAt notes i r → option_map (λ note. note.now) r ≡ slice_get notes i
+note_at notes i None item = sym (slice_get_past notes i item.3)
+note_at notes i (Some x) item = sym (slice_get_read notes (length notes) i x.now refl item.3.0 item.1)
+
+pub returns-clause-watches : goal.returns-clause-watches
+returns-clause-watches g c =
+    let f = c.args.filter.now in
+    let p = c.args.printing in
+    let old = c.args.tap.now in
+    let new = c.follow.new.self in
+    let what = c.step-step.result.seen in
+    let same = sym c.follow.ensures.same_tap in
+    let note : option_map (λ note. note.now) c.get.result ≡ slice_get old.notes.items (asked_at (tap_state old.timed.tap).line.due) =
+        note_at old.notes.items c.asked_at-at.result c.get.result c.get.ensures.item ∙ ap (slice_get old.notes.items) c.asked_at-at.ensures in (
+      what,
+      record {
+        seen = subst (λ (t : TimedTap). SeesFirst c.args.side c.args.now old.timed t c.args.piece.now c.step-step.result.used what) same c.step-step.ensures.sees;
+        notes = subst (λ (t : TimedTap). NotesAfter f p c.args.now what (waits_in old.timed) (waits_in t) old.notes.items new.notes.items) same
+            (subst (λ n. NotesAfter f p c.args.now what n (waits_in c.step-step.new.tap) old.notes.items new.notes.items) c.waiting-before.ensures
+            c.follow.ensures.notes);
+      },
+      record {
+        asked = c.asked-asked.result;
+        of_command = c.asked-asked.ensures;
+        text = subst (λ (n : Option Note). Prints (g.W.Sink.written c.args.writer.now) (g.W.Sink.written c.write_filtered-printed.new.writer)
+            (g.W.Sink.failures c.args.writer.now) (g.W.Sink.failures c.write_filtered-printed.new.writer) c.write_filtered-printed.result
+            (filtered_text f p n (stamp_of c.args.now c.asked-asked.result what) what) (levels_of what)) note
+            (subst (λ (stamp : Option Stamp). Prints (g.W.Sink.written c.args.writer.now) (g.W.Sink.written c.write_filtered-printed.new.writer)
+            (g.W.Sink.failures c.args.writer.now) (g.W.Sink.failures c.write_filtered-printed.new.writer) c.write_filtered-printed.result
+            (filtered_text f p (option_map (λ note. note.now) c.get.result) stamp what) (levels_of what)) c.stamp_of-stamp.ensures
+            c.write_filtered-printed.ensures);
+      },
+    )

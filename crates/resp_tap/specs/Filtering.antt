@@ -1,0 +1,47 @@
+-- The results that a filtered tap reports and prints for the pieces of either side.
+use Rattle.std.specs.Prelude.{◌≡◌, ℕ, List, [], ◌∷◌, drop, slice_get, Option, Result, Ok}
+use Rattle.resp_print.specs.Printed.{Prints}
+use Rattle.resp_print.specs.declared.print_error.PrintError.{PrintError}
+use Rattle.resp_tap.specs.Lines.{asked_at}
+use Rattle.resp_tap.specs.Noted.{NotesAfter, filtered_text}
+use Rattle.resp_tap.specs.Taps.{tap_state}
+use Rattle.resp_tap.specs.Texts.{levels_of}
+use Rattle.resp_tap.specs.Times.{HasTimes, stamp_of, waits_in}
+use Rattle.resp_tap.specs.Watches.{SeesFirst, first_error}
+use Rattle.resp_tap.specs.declared.filter.Filter.{Filter}
+use Rattle.resp_tap.specs.declared.filtered.FilteredTap.{FilteredTap}
+use Rattle.resp_tap.specs.declared.moment.Moment.{Moment}
+use Rattle.resp_tap.specs.declared.print.Printing.{Printing}
+use Rattle.resp_tap.specs.declared.seen.Seen.{Seen}
+use Rattle.resp_tap.specs.declared.watch.Side.{Side}
+
+-- The first result in a piece: it is reported as without a filter. What is kept of the commands that wait follows them.
+pub record SeesFiltered (filter : Filter) (printing : Printing) (side : Side) (now : Option Moment) (old new : FilteredTap)
+    (piece : List ℕ) (used : ℕ) (what : Seen) : Type 0 where
+  pub seen : SeesFirst side now old.timed new.timed piece used what
+  pub notes : NotesAfter filter printing now what (waits_in old.timed) (waits_in new.timed) old.notes.items new.notes.items
+
+-- The text of the result is printed as far as the filter lets it through and writes succeed. A reply is judged by what is
+-- kept of its command, and by the time of its command.
+pub record PrintsFiltered (filter : Filter) (printing : Printing) (now : Option Moment) (old : FilteredTap) (what : Seen)
+    (before after : Option (List ℕ)) (failures failures' : ℕ) (printed : Result (Unit {0}) PrintError) : Type 0 where
+  pub asked : Option ℕ
+  pub of_command : (times : List ℕ) → HasTimes old.timed times →
+      asked ≡ slice_get times (asked_at (tap_state old.timed.tap).line.due)
+  pub text : Prints before after failures failures' printed
+      (filtered_text filter printing (slice_get old.notes.items (asked_at (tap_state old.timed.tap).line.due))
+      (stamp_of now asked what) what) (levels_of what)
+
+-- These are all results in a piece, in order. Each result is printed before the next one is read. The first error of
+-- printing is told.
+abbrev pub FiltersAll : Filter → Printing → Side → Option Moment → List Seen → FilteredTap → FilteredTap → List ℕ →
+    Option (List ℕ) → Option (List ℕ) → ℕ → ℕ → Result (Unit {0}) PrintError → Type 0
+FiltersAll filter printing side now [] old new piece before after failures failures' told =
+    (piece ≡ []) × (new ≡ old) × (after ≡ before) × (failures' ≡ failures) × (told ≡ Ok tt)
+FiltersAll filter printing side now (what ∷ more) old new piece before after failures failures' told =
+    (next : FilteredTap) × (used : ℕ) × (written : Option (List ℕ)) × (failed : ℕ) ×
+    (printed : Result (Unit {0}) PrintError) × (later : Result (Unit {0}) PrintError) ×
+    SeesFiltered filter printing side now old next piece used what ×
+    PrintsFiltered filter printing now old what before written failures failed printed ×
+    (told ≡ first_error printed later) ×
+    FiltersAll filter printing side now more next new (drop used piece) written after failed failures' later

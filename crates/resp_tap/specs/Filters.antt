@@ -1,0 +1,83 @@
+-- Which commands, replies and other results a filter lets through.
+use Rattle.std.specs.Prelude.{ℕ, Bool, true, false, not, ◌&&◌, ◌||◌, ◌==◌, List, [], ◌∷◌, map, nat_lt, vec_len, Option, None, Some, is_some}
+use Rattle.std.specs.Char.{to_ascii_lowercase}
+use Rattle.std.specs.List.{list_any}
+use Rattle.std.specs.Str.{bytes_eq}
+use Rattle.resp_value.specs.Values.{datum_of}
+use Rattle.resp_session.specs.Reading.{is_refusal}
+use Rattle.resp_tap.specs.declared.end.Cut.{Cut}
+use Rattle.resp_tap.specs.declared.filter.Filter.{Filter}
+use Rattle.resp_tap.specs.declared.seen.Seen.{Seen}
+use Rattle.resp_tap.specs.declared.seen.Seen.TheVariants as seen
+
+-- whether these are the same name, in upper, lower or mixed case
+abbrev pub same_name : List ℕ → List ℕ → Bool
+same_name name other = bytes_eq (map to_ascii_lowercase name) (map to_ascii_lowercase other)
+
+-- whether commands of all names are let through
+abbrev pub has_no_name : Filter → Bool
+has_no_name f = vec_len f.names == 0
+
+-- the name of a command with these words
+abbrev pub name_in : List (List ℕ) → List ℕ
+name_in [] = []
+name_in (name ∷ arguments) = name
+
+-- whether commands with these words are let through, by their name
+abbrev pub keeps_words : Filter → List (List ℕ) → Bool
+keeps_words f words = has_no_name f || list_any (λ name. same_name (name_in words) name.items) f.names.items
+
+-- whether the lines about this client are let through
+abbrev pub keeps_number : Option ℕ → ℕ → Bool
+keeps_number None client = true
+keeps_number (Some number) client = number == client
+
+abbrev pub keeps_client : Filter → ℕ → Bool
+keeps_client f client = keeps_number f.client client
+
+-- whether a delay is greater than the least one, or all delays are let through
+abbrev pub is_late : Option ℕ → Option ℕ → Bool
+is_late None waited = true
+is_late (Some least) None = false
+is_late (Some least) (Some waited) = nat_lt least waited
+
+-- whether an error, or a value that is no error, is let through after this delay
+abbrev pub keeps_answer : Filter → Bool → Option ℕ → Bool
+keeps_answer f is_error waited = (not f.errors || is_error) && is_late f.slower waited
+
+-- whether a command is let through only with its reply, because the reply decides
+abbrev pub is_by_reply : Filter → Bool
+is_by_reply f = f.errors || is_some f.slower
+
+-- whether an error, or a value that is no error, is let through if it belongs to no command
+abbrev pub keeps_loose : Filter → Bool → Bool
+keeps_loose f is_error = has_no_name f && keeps_answer f is_error None
+
+-- Whether a result is let through: what the client sent, or what the server sent. `is_chosen` says whether the command of
+-- a reply is let through by its name, and `waited` how long it waited.
+abbrev pub keeps_seen : Filter → Bool → Option ℕ → Seen → Bool
+keeps_seen f is_chosen waited seen.Nothing = false
+keeps_seen f is_chosen waited seen.Passed = false
+keeps_seen f is_chosen waited (seen.Command number words) = not (is_by_reply f) && keeps_words f words
+keeps_seen f is_chosen waited (seen.Reply number x) = is_chosen && keeps_answer f (is_refusal (datum_of x)) waited
+keeps_seen f is_chosen waited (seen.Push items) = keeps_loose f false
+keeps_seen f is_chosen waited (seen.Value x) = keeps_loose f (is_refusal (datum_of x))
+keeps_seen f is_chosen waited (seen.NotCommand number) = true
+keeps_seen f is_chosen waited (seen.Refused cause at where') = true
+
+-- whether a result of this client is let through
+abbrev pub keeps : Filter → ℕ → Bool → Option ℕ → Seen → Bool
+keeps f client is_chosen waited what = keeps_client f client && keeps_seen f is_chosen waited what
+
+-- whether only some commands are let through
+abbrev pub is_selective : Filter → Bool
+is_selective f = is_by_reply f || not (has_no_name f)
+
+-- whether the line is let through that says that this client's connection has gone
+abbrev pub keeps_gone : Filter → ℕ → Bool
+keeps_gone f client = keeps_client f client && not (is_selective f)
+
+-- whether the line is let through that says that a side has closed the connection, inside this command or reply if there
+-- is one
+abbrev pub keeps_end : Filter → ℕ → Option Cut → Bool
+keeps_end f client cut = keeps_client f client && (is_some cut || not (is_selective f))

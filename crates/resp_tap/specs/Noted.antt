@@ -1,0 +1,94 @@
+-- What is kept of the commands that wait while a filter is used, and what is printed through it.
+use Rattle.std.specs.Prelude.{◌≡◌, ℕ, ◌-◌, ◌≤◌, Bool, true, false, ◌&&◌, List, [], ◌∷◌, ◌++◌, length, drop, take, nat_lt, Option, None, Some, option_map, ◌⊎◌, if◌then◌else◌, codes}
+use Rattle.resp_tap.specs.Filters.{has_no_name, is_by_reply, is_selective, keeps, keeps_words}
+use Rattle.resp_tap.specs.Secrets.{printed_words}
+use Rattle.resp_tap.specs.Texts.{numbered_line, seen_text, words_text}
+use Rattle.resp_tap.specs.declared.filter.Filter.{Filter}
+use Rattle.resp_tap.specs.declared.moment.Moment.{Moment}
+use Rattle.resp_tap.specs.declared.note.Note.{Note}
+use Rattle.resp_tap.specs.declared.print.Printing.{Printing}
+use Rattle.resp_tap.specs.declared.seen.Seen.{Seen}
+use Rattle.resp_tap.specs.declared.seen.Seen.TheVariants as seen
+use Rattle.resp_tap.specs.declared.stamp.Stamp.{Stamp}
+
+-- ---- what is kept
+
+-- The most bytes that are kept of the words of a command behind this many others that wait. The first 1,024 commands have
+-- room.
+abbrev pub room_behind : ℕ → ℕ
+room_behind behind = if nat_lt behind 1024 then 1024 else 0
+
+-- The same of a command that is let through by its name or is not. Words are kept only if the reply decides whether the
+-- command is printed.
+abbrev pub room_for : Filter → Bool → ℕ → ℕ
+room_for f is_chosen behind = if is_by_reply f && is_chosen then room_behind behind else 0
+
+-- the text of a command's words, without the secret ones
+abbrev pub shown_words : Printing → List (List ℕ) → List ℕ
+shown_words p words = words_text (printed_words p.shows_passwords words)
+
+-- this is kept of a command that arrived at this moment, if so many bytes are kept of its words
+pub record IsNote (f : Filter) (p : Printing) (now : Option Moment) (words : List (List ℕ)) (room : ℕ) (note : Note) :
+    Type 0 where
+  pub time : note.of_day ≡ option_map (λ (moment : Moment). moment.of_day) now
+  pub chosen : note.is_chosen ≡ keeps_words f words
+  pub first_bytes : note.text.items ≡ take room (shown_words p words)
+  pub whole : note.is_whole ≡ true → length (shown_words p words) ≤ room
+  pub part : note.is_whole ≡ false → room ≤ length (shown_words p words)
+
+-- the next command that waits was added; or memory for it was out, or nothing is kept of a command before it
+abbrev pub IsAdded : Filter → Printing → Option Moment → List (List ℕ) → List Note → List Note → Type 0
+IsAdded f p now words old new = (new ≡ old) ⊎
+    ((note : Note) × IsNote f p now words (room_for f (keeps_words f words) (length old)) note × (new ≡ old ++ note ∷ []))
+
+-- after a result, by which one more command waits or this many wait no more
+abbrev pub NotesBy : Bool → Filter → Printing → Option Moment → Seen → ℕ → List Note → List Note → Type 0
+NotesBy true f p now (seen.Command number words) gone old new = IsAdded f p now words old new
+NotesBy more f p now what gone old new = new ≡ drop gone old
+
+-- What is kept after a result, if this many commands waited before it and after it: that of a new command is added, and
+-- that of commands that wait no more is dropped.
+abbrev pub NotesAfter : Filter → Printing → Option Moment → Seen → ℕ → ℕ → List Note → List Note → Type 0
+NotesAfter f p now what before after old new =
+    NotesBy (nat_lt before after && is_selective f) f p now what (before - after) old new
+
+-- ---- what is printed
+
+-- the end of the line of a command's words, of which all or a part is kept
+abbrev pub line_end : Bool → List ℕ
+line_end is_whole = if is_whole then codes "\n" else codes " ..\n"
+
+-- the line of a command's words, of which this text is kept
+abbrev pub kept_line : Bool → List ℕ → List ℕ
+kept_line is_whole text = codes " " ++ (text ++ line_end is_whole)
+
+abbrev pub stamp_on : Option ℕ → Option Stamp
+stamp_on None = None
+stamp_on (Some of_day) = Some (record { of_day = of_day; waited = None })
+
+-- the lines of a command that waited, by what is kept of it
+abbrev pub deferred_text : ℕ → ℕ → Option Note → List ℕ
+deferred_text client number None = numbered_line client (codes " command ") number None ++ kept_line false []
+deferred_text client number (Some note) =
+    numbered_line client (codes " command ") number (stamp_on note.of_day) ++ kept_line note.is_whole note.text.items
+
+-- the lines before a result: those of its command, if the reply has decided
+abbrev pub before_text : Filter → ℕ → Option Note → Seen → List ℕ
+before_text f client note (seen.Reply number x) = if is_by_reply f then deferred_text client number note else []
+before_text f client _ what = []
+
+-- whether the command of a reply is let through by its name
+abbrev pub chosen_by : Filter → Option Note → Bool
+chosen_by f None = has_no_name f
+chosen_by f (Some note) = note.is_chosen
+
+abbrev pub waited_in : Option Stamp → Option ℕ
+waited_in None = None
+waited_in (Some stamp) = stamp.waited
+
+-- The lines of a result through a filter. `note` is what is kept of the command that the next reply belongs to.
+abbrev pub filtered_text : Filter → Printing → Option Note → Option Stamp → Seen → List ℕ
+filtered_text f p note stamp what =
+    if keeps f p.client (chosen_by f note) (waited_in stamp) what
+    then before_text f p.client note what ++ seen_text p stamp what
+    else []

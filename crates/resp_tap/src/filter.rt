@@ -1,0 +1,185 @@
+//! Which commands, replies and other lines are printed.
+
+ghost use Rattle.std.specs.Prelude.{◌≡◌, [], None, false};
+ghost use Rattle.std.specs.List.{list_any};
+ghost use Rattle.resp_tap.specs.Filters.{has_no_name, is_by_reply, is_late, is_selective, keeps, keeps_answer, keeps_client, keeps_end, keeps_gone, keeps_loose, keeps_seen, keeps_words, name_in, same_name};
+
+use crate::end::Cut;
+use crate::line::is_refusal;
+use crate::seen::Seen;
+use resp_session::words::Words;
+use std::alloc::Global;
+
+/// Decides which commands, replies and other lines are printed. A command is printed if it passes
+/// all parts of the filter. All traffic is read and forwarded in any case.
+///
+/// # Examples
+///
+/// From [samples](../../samples/src/tapping.rt):
+///
+/// ```rust
+/// let mut filter = Filter::all(alloc);
+/// filter.errors = true;
+/// println!(rt; "{}", filter.is_by_reply())?;
+/// ```
+///
+/// This prints `true`.
+#[derive(Debug, Drop)]
+pub struct Filter {
+    /// Whether a command is printed only if its reply is an error.
+    pub errors: bool,
+    /// The microseconds that a command waits at least, if only slower commands are printed.
+    pub slower: Option<u64>,
+    /// The names of the commands that are printed, in upper, lower or mixed case. Without a name,
+    /// all are printed.
+    pub names: Vec<Vec<u8>>,
+    /// The client whose lines are printed, if only one client's are.
+    pub client: Option<u64>,
+}
+
+/// Returns whether a delay is greater than `least`, or all delays are let through.
+fn is_late(least: Option<u64>, waited: Option<u64>) -> bool
+    ensures { result ≡ is_late least waited }
+{
+    match (least, waited) {
+        (None, _) => true,
+        (Some(_), None) => false,
+        (Some(least), Some(waited)) => least < waited,
+    }
+}
+
+/// Returns the name of a command.
+fn name_in(words: &Words) -> &[u8]
+    ensures { result.now ≡ name_in words.now }
+{
+    if words.len() == 0 { b"" } else { words.word(0) }
+}
+
+/// Returns whether these are the same name, in upper, lower or mixed case.
+fn same_name(name: &[u8], other: &[u8]) -> bool
+    ensures { result ≡ same_name name.now other.now }
+{
+    name.eq_ignore_ascii_case(other)
+}
+
+/// Returns whether this name is among the names, in upper, lower or mixed case.
+fn is_among(names: &[Vec<u8>], name: &[u8]) -> bool
+    ensures { result ≡ list_any (λ other. same_name name.now other.items) names.now }
+{
+    let mut index = 0;
+    while index < names.len() {
+        if same_name(name, names[index].as_slice()) {
+            return true;
+        }
+        index += 1;
+    }
+    false
+}
+
+impl Filter {
+    /// Returns a filter that everything passes. It allocates nothing.
+    pub fn all(alloc: Global) -> Filter
+        ensures errors { result.errors ≡ false }
+        ensures slower { result.slower ≡ None }
+        ensures names { result.names.items ≡ [] }
+        ensures client { result.client ≡ None }
+    {
+        Filter {
+            errors: false,
+            slower: None,
+            names: Vec::new(alloc),
+            client: None,
+        }
+    }
+
+    /// Returns whether the lines about a client are printed.
+    pub fn keeps_client(&self, client: u64) -> bool
+        ensures { result ≡ keeps_client self.now client }
+    {
+        match self.client {
+            None => true,
+            Some(number) => number == client,
+        }
+    }
+
+    /// Returns whether a command is printed only with its reply, because the reply decides.
+    pub fn is_by_reply(&self) -> bool
+        ensures { result ≡ is_by_reply self.now }
+    {
+        self.errors || self.slower.is_some()
+    }
+
+    /// Returns whether commands of all names are printed.
+    pub fn has_no_name(&self) -> bool
+        ensures { result ≡ has_no_name self.now }
+    {
+        self.names.is_empty()
+    }
+
+    /// Returns whether commands with these words are printed, by their name.
+    pub fn keeps_words(&self, words: &Words) -> bool
+        ensures { result ≡ keeps_words self.now words.now }
+    {
+        self.has_no_name() || is_among(self.names.as_slice(), name_in(words))
+    }
+
+    /// Returns whether a reply is printed that arrived after this delay.
+    fn keeps_answer(&self, is_error: bool, waited: Option<u64>) -> bool
+        ensures { result ≡ keeps_answer self.now is_error waited }
+    {
+        (!self.errors || is_error) && is_late(self.slower, waited)
+    }
+
+    /// Returns whether a value is printed that belongs to no command.
+    fn keeps_loose(&self, is_error: bool) -> bool
+        ensures { result ≡ keeps_loose self.now is_error }
+    {
+        self.has_no_name() && self.keeps_answer(is_error, None)
+    }
+
+    /// Returns whether a result is printed, if the lines about its client are.
+    fn keeps_seen(&self, is_chosen: bool, waited: Option<u64>, seen: &Seen) -> bool
+        ensures { result ≡ keeps_seen self.now is_chosen waited seen.now }
+    {
+        match seen {
+            Seen::Nothing | Seen::Passed => false,
+            Seen::Command { words, .. } => !self.is_by_reply() && self.keeps_words(words),
+            Seen::Reply { value, .. } => is_chosen && self.keeps_answer(is_refusal(value), waited),
+            Seen::Push(_) => self.keeps_loose(false),
+            Seen::Value(value) => self.keeps_loose(is_refusal(value)),
+            Seen::NotCommand { .. } | Seen::Refused { .. } => true,
+        }
+    }
+
+    /// Returns whether a result of this client is printed. `is_chosen` says whether the command of
+    /// a reply has a name that is printed, and `waited` how many microseconds it waited.
+    pub fn keeps(&self, client: u64, is_chosen: bool, waited: Option<u64>, seen: &Seen) -> bool
+        ensures { result ≡ keeps self.now client is_chosen waited seen.now }
+    {
+        self.keeps_client(client) && self.keeps_seen(is_chosen, waited, seen)
+    }
+
+    /// Returns whether only some commands are printed.
+    pub fn is_selective(&self) -> bool
+        ensures { result ≡ is_selective self.now }
+    {
+        self.is_by_reply() || !self.has_no_name()
+    }
+
+    /// Returns whether the line is printed that says that a client's connection has gone. It is not
+    /// printed if only some commands are.
+    pub fn keeps_gone(&self, client: u64) -> bool
+        ensures { result ≡ keeps_gone self.now client }
+    {
+        self.keeps_client(client) && !self.is_selective()
+    }
+
+    /// Returns whether the line is printed that says that one side has closed a client's connection,
+    /// with the incomplete command or reply of that side. If only some commands are printed, only a
+    /// line with an incomplete command or reply is.
+    pub fn keeps_end(&self, client: u64, cut: Option<Cut>) -> bool
+        ensures { result ≡ keeps_end self.now client cut }
+    {
+        self.keeps_client(client) && (cut.is_some() || !self.is_selective())
+    }
+}

@@ -1,0 +1,226 @@
+//! A tap whose traffic is printed through a filter.
+
+ghost use Rattle.std.specs.Prelude.{◌≡◌, ◌<◌, ◌≤◌, ◌-◌, List, [], length, drop};
+ghost use Rattle.resp_tap.specs.Filtering.{FiltersAll, PrintsFiltered, SeesFiltered};
+ghost use Rattle.resp_tap.specs.Noted.{IsAdded, NotesAfter, NotesBy};
+ghost use Rattle.resp_tap.specs.Taps.{new_tap, tap_state};
+ghost use Rattle.resp_tap.specs.Times.{waits_in};
+ghost use Rattle.resp_tap.specs.Watches.{KeepsOther};
+ghost use Rattle.resp_tap.specs.Watching.{HasTakenRequest, HasTakenValue};
+ghost use Rattle.resp_tap.specs.declared.seen.Seen.{Seen};
+
+use crate::filter::Filter;
+use crate::moment::Moment;
+use crate::note::{Note, note_of, write_filtered};
+use crate::print::Printing;
+use crate::seen::Seen;
+use crate::tap::Tap;
+use crate::timed::TimedTap;
+use crate::watch::{Side, Watched, first_error, stamp_of, step};
+use resp_print::print_error::PrintError;
+use resp_session::words::Words;
+use resp_value::device::Sink;
+use resp_value::limits::Limits;
+use std::alloc::Global;
+use std::collections::VecDeque;
+
+/// A tap whose traffic is printed through a [`Filter`].
+///
+/// If a filter has names, or prints a command only with its reply, the tap keeps 56 bytes of each
+/// command that waits. If the reply decides, it also keeps the first 1,024 bytes of the text of the
+/// command's words. It keeps such a text only of a command behind fewer than 1,024 others that wait,
+/// so it keeps at most 1,024 texts. Use the same filter for all bytes of a connection.
+///
+/// If an allocation fails, nothing is kept of the command, and of the commands after it as long as
+/// it waits.
+#[derive(Drop)]
+pub struct FilteredTap {
+    pub(crate) alloc: Global,
+    pub(crate) timed: TimedTap,
+    /// What is kept of the commands that wait, in their order.
+    pub(crate) notes: VecDeque<Note>,
+}
+
+impl FilteredTap {
+    /// Returns a tap of a new connection, which is read within these limits. It allocates nothing.
+    pub fn new(alloc: Global, limits: &Limits) -> FilteredTap
+        ensures nothing_passed { tap_state result.timed.tap ≡ new_tap limits.now }
+        ensures nothing_requested { HasTakenRequest result.timed.tap [] }
+        ensures nothing_answered { HasTakenValue result.timed.tap [] }
+        ensures nothing_kept { result.notes.items ≡ [] }
+    {
+        FilteredTap {
+            alloc,
+            timed: TimedTap::new(alloc, limits),
+            notes: VecDeque::new(alloc),
+        }
+    }
+
+    /// Returns the tap without what is kept for the filter.
+    pub fn tap(&self) -> &Tap
+        ensures { result.now ≡ self.now.timed.tap }
+    {
+        self.timed.tap()
+    }
+
+    /// Adds or drops what is kept of the commands that wait, after a result before which so many
+    /// commands waited.
+    fn follow(
+        &mut self,
+        filter: &Filter,
+        printing: Printing,
+        now: Option<Moment>,
+        before: u64,
+        seen: &Seen,
+    )
+        ensures notes { NotesAfter filter.now printing now seen.now before (waits_in self.old.timed)
+            self.old.notes.items self.new.notes.items }
+        ensures same_tap { self.new.timed ≡ self.old.timed }
+    {
+        let after = self.timed.tap.waiting();
+        match seen {
+            Seen::Command { words, .. } if before < after && filter.is_selective() => {
+                self.add(filter, printing, now, before, words);
+            }
+            _ => self.drop_first(before.saturating_sub(after)),
+        }
+    }
+
+    /// Keeps what is needed of a command behind so many others that wait.
+    fn add(
+        &mut self,
+        filter: &Filter,
+        printing: Printing,
+        now: Option<Moment>,
+        before: u64,
+        words: &Words,
+    )
+        ensures notes { IsAdded filter.now printing now words.now self.old.notes.items
+            self.new.notes.items }
+        ensures same_tap { self.new.timed ≡ self.old.timed }
+    {
+        let behind = self.notes.len();
+        // Otherwise nothing is kept of a command before this one.
+        if behind as u64 != before {
+            return;
+        }
+        if let Ok(note) = note_of(self.alloc, filter, printing, now, words, behind) {
+            let _ = self.notes.push_back(note);
+        }
+    }
+
+    /// Drops what is kept of the first commands.
+    fn drop_first(&mut self, count: u64)
+        ensures notes { self.new.notes.items ≡ drop count self.old.notes.items }
+        ensures same_tap { self.new.timed ≡ self.old.timed }
+    {
+        let mut left = count;
+        while left > 0 && !self.notes.is_empty() {
+            let _ = self.notes.pop_front();
+            left -= 1;
+        }
+    }
+}
+
+/// Reads bytes that one side sent, until there is a result or the piece ends, as
+/// [`watch_some`](crate::watch::watch_some) does, and prints the result if the filter lets it
+/// through. A command whose reply decides is printed before the reply.
+///
+/// # Errors
+///
+/// [`Watched::printed`] has the error of printing. The tap has read the bytes in any case.
+pub fn watch_filtered_some<W: Sink>(
+    tap: &mut FilteredTap,
+    filter: &Filter,
+    printing: Printing,
+    side: Side,
+    piece: &[u8],
+    now: Option<Moment>,
+    writer: &mut W,
+) -> Watched
+    ensures watches { (what : Seen) ×
+        SeesFiltered filter.now printing side now tap.old tap.new piece.now result.used what ×
+        PrintsFiltered filter.now printing now tap.old what (W.written writer.old)
+        (W.written writer.new) (W.failures writer.old) (W.failures writer.new) result.printed }
+    ensures other_side { KeepsOther side tap.old.timed.tap tap.new.timed.tap }
+    ensures within_piece { result.used ≤ length piece.now }
+    ensures uses_bytes { 0 < length piece.now → 0 < result.used }
+{
+    let asked = tap.timed.asked();
+    let before = tap.timed.tap.waiting();
+    let at = tap.timed.tap.line.asked_at();
+    let step = step(&mut tap.timed, side, piece, now);
+    let stamp = stamp_of(now, asked, &step.seen);
+    let printed = write_filtered(
+        filter,
+        printing,
+        tap.notes.get(at),
+        stamp,
+        &step.seen,
+        writer,
+    );
+    tap.follow(filter, printing, now, before, &step.seen);
+    Watched {
+        used: step.used,
+        printed,
+    }
+}
+
+/// Reads a piece that one side sent, and prints all commands, replies and pushes in it that the
+/// filter lets through, as [`watch_filtered_some`] does.
+///
+/// # Errors
+///
+/// The first error of printing. The tap has read the whole piece, and has tried to print all of its
+/// results.
+///
+/// # Examples
+///
+/// From [samples](../../samples/src/tapping.rt):
+///
+/// ```rust
+/// let mut tap = FilteredTap::new(alloc, &Limits::standard());
+/// let mut text = MemorySink::new(alloc, 4_096, 4_096)?;
+/// let printing = Printing {
+///     client: 1,
+///     shows_passwords: false,
+/// };
+/// let sent = b"*1\r\n$4\r\nPING\r\n*2\r\n$4\r\nINCR\r\n$1\r\na\r\n";
+/// watch_filtered(&mut tap, &filter, printing, Side::Client, sent, None, &mut text)?;
+/// let heard = b"+PONG\r\n-WRONGTYPE not a number\r\n";
+/// watch_filtered(&mut tap, &filter, printing, Side::Server, heard, None, &mut text)?;
+/// print!(rt; "{}", str::from_utf8(text.bytes())?)?;
+/// ```
+///
+/// With a filter that prints errors only, this prints:
+///
+/// ```text
+/// client 1 command 2
+///   "INCR" "a"
+/// client 1 reply 2
+///   error "WRONGTYPE not a number" 22
+/// ```
+pub fn watch_filtered<W: Sink>(
+    tap: &mut FilteredTap,
+    filter: &Filter,
+    printing: Printing,
+    side: Side,
+    piece: &[u8],
+    now: Option<Moment>,
+    writer: &mut W,
+) -> Result<(), PrintError>
+    ensures watches { (all : List Seen) × FiltersAll filter.now printing side now all tap.old tap.new
+        piece.now (W.written writer.old) (W.written writer.new) (W.failures writer.old)
+        (W.failures writer.new) result }
+    ensures other_side { KeepsOther side tap.old.timed.tap tap.new.timed.tap }
+{
+    let mut rest = piece;
+    let mut printed = Ok(());
+    while !rest.is_empty() {
+        let watched = watch_filtered_some(tap, filter, printing, side, rest, now, writer);
+        printed = first_error(printed, watched.printed);
+        // At least one byte was read.
+        rest = &rest[watched.used..];
+    }
+    printed
+}

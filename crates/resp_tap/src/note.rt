@@ -1,0 +1,274 @@
+//! What is kept of a command that waits, while a filter is used.
+
+ghost use Rattle.std.specs.Prelude.{◌++◌, ◌≡◌, ◌≤◌, [], false, true, length, take, IfOk, codes, if◌then◌else◌, option_map};
+ghost use Rattle.resp_print.specs.Printed.{Prints};
+ghost use Rattle.resp_print.specs.Written.{WritesText};
+ghost use Rattle.resp_tap.specs.Filters.{is_by_reply, keeps_words};
+ghost use Rattle.resp_tap.specs.Noted.{IsNote, before_text, chosen_by, deferred_text, filtered_text, kept_line, line_end, room_behind, room_for, shown_words, stamp_on, waited_in};
+ghost use Rattle.resp_tap.specs.Texts.{levels_of, numbered_line};
+
+use crate::filter::Filter;
+use crate::moment::Moment;
+use crate::print::{Printing, secrets_for, write_numbered_line, write_seen, write_words};
+use crate::seen::Seen;
+use crate::stamp::Stamp;
+use resp_print::print_error::PrintError;
+use resp_print::text::write_text;
+use resp_session::words::Words;
+use resp_value::device::{DeviceFault, MemorySink, Sink};
+use std::alloc::{AllocError, Global};
+
+/// The most bytes that are kept of the words of a command.
+const SHOWN: usize = 1_024;
+
+/// The most commands of a connection of whose words bytes are kept.
+const MOST_KEPT: usize = 1_024;
+
+/// What is kept of a command that waits for its reply.
+#[derive(Debug, Drop)]
+pub(crate) struct Note {
+    /// The time of day at which it arrived, in microseconds, if times are printed.
+    pub(crate) of_day: Option<u64>,
+    /// Whether the filter lets it through by its name.
+    pub(crate) is_chosen: bool,
+    /// Whether the text is that of all its words.
+    pub(crate) is_whole: bool,
+    /// The first bytes of the text of its words, as they are printed.
+    pub(crate) text: Vec<u8>,
+}
+
+impl Filter {
+    /// Returns the most bytes that are kept of a command behind this many others.
+    fn room_for(&self, is_chosen: bool, behind: usize) -> usize
+        ensures { result ≡ room_for self.now is_chosen behind }
+    {
+        if self.is_by_reply() && is_chosen {
+            room_behind(behind)
+        } else {
+            0
+        }
+    }
+}
+
+/// Returns the most bytes that are kept of the words of a command behind this many others.
+fn room_behind(behind: usize) -> usize
+    ensures { result ≡ room_behind behind }
+{
+    if behind < MOST_KEPT { SHOWN } else { 0 }
+}
+
+/// Returns what is kept of a command.
+///
+/// # Errors
+///
+/// `AllocError` if an allocation fails.
+pub(crate) fn note_of(
+    alloc: Global,
+    filter: &Filter,
+    printing: Printing,
+    now: Option<Moment>,
+    words: &Words,
+    behind: usize,
+) -> Result<Note, AllocError>
+    ensures { IfOk result (IsNote filter.now printing now words.now
+        (room_for filter.now (keeps_words filter.now words.now) behind)) }
+{
+    let is_chosen = filter.keeps_words(words);
+    let room = filter.room_for(is_chosen, behind);
+    let (text, is_whole) = first_bytes(alloc, printing, words, room)?;
+    Ok(Note {
+        of_day: of_day(now),
+        is_chosen,
+        is_whole,
+        text,
+    })
+}
+
+/// Returns the time of day of a moment.
+fn of_day(now: Option<Moment>) -> Option<u64>
+    ensures { result ≡ option_map (λ (moment : Moment). moment.of_day) now }
+{
+    match now {
+        Some(now) => Some(now.of_day),
+        None => None,
+    }
+}
+
+/// Returns the first `room` bytes of the text of a command's words, and whether they are all.
+///
+/// # Errors
+///
+/// `AllocError` if an allocation fails.
+fn first_bytes(
+    alloc: Global,
+    printing: Printing,
+    words: &Words,
+    room: usize,
+) -> Result<(Vec<u8>, bool), AllocError>
+    requires { room ≤ 1024 }
+    ensures bytes { IfOk result (λ kept. kept.0.items ≡ take room (shown_words printing words.now)) }
+    ensures whole { IfOk result (λ kept. kept.1 ≡ true →
+        length (shown_words printing words.now) ≤ room) }
+    ensures part { IfOk result (λ kept. kept.1 ≡ false →
+        room ≤ length (shown_words printing words.now)) }
+{
+    if room == 0 {
+        return Ok((Vec::new(alloc), false));
+    }
+    // With one byte more it is known whether the text is longer.
+    let mut sink = MemorySink::new(alloc, usize::MAX, room + 1)?;
+    let written = write_words(words, secrets_for(printing, words), &mut sink);
+    let text = sink.bytes();
+    if written.is_err() && text.len() <= room {
+        return Err(AllocError);
+    }
+    let is_whole = text.len() <= room;
+    Ok((
+        Vec::from_slice(alloc, &text[..room.min(text.len())])?,
+        is_whole,
+    ))
+}
+
+/// Returns whether the command of a reply has a name that is printed.
+fn is_chosen(filter: &Filter, note: Option<&Note>) -> bool
+    ensures { result ≡ chosen_by filter.now (option_map (λ note. note.now) note.entry) }
+{
+    match note {
+        Some(note) => note.is_chosen,
+        None => filter.has_no_name(),
+    }
+}
+
+/// Returns how long the command of a reply waited.
+fn waited_in(stamp: Option<Stamp>) -> Option<u64>
+    ensures { result ≡ waited_in stamp }
+{
+    match stamp {
+        Some(stamp) => stamp.waited,
+        None => None,
+    }
+}
+
+/// Returns the stamp of a command that arrived at this time of day.
+fn stamp_on(of_day: Option<u64>) -> Option<Stamp>
+    ensures { result ≡ stamp_on of_day }
+{
+    match of_day {
+        Some(of_day) => Some(Stamp {
+            of_day,
+            waited: None,
+        }),
+        None => None,
+    }
+}
+
+/// Writes the lines of a result, if the filter lets it through. `note` is what is kept of the
+/// command that the next reply belongs to.
+///
+/// # Errors
+///
+/// The errors of [`write_seen`]. The first part of the text was written.
+pub(crate) fn write_filtered<W: Sink>(
+    filter: &Filter,
+    printing: Printing,
+    note: Option<&Note>,
+    stamp: Option<Stamp>,
+    seen: &Seen,
+    writer: &mut W,
+) -> Result<(), PrintError>
+    ensures { Prints (W.written writer.old) (W.written writer.new) (W.failures writer.old)
+        (W.failures writer.new) result (filtered_text filter.now printing
+        (option_map (λ note. note.now) note.entry) stamp seen.now) (levels_of seen.now) }
+{
+    let is_chosen = is_chosen(filter, note);
+    if !filter.keeps(printing.client, is_chosen, waited_in(stamp), seen) {
+        return Ok(());
+    }
+    match write_before(filter, printing.client, note, seen, writer) {
+        Ok(()) => write_seen(printing, stamp, seen, writer),
+        Err(_) => Err(PrintError::Write),
+    }
+}
+
+/// Writes the lines of the command of a reply, if the reply has decided that it is printed.
+fn write_before<W: Sink>(
+    filter: &Filter,
+    client: u64,
+    note: Option<&Note>,
+    seen: &Seen,
+    writer: &mut W,
+) -> Result<(), DeviceFault>
+    ensures { WritesText (W.written writer.old) (W.written writer.new) (W.failures writer.old)
+        (W.failures writer.new) result (before_text filter.now client
+        (option_map (λ note. note.now) note.entry) seen.now) }
+{
+    match seen {
+        Seen::Reply { number, .. } => write_if_deferred(filter, client, *number, note, writer),
+        _ => Ok(()),
+    }
+}
+
+/// Writes the lines of a command, if its reply has decided that it is printed.
+fn write_if_deferred<W: Sink>(
+    filter: &Filter,
+    client: u64,
+    number: u64,
+    note: Option<&Note>,
+    writer: &mut W,
+) -> Result<(), DeviceFault>
+    ensures { WritesText (W.written writer.old) (W.written writer.new) (W.failures writer.old)
+        (W.failures writer.new) result (if is_by_reply filter.now then
+        deferred_text client number (option_map (λ note. note.now) note.entry) else []) }
+{
+    if !filter.is_by_reply() {
+        return Ok(());
+    }
+    match note {
+        Some(note) => {
+            let stamp = stamp_on(note.of_day);
+            write_deferred(
+                client,
+                number,
+                stamp,
+                note.is_whole,
+                note.text.as_slice(),
+                writer,
+            )
+        }
+        None => write_deferred(client, number, None, false, b"", writer),
+    }
+}
+
+/// Writes the heading of a command, and the kept part of its words.
+fn write_deferred<W: Sink>(
+    client: u64,
+    number: u64,
+    stamp: Option<Stamp>,
+    is_whole: bool,
+    text: &[u8],
+    writer: &mut W,
+) -> Result<(), DeviceFault>
+    ensures { WritesText (W.written writer.old) (W.written writer.new) (W.failures writer.old)
+        (W.failures writer.new) result (numbered_line client (codes " command ") number stamp ++
+        kept_line is_whole text.now) }
+{
+    write_numbered_line(client, b" command ", number, stamp, writer)?;
+    write_kept_line(is_whole, text, writer)
+}
+
+/// Returns the end of the line of words of which a part is kept.
+fn line_end(is_whole: bool) -> &'static [u8]
+    ensures { result.now ≡ line_end is_whole }
+{
+    if is_whole { b"\n" } else { b" ..\n" }
+}
+
+/// Writes the kept part of a command's words as a line.
+fn write_kept_line<W: Sink>(is_whole: bool, text: &[u8], writer: &mut W) -> Result<(), DeviceFault>
+    ensures { WritesText (W.written writer.old) (W.written writer.new) (W.failures writer.old)
+        (W.failures writer.new) result (kept_line is_whole text.now) }
+{
+    write_text(writer, b" ")?;
+    write_text(writer, text)?;
+    write_text(writer, line_end(is_whole))
+}
