@@ -17,3 +17,4 @@ pub mod FrontsTaken
 pub mod SameBytes
 pub mod RunWords
 pub mod Failures
+pub mod HintLemmas

@@ -10,8 +10,11 @@ use Rattle.resp_value.specs.Spellings.{IsViable}
 use Rattle.resp_value.specs.Trees.{Spells}
 use Rattle.resp_value.proofs.Unique.{same_tree}
 use Rattle.resp_value.proofs.ViabilityLaws.{fronts_of_viable_texts_are_viable, viable_under_each}
-use Rattle.resp_tool.specs.Explained.{IsHeld, IsNextOf, Says, reason_text}
+use Rattle.resp_tool.specs.Explained.{Hints, IsHeld, IsHintOf, IsNextOf, Says, reason_text}
 use Rattle.resp_tool.specs.Valid.{AreNext, GoesOn, NamesNext, next_text}
+use Rattle.resp_tool.specs.Hints.{IsHint}
+use Rattle.resp_tool.specs.declared.hint.Hint.{Hint}
+use Rattle.resp_tool.specs.declared.hint.NewType.{NewType}
 use Rattle.resp_tool.specs.declared.valid.NextBytes.{NextBytes}
 use Rattle.resp_args.specs.declared.tool_error.ToolError.{ToolError}
 use Rattle.std.proofs.Math.Seq.{drop-append_seam}
@@ -119,14 +122,14 @@ module _ (r : Rules) (front found : List ℕ) (goes_on : Bool) (byte : ℕ) (bel
       order (inr (inr above)) g = absurd (omega (arith, less, above))
 
 -- what is known of a place, when the front of its value is looked for
-module _ (r : Rules) (held : ℕ) (bytes front rest : List ℕ) (at missing : ℕ) (error : ToolError) (whole : bytes ≡ front ++ rest)
+module _ (r : Rules) (held : ℕ) (bytes front rest : List ℕ) (at missing : ℕ) (new_type : Option NewType) (error : ToolError) (whole : bytes ≡ front ++ rest)
     (found : Option (List ℕ)) (is_front : IfSome found (λ text. text ≡ take at (drop (length front) bytes)))
     (is_found : IsHeld held bytes front at → IsSome found) where
-  pub says_reason : (next : Option NextBytes) → IsNextOf r error found next → Says r held bytes front rest at missing error (reason_text r missing error next)
+  pub says_reason : (next : Option NextBytes) → IsNextOf r error found next → Says r held bytes front rest at missing new_type error (reason_text r missing new_type error next)
   says_reason next known = go found refl next known
     where
       go : (o : Option (List ℕ)) → found ≡ o → (next : Option NextBytes) → IsNextOf r error o next →
-          Says r held bytes front rest at missing error (reason_text r missing error next)
+          Says r held bytes front rest at missing new_type error (reason_text r missing new_type error next)
       go None is (Some next) known = absurd known
       go None is None known = record {
         either = inl refl;
@@ -143,6 +146,26 @@ module _ (r : Rules) (held : ℕ) (bytes front rest : List ℕ) (at missing : �
             is_text = refl;
           } in
           record { either = inr (known.0, names); named = λ syntax is_held. names }
+
+  pub hints_reason : (after : List ℕ) (hint : Option Hint) → IsHintOf error found after hint → Hints held bytes front rest at after error hint
+  hints_reason after hint known = go found refl known
+    where
+      go : (o : Option (List ℕ)) → found ≡ o → IsHintOf error o after hint → Hints held bytes front rest at after error hint
+      go None is known = record {
+        either = inl known;
+        hinted = λ syntax is_held. let some = is_found is_held in absurd (cc);
+      }
+      go (Some text) is known =
+          let at_front = rw is at is_front in
+          let of_rest : text ≡ take at rest = at_front ∙ ap (λ z. take at (drop (length front) z)) whole ∙ ap (take at) (drop-append_seam front rest) in
+          cases text of_rest known
+        where
+          cases : (text : List ℕ) → text ≡ take at rest → IsHintOf error (Some text) after hint → Hints held bytes front rest at after error hint
+          cases text of_rest (inl (syntax, is_hint)) = record {
+            either = inr (syntax, subst (λ z. IsHint z after hint) of_rest is_hint);
+            hinted = λ _ is_held. subst (λ z. IsHint z after hint) of_rest is_hint;
+          }
+          cases text of_rest (inr (other, none)) = record { either = inl none; hinted = λ syntax is_held. absurd (other syntax) }
 
 -- what holds of a reference holds of what it points at
 pub of_text : (o : Option (Bor (List ℕ))) (P : List ℕ → Type 0) → IfSome o (λ x. P x.now) → IfSome (option_map (λ x. x.now) o) P

@@ -1,7 +1,10 @@
 -- The lines that explain an error in a stream.
 use Rattle.std.specs.Prelude.{◌≡◌, ◌⊎◌, ℕ, ◌+◌, ◌-◌, ◌≤◌, false, List, [], ◌++◌, length, drop, take, codes, decimal, replicate, Option}
 use Rattle.std.specs.Prelude.{Some, None}
+use Rattle.resp_tool.specs.Hints.{IsHint, IsNewType, hint_line, version_text}
 use Rattle.resp_tool.specs.Valid.{AreNext, NamesNext, next_text}
+use Rattle.resp_tool.specs.declared.hint.Hint.{Hint}
+use Rattle.resp_tool.specs.declared.hint.NewType.{NewType}
 use Rattle.resp_tool.specs.declared.valid.NextBytes.{NextBytes}
 use Rattle.resp_value.specs.Data.{Datum}
 use Rattle.resp_value.specs.Devices.{Appends, last_count}
@@ -73,23 +76,23 @@ double_text Two = codes "a double; use -3"
 double_text Three = codes "a double; use --doubles or -3"
 
 -- why a byte is not valid, and which option accepts it
-abbrev pub cause_text : Rules → ℕ → Cause → List ℕ
-cause_text r missing cause.Double = double_text r.version
-cause_text r missing cause.Version = codes "version 2 doesn't have this; use -3"
-cause_text r missing cause.NestedPush = codes "a push cannot be inside another value"
-cause_text r missing cause.Range = codes "the integer doesn't fit into 64 bits"
-cause_text r missing cause.Depth =
+abbrev pub cause_text : Rules → ℕ → Option NewType → Cause → List ℕ
+cause_text r missing new_type cause.Double = double_text r.version
+cause_text r missing new_type cause.Version = version_text new_type
+cause_text r missing new_type cause.NestedPush = codes "a push cannot be inside another value"
+cause_text r missing new_type cause.Range = codes "the integer doesn't fit into 64 bits"
+cause_text r missing new_type cause.Depth =
     codes "aggregates are nested deeper than --depth " ++ decimal r.limits.depth ++ codes " allows"
-cause_text r missing cause.Length =
+cause_text r missing new_type cause.Length =
     codes "a string or line is longer than --length " ++ decimal r.limits.length ++ codes " allows"
-cause_text r missing cause.Items =
+cause_text r missing new_type cause.Items =
     codes "an aggregate has more members or pairs than --items " ++ decimal r.limits.items ++ codes " allows"
-cause_text r missing cause.Total =
+cause_text r missing new_type cause.Total =
     codes "the value needs more bytes than --total " ++ decimal r.limits.total ++ codes " allows"
-cause_text r missing cause.Streamed = codes "a streamed string or aggregate; accepted without --no-streamed"
-cause_text r missing cause.Truncated =
+cause_text r missing new_type cause.Streamed = codes "a streamed string or aggregate; accepted without --no-streamed"
+cause_text r missing new_type cause.Truncated =
     codes "the input ends inside a value; bytes missing: at least " ++ decimal missing ++ codes ""
-cause_text r missing _ = codes "a valid value cannot contain this byte here"
+cause_text r missing new_type _ = codes "a valid value cannot contain this byte here"
 
 -- the first line up to the place of the error
 abbrev pub margin_text : ℕ → List ℕ → List ℕ
@@ -107,28 +110,44 @@ IsNextOf r error None (Some next) = ⊥
 IsNextOf r error (Some front) None = IsSyntax error → ⊥
 IsNextOf r error None None = Unit {0}
 
+-- a hint was looked for if the grammar doesn't allow the first of these bytes after this front of a value
+abbrev pub IsHintOf : ToolError → Option (List ℕ) → List ℕ → Option Hint → Type 0
+IsHintOf error (Some front) after found = (IsSyntax error × IsHint front after found) ⊎ (IsSyntax error → ⊥) × (found ≡ None)
+IsHintOf error None after found = found ≡ None
+
 -- the sentence about an error in some value
-abbrev pub sentence_text : Rules → ℕ → ToolError → List ℕ
-sentence_text r missing (Refused value c at) = cause_text r missing c
-sentence_text r missing (OverLimits value) = codes "the canonical text of this value is over the limits"
-sentence_text r missing _ = codes "a run reads at most 1000000000 values"
+abbrev pub sentence_text : Rules → ℕ → Option NewType → ToolError → List ℕ
+sentence_text r missing new_type (Refused value c at) = cause_text r missing new_type c
+sentence_text r missing new_type (OverLimits value) = codes "the canonical text of this value is over the limits"
+sentence_text r missing new_type _ = codes "a run reads at most 1000000000 values"
 
 -- the sentence about an error, with the bytes that are valid there if they are known
-abbrev pub reason_text : Rules → ℕ → ToolError → Option NextBytes → List ℕ
-reason_text r missing error (Some next) = next_text next.goes_on next.bytes.items
-reason_text r missing error None = sentence_text r missing error
+abbrev pub reason_text : Rules → ℕ → Option NewType → ToolError → Option NextBytes → List ℕ
+reason_text r missing new_type error (Some next) = next_text next.goes_on next.bytes.items
+reason_text r missing new_type error None = sentence_text r missing new_type error
 
 -- The sentence about a byte of the value that begins after these bytes. For a byte that the grammar doesn't allow it
 -- names just the bytes that are valid there, if the bytes of the value before it are still in memory.
-pub record Says (r : Rules) (held : ℕ) (bytes front rest : List ℕ) (at missing : ℕ) (error : ToolError)
-    (sentence : List ℕ) : Type 0 where
-  pub either : (sentence ≡ sentence_text r missing error) ⊎ IsSyntax error × NamesNext r (take at rest) sentence
+pub record Says (r : Rules) (held : ℕ) (bytes front rest : List ℕ) (at missing : ℕ) (new_type : Option NewType)
+    (error : ToolError) (sentence : List ℕ) : Type 0 where
+  pub either : (sentence ≡ sentence_text r missing new_type error) ⊎ IsSyntax error × NamesNext r (take at rest) sentence
   pub named : IsSyntax error → IsHeld held bytes front at → NamesNext r (take at rest) sentence
 
+-- The hint about a byte of the value that begins after these bytes. There is a hint only about a byte that the grammar
+-- doesn't allow, and only if the bytes of the value before it are still in memory.
+pub record Hints (held : ℕ) (bytes front rest : List ℕ) (at : ℕ) (after : List ℕ) (error : ToolError) (found : Option Hint) :
+    Type 0 where
+  pub either : (found ≡ None) ⊎ IsSyntax error × IsHint (take at rest) after found
+  pub hinted : IsSyntax error → IsHeld held bytes front at → IsHint (take at rest) after found
+
 -- a line that ends with the bytes from the place on, and a line with a caret and a sentence after blanks
-abbrev pub explanation_lines : List ℕ → List ℕ → List ℕ → List ℕ → List ℕ
-explanation_lines margin after blank sentence =
+abbrev pub place_lines : List ℕ → List ℕ → List ℕ → List ℕ → List ℕ
+place_lines margin after blank sentence =
     margin ++ (quoted_text after ++ (codes "\n" ++ (blank ++ (codes "^ " ++ (sentence ++ codes "\n")))))
+
+-- these lines, and the line with a hint
+abbrev pub explanation_lines : List ℕ → List ℕ → List ℕ → List ℕ → List ℕ → List ℕ
+explanation_lines margin after blank sentence hint = place_lines margin after blank sentence ++ hint
 
 -- the last bytes of a text, at most this many
 abbrev pub last_of : ℕ → List ℕ → List ℕ
@@ -146,9 +165,9 @@ abbrev pub IsTruncated : ToolError → Type 0
 IsTruncated (Refused value c at) = c ≡ cause.Truncated
 IsTruncated e = ⊥
 
--- The place of a byte of a value was written, with the bytes before and after it, and below the place a caret and the
--- sentence. As many of the bytes as `held` says are in memory. If the input ended inside the value, `missing` is the least
--- number of bytes that complete it.
+-- The place of a byte of a value was written, with the bytes before and after it, below the place a caret and the
+-- sentence, and then the line with the hint. As many of the bytes as `held` says are in memory. If the input ended inside
+-- the value, `missing` is the least number of bytes that complete it.
 pub record ExplainsAt (r options : Rules) (held : ℕ) (bytes : List ℕ) (value at : ℕ) (said said' : Option (List ℕ))
     (error : ToolError) : Type 0 where
   pub start : ℕ
@@ -159,11 +178,15 @@ pub record ExplainsAt (r options : Rules) (held : ℕ) (bytes : List ℕ) (value
   pub are_around : length bytes ≤ last_count → AreAround held bytes place before after
   pub missing : ℕ
   pub counted : IsTruncated error → IsViable r WithinTotal is_place.rest → IsLeast r is_place.rest missing
+  pub new_type : Option NewType
+  pub typed : IsNewType after new_type
   pub sentence : List ℕ
   pub says : length bytes ≤ last_count →
-      Says options held bytes is_place.front is_place.rest at missing error sentence
+      Says options held bytes is_place.front is_place.rest at missing new_type error sentence
+  pub hint : Option Hint
+  pub hints : length bytes ≤ last_count → Hints held bytes is_place.front is_place.rest at after error hint
   pub told : Appends said said' (explanation_lines (margin_text place before) after
-      (replicate (length (margin_text place before)) 32) sentence)
+      (replicate (length (margin_text place before)) 32) sentence (hint_line hint))
 
 -- an error in the input was explained at its place; nothing was written if a device or an allocation had failed
 abbrev pub Explains : Rules → Rules → ℕ → List ℕ → Option (List ℕ) → Option (List ℕ) → ToolError → Type 0

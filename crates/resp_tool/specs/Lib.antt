@@ -15,3 +15,4 @@ pub mod Explained
 pub mod Valid
 pub mod CanonicalFronts
 pub mod Drafts
+pub mod Hints

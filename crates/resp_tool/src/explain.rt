@@ -1,12 +1,14 @@
 //! Explains an error in a stream: the lines of `--explain`.
 
 ghost use Rattle.std.specs.Prelude.{◌≡◌, ◌≢◌, ℕ, [], List, IfErr, IfOk, OnErr, OnOk, length, option_map, replicate};
-ghost use Rattle.resp_tool.specs.Explained.{Explains, ExplainsAt, HasWatched, IsNextOf, IsTruncated, cause_text, double_text, explanation_lines, held_bytes, margin_text, reason_text, rules_watched, sentence_text};
+ghost use Rattle.resp_tool.specs.Explained.{Explains, ExplainsAt, HasWatched, IsHintOf, IsNextOf, IsTruncated, cause_text, double_text, explanation_lines, held_bytes, margin_text, place_lines, reason_text, rules_watched, sentence_text};
+ghost use Rattle.resp_tool.specs.Hints.{hint_line};
 ghost use Rattle.resp_print.specs.Written.{WritesText};
 ghost use Rattle.resp_tool.specs.Streams.{failed_to_write};
 ghost use Rattle.resp_value.specs.Devices.{Appends, count_after, failures_after};
 ghost use Rattle.resp_value.specs.Rules.{rules_under};
 
+use crate::hint::{Hint, NewType, hint_of, new_type_of, write_hint, write_version};
 use crate::valid::NextBytes;
 use crate::watched::Watched;
 use resp_args::options::Options;
@@ -29,15 +31,19 @@ struct Reason<'a> {
     limits: &'a Limits,
     /// The least number of bytes that complete the value.
     missing: u64,
+    /// The type of version 3 with the byte at the place as its type byte, if there is one.
+    new_type: Option<NewType>,
     /// The bytes that are valid at the place, if they are known.
     next: Option<NextBytes>,
+    /// A hint at the reason, if there is one.
+    hint: Option<Hint>,
 }
 
 /// Writes two lines that explain `error`: the place in the stream of `watched` with the bytes
 /// around it, and below the place a caret and a sentence. If the grammar does not allow the byte at
-/// the place, the sentence names the bytes that are valid there; it does not if the value begins
-/// before the bytes that `watched` keeps. If a device or an allocation failed, the call writes
-/// nothing.
+/// the place, the sentence names the bytes that are valid there, and a third line may have a hint
+/// at the reason. This is so unless the value begins before the bytes that `watched` keeps. If a
+/// device or an allocation failed, the call writes nothing.
 ///
 /// # Errors
 ///
@@ -111,19 +117,35 @@ fn explain_at<R, F: Sink>(
         return Err(ToolError::Memory);
     };
     let missing = watched.missing();
-    let next = next_after(alloc, error, watched.front(at), options)?;
+    let (before, after) = watched.around(place);
+    let front = watched.front(at);
+    let next = next_after(alloc, error, front, options)?;
     let reason = Reason {
         error,
         version: options.version,
         limits: &options.limits,
         missing,
+        new_type: new_type_of(after),
         next,
+        hint: hint_at(error, front, after),
     };
-    let (before, after) = watched.around(place);
     write_around(alloc, place, before, after, &reason, faults)
 }
 
-/// Writes both lines, with the bytes before and after the place.
+/// Returns a hint at the reason for the byte after the front of a value, if the grammar does not
+/// allow it.
+fn hint_at(error: &ToolError, front: Option<&[u8]>, after: &[u8]) -> Option<Hint>
+    ensures { IsHintOf error.now (option_map (λ text. text.now) front.entry) after.now result }
+{
+    match (error, front) {
+        (ToolError::Refused { cause, .. }, Some(front)) if *cause == Cause::Syntax => {
+            hint_of(front, after)
+        }
+        _ => None,
+    }
+}
+
+/// Writes the lines, with the bytes before and after the place.
 fn write_around<F: Sink>(
     alloc: Global,
     place: u64,
@@ -136,7 +158,8 @@ fn write_around<F: Sink>(
         (explanation_lines (margin_text place before.now) after.now
         (replicate (length (margin_text place before.now)) 32) (reason_text
         (rules_under reason.now.version reason.now.limits.now) reason.now.missing
-        reason.now.error.now reason.now.next))) }
+        reason.now.new_type reason.now.error.now reason.now.next)
+        (hint_line reason.now.hint))) }
     ensures write_failed { F.failures faults.new ≡
         failures_after (failed_to_write result) (F.failures faults.old) }
     ensures memory { IfErr result (λ error. error ≢ ToolError.Write → (error ≡ ToolError.Memory) ×
@@ -179,7 +202,7 @@ fn margin(alloc: Global, place: u64, before: &[u8]) -> Result<MemorySink, AllocE
     }
 }
 
-/// Writes both lines.
+/// Writes the lines.
 fn write_lines<F: Sink>(
     faults: &mut F,
     margin: &[u8],
@@ -190,7 +213,28 @@ fn write_lines<F: Sink>(
     ensures lines { OnOk result (Appends (F.written faults.old) (F.written faults.new)
         (explanation_lines margin.now after.now blank.now (reason_text
         (rules_under reason.now.version reason.now.limits.now) reason.now.missing
-        reason.now.error.now reason.now.next))) }
+        reason.now.new_type reason.now.error.now reason.now.next)
+        (hint_line reason.now.hint))) }
+    ensures all_written { OnOk result (F.failures faults.new ≡ F.failures faults.old) }
+    ensures write_failed { OnErr result (F.failures faults.new ≡
+        count_after 1 (F.failures faults.old)) }
+{
+    write_place(faults, margin, after, blank, reason)?;
+    write_hint(reason.hint, faults)
+}
+
+/// Writes the line with the place, and the line with the caret and the sentence.
+fn write_place<F: Sink>(
+    faults: &mut F,
+    margin: &[u8],
+    after: &[u8],
+    blank: &[u8],
+    reason: &Reason<'_>,
+) -> Result<(), DeviceFault>
+    ensures lines { OnOk result (Appends (F.written faults.old) (F.written faults.new)
+        (place_lines margin.now after.now blank.now (reason_text
+        (rules_under reason.now.version reason.now.limits.now) reason.now.missing
+        reason.now.new_type reason.now.error.now reason.now.next))) }
     ensures all_written { OnOk result (F.failures faults.new ≡ F.failures faults.old) }
     ensures write_failed { OnErr result (F.failures faults.new ≡
         count_after 1 (F.failures faults.old)) }
@@ -209,7 +253,7 @@ fn write_reason<F: Sink>(faults: &mut F, reason: &Reason<'_>) -> Result<(), Devi
     ensures { WritesText (F.written faults.old) (F.written faults.new) (F.failures faults.old)
         (F.failures faults.new) result (reason_text
         (rules_under reason.now.version reason.now.limits.now) reason.now.missing
-        reason.now.error.now reason.now.next) }
+        reason.now.new_type reason.now.error.now reason.now.next) }
 {
     match &reason.next {
         Some(next) => next.write(faults),
@@ -219,6 +263,7 @@ fn write_reason<F: Sink>(faults: &mut F, reason: &Reason<'_>) -> Result<(), Devi
             reason.version,
             reason.limits,
             reason.missing,
+            reason.new_type,
         ),
     }
 }
@@ -239,13 +284,16 @@ fn write_sentence<F: Sink>(
     version: Version,
     limits: &Limits,
     missing: u64,
+    new_type: Option<NewType>,
 ) -> Result<(), DeviceFault>
     ensures { WritesText (F.written faults.old) (F.written faults.new) (F.failures faults.old)
         (F.failures faults.new) result
-        (sentence_text (rules_under version limits.now) missing error.now) }
+        (sentence_text (rules_under version limits.now) missing new_type error.now) }
 {
     match error {
-        ToolError::Refused { cause, .. } => write_cause(faults, *cause, version, limits, missing),
+        ToolError::Refused { cause, .. } => {
+            write_cause(faults, *cause, version, limits, missing, new_type)
+        }
         ToolError::OverLimits { .. } => {
             write_text(
                 faults,
@@ -267,14 +315,15 @@ fn write_cause<F: Sink>(
     version: Version,
     limits: &Limits,
     missing: u64,
+    new_type: Option<NewType>,
 ) -> Result<(), DeviceFault>
     ensures { WritesText (F.written faults.old) (F.written faults.new) (F.failures faults.old)
         (F.failures faults.new) result
-        (cause_text (rules_under version limits.now) missing cause) }
+        (cause_text (rules_under version limits.now) missing new_type cause) }
 {
     match cause {
         Cause::Double => write_double(faults, version),
-        Cause::Version => write_text(faults, b"version 2 doesn't have this; use -3"),
+        Cause::Version => write_version(new_type, faults),
         Cause::NestedPush => write_text(faults, b"a push cannot be inside another value"),
         Cause::Range => write_text(faults, b"the integer doesn't fit into 64 bits"),
         Cause::Depth => write_number(

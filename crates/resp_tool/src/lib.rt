@@ -12,6 +12,7 @@ pub mod check;
 pub mod command_line;
 mod draft;
 pub mod explain;
+mod hint;
 pub mod laws;
 mod lines;
 mod printer;

@@ -3,7 +3,7 @@ use Rattle.resp_tool.specs.Explained.{AreAround, IsHeld, held_bytes, reason_text
 use Rattle.resp_fronts.specs.LeastCompletions.{IsLeast}
 use Rattle.resp_value.specs.Rules.{WithinTotal, rules_under}
 use Rattle.resp_value.specs.Spellings.{IsViable}
-use Rattle.resp_tool.proofs.ValidLemmas.{is_text, of_text, says_reason}
+use Rattle.resp_tool.proofs.ValidLemmas.{hints_reason, is_text, of_text, says_reason}
 use Rattle.resp_tool.proofs.explain.explain_at.Goals as goal
 
 on_ok : {X E : Type 0} (result : Result X E) (P Q : Type 0) → (P → Q) → OnOk result P → OnOk result Q
@@ -17,7 +17,9 @@ returns-clause-explains g c = λ bytes h scanned. on_ok c.write_around.result _ 
     let r = rules_under c.args.options.now.version c.args.options.now.limits in
     let missing = c.missing-missing.result in
     let next = c.in_ok-next.next in
-    let sentence = reason_text r missing c.args.error.now next in
+    let new_type = c.new_type_of.result in
+    let hint = c.hint_at.result in
+    let sentence = reason_text r missing new_type c.args.error.now next in
     let found = c.in-Some.ensures.place bytes h in
     let place = found.is_place in
     let holds = c.in-Some.ensures.holds bytes h refl in
@@ -33,15 +35,27 @@ returns-clause-explains g c = λ bytes h scanned. on_ok c.write_around.result _ 
       missing = missing;
       counted = λ truncated viable. subst (λ z. IsLeast z place.rest missing) same
           (c.missing-missing.ensures place.rest (found.come (scanned truncated)) (subst (λ z. IsViable z WithinTotal place.rest) (sym same) viable));
+      new_type = new_type;
+      typed = c.new_type_of.ensures;
       sentence = sentence;
       says = λ fits.
           let size : length bytes ≡ length place.front + length place.rest = ap (λ z. length z) place.whole ∙ length-append place.front place.rest in
           let begins = place.begins (omega (arith, fits, size)) in
-          says_reason r held bytes place.front place.rest c.args.at missing c.args.error.now place.whole
-          (option_map (λ text. text.now) c.front.result)
-          (of_text c.front.result (λ text. text ≡ take c.args.at (drop (length place.front) bytes)) (c.front.ensures.front bytes place.front holds fits begins))
-          (λ is_held. is_text c.front.result (c.front.ensures.none bytes place.front holds begins
+          says_reason r held bytes place.front place.rest c.args.at missing new_type c.args.error.now place.whole
+          (option_map (λ text. text.now) c.front-front.result)
+          (of_text c.front-front.result (λ text. text ≡ take c.args.at (drop (length place.front) bytes)) (c.front-front.ensures.front bytes place.front holds fits begins))
+          (λ is_held. is_text c.front-front.result (c.front-front.ensures.none bytes place.front holds begins
           (subst (λ n. IsHeld n bytes place.front c.args.at) (sym c.in-Some.ensures.same_size) is_held)))
           next c.in_ok-next.ensures;
+      hint = hint;
+      hints = λ fits.
+          let size : length bytes ≡ length place.front + length place.rest = ap (λ z. length z) place.whole ∙ length-append place.front place.rest in
+          let begins = place.begins (omega (arith, fits, size)) in
+          hints_reason r held bytes place.front place.rest c.args.at missing new_type c.args.error.now place.whole
+          (option_map (λ text. text.now) c.front-front.result)
+          (of_text c.front-front.result (λ text. text ≡ take c.args.at (drop (length place.front) bytes)) (c.front-front.ensures.front bytes place.front holds fits begins))
+          (λ is_held. is_text c.front-front.result (c.front-front.ensures.none bytes place.front holds begins
+          (subst (λ n. IsHeld n bytes place.front c.args.at) (sym c.in-Some.ensures.same_size) is_held)))
+          after hint c.hint_at.ensures;
       told = told;
     }) c.write_around.ensures.lines
