@@ -5,14 +5,18 @@ proxied.py RESP [--clients N] [--seconds S] [--seeds N..]
 Without options it takes 20 seconds. Before a release: --clients 1000 --seconds 3600 --seeds 4
 
 Each client has a name. Its keys, its values and its ECHOs name it. It sends pipelines of random commands, cut at random,
-and compares each reply with its command. Some clients close in the middle of a reply and come back. A reply is wrong if
-it names another client, if it does not fit its command, or if it is missing. After the server was lost a command may get
-one of the two errors of the proxy. The expected replies come from the commands alone:
+and compares each reply with its command. Some clients close in the middle of a reply and come back. Some get a connection
+to the server of their own, in the middle of a pipeline: by a transaction, a subscription, a blocking command or another
+database. A reply is wrong if it names another client, if it does not fit its command, or if it is missing. After the
+server was lost a command may get one of the two errors of the proxy, and a client with a connection of its own may be
+closed. The expected replies come from the commands alone:
 
 - ECHO is answered by its own text, and each text is sent once;
 - GET and each member of MGET are answered by null, or by a value that this client has sent for the key;
 - SET and MSET are answered by OK, INCR, APPEND, STRLEN and DEL by an integer, and LRANGE by values of the list;
-- GET after SET is answered by the value of the SET, unless an error or a start of the server lies between.
+- GET after SET is answered by the value of the SET, unless an error or a start of the server lies between;
+- the commands of a transaction are answered by QUEUED, and EXEC by their replies;
+- SUBSCRIBE and UNSUBSCRIBE are answered by the channel, which names the client, and BLPOP of no list by null.
 """
 import argparse
 import asyncio
@@ -77,6 +81,8 @@ class Client:
     def begin(self):
         """Begins a connection: no value was sent for any of its keys."""
         self.connection += 1
+        # Whether a command was sent that needs a connection to the server of the client's own.
+        self.is_own = False
         # The values that were sent for each key; and the one that a key has, as long as it is known.
         self.sent = {self.key(number): set() for number in range(6)}
         self.known = {}
@@ -148,13 +154,55 @@ class Client:
         return command(b"INCRBY", self.name + b" count", self.name), lambda reply: (
             reply == ("error", b"ERR value is not an integer or out of range"))
 
+    def draw_own(self):
+        """Returns the commands, each with the function for its reply, of something that needs a connection of its own."""
+        self.counts["own"] += not self.is_own
+        self.is_own = True
+        return getattr(self, self.source.choice(("transaction", "subscription", "blocking", "database")))()
+
+    def transaction(self):
+        key, text = self.key(self.source.randrange(6)), self.value()
+        self.sent[key].add(text)
+        queued = ("line", b"QUEUED")
+
+        def fits(reply):
+            self.known[key] = text
+            return reply == [("line", b"OK"), text]
+
+        return [(command(b"MULTI"), lambda reply: reply == ("line", b"OK")),
+                (command(b"SET", key, text), lambda reply: reply == queued),
+                (command(b"GET", key), lambda reply: reply == queued),
+                (command(b"EXEC"), fits)]
+
+    def subscription(self):
+        channel = self.name + b" channel"
+        return [(command(b"SUBSCRIBE", channel), lambda reply: reply == [b"subscribe", channel, 1]),
+                (command(b"PING"), lambda reply: reply == [b"pong", b""]),
+                (command(b"UNSUBSCRIBE", channel), lambda reply: reply == [b"unsubscribe", channel, 0])]
+
+    def blocking(self):
+        return [(command(b"BLPOP", self.name + b" nothing", b"0.01"), lambda reply: reply == [])]
+
+    def database(self):
+        def fits(reply):
+            self.known = {}
+            return reply == ("line", b"OK")
+
+        return [(command(b"SELECT", b"%d" % self.source.randrange(1, 4)), fits)]
+
     async def run(self, port, until, starts):
         """Sends pipelines until that time."""
         while time.monotonic() < until:
             reader, writer = await asyncio.open_connection("127.0.0.1", port, limit=1 << 20)
             self.begin()
+            start = starts[0]
             try:
                 await self.talk(reader, writer, until, starts)
+            except (EOFError, OSError):
+                # Only a client with a connection of its own loses it with the server.
+                if not self.is_own or (start == starts[0] and start % 2 == 0):
+                    raise
+                self.counts["closed"] += 1
             finally:
                 writer.close()
 
@@ -162,20 +210,27 @@ class Client:
         """Sends pipelines over one connection, until that time or until it closes in the middle of a reply."""
         while time.monotonic() < until:
             asked = [self.draw() for _ in range(self.source.choice((1, 1, 3, 10, 50)))]
+            if self.source.random() < (0.5 if self.is_own else 0.05):
+                at = self.source.randrange(len(asked) + 1)
+                asked[at:at] = self.draw_own()
             start = starts[0]
             sending = asyncio.ensure_future(self.send(writer, b"".join(text for text, _ in asked)))
             if self.source.random() < 0.04:
                 await self.leave(reader, sending)
                 return
-            for text, fits in asked:
-                reply = await asyncio.wait_for(read_value(reader), 30)
-                # A server that is killed forgets all keys, so a value is known only within the life of a server.
-                if start % 2 or start != starts[0]:
-                    self.known = {}
-                self.judge(text, fits, reply)
-                if start % 2 or start != starts[0]:
-                    self.known = {}
-            await sending
+            try:
+                for text, fits in asked:
+                    reply = await asyncio.wait_for(read_value(reader), 30)
+                    # A server that is killed forgets all keys, so a value is known only within the life of a server.
+                    if start % 2 or start != starts[0]:
+                        self.known = {}
+                    self.judge(text, fits, reply)
+                    if start % 2 or start != starts[0]:
+                        self.known = {}
+            finally:
+                if not sending.done():
+                    await asyncio.wait([sending], timeout=5)
+                await asyncio.gather(sending, return_exceptions=True)
 
     async def send(self, writer, text):
         while text:
@@ -262,7 +317,7 @@ async def kill_and_start(servers, source, until, starts):
 async def play(resp, seed, count, seconds):
     """Runs the clients by this seed, and returns what they counted."""
     source = random.Random(seed)
-    counts = {"replies": 0, "errors": 0, "gone": 0}
+    counts = {"replies": 0, "errors": 0, "gone": 0, "own": 0, "closed": 0}
     starts = [0]
     servers = Servers(resp)
     try:
