@@ -14,9 +14,10 @@ use Rattle.resp_args.specs.CommandWords.{AnswersSort, AnswersStatus, AskFor, Ent
 use Rattle.resp_args.specs.Faults.{IsWordStatus}
 use Rattle.std.specs.Str.{bytes_eq}
 use Rattle.std.specs.Prelude.{if◌then◌else◌}
-use Rattle.resp_args.specs.Program.{IsProgram, resp_app}
-use Rattle.resp_args.proofs.CommandLemmas.{names_take_versions}
-use Rattle.std.specs.Borrow.{Bor}
+use Rattle.std.specs.Result.{IsErrAnd}
+use Rattle.clap.specs.Words.{app_of}
+use Rattle.clap.specs.declared.builder.command.Command.{Command}
+use Rattle.resp_args.specs.Program.{IsProgram, IsTask, resp_app}
 use Rattle.std.specs.Net.Grammar.{IsSocketText}
 use Rattle.std.specs.declared.net.socket_addr.SocketAddr.{SocketAddr}
 use Rattle.clap.specs.declared.builder.value_parser.ValueParser.TheVariants as vp
@@ -269,12 +270,18 @@ pub one_sort : (entered : Option (Text × List Row)) (a b : Asked) → Enters en
 one_sort None a b enters enters' = absurd enters
 one_sort (Some entered) a b enters enters' = sym (sort_by_word _ _ a enters) ∙ sort_by_word _ _ b enters'
 
--- it is the program's definition, where `--proto` takes the two names
-pub is_program : (names : Bor (List (Bor Text))) (words : List Text) (found : Result ArgMatches Error) →
-    FindsWords (resp_app (vp.Names names)) words found → map (λ s. s.now) names.now ≡ codes "2" ∷ codes "3" ∷ [] →
+-- a command that has the program's definition finds what it says
+pub finds_as_program : (app : App) (command : Command) (words : List Text) (found : Result ArgMatches Error) → IsProgram app → IsTask command app →
+    (is_simple_and_free (app_of command) ≡ true → FailsBy (fault_of (app_of command) words) found) → IfOk found (HasMatchesOf (app_of command) words) →
     (program : App) × IsProgram program × FindsWords program words found
-is_program names words found finds are =
-    (resp_app (vp.Names names), (vp.Names names, names_take_versions names are, refl), finds)
+finds_as_program app command words found is task fails matches =
+    (resp_app is.0, (is.0, is.1, refl), found_by_program is.0 (app_of command) words found (task.0 ∙ is.2) fails matches)
+
+-- without memory nothing is found
+pub finds_without_memory : (app : App) (words : List Text) (found : Result ArgMatches Error) → IsProgram app →
+    IsErrAnd found (λ error. kind_of error ≡ OutOfMemory) → (program : App) × IsProgram program × FindsWords program words found
+finds_without_memory app words (Err error) is memory = (app, is, inl memory)
+finds_without_memory app words (Ok found) is memory = absurd memory
 
 -- ---- statuses
 

@@ -1,5 +1,6 @@
 pub mod Tried
 pub mod Faults
 pub mod Program
+pub mod Tables
 pub mod CommandWords
 pub mod Commands

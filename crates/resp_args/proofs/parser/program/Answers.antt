@@ -1,9 +1,8 @@
+use Rattle.std.proofs.Common.{◌<◌, arith, length}
+use Rattle.resp_args.proofs.TaskLemmas.{is_program_with_next}
 use Rattle.resp_args.proofs.parser.program.Goals as goal
 
-pub returns : goal.returns
-returns c =
-    c.with_subcommand.ensures _ _ (c.with_subcommand-program-7.ensures _ _ (c.with_subcommand-program-6.ensures _ _
-    (c.with_subcommand-program-5.ensures _ _ (c.with_subcommand-program-4.ensures _ _ (c.with_subcommand-program-3.ensures _ _
-    (c.with_subcommand-program-2.ensures _ _ (c.with_subcommand-program.ensures _ _ c.resp-program.ensures c.stream_task.ensures)
-    c.stream_task-2.ensures) c.stream_task-3.ensures) c.loop_task.ensures) c.serve_task.ensures) c.tap_task.ensures)
-    c.proxy_task.ensures) c.ask_task.ensures
+pub loop-subcommand-preserved : goal.loop-subcommand-preserved
+loop-subcommand-preserved c =
+    let below : c.loop-subcommand.subcommand-index < length c.args.subcommands.now = omega arith in
+    is_program_with_next _ _ _ _ _ _ _ c.in_ok-program.ensures c.in_ok-command.ensures below c.loop-subcommand.invariant

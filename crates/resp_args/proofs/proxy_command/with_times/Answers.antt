@@ -1,6 +1,0 @@
-use Rattle.resp_args.proofs.proxy_command.with_times.Goals as goal
-
-pub returns : goal.returns
-returns c app before =
-    c.with_arg.ensures _ _ c.option-2.ensures.rule c.option-2.ensures.here
-    (c.with_arg-task.ensures _ _ c.option.ensures.rule c.option.ensures.here before)

@@ -1,0 +1,434 @@
+//! The subcommands of the program with their options and their help.
+
+ghost use Rattle.resp_args.specs.Program.{IsProgram, bare_app};
+ghost use Rattle.resp_args.specs.Tables.{with_subcommands};
+
+use crate::options::STANDARD_INPUT;
+use crate::parameter::{Form, Parameter};
+use crate::parser::Subcommand;
+use crate::proxy_command::PROXY;
+
+/// Returns the subcommands.
+pub(crate) fn subcommands() -> [Subcommand; 8]
+    ensures { IsProgram (with_subcommands bare_app result) }
+{
+    let show = SHOW;
+    let check = Subcommand {
+        name: "check",
+        about: "Reads a stream and prints the number of its values and bytes",
+        ..show
+    };
+    let canon = Subcommand {
+        name: "canon",
+        about: "Writes the canonical text of each value of a stream",
+        ..show
+    };
+    [show, check, canon, LOOP, SERVE, TAP, PROXY, ASK]
+}
+
+/// The subcommand `show`, of which `check` and `canon` have the options.
+const SHOW: Subcommand = Subcommand {
+    name: "show",
+    about: "Prints each value of a stream as lines of text",
+    parameters: &[
+        PROTO,
+        TWO,
+        THREE,
+        DEPTH,
+        LENGTH,
+        TOTAL,
+        ITEMS,
+        NO_STREAMED,
+        DOUBLES,
+        PIECE,
+        EXPLAIN,
+        NO_EXPLAIN,
+        FILE,
+    ],
+    after_help: STREAM_HELP,
+};
+
+/// The subcommand `loop`.
+const LOOP: Subcommand = Subcommand {
+    name: "loop",
+    about: "Plays a script of clients of one server",
+    parameters: &[EXPLAIN_LINE, NO_EXPLAIN, FILE],
+    after_help: LOOP_HELP,
+};
+
+/// The subcommand `serve`.
+const SERVE: Subcommand = Subcommand {
+    name: "serve",
+    about: "Serves PING, ECHO, GET, SET, DEL and HELLO to many clients at once",
+    parameters: &[
+        DEPTH,
+        LENGTH,
+        TOTAL,
+        ITEMS,
+        NO_STREAMED,
+        CLIENTS,
+        HELD,
+        ADDRESS,
+    ],
+    after_help: SERVE_HELP,
+};
+
+/// The subcommand `tap`.
+const TAP: Subcommand = Subcommand {
+    name: "tap",
+    about: "Forwards connections to a server and prints the traffic",
+    parameters: &[
+        DEPTH,
+        LENGTH,
+        TOTAL,
+        ITEMS,
+        NO_STREAMED,
+        CLIENTS,
+        TIME,
+        EXIT_WITH_OUTPUT,
+        KEEP_GOING,
+        SHOW_PASSWORDS,
+        LISTEN,
+        SERVER,
+    ],
+    after_help: TAP_HELP,
+};
+
+/// The subcommand `ask`.
+const ASK: Subcommand = Subcommand {
+    name: "ask",
+    about: "Sends commands to a server and prints the replies",
+    parameters: &[
+        HELLO_THREE,
+        USER,
+        WINDOW,
+        COUNT,
+        DEPTH,
+        LENGTH,
+        TOTAL,
+        ITEMS,
+        NO_STREAMED,
+        SERVER,
+        WORDS,
+    ],
+    after_help: ASK_HELP,
+};
+
+/// The end of the help of `show`, `check` and `canon`.
+const STREAM_HELP: &str = r"Examples:
+  printf '*2\r\n:1\r\n+two\r\n' | resp show
+  resp show -3 --explain replies.resp
+  resp check replies.resp
+  resp canon -3 <replies.resp >canonical.resp
+
+Exit status:
+  0  All input was read
+  1  The input contains an error
+  2  Usage error
+  3  The file can't be opened, a read or a write failed, or memory is out";
+
+/// The end of the help of `loop`.
+const LOOP_HELP: &str = r"Examples:
+  printf 'clients 1\nsend 1 PING\nflush\n' | resp loop
+  resp loop --explain script.txt
+
+Exit status:
+  0  The script was played
+  1  A line of the script is wrong
+  2  Usage error
+  3  The file can't be opened, a connection, a read or a write failed,
+     or memory is out";
+
+/// The end of the help of `serve`.
+const SERVE_HELP: &str = r"Examples:
+  resp serve 127.0.0.1:6380
+  resp serve --clients 100 --total 1048576 127.0.0.1:0
+
+The server runs until it is stopped. With port 0 the system chooses the port.
+
+Exit status:
+  2  Usage error
+  3  Listening, a read or a write failed, or memory is out";
+
+/// The end of the help of `tap`.
+const TAP_HELP: &str = r"Examples:
+  resp tap 127.0.0.1:6380 127.0.0.1:6379
+  resp tap --time 127.0.0.1:6380 127.0.0.1:6379 >traffic.txt
+
+Clients connect to LISTEN instead of SERVER. All commands and replies are
+printed. In a command, (redacted) is printed in place of a password. The program
+runs until it is stopped. If a write fails, it prints nothing more, accepts no
+client, and ends when the last connection closes.
+
+Exit status:
+  2  Usage error
+  3  Listening or a write failed, or memory is out";
+
+/// The end of the help of `ask`.
+const ASK_HELP: &str = r#"Examples:
+  resp ask 127.0.0.1:6379 GET a
+  resp ask -3 6379 HGETALL h
+  printf 'SET a "1 2"\nGET a\n' | resp ask 6379
+  resp ask --count 6379 <commands.txt
+
+Without WORD, commands are read from standard input, one a line. Words are
+separated by spaces and may be quoted, as in redis-cli. If the environment has
+RESP_PASSWORD, AUTH is sent first, with the name of --user if it is given.
+
+Exit status:
+  0  All replies were received, and no reply is an error
+  1  A reply is an error, or a command or a reply is wrong
+  2  Usage error
+  3  The connection, a read or a write failed, or memory is out"#;
+
+/// The greatest limit of total, of items and of held bytes.
+pub(crate) const MOST_TOTAL: i64 = 1_099_511_627_776;
+
+/// `--proto`: the version of the protocol.
+const PROTO: Parameter = Parameter {
+    name: "proto",
+    form: Form::Choice {
+        value_name: "VERSION",
+        values: &["2", "3"],
+        default: "2",
+    },
+    help: "Protocol version",
+};
+
+/// `-2`: version 2.
+const TWO: Parameter = Parameter {
+    name: "two",
+    form: Form::ShortFlag('2'),
+    help: "Protocol version 2, also with -3",
+};
+
+/// `-3`: version 3.
+const THREE: Parameter = Parameter {
+    name: "three",
+    form: Form::ShortFlag('3'),
+    help: "Protocol version 3 with doubles",
+};
+
+/// `--depth`: the limit of depth, in aggregates inside one another.
+pub(crate) const DEPTH: Parameter = Parameter {
+    name: "depth",
+    form: Form::Number {
+        least: 4,
+        most: 128,
+        default: "32",
+        hides_default: false,
+    },
+    help: "Maximum nesting of aggregates, 4 to 128",
+};
+
+/// `--length`: the limit of length, in bytes.
+pub(crate) const LENGTH: Parameter = Parameter {
+    name: "length",
+    form: Form::Number {
+        least: 64,
+        most: 1_073_741_824,
+        default: "536870912",
+        hides_default: false,
+    },
+    help: "Maximum bytes of a string or line,\n64 to 1073741824",
+};
+
+/// `--total`: the limit of total, in bytes.
+pub(crate) const TOTAL: Parameter = Parameter {
+    name: "total",
+    form: Form::Number {
+        least: 256,
+        most: MOST_TOTAL,
+        default: "1073741824",
+        hides_default: false,
+    },
+    help: "Maximum bytes of a value,\n256 to 1099511627776",
+};
+
+/// `--items`: the limit of items, in members or pairs.
+pub(crate) const ITEMS: Parameter = Parameter {
+    name: "items",
+    form: Form::Number {
+        least: 16,
+        most: MOST_TOTAL,
+        default: "1099511627776",
+        hides_default: true,
+    },
+    help: "Maximum members or pairs of an aggregate,\n16 to 1099511627776 [default: no limit]",
+};
+
+/// `--no-streamed`: whether streamed values are rejected.
+pub(crate) const NO_STREAMED: Parameter = Parameter {
+    name: "no-streamed",
+    form: Form::Flag,
+    help: "Rejects streamed strings and aggregates",
+};
+
+/// `--doubles`: whether doubles are accepted.
+const DOUBLES: Parameter = Parameter {
+    name: "doubles",
+    form: Form::Flag,
+    help: "Accepts RESP3 doubles",
+};
+
+/// `--piece`: the most bytes of one read.
+const PIECE: Parameter = Parameter {
+    name: "piece",
+    form: Form::Number {
+        least: 1,
+        most: 65_536,
+        default: "4096",
+        hides_default: false,
+    },
+    help: "Maximum bytes of a read, 1 to 65536",
+};
+
+/// `--explain`: whether an error in the input is explained.
+const EXPLAIN: Parameter = Parameter {
+    name: "explain",
+    form: Form::Flag,
+    help: "Says where in the input an error is, and why;\nthe default if standard error is a terminal",
+};
+
+/// `--explain` of `loop`: whether a bad line is explained.
+const EXPLAIN_LINE: Parameter = Parameter {
+    name: "explain",
+    form: Form::Flag,
+    help: "Says why a line of the script is wrong;\nthe default if standard error is a terminal",
+};
+
+/// `--no-explain`: whether nothing is explained.
+const NO_EXPLAIN: Parameter = Parameter {
+    name: "no-explain",
+    form: Form::Flag,
+    help: "Does not explain errors",
+};
+
+/// The input file.
+const FILE: Parameter = Parameter {
+    name: "file",
+    form: Form::Optional {
+        value_name: "FILE",
+        default: STANDARD_INPUT,
+    },
+    help: "Input file, or - for standard input",
+};
+
+/// `--clients`: the most clients at once.
+pub(crate) const CLIENTS: Parameter = Parameter {
+    name: "clients",
+    form: Form::Number {
+        least: 1,
+        most: 65_536,
+        default: "1000",
+        hides_default: false,
+    },
+    help: "Maximum clients at once, 1 to 65536",
+};
+
+/// `--held`: the most bytes that wait for a client of `serve` before its next command is run.
+const HELD: Parameter = Parameter {
+    name: "held",
+    form: Form::Number {
+        least: 1,
+        most: MOST_TOTAL,
+        default: "1048576",
+        hides_default: false,
+    },
+    help: "Maximum bytes waiting for a client when its\nnext command is run, 1 to 1099511627776",
+};
+
+/// The address on which `serve` listens.
+const ADDRESS: Parameter = Parameter {
+    name: "address",
+    form: Form::Required {
+        value_name: "ADDRESS",
+    },
+    help: "Address to listen on, such as 127.0.0.1:6380",
+};
+
+/// `--time`: whether times are printed.
+const TIME: Parameter = Parameter {
+    name: "time",
+    form: Form::Flag,
+    help: "Prints the time in UTC, and how long each reply took",
+};
+
+/// `--exit-with-output`: whether `tap` ends at once when its output fails.
+const EXIT_WITH_OUTPUT: Parameter = Parameter {
+    name: "exit-with-output",
+    form: Form::Flag,
+    help: "Ends at once if the output fails",
+};
+
+/// `--keep-going`: whether `tap` accepts clients after its output has failed.
+const KEEP_GOING: Parameter = Parameter {
+    name: "keep-going",
+    form: Form::Flag,
+    help: "Accepts clients after the output has failed",
+};
+
+/// `--show-passwords`: whether passwords are printed.
+const SHOW_PASSWORDS: Parameter = Parameter {
+    name: "show-passwords",
+    form: Form::Flag,
+    help: "Prints the passwords in commands",
+};
+
+/// The address on which `tap` and `proxy` listen.
+pub(crate) const LISTEN: Parameter = Parameter {
+    name: "listen",
+    form: Form::Required {
+        value_name: "LISTEN",
+    },
+    help: "Address to listen on, such as 127.0.0.1:6380",
+};
+
+/// The address of the server.
+pub(crate) const SERVER: Parameter = Parameter {
+    name: "server",
+    form: Form::Required {
+        value_name: "SERVER",
+    },
+    help: "Address of the server, such as 127.0.0.1:6379",
+};
+
+/// `-3` of `ask`: whether HELLO 3 is sent first.
+const HELLO_THREE: Parameter = Parameter {
+    name: "three",
+    form: Form::ShortFlag('3'),
+    help: "Sends HELLO 3 first, and accepts doubles",
+};
+
+/// `--user`: the name that AUTH has.
+const USER: Parameter = Parameter {
+    name: "user",
+    form: Form::Text { value_name: "NAME" },
+    help: "Name of the user whose password is in\nRESP_PASSWORD",
+};
+
+/// `--window`: the most commands of `ask` that wait for a reply.
+const WINDOW: Parameter = Parameter {
+    name: "window",
+    form: Form::Number {
+        least: 1,
+        most: 65_536,
+        default: "1000",
+        hides_default: false,
+    },
+    help: "Maximum commands that wait for a reply,\n1 to 65536",
+};
+
+/// `--count`: whether only numbers are printed.
+const COUNT: Parameter = Parameter {
+    name: "count",
+    form: Form::Flag,
+    help: "Prints only the numbers of replies and errors, and\nthe time",
+};
+
+/// The words of a command.
+const WORDS: Parameter = Parameter {
+    name: "words",
+    form: Form::Rest { value_name: "WORD" },
+    help: "Command with its arguments",
+};
