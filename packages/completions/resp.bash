@@ -11,13 +11,15 @@ _resp() {
     case $before in
     --proto) COMPREPLY=($(compgen -W "2 3" -- "$word")) && return ;;
     --depth | --length | --total | --items | --piece | --clients | --held | --user | --window | \
-        --own | --waiting | --unsent | --patience | --report) return ;;
+        --own | --waiting | --unsent | --patience | --report | --slower | --command | --client) return ;;
     esac
     case $command in
     show | check | canon) options="-2 -3 --proto $limits --doubles --piece --explain --no-explain -h --help" ;;
     loop) options="--explain --no-explain -h --help" ;;
     serve) options="$limits --clients --held -h --help" ;;
-    tap) options="$limits --clients --time --exit-with-output --keep-going --show-passwords -h --help" ;;
+    tap)
+        options="$limits --clients --time --errors --slower --command --client --exit-with-output --keep-going --show-passwords -h --help"
+        ;;
     proxy)
         options="$limits --clients --own --waiting --held --unsent --patience --report --local-ping --no-inline --drain --also -h --help"
         ;;

@@ -1,20 +1,25 @@
 //! The commands `serve`, `tap` and `proxy`, which listen on an address for clients.
 
+use resp_args::duration::duration_of;
 use resp_args::proxying::{ProxyOptions, Proxying};
 use resp_args::serving::Serving;
-use resp_args::tapping::Tapping;
+use resp_args::tapping::{FilterOptions, Tapping};
 use resp_args::tool_error::ToolError;
 use resp_args::words::{refuse_file, stop};
 use resp_print::live::LiveSink;
 use resp_print::text::write_text;
 use resp_serve::{AfterFailure, ProxyServer, ProxySettings, Server, Settings, Window};
-use resp_value::device::Sink;
+use resp_tap::Filter;
+use resp_value::device::{DeviceFault, Sink};
 use std::alloc::{AllocError, Global};
 use std::hash::RandomState;
 use std::io::ErrorKind;
 use std::net::SocketAddr;
 use std::time::Duration;
 use std::{env, io};
+
+/// The exit status of a usage error.
+const BAD_ARGUMENTS: u8 = 2;
 
 /// The exit status after a failed device.
 const DEVICE_FAILED: u8 = 3;
@@ -90,11 +95,61 @@ pub fn run_tap<W: LiveSink, F: Sink>(
     writer: &mut W,
     faults: &mut F,
 ) -> Result<u8, AllocError> {
-    match tap(rt, tapping, writer) {
+    let Ok(slower) = slower_of(tapping.filter.slower) else {
+        let _ = write_bad_duration(tapping.filter.slower.unwrap_or(""), faults);
+        return Ok(BAD_ARGUMENTS);
+    };
+    match tap(rt, tapping, slower, writer) {
         // It ends this way only after a write has failed, which was reported then.
         Ok(()) => Ok(DEVICE_FAILED),
         Err(error) => refuse(rt.alloc(), tapping.address_text, &error, faults),
     }
+}
+
+/// The error of a text that is not a duration.
+#[derive(Drop)]
+struct NotDuration;
+
+/// Returns the microseconds of `--slower`, if it is given.
+fn slower_of(text: Option<&str>) -> Result<Option<u64>, NotDuration> {
+    match text {
+        None => Ok(None),
+        Some(text) => match duration_of(text) {
+            Some(micros) => Ok(Some(micros)),
+            None => Err(NotDuration),
+        },
+    }
+}
+
+/// Writes what is wrong with the duration given for `--slower`.
+fn write_bad_duration<F: Sink>(text: &str, faults: &mut F) -> Result<(), DeviceFault> {
+    write_text(faults, b"error: invalid value '")?;
+    write_text(faults, text.as_bytes())?;
+    write_text(
+        faults,
+        b"' for '--slower <DURATION>': expected a number with us, ms or s, such as 10ms\n\n",
+    )?;
+    write_text(faults, b"For more information, try '--help'.\n")
+}
+
+/// Returns the filter that the options ask for.
+fn filter_of(
+    alloc: Global,
+    options: &FilterOptions<'_>,
+    slower: Option<u64>,
+) -> Result<Filter, AllocError> {
+    let mut filter = Filter::all(alloc);
+    filter.errors = options.errors;
+    filter.slower = slower;
+    if options.client > 0 {
+        filter.client = Some(options.client);
+    }
+    for name in options.names.unwrap_or("").split(',') {
+        if !name.is_empty() {
+            filter.names.push(Vec::from_slice(alloc, name.as_bytes())?)?;
+        }
+    }
+    Ok(filter)
 }
 
 /// Returns what the words ask for after a failed write. `--exit-with-output` has precedence.
@@ -113,17 +168,21 @@ fn after_failure(tapping: &Tapping<'_>) -> AfterFailure {
 fn tap<W: LiveSink>(
     rt: &HostRuntime,
     tapping: &Tapping<'_>,
+    slower: Option<u64>,
     writer: &mut W,
 ) -> Result<(), ListenError> {
     let alloc = rt.alloc();
+    let Ok(filter) = filter_of(alloc, &tapping.filter, slower) else {
+        return Err(ToolError::Memory.into());
+    };
     let settings = Settings {
         limits: tapping.limits,
         most: tapping.clients,
-        tells_time: tapping.tells_time,
+        tells_time: tapping.tells_time || slower.is_some(),
         after_failure: after_failure(tapping),
         shows_passwords: tapping.shows_passwords,
     };
-    let mut window = Window::listen(rt, alloc, tapping.address, tapping.server, settings)?;
+    let mut window = Window::listen(rt, alloc, tapping.address, tapping.server, settings, filter)?;
     write_listening(alloc, window.address()?, writer)?;
     match window.run(rt, writer) {
         Err(error) if error.kind() == ErrorKind::WriteZero => Err(ToolError::Write.into()),

@@ -26,6 +26,7 @@ use Rattle.resp_args.specs.declared.options.Task.TheVariants.{Show, Check, Canon
 use Rattle.resp_args.specs.declared.proxying.ProxyOptions.{ProxyOptions}
 use Rattle.resp_args.specs.declared.proxying.Proxying.{Proxying}
 use Rattle.resp_args.specs.declared.serving.Serving.{Serving}
+use Rattle.resp_args.specs.declared.tapping.FilterOptions.{FilterOptions}
 use Rattle.resp_args.specs.declared.tapping.TapOptions.{TapOptions}
 use Rattle.resp_args.specs.declared.tapping.Tapping.{Tapping}
 
@@ -123,6 +124,13 @@ HasServing given serving =
     HasServeWords given serving.address_text.now serving.limits serving.clients serving.held ×
     IsAddressText serving.address_text.now serving.address
 
+-- the options of `tap` that say which commands are printed
+pub record HasFilter (given : List Row) (filter : FilterOptions) : Type 0 where
+  pub of_errors : HasFlag given (codes "errors") filter.errors
+  pub slow : option_map (λ text. text.now) filter.slower ≡ first_of (codes "slower") given
+  pub named : option_map (λ names. names.now) filter.names ≡ first_of (codes "command") given
+  pub only : HasNumber given (codes "client") filter.client
+
 -- the options of `tap` that are no address
 pub record HasTapOptions (given : List Row) (options : TapOptions) : Type 0 where
   pub in_limits : HasLimits given options.limits
@@ -132,6 +140,7 @@ pub record HasTapOptions (given : List Row) (options : TapOptions) : Type 0 wher
   pub exits : HasFlag given (codes "exit-with-output") options.exits_with_output
   pub keeps : HasFlag given (codes "keep-going") options.keeps_going
   pub shows : HasFlag given (codes "show-passwords") options.shows_passwords
+  pub filters : HasFilter given options.filter
 
 -- the options of `tap`, with the texts of its addresses
 pub record HasTapWords (given : List Row) (address server : Text) (options : TapOptions) : Type 0 where
@@ -147,6 +156,7 @@ tap_options_of tapping = record {
   exits_with_output = tapping.exits_with_output;
   keeps_going = tapping.keeps_going;
   shows_passwords = tapping.shows_passwords;
+  filter = tapping.filter;
 }
 
 -- the options of `tap`, with its addresses

@@ -4,3 +4,4 @@ pub mod Program
 pub mod Tables
 pub mod CommandWords
 pub mod Commands
+pub mod Durations

@@ -91,15 +91,21 @@ abbrev pub serve_options : List Rule
 serve_options = listening_options
     (number_option (codes "held") 1 1099511627776 (codes "1048576") ∷ address_word (codes "address") ∷ [])
 
--- the options of `tap`
-abbrev pub tap_options : List Rule
-tap_options = listening_options
-    (flag_option (codes "time") ∷ flag_option (codes "exit-with-output") ∷ flag_option (codes "keep-going") ∷
-    flag_option (codes "show-passwords") ∷ address_word (codes "listen") ∷ address_word (codes "server") ∷ [])
-
 -- `--name VALUE`, an option with any value and without a default
 abbrev pub name_option : Text → Rule
 name_option name = record (new_rule name) { long = Some name; value_names = 1 }
+
+-- the options of `tap` that say which commands are printed
+abbrev pub filter_options : List Rule
+filter_options = flag_option (codes "errors") ∷ name_option (codes "slower") ∷ name_option (codes "command") ∷
+    number_option (codes "client") 0 1099511627776 (codes "0") ∷ []
+
+-- the options of `tap`
+abbrev pub tap_options : List Rule
+tap_options = listening_options
+    (flag_option (codes "time") ∷ filter_options ++
+    flag_option (codes "exit-with-output") ∷ flag_option (codes "keep-going") ∷ flag_option (codes "show-passwords") ∷
+    address_word (codes "listen") ∷ address_word (codes "server") ∷ [])
 
 -- the options of `proxy`
 abbrev pub proxy_options : List Rule

@@ -6,6 +6,7 @@
 
 pub mod asked;
 pub mod asking;
+pub mod duration;
 pub mod laws;
 pub mod options;
 mod parameter;

@@ -85,6 +85,10 @@ const TAP: Subcommand = Subcommand {
         NO_STREAMED,
         CLIENTS,
         TIME,
+        ERRORS,
+        SLOWER,
+        COMMAND,
+        CLIENT,
         EXIT_WITH_OUTPUT,
         KEEP_GOING,
         SHOW_PASSWORDS,
@@ -154,10 +158,12 @@ Exit status:
 const TAP_HELP: &str = r"Examples:
   resp tap 127.0.0.1:6380 127.0.0.1:6379
   resp tap --time 127.0.0.1:6380 127.0.0.1:6379 >traffic.txt
+  resp tap --slower 10ms --command get,mget 6380 6379
 
 Clients connect to LISTEN instead of SERVER. All commands and replies are
-printed. In a command, (redacted) is printed in place of a password. The program
-runs until it is stopped. If a write fails, it prints nothing more, accepts no
+printed, or those that pass all of --errors, --slower, --command and --client.
+In a command, (redacted) is printed in place of a password. The program runs
+until it is stopped. If a write fails, it prints nothing more, accepts no
 client, and ends when the last connection closes.
 
 Exit status:
@@ -352,6 +358,43 @@ const TIME: Parameter = Parameter {
     name: "time",
     form: Form::Flag,
     help: "Prints the time in UTC, and how long each reply took",
+};
+
+/// `--errors`: whether `tap` prints only commands whose reply is an error.
+const ERRORS: Parameter = Parameter {
+    name: "errors",
+    form: Form::Flag,
+    help: "Prints only commands whose reply is an error",
+};
+
+/// `--slower`: the duration that a command waits at least, if `tap` prints only slower ones.
+const SLOWER: Parameter = Parameter {
+    name: "slower",
+    form: Form::Text {
+        value_name: "DURATION",
+    },
+    help: "Prints only commands that wait longer for their\nreply, such as 10ms, 1s or 500us",
+};
+
+/// `--command`: the names of the commands that `tap` prints.
+const COMMAND: Parameter = Parameter {
+    name: "command",
+    form: Form::Text {
+        value_name: "NAMES",
+    },
+    help: "Prints only commands with these names, with a\ncomma between two of them",
+};
+
+/// `--client`: the client of `tap` whose lines are printed, or 0 for all.
+const CLIENT: Parameter = Parameter {
+    name: "client",
+    form: Form::Number {
+        least: 0,
+        most: MOST_TOTAL,
+        default: "0",
+        hides_default: true,
+    },
+    help: "Prints only the lines about client N",
 };
 
 /// `--exit-with-output`: whether `tap` ends at once when its output fails.

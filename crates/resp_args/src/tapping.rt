@@ -2,10 +2,10 @@
 
 ghost use Rattle.std.specs.Prelude.{ℕ, List, IfNone, IfOk, IfSome, OnErr};
 ghost use Rattle.clap.specs.Words.{found_of, rows_of};
-ghost use Rattle.resp_args.specs.CommandWords.{HasTapOptions, HasTapWords, HasTapping};
+ghost use Rattle.resp_args.specs.CommandWords.{HasFilter, HasTapOptions, HasTapWords, HasTapping};
 
 use crate::asked::NothingAsked;
-use crate::options::{address_of, flag_of, limits_of, small_number_of, text_of};
+use crate::options::{address_of, flag_of, limits_of, number_of, small_number_of, text_of};
 use clap::ArgMatches;
 use resp_value::limits::Limits;
 use std::net::SocketAddr;
@@ -31,17 +31,35 @@ pub struct Tapping<'a> {
     pub keeps_going: bool,
     /// Whether passwords in commands are printed.
     pub shows_passwords: bool,
+    /// Which commands are printed.
+    pub filter: FilterOptions<'a>,
+}
+
+/// The options that say which commands are printed.
+#[derive(Clone, Copy, Debug)]
+pub struct FilterOptions<'a> {
+    /// Whether only commands are printed whose reply is an error.
+    pub errors: bool,
+    /// The duration that a command waits at least, as it was given, if only slower commands are
+    /// printed.
+    pub slower: Option<&'a str>,
+    /// The names of the commands that are printed, with a comma between two of them, if they were
+    /// given.
+    pub names: Option<&'a str>,
+    /// The number of the client whose lines are printed, or 0 if those of all are.
+    pub client: u64,
 }
 
 /// The options that are no address.
 #[derive(Clone, Copy)]
-struct TapOptions {
+struct TapOptions<'a> {
     limits: Limits,
     clients: usize,
     tells_time: bool,
     exits_with_output: bool,
     keeps_going: bool,
     shows_passwords: bool,
+    filter: FilterOptions<'a>,
 }
 
 /// The options before the addresses are parsed.
@@ -49,7 +67,7 @@ struct TapOptions {
 struct Words<'a> {
     address: &'a str,
     server: &'a str,
-    options: TapOptions,
+    options: TapOptions<'a>,
 }
 
 /// Returns the options of `tap`, or why there are none.
@@ -71,6 +89,7 @@ pub(crate) fn tapping_of<'a>(matches: &ArgMatches<'a>) -> Result<Tapping<'a>, No
         exits_with_output: words.options.exits_with_output,
         keeps_going: words.options.keeps_going,
         shows_passwords: words.options.shows_passwords,
+        filter: words.options.filter,
     })
 }
 
@@ -82,15 +101,18 @@ fn words_of<'a>(matches: &ArgMatches<'a>) -> Option<Words<'a>>
     ensures none { IfNone result ((address server : List ℕ) (options : TapOptions)
         → HasTapWords (rows_of (found_of matches.now)) address server options → ⊥) }
 {
+    let Some(options) = options_of(matches) else {
+        return None;
+    };
     Some(Words {
         address: text_of(matches, "listen")?,
         server: text_of(matches, "server")?,
-        options: options_of(matches)?,
+        options,
     })
 }
 
 /// Returns the options that are no address; `None` if a number is outside its range.
-fn options_of(matches: &ArgMatches<'_>) -> Option<TapOptions>
+fn options_of<'a>(matches: &ArgMatches<'a>) -> Option<TapOptions<'a>>
     ensures some { IfSome result (HasTapOptions (rows_of (found_of matches.now))) }
     ensures none { IfNone result ((options : TapOptions)
         → HasTapOptions (rows_of (found_of matches.now)) options → ⊥) }
@@ -102,5 +124,21 @@ fn options_of(matches: &ArgMatches<'_>) -> Option<TapOptions>
         exits_with_output: flag_of(matches, "exit-with-output")?,
         keeps_going: flag_of(matches, "keep-going")?,
         shows_passwords: flag_of(matches, "show-passwords")?,
+        filter: filter_of(matches)?,
+    })
+}
+
+/// Returns the options that say which commands are printed; `None` if a number does not fit.
+fn filter_of<'a>(matches: &ArgMatches<'a>) -> Option<FilterOptions<'a>>
+    ensures some { IfSome result (HasFilter (rows_of (found_of matches.now))) }
+    ensures none { IfNone result ((filter : FilterOptions)
+        → HasFilter (rows_of (found_of matches.now)) filter → ⊥) }
+{
+    let errors = flag_of(matches, "errors")?;
+    Some(FilterOptions {
+        errors,
+        slower: text_of(matches, "slower"),
+        names: text_of(matches, "command"),
+        client: number_of(matches, "client")?,
     })
 }

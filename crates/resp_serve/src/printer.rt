@@ -2,29 +2,37 @@
 
 use crate::timing::Timing;
 use resp_tap::end::write_end;
+use resp_tap::filtered::watch_filtered;
 use resp_tap::print::write_client_line;
 use resp_tap::stamp::Stamp;
-use resp_tap::watch::{Side, watch};
-use resp_tap::{Printing, TimedTap};
+use resp_tap::watch::Side;
+use resp_tap::{Filter, FilteredTap, Printing};
 use resp_value::device::Sink;
 use std::rt::Clock;
 
-/// Prints what the taps report, with times if they are printed. Without a writer nothing is printed,
-/// and no tap is read.
+/// Prints what the taps report as far as the filter lets it through, with times if they are printed.
+/// Without a writer nothing is printed, and no tap is read.
 #[derive(Drop)]
 pub(crate) struct Printer<'a, W, C> {
     clock: &'a C,
     timing: &'a mut Timing,
+    filter: &'a Filter,
     writer: Option<&'a mut W>,
     has_failed: bool,
 }
 
 impl<'a, W: Sink, C: Clock> Printer<'a, W, C> {
     /// Returns a printer over `writer`, to which nothing was printed.
-    pub(crate) fn new(clock: &'a C, timing: &'a mut Timing, writer: Option<&'a mut W>) -> Self {
+    pub(crate) fn new(
+        clock: &'a C,
+        timing: &'a mut Timing,
+        filter: &'a Filter,
+        writer: Option<&'a mut W>,
+    ) -> Self {
         Printer {
             clock,
             timing,
+            filter,
             writer,
             has_failed: false,
         }
@@ -38,7 +46,7 @@ impl<'a, W: Sink, C: Clock> Printer<'a, W, C> {
     /// Reads a piece that one side of a client's connection sent, and prints the results.
     pub(crate) fn print(
         &mut self,
-        tap: &mut TimedTap,
+        tap: &mut FilteredTap,
         printing: Printing,
         side: Side,
         piece: &[u8],
@@ -47,13 +55,16 @@ impl<'a, W: Sink, C: Clock> Printer<'a, W, C> {
             return;
         };
         let now = self.timing.now(self.clock);
-        if watch(tap, printing, side, piece, now, *writer).is_err() {
+        if watch_filtered(tap, self.filter, printing, side, piece, now, *writer).is_err() {
             self.has_failed = true;
         }
     }
 
     /// Prints a line about a client.
     pub(crate) fn print_line(&mut self, client: u64, what: &[u8]) {
+        if !self.filter.keeps_client(client) {
+            return;
+        }
         let stamp = self.stamp();
         let Some(writer) = &mut self.writer else {
             return;
@@ -64,15 +75,18 @@ impl<'a, W: Sink, C: Clock> Printer<'a, W, C> {
     }
 
     /// Prints which side of a client's connection has ended, and the incomplete command or reply of
-    /// that side.
-    pub(crate) fn print_end(&mut self, tap: &TimedTap, client: u64, side: Side) {
-        let stamp = self.stamp();
-        let Some(writer) = &mut self.writer else {
-            return;
-        };
+    /// that side. If only some commands are printed, only an end inside a command or a reply is.
+    pub(crate) fn print_end(&mut self, tap: &FilteredTap, client: u64, side: Side) {
         let cut = match side {
             Side::Client => tap.tap().incomplete_command(),
             Side::Server => tap.tap().incomplete_reply(),
+        };
+        if !self.filter.keeps_end(client, cut) {
+            return;
+        }
+        let stamp = self.stamp();
+        let Some(writer) = &mut self.writer else {
+            return;
         };
         if write_end(client, side, cut, stamp, *writer).is_err() {
             self.has_failed = true;

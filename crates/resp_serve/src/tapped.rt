@@ -8,7 +8,7 @@ use crate::printer::Printer;
 use crate::service::Next;
 use mio::net::TcpStream;
 use resp_tap::watch::Side;
-use resp_tap::{Printing, TimedTap};
+use resp_tap::{FilteredTap, Printing};
 use resp_value::device::Sink;
 use resp_value::limits::Limits;
 use std::alloc::Global;
@@ -35,7 +35,7 @@ pub(crate) struct Tapped {
     is_connected: bool,
     to_server: Lane,
     to_client: Lane,
-    tap: TimedTap,
+    tap: FilteredTap,
     /// The client's number, and how its traffic is printed.
     printing: Printing,
 }
@@ -43,7 +43,7 @@ pub(crate) struct Tapped {
 /// Gives the pieces that one side sends to the tap, and prints the results.
 #[derive(Drop)]
 struct Seeing<'a, 'b, W, C> {
-    tap: &'a mut TimedTap,
+    tap: &'a mut FilteredTap,
     printing: Printing,
     side: Side,
     /// Whether the other side has not ended.
@@ -93,7 +93,7 @@ impl Tapped {
             is_connected: false,
             to_server: Lane::new(alloc),
             to_client: Lane::new(alloc),
-            tap: TimedTap::new(alloc, limits),
+            tap: FilteredTap::new(alloc, limits),
             printing,
         }
     }

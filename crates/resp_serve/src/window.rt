@@ -13,8 +13,8 @@ use crate::timing::Timing;
 use mio::Registry;
 use mio::net::TcpStream;
 use resp_print::live::LiveSink;
-use resp_tap::Printing;
 use resp_tap::screen::Screen;
+use resp_tap::{Filter, Printing};
 use resp_value::device::Sink;
 use resp_value::limits::Limits;
 use std::alloc::Global;
@@ -95,6 +95,7 @@ struct View {
     /// The address of the server, as it is printed.
     server_text: String,
     settings: Settings,
+    filter: Filter,
     /// The number of connections that were accepted.
     count: u64,
     /// With it a client is accepted only if a descriptor is left for its connection to the server too.
@@ -119,7 +120,8 @@ struct Watching<'a, R, W> {
 }
 
 impl Window {
-    /// Listens on an address for clients, and connects them to the server at another address.
+    /// Listens on an address for clients, and connects them to the server at another address. What
+    /// the filter lets through is printed.
     ///
     /// # Errors
     ///
@@ -132,10 +134,11 @@ impl Window {
         address: SocketAddr,
         server: SocketAddr,
         settings: Settings,
+        filter: Filter,
     ) -> io::Result<Self> {
         let connections = Loop::listen(rt, alloc, address, settings.most)?;
         check_server(rt, server, connections.address())?;
-        let view = View::new(rt, alloc, server, settings)?;
+        let view = View::new(rt, alloc, server, settings, filter)?;
         Ok(Window { connections, view })
     }
 
@@ -183,6 +186,7 @@ impl View {
         alloc: Global,
         server: SocketAddr,
         settings: Settings,
+        filter: Filter,
     ) -> io::Result<View> {
         let server_text = format!(in alloc; "{server}")?;
         let terminal = Terminal::new(rt, alloc)?;
@@ -192,6 +196,7 @@ impl View {
             server,
             server_text,
             settings,
+            filter,
             count: 0,
             spare: Spare::new(rt),
             screen: Screen::new(alloc, SCREEN),
@@ -250,15 +255,22 @@ impl View {
         self.count
     }
 
+    /// Prints that a client's connection has gone, unless only some commands are printed.
+    fn print_gone<W: Sink, C: Clock>(&mut self, client: u64, clock: &C, out: &mut W) {
+        if self.filter.keeps_gone(client) {
+            self.print_line(client, b" gone", clock, out);
+        }
+    }
+
     /// Prints a line about a client.
     fn print_line<W: Sink, C: Clock>(&mut self, client: u64, what: &[u8], clock: &C, out: &mut W) {
         if self.terminal.may_wait() {
             let screen = as_long(!self.is_silent, &mut self.screen);
-            Printer::new(clock, &mut self.timing, screen).print_line(client, what);
+            Printer::new(clock, &mut self.timing, &self.filter, screen).print_line(client, what);
             return;
         }
         let out = as_long(!self.is_silent, out);
-        let mut printer = Printer::new(clock, &mut self.timing, out);
+        let mut printer = Printer::new(clock, &mut self.timing, &self.filter, out);
         printer.print_line(client, what);
         self.has_failed = self.has_failed || printer.has_failed();
     }
@@ -309,11 +321,11 @@ impl View {
     ) -> Next {
         if self.terminal.may_wait() {
             let screen = as_long(!self.is_silent, &mut self.screen);
-            let mut printer = Printer::new(clock, &mut self.timing, screen);
+            let mut printer = Printer::new(clock, &mut self.timing, &self.filter, screen);
             return connection.hand_on(is_at_end, &mut self.buffer, &mut printer);
         }
         let out = as_long(!self.is_silent, out);
-        let mut printer = Printer::new(clock, &mut self.timing, out);
+        let mut printer = Printer::new(clock, &mut self.timing, &self.filter, out);
         let next = connection.hand_on(is_at_end, &mut self.buffer, &mut printer);
         self.has_failed = self.has_failed || printer.has_failed();
         next
@@ -379,7 +391,7 @@ impl<R: Net + Clock + Eprint, W: LiveSink> Service<Tapped> for Watching<'_, R, W
     fn close(&mut self, connection: Tapped) {
         if connection.is_connected() {
             let number = connection.number();
-            self.view.print_line(number, b" gone", self.rt, self.out);
+            self.view.print_gone(number, self.rt, self.out);
         }
         // Its descriptors are closed first.
         drop(connection);
