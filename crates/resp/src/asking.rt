@@ -1,5 +1,6 @@
 //! The command `ask`, which sends commands to a server.
 
+use crate::failures::{Failures, Input, Output};
 use crate::lines::Lines;
 use crate::talk::{Failure, Talk};
 use resp_args::asking::Asking;
@@ -31,6 +32,7 @@ pub fn run_ask<O: LiveSink, F: Sink>(
     rt: &HostRuntime,
     asking: &Asking<'_>,
     output: &mut O,
+    failures: &Failures,
     faults: &mut F,
 ) -> Result<u8, AllocError> {
     let alloc = rt.alloc();
@@ -47,21 +49,22 @@ pub fn run_ask<O: LiveSink, F: Sink>(
         }
     };
     let _ = stream.set_nodelay(true);
-    let mut reader = Device::new(&stream);
-    let mut writer = Device::new(&stream);
+    let mut reader = Device::new(Input::new(&stream, failures));
+    let mut writer = Device::new(Output::new(&stream, failures));
     let password = match &password {
         Ok(password) => Some(password.as_str()),
         Err(_) => None,
     };
-    Ok(ask_over(
+    ask_over(
         rt,
         asking,
         password,
         &mut reader,
         &mut writer,
         output,
+        failures,
         faults,
-    ))
+    )
 }
 
 /// Sends the commands over an open connection, after AUTH and HELLO if the options ask for them.
@@ -73,20 +76,24 @@ fn ask_over<R: Source, W: Sink, O: LiveSink, F: Sink>(
     reader: &mut R,
     writer: &mut W,
     output: &mut O,
+    failures: &Failures,
     faults: &mut F,
-) -> u8 {
+) -> Result<u8, AllocError> {
     let form = match asking.words.is_empty() {
         _ if asking.options.counts => Form::Counted,
         true => Form::Numbered,
         false => Form::Alone,
     };
     let mut talk = Talk::new(rt.alloc(), &asking.options.limits, reader, writer);
-    match ask_with(rt, &mut talk, asking, password, form, output) {
-        Ok(()) if talk.errors() == 0 => 0,
-        Ok(()) => ERROR,
+    match ask_with(rt, &mut talk, asking, password, form, failures, output) {
+        Ok(()) if talk.errors() == 0 => Ok(0),
+        Ok(()) => Ok(ERROR),
         Err(failure) => {
             let _ = failure.write(talk.next_reply(), faults);
-            failure.status()
+            if let Some(error) = failure.of_device() {
+                failures.write_why(rt.alloc(), &error, faults)?;
+            }
+            Ok(failure.status())
         }
     }
 }
@@ -98,6 +105,7 @@ fn ask_with<R: Source, W: Sink, O: LiveSink>(
     asking: &Asking<'_>,
     password: Option<&str>,
     form: Form,
+    failures: &Failures,
     output: &mut O,
 ) -> Result<(), Failure> {
     if !talk.greet(rt.alloc(), &asking.options, password, output)? {
@@ -105,9 +113,9 @@ fn ask_with<R: Source, W: Sink, O: LiveSink>(
     }
     talk.begin(form);
     if form == Form::Counted {
-        return count(rt, talk, asking, output);
+        return count(rt, talk, asking, failures, output);
     }
-    send_commands(rt, talk, asking, output)
+    send_commands(rt, talk, asking, failures, output)
 }
 
 /// Sends the commands, and prints the numbers of replies and errors and the time.
@@ -115,10 +123,11 @@ fn count<R: Source, W: Sink, O: LiveSink>(
     rt: &HostRuntime,
     talk: &mut Talk<'_, R, W>,
     asking: &Asking<'_>,
+    failures: &Failures,
     output: &mut O,
 ) -> Result<(), Failure> {
     let start = Instant::now(rt);
-    send_commands(rt, talk, asking, output)?;
+    send_commands(rt, talk, asking, failures, output)?;
     let micros = micros_since(rt, start);
     match write_totals(talk.replies(), talk.errors(), micros, output) {
         Ok(()) => Ok(()),
@@ -143,13 +152,14 @@ fn send_commands<R: Source, W: Sink, O: LiveSink>(
     rt: &HostRuntime,
     talk: &mut Talk<'_, R, W>,
     asking: &Asking<'_>,
+    failures: &Failures,
     output: &mut O,
 ) -> Result<(), Failure> {
     let alloc = rt.alloc();
     if !asking.words.is_empty() {
         return talk.send_words(alloc, asking.words.as_slice(), output);
     }
-    let mut input = Device::new(rt.stdin());
+    let mut input = Device::new(Input::new(rt.stdin(), failures));
     let window = asking.options.window as u64;
     talk.send_lines(alloc, &mut input, &mut Lines::new(alloc), window, output)
 }

@@ -4,33 +4,32 @@
 #![tactic(auto)]
 
 mod asking;
+mod failures;
 mod input;
 mod lines;
 mod listening;
-mod output;
 mod talk;
 
 ghost use Rattle.std.specs.Prelude.{◌≤◌};
 
 use asking::run_ask;
+use failures::{Failures, Input, StandardOutput};
 use input::read_input;
 use listening::{run_proxy, run_serve, run_tap};
-use output::Output;
 use resp_args::asked::Asked;
 use resp_args::options::{Options, STANDARD_INPUT};
 use resp_args::tool_error::ToolError;
 use resp_args::words::{read_words, refuse_file, refuse_words, stop};
 use resp_print::live::{Gathering, LiveSink};
-use resp_script::play::{play, write_no_connection};
+use resp_script::play::{PlayError, play, write_no_connection};
 use resp_script::script::read_script;
 use resp_tool::command_line::{perform, run_options};
 use resp_tool::explain::explain;
 use resp_tool::watched::Watched;
-use resp_value::device::{Device, MemorySink, Sink, Source};
+use resp_value::device::{Device, MemorySink, Sink};
 use resp_value::limits::Limits;
 use resp_wire::{TcpLink, World};
 use std::alloc::{AllocError, Global};
-use std::cell::Cell;
 use std::env;
 use std::fs::File;
 use std::hash::RandomState;
@@ -68,19 +67,27 @@ fn run(rt: &HostRuntime) -> Result<u8, AllocError> {
             return Ok(status);
         }
     };
-    let is_closed = Cell::new(false);
-    let output = Output::new(rt.stdout(), &is_closed);
+    let failures = Failures::new();
+    let output = StandardOutput::new(rt.stdout(), &failures);
     let mut writer = Gathering::new(alloc, Device::new(output))?;
-    let status = run_words(rt, words.as_slice(), &mut writer, &mut faults)?;
+    let status = run_words(rt, words.as_slice(), &mut writer, &failures, &mut faults)?;
     let is_written = writer.flush().is_ok();
-    if is_closed.get() {
+    if failures.is_output_closed() {
         return Ok(DEVICE_FAILED);
     }
     // If a device failed before, that was already reported.
     if !is_written && status != DEVICE_FAILED {
-        let _ = rt.stderr().write_all(b"write failed\n");
-        return Ok(DEVICE_FAILED);
+        return refuse_output(rt, &failures);
     }
+    let _ = rt.stderr().write_all(faults.bytes());
+    Ok(status)
+}
+
+/// Reports that the output failed, and nothing else. Returns the status.
+fn refuse_output(rt: &HostRuntime, failures: &Failures) -> Result<u8, AllocError> {
+    let mut faults = MemorySink::new(rt.alloc(), MOST_FAULTS, MOST_FAULTS)?;
+    let status = stop(&ToolError::Write, &mut faults);
+    failures.write_why(rt.alloc(), &ToolError::Write, &mut faults)?;
     let _ = rt.stderr().write_all(faults.bytes());
     Ok(status)
 }
@@ -90,10 +97,14 @@ fn run_words<W: LiveSink, F: Sink>(
     rt: &HostRuntime,
     words: &[String],
     writer: &mut W,
+    failures: &Failures,
     faults: &mut F,
 ) -> Result<u8, AllocError> {
     match read_words(rt.alloc(), words, writer, faults) {
-        Ok(Asked::Stream(options)) => run_task(rt, &options, writer, faults),
+        Ok(Asked::Stream(options)) => {
+            failures.set_explains(is_explained(rt, options.explains, options.never_explains));
+            run_task(rt, &options, writer, failures, faults)
+        }
         Ok(
             Asked::Play {
                 explains,
@@ -101,13 +112,16 @@ fn run_words<W: LiveSink, F: Sink>(
                 file,
             },
         ) => {
-            let explains = is_explained(rt, explains, never_explains);
-            run_script(rt, file, explains, writer, faults)
+            failures.set_explains(is_explained(rt, explains, never_explains));
+            run_script(rt, file, writer, failures, faults)
         }
         Ok(Asked::Serve(serving)) => run_serve(rt, &serving, writer, faults),
         Ok(Asked::Tap(tapping)) => run_tap(rt, &tapping, writer, faults),
         Ok(Asked::Proxy(proxying)) => run_proxy(rt, &proxying, writer, faults),
-        Ok(Asked::Ask(asking)) => run_ask(rt, &asking, writer, faults),
+        Ok(Asked::Ask(asking)) => {
+            failures.set_explains(is_explained(rt, false, false));
+            run_ask(rt, &asking, writer, failures, faults)
+        }
         Err(status) => Ok(status),
     }
 }
@@ -117,16 +131,17 @@ fn run_task<W: LiveSink, F: Sink>(
     rt: &HostRuntime,
     options: &Options<'_>,
     writer: &mut W,
+    failures: &Failures,
     faults: &mut F,
 ) -> Result<u8, AllocError>
     requires { (1 ≤ options.now.piece) × (options.now.piece ≤ 65536) }
 {
     let alloc = rt.alloc();
     if options.file == STANDARD_INPUT {
-        return Ok(run_stream(rt, options, rt.stdin(), writer, faults));
+        return run_stream(rt.alloc(), options, rt.stdin(), writer, failures, faults);
     }
     match File::open(rt, options.file) {
-        Ok(file) => Ok(run_stream(rt, options, file, writer, faults)),
+        Ok(file) => run_stream(rt.alloc(), options, file, writer, failures, faults),
         Err(error) => {
             let why = format!(in alloc; "{error}")?;
             Ok(refuse_file(options.file, why.as_str(), faults))
@@ -143,26 +158,27 @@ fn is_explained(rt: &HostRuntime, explains: bool, never_explains: bool) -> bool 
 /// Runs the command on a stream and returns the status. If errors are explained, prints an
 /// explanation after the line of a fault.
 fn run_stream<R: Read + Drop, W: LiveSink, F: Sink>(
-    rt: &HostRuntime,
+    alloc: Global,
     options: &Options<'_>,
     stream: R,
     writer: &mut W,
+    failures: &Failures,
     faults: &mut F,
-) -> u8
+) -> Result<u8, AllocError>
     requires { (1 ≤ options.now.piece) × (options.now.piece ≤ 65536) }
 {
-    let alloc = rt.alloc();
-    let mut reader = Device::new(stream);
-    if !is_explained(rt, options.explains, options.never_explains) {
-        return run_options(alloc, options, &mut reader, writer, faults);
+    let mut reader = Device::new(Input::new(stream, failures));
+    if !failures.explains() {
+        return Ok(run_options(alloc, options, &mut reader, writer, faults));
     }
     let mut watched = Watched::new(alloc, reader, options.version, &options.limits);
     match perform(alloc, options, &mut watched, writer) {
-        Ok(()) => 0,
+        Ok(()) => Ok(0),
         Err(error) => {
             let status = stop(&error, faults);
             let _ = explain(alloc, &error, options, &mut watched, faults);
-            status
+            failures.write_why(alloc, &error, faults)?;
+            Ok(status)
         }
     }
 }
@@ -171,16 +187,15 @@ fn run_stream<R: Read + Drop, W: LiveSink, F: Sink>(
 fn run_script<W: Sink, F: Sink>(
     rt: &HostRuntime,
     file: &str,
-    explains: bool,
     writer: &mut W,
+    failures: &Failures,
     faults: &mut F,
 ) -> Result<u8, AllocError> {
     if file == STANDARD_INPUT {
-        let mut reader = Device::new(rt.stdin());
-        return run_loop(rt, explains, &mut reader, writer, faults);
+        return run_loop(rt, rt.stdin(), writer, failures, faults);
     }
     match File::open(rt, file) {
-        Ok(opened) => run_loop(rt, explains, &mut Device::new(opened), writer, faults),
+        Ok(opened) => run_loop(rt, opened, writer, failures, faults),
         Err(error) => {
             let why = format!(in rt.alloc(); "{error}")?;
             Ok(refuse_file(file, why.as_str(), faults))
@@ -190,23 +205,27 @@ fn run_script<W: Sink, F: Sink>(
 
 /// Plays the script in the input over TCP and returns the status. If requested, prints after the
 /// line of a bad line why it is bad.
-fn run_loop<R: Source, W: Sink, F: Sink>(
+fn run_loop<R: Read + Drop, W: Sink, F: Sink>(
     rt: &HostRuntime,
-    explains: bool,
-    reader: &mut R,
+    input: R,
     writer: &mut W,
+    failures: &Failures,
     faults: &mut F,
 ) -> Result<u8, AllocError> {
     let alloc = rt.alloc();
-    let bytes = match read_input(alloc, reader) {
+    let bytes = match read_input(alloc, &mut Device::new(Input::new(input, failures))) {
         Ok(bytes) => bytes,
-        Err(error) => return Ok(stop(&error, faults)),
+        Err(error) => {
+            let status = stop(&error, faults);
+            failures.write_why(alloc, &error, faults)?;
+            return Ok(status);
+        }
     };
     let script = match read_script(alloc, bytes.as_slice()) {
         Ok(script) => script,
         Err(error) => {
             let _ = error.line(faults);
-            if explains {
+            if failures.explains() {
                 let _ = error.explain(faults);
             }
             return Ok(error.status());
@@ -218,7 +237,7 @@ fn run_loop<R: Source, W: Sink, F: Sink>(
             Ok(link) => links.push(link)?,
             Err(error) => {
                 let client = index as u64 + 1;
-                return refuse_connection(alloc, client, &error, explains, faults);
+                return refuse_connection(alloc, client, &error, failures, faults);
             }
         }
     }
@@ -232,6 +251,9 @@ fn run_loop<R: Source, W: Sink, F: Sink>(
         Ok(()) => Ok(0),
         Err(error) => {
             let _ = error.line(faults);
+            if let PlayError::Write = error {
+                failures.write_why(alloc, &ToolError::Write, faults)?;
+            }
             Ok(error.status())
         }
     }
@@ -243,11 +265,11 @@ fn refuse_connection<F: Sink>(
     alloc: Global,
     client: u64,
     error: &io::Error,
-    explains: bool,
+    failures: &Failures,
     faults: &mut F,
 ) -> Result<u8, AllocError> {
     let status = stop(&ToolError::Read, faults);
-    if explains {
+    if failures.explains() {
         let why = format!(in alloc; "{error}")?;
         let _ = write_no_connection(faults, client, why.as_str().as_bytes());
     }

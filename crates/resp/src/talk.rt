@@ -2,6 +2,7 @@
 
 use crate::lines::{FillError, Lines};
 use resp_args::asking::AskOptions;
+use resp_args::tool_error::ToolError;
 use resp_ask::exchange::exchange;
 use resp_ask::hear::hear_until;
 use resp_ask::{AskError, Form, Telling, ask_command};
@@ -84,6 +85,17 @@ impl Failure {
             Failure::Line { .. } | Failure::Refused { .. } => 1,
             Failure::Ask(AskError::Refused(_)) | Failure::Ask(AskError::Fault(_)) => 1,
             Failure::Ask(_) | Failure::Input | Failure::Output => 3,
+        }
+    }
+
+    /// Returns the error of the device that failed, if one did.
+    pub fn of_device(&self) -> Option<ToolError> {
+        match self {
+            Failure::Ask(AskError::Read) | Failure::Input => Some(ToolError::Read),
+            Failure::Ask(AskError::Write) | Failure::Ask(AskError::Output) | Failure::Output => {
+                Some(ToolError::Write)
+            }
+            _ => None,
         }
     }
 

@@ -94,6 +94,10 @@ cause_text r missing new_type cause.Truncated =
     codes "the input ends inside a value; bytes missing: at least " ++ decimal missing ++ codes ""
 cause_text r missing new_type _ = codes "a valid value cannot contain this byte here"
 
+-- the line with the reason that the system gives for a failed read or write
+abbrev pub system_reason_line : List ℕ → List ℕ
+system_reason_line why = codes "  " ++ why ++ codes "\n"
+
 -- the first line up to the place of the error
 abbrev pub margin_text : ℕ → List ℕ → List ℕ
 margin_text place before = codes "  at byte " ++ decimal place ++ codes " of the input: " ++ quoted_text before

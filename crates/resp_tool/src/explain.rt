@@ -1,7 +1,7 @@
 //! Explains an error in a stream: the lines of `--explain`.
 
 ghost use Rattle.std.specs.Prelude.{◌≡◌, ◌≢◌, ℕ, [], List, IfErr, IfOk, OnErr, OnOk, length, option_map, replicate};
-ghost use Rattle.resp_tool.specs.Explained.{Explains, ExplainsAt, HasWatched, IsHintOf, IsNextOf, IsTruncated, cause_text, double_text, explanation_lines, held_bytes, margin_text, place_lines, reason_text, rules_watched, sentence_text};
+ghost use Rattle.resp_tool.specs.Explained.{Explains, ExplainsAt, HasWatched, IsHintOf, IsNextOf, IsTruncated, cause_text, double_text, explanation_lines, held_bytes, margin_text, place_lines, reason_text, rules_watched, sentence_text, system_reason_line};
 ghost use Rattle.resp_tool.specs.Hints.{hint_line};
 ghost use Rattle.resp_print.specs.Written.{WritesText};
 ghost use Rattle.resp_tool.specs.Streams.{failed_to_write};
@@ -78,6 +78,21 @@ pub fn explain<R, F: Sink>(
         }
         ToolError::Read | ToolError::Write | ToolError::TooManyTurns | ToolError::Memory => Ok(()),
     }
+}
+
+/// Writes a line with the reason that the system gives for a failed read or write. It follows the
+/// line of the error.
+///
+/// # Errors
+///
+/// `DeviceFault` if a write fails. The first part of the line was written.
+pub fn write_system_reason<F: Sink>(why: &[u8], faults: &mut F) -> Result<(), DeviceFault>
+    ensures { WritesText (F.written faults.old) (F.written faults.new) (F.failures faults.old)
+        (F.failures faults.new) result (system_reason_line why.now) }
+{
+    write_text(faults, b"  ")?;
+    write_text(faults, why)?;
+    write_text(faults, b"\n")
 }
 
 /// Scans the bytes of the last read, if the input ended inside a value.

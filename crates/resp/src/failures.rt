@@ -1,0 +1,160 @@
+//! The devices of the program, and why the last of their calls that failed did so.
+
+use resp_args::tool_error::ToolError;
+use resp_tool::explain::write_system_reason;
+use resp_value::device::Sink;
+use std::alloc::{AllocError, Global};
+use std::cell::Cell;
+use std::io;
+use std::io::{ErrorKind, Read, Write};
+
+/// Why reads and writes failed.
+#[derive(Drop)]
+pub struct Failures {
+    read: Cell<Option<io::Error>>,
+    write: Cell<Option<io::Error>>,
+    is_closed: Cell<bool>,
+    explains: Cell<bool>,
+}
+
+impl Failures {
+    /// Returns the state before any failure. Errors are not explained.
+    pub fn new() -> Self {
+        Failures {
+            read: Cell::new(None),
+            write: Cell::new(None),
+            is_closed: Cell::new(false),
+            explains: Cell::new(false),
+        }
+    }
+
+    /// Explains errors from here on, or not.
+    pub fn set_explains(&self, explains: bool) {
+        self.explains.set(explains);
+    }
+
+    /// Returns whether errors are explained.
+    pub fn explains(&self) -> bool {
+        self.explains.get()
+    }
+
+    /// Returns whether the reader of the output has closed it.
+    pub fn is_output_closed(&self) -> bool {
+        self.is_closed.get()
+    }
+
+    /// Writes why a device failed, if errors are explained and `error` says that one failed.
+    pub fn write_why<F: Sink>(
+        &self,
+        alloc: Global,
+        error: &ToolError,
+        faults: &mut F,
+    ) -> Result<(), AllocError> {
+        match error {
+            ToolError::Read => self.write_reason(alloc, self.read.get(), faults),
+            ToolError::Write => self.write_reason(alloc, self.write.get(), faults),
+            _ => Ok(()),
+        }
+    }
+
+    /// Writes this reason, if errors are explained.
+    fn write_reason<F: Sink>(
+        &self,
+        alloc: Global,
+        reason: Option<io::Error>,
+        faults: &mut F,
+    ) -> Result<(), AllocError> {
+        let Some(error) = reason else {
+            return Ok(());
+        };
+        if self.explains() {
+            let why = format!(in alloc; "{error}")?;
+            let _ = write_system_reason(why.as_str().as_bytes(), faults);
+        }
+        Ok(())
+    }
+}
+
+/// A reader that records why a read failed.
+#[derive(Drop)]
+pub struct Input<'a, R> {
+    inner: R,
+    failures: &'a Failures,
+}
+
+impl<'a, R> Input<'a, R> {
+    /// Makes a reader over `inner`.
+    pub fn new(inner: R, failures: &'a Failures) -> Self {
+        Input { inner, failures }
+    }
+}
+
+impl<R: Read> Read for Input<'_, R> {
+    fn read(&mut self, into: &mut [u8]) -> io::Result<usize> {
+        let result = self.inner.read(into);
+        if let Err(error) = &result {
+            self.failures.read.set(Some(*error));
+        }
+        result
+    }
+}
+
+/// A writer that records why a write failed.
+#[derive(Drop)]
+pub struct Output<'a, W> {
+    inner: W,
+    failures: &'a Failures,
+}
+
+impl<'a, W> Output<'a, W> {
+    /// Makes a writer over `inner`.
+    pub fn new(inner: W, failures: &'a Failures) -> Self {
+        Output { inner, failures }
+    }
+}
+
+impl<W: Write> Write for Output<'_, W> {
+    fn write(&mut self, from: &[u8]) -> io::Result<usize> {
+        let result = self.inner.write(from);
+        if let Err(error) = &result {
+            self.failures.write.set(Some(*error));
+        }
+        result
+    }
+
+    fn flush(&mut self) -> io::Result<()> {
+        self.inner.flush()
+    }
+}
+
+/// Standard output. Beside the reason of a failed write, it records whether its reader has closed
+/// it.
+#[derive(Drop)]
+pub struct StandardOutput<'a, W> {
+    output: Output<'a, W>,
+}
+
+impl<'a, W> StandardOutput<'a, W> {
+    /// Makes a writer over `inner`.
+    pub fn new(inner: W, failures: &'a Failures) -> Self {
+        StandardOutput {
+            output: Output::new(inner, failures),
+        }
+    }
+}
+
+impl<W: Write> Write for StandardOutput<'_, W> {
+    fn write(&mut self, from: &[u8]) -> io::Result<usize> {
+        let result = self.output.write(from);
+        if let Err(error) = &result {
+            if error.kind() == ErrorKind::BrokenPipe {
+                self.output.failures.is_closed.set(true);
+            }
+        }
+        result
+    }
+
+    fn flush(&mut self) -> io::Result<()> {
+        self.output.flush()
+    }
+}
