@@ -1,5 +1,5 @@
 -- What the words give an option, from what the matches read of it.
-use Rattle.std.proofs.Common.{subst, ◌&&◌, arith, inl, inr, ◌⊎◌, ◌≢◌, ◌∙◌, ◌≡◌, ℕ, ap, Bool, true, false, List, [], ◌∷◌, map, refl, sym, Option, Some, None, Result, Ok, Err, IfOk, IfErr, IfSome, IfNone, OnErr, codes, unwrap_or}
+use Rattle.std.proofs.Common.{subst, ◌&&◌, arith, inl, inr, ◌⊎◌, ◌≢◌, ◌∙◌, ◌≡◌, ℕ, ap, Bool, true, false, List, [], refl, sym, Option, Some, None, Result, Ok, Err, IfOk, IfErr, IfSome, IfNone, OnErr, codes, unwrap_or}
 use Rattle.std.specs.Str.Parse.{ParsesBool, ParsesUnsigned}
 use Rattle.clap.specs.Words.{App, FailsBy, HasKind, HasMatchesOf, IsAmong, kind_of, ReadsOne, Row, Text, fault_of, first_of, is_simple, is_simple_and_free, one_text, rows_of, subcommand_of, subcommand_rows_of}
 use Rattle.clap.specs.declared.error.Error.{Error}
@@ -20,7 +20,6 @@ use Rattle.clap.specs.declared.builder.command.Command.{Command}
 use Rattle.resp_args.specs.Program.{IsProgram, IsTask, resp_app}
 use Rattle.std.specs.Net.Grammar.{IsSocketText}
 use Rattle.std.specs.declared.net.socket_addr.SocketAddr.{SocketAddr}
-use Rattle.clap.specs.declared.builder.value_parser.ValueParser.TheVariants as vp
 use Rattle.resp_value.specs.declared.version.Version.{Version}
 use Rattle.resp_args.specs.declared.asked.Asked.{Asked}
 use Rattle.resp_args.specs.declared.asked.Asked.TheVariants.{Stream, Play, Serve, Tap, Proxy, Ask}
