@@ -5,12 +5,6 @@ ghost use Rattle.resp_args.specs.Durations.{HasUnit, IsDuration};
 
 /// Returns the microseconds of a duration: a number with `us`, `ms` or `s`, such as `10ms`. Returns
 /// `None` for any other text, and for 2^64 microseconds or more.
-///
-/// # Examples
-///
-/// ```rust
-/// assert_eq!(duration_of("10ms"), Some(10_000));
-/// ```
 pub fn duration_of(text: &str) -> Option<u64>
     ensures some { IfSome result (IsDuration text.now) }
     ensures none { IfNone result ((micros : ℕ) → IsDuration text.now micros → ⊥) }
