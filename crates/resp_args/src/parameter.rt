@@ -10,7 +10,7 @@ use std::alloc::Global;
 /// An option or an argument of a subcommand, as the parser and its help know it.
 #[derive(Clone, Copy)]
 pub(crate) struct Parameter {
-    /// The name by which its values are found, and which a long option has after its dashes.
+    /// Its values are found by this name. A long option is this name after two dashes.
     pub(crate) name: &'static str,
     pub(crate) form: Form,
     pub(crate) help: &'static str,

@@ -142,7 +142,7 @@ const DRAIN: Parameter = Parameter {
     help: "Ends when standard input ends; each client gets the\nreplies to its commands first",
 };
 
-/// `--also`: commands of modules that are sent too.
+/// `--also`: more commands that are sent.
 const ALSO: Parameter = Parameter {
     name: "also",
     form: Form::Text { value_name: "NAME" },

@@ -26,7 +26,7 @@ pub(crate) fn subcommands() -> [Subcommand; 8]
     [show, check, canon, LOOP, SERVE, TAP, PROXY, ASK]
 }
 
-/// The subcommand `show`, of which `check` and `canon` have the options.
+/// The subcommand `show`. `check` and `canon` have its options.
 const SHOW: Subcommand = Subcommand {
     name: "show",
     about: "Prints each value of a stream as lines of text",
@@ -344,7 +344,7 @@ const HELD: Parameter = Parameter {
     help: "Maximum bytes waiting for a client when its\nnext command is run, 1 to 1099511627776",
 };
 
-/// The address on which `serve` listens.
+/// The address that `serve` listens on.
 const ADDRESS: Parameter = Parameter {
     name: "address",
     form: Form::Required {
@@ -418,7 +418,7 @@ const SHOW_PASSWORDS: Parameter = Parameter {
     help: "Prints the passwords in commands",
 };
 
-/// The address on which `tap` and `proxy` listen.
+/// The address that `tap` and `proxy` listen on.
 pub(crate) const LISTEN: Parameter = Parameter {
     name: "listen",
     form: Form::Required {
