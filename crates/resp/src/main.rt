@@ -22,7 +22,7 @@ use resp_args::tool_error::ToolError;
 use resp_args::words::{read_words, refuse_file, refuse_words, stop};
 use resp_print::live::{Gathering, LiveSink};
 use resp_script::play::{PlayError, play, write_no_connection};
-use resp_script::script::read_script;
+use resp_script::script::{Script, read_script};
 use resp_tool::command_line::{perform, run_options};
 use resp_tool::explain::explain;
 use resp_tool::watched::Watched;
@@ -231,6 +231,18 @@ fn run_loop<R: Read + Drop, W: Sink, F: Sink>(
             return Ok(error.status());
         }
     };
+    play_script(rt, &script, writer, failures, faults)
+}
+
+/// Plays a script over TCP and returns the status.
+fn play_script<W: Sink, F: Sink>(
+    rt: &HostRuntime,
+    script: &Script,
+    writer: &mut W,
+    failures: &Failures,
+    faults: &mut F,
+) -> Result<u8, AllocError> {
+    let alloc = rt.alloc();
     let mut links = Vec::new(alloc);
     for index in 0..script.clients {
         match TcpLink::connect(rt) {
@@ -247,7 +259,7 @@ fn run_loop<R: Read + Drop, W: Sink, F: Sink>(
     let Ok(mut world) = World::over(alloc, links, Limits::standard(), hasher) else {
         return Err(AllocError);
     };
-    match play(alloc, &script, &mut world, writer) {
+    match play(alloc, script, &mut world, writer) {
         Ok(()) => Ok(0),
         Err(error) => {
             let _ = error.line(faults);
