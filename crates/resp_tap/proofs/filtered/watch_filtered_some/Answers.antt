@@ -29,7 +29,7 @@ returns-clause-watches g c =
     let what = c.step-step.result.seen in
     let same = sym c.follow.ensures.same_tap in
     let note : option_map (λ note. note.now) c.get.result ≡ slice_get old.notes.items (asked_at (tap_state old.timed.tap).line.due) =
-        note_at old.notes.items c.asked_at-at.result c.get.result c.get.ensures.item ∙ ap (slice_get old.notes.items) c.asked_at-at.ensures in (
+    note_at old.notes.items c.asked_at-at.result c.get.result c.get.ensures.item ∙ ap (slice_get old.notes.items) c.asked_at-at.ensures in (
       what,
       record {
         seen = subst (λ (t : TimedTap). SeesFirst c.args.side c.args.now old.timed t c.args.piece.now c.step-step.result.used what) same c.step-step.ensures.sees;

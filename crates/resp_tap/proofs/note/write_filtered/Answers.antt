@@ -29,10 +29,10 @@ returns-in-Ok g c =
     let note = option_map (λ note. note.now) c.args.note in
     let passes : c.keeps.result ≡ true = search rules in
     let kept : keeps f p.client (chosen_by f note) (waited_in c.args.stamp) what ≡ true =
-        ap (λ b. keeps f p.client b (waited_in c.args.stamp) what) (sym c.is_chosen-is_chosen.ensures) ∙
-        ap (λ w. keeps f p.client c.is_chosen-is_chosen.result w what) (sym c.waited_in.ensures) ∙ sym c.keeps.ensures ∙ passes in
+    ap (λ b. keeps f p.client b (waited_in c.args.stamp) what) (sym c.is_chosen-is_chosen.ensures) ∙
+    ap (λ w. keeps f p.client c.is_chosen-is_chosen.result w what) (sym c.waited_in.ensures) ∙ sym c.keeps.ensures ∙ passes in
     subst (λ text. Prints (g.W.Sink.written c.args.writer.now) (g.W.Sink.written c.write_seen.new.writer)
-        (g.W.Sink.failures c.args.writer.now) (g.W.Sink.failures c.write_seen.new.writer) c.write_seen.result text (levels_of what))
+    (g.W.Sink.failures c.args.writer.now) (g.W.Sink.failures c.write_seen.new.writer) c.write_seen.result text (levels_of what))
     (let_through f p note c.args.stamp what kept)
     (prints_next c.write_seen.result _ _ _ _ _ _ (before_text f p.client note what) (seen_text p c.args.stamp what) (levels_of what)
     c.in-Ok.ensures c.write_seen.ensures)
@@ -45,9 +45,9 @@ returns-in-Err g c =
     let note = option_map (λ note. note.now) c.args.note in
     let passes : c.keeps.result ≡ true = search rules in
     let kept : keeps f p.client (chosen_by f note) (waited_in c.args.stamp) what ≡ true =
-        ap (λ b. keeps f p.client b (waited_in c.args.stamp) what) (sym c.is_chosen-is_chosen.ensures) ∙
-        ap (λ w. keeps f p.client c.is_chosen-is_chosen.result w what) (sym c.waited_in.ensures) ∙ sym c.keeps.ensures ∙ passes in
+    ap (λ b. keeps f p.client b (waited_in c.args.stamp) what) (sym c.is_chosen-is_chosen.ensures) ∙
+    ap (λ w. keeps f p.client c.is_chosen-is_chosen.result w what) (sym c.waited_in.ensures) ∙ sym c.keeps.ensures ∙ passes in
     subst (λ text. AppendsPart (g.W.Sink.written c.args.writer.now) (g.W.Sink.written c.write_before.new.writer) text ×
-        (g.W.Sink.failures c.write_before.new.writer ≡ count_after 1 (g.W.Sink.failures c.args.writer.now)))
+    (g.W.Sink.failures c.write_before.new.writer ≡ count_after 1 (g.W.Sink.failures c.args.writer.now)))
     (let_through f p note c.args.stamp what kept)
     (failed_part _ _ _ _ (before_text f p.client note what) (seen_text p c.args.stamp what) 0 c.in-Err.ensures)

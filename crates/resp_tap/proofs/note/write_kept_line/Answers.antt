@@ -19,6 +19,6 @@ pub returns : goal.returns
 returns g c =
     let r = c.write_text-3.result in
     let end = subst (λ text. WritesText (g.W.Sink.written c.write_text-2.new.writer) (g.W.Sink.written c.write_text-3.new.writer)
-        (g.W.Sink.failures c.write_text-2.new.writer) (g.W.Sink.failures c.write_text-3.new.writer) r text) c.line_end.ensures c.write_text-3.ensures in
+    (g.W.Sink.failures c.write_text-2.new.writer) (g.W.Sink.failures c.write_text-3.new.writer) r text) c.line_end.ensures c.write_text-3.ensures in
     writes_next r _ _ _ _ _ _ (codes " ") (c.args.text.now ++ line_end c.args.is_whole) c.in_ok-write_text.ensures
     (writes_next r _ _ _ _ _ _ c.args.text.now (line_end c.args.is_whole) c.in_ok-write_text-2.ensures end)
