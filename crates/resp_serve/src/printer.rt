@@ -13,20 +13,20 @@ use std::rt::Clock;
 /// Prints what the taps report as far as the filter lets it through, with times if they are printed.
 /// Without a writer nothing is printed, and no tap is read.
 #[derive(Drop)]
-pub(crate) struct Printer<'a, W, C> {
+pub(crate) struct Printer<'a, 'f, W, C> {
     clock: &'a C,
     timing: &'a mut Timing,
-    filter: &'a Filter,
+    filter: &'f Filter,
     writer: Option<&'a mut W>,
     has_failed: bool,
 }
 
-impl<'a, W: Sink, C: Clock> Printer<'a, W, C> {
+impl<'a, 'f, W: Sink, C: Clock> Printer<'a, 'f, W, C> {
     /// Returns a printer over `writer`, to which nothing was printed.
     pub(crate) fn new(
         clock: &'a C,
         timing: &'a mut Timing,
-        filter: &'a Filter,
+        filter: &'f Filter,
         writer: Option<&'a mut W>,
     ) -> Self {
         Printer {

@@ -42,16 +42,16 @@ pub(crate) struct Tapped {
 
 /// Gives the pieces that one side sends to the tap, and prints the results.
 #[derive(Drop)]
-struct Seeing<'a, 'b, W, C> {
+struct Seeing<'a, 'b, 'f, W, C> {
     tap: &'a mut FilteredTap,
     printing: Printing,
     side: Side,
     /// Whether the other side has not ended.
     is_first: bool,
-    printer: &'a mut Printer<'b, W, C>,
+    printer: &'a mut Printer<'b, 'f, W, C>,
 }
 
-impl<W: Sink, C: Clock> Seeing<'_, '_, W, C> {
+impl<W: Sink, C: Clock> Seeing<'_, '_, '_, W, C> {
     /// Receives a piece.
     fn piece(&mut self, piece: &[u8]) {
         if !piece.is_empty() {
@@ -129,7 +129,7 @@ impl Tapped {
         &mut self,
         is_at_end: bool,
         buffer: &mut [u8],
-        printer: &mut Printer<'_, W, C>,
+        printer: &mut Printer<'_, '_, W, C>,
     ) -> Next
         requires { 0 < length buffer.old }
     {
@@ -149,7 +149,7 @@ impl Tapped {
         side: Side,
         is_at_end: bool,
         buffer: &mut [u8],
-        printer: &mut Printer<'_, W, C>,
+        printer: &mut Printer<'_, '_, W, C>,
     ) -> Progress
         requires { 0 < length buffer.old }
     {
