@@ -12,7 +12,8 @@ use Rattle.clap.proofs.OnLiterals.{clap_on_literals}
 use Rattle.std.specs.Option.{option_map_or}
 use Rattle.resp_value.specs.Bounds.{Bounds}
 use Rattle.resp_value.specs.declared.version.Version.TheVariants.{Two}
-use Rattle.resp_args.specs.CommandWords.{AreWrong, AskFor, Enters, HasFlag, HasLimits, HasNumber, flag_text, task_word, version_word}
+use Rattle.resp_args.specs.declared.sizes.Unit.TheVariants.{Giga, Kilo, Mega}
+use Rattle.resp_args.specs.CommandWords.{AreWrong, AskFor, Enters, HasFlag, HasLimits, HasSize, flag_text, task_word, version_word}
 use Rattle.resp_args.specs.declared.asked.Asked.TheVariants.{Stream, Play}
 use Rattle.resp_args.specs.declared.options.Options.{Options}
 use Rattle.resp_args.specs.declared.options.Task.{Task}
@@ -61,8 +62,8 @@ alone_gives_limits : (versions : ValueParser) → HasLimits (given_alone version
 unfolding clap_on_literals
 alone_gives_limits versions = record {
   depth = (codes "32", refl, (omega arith, search rules), refl, omega arith);
-  length = (codes "536870912", refl, (omega arith, search rules), refl, omega arith);
-  total = (codes "1073741824", refl, (omega arith, search rules), refl, omega arith);
+  length = (codes "512M", refl, (Mega, (5, omega arith, refl), (codes "512", refl, (omega arith, search rules), refl, omega arith), omega arith, omega arith));
+  total = (codes "1G", refl, (Giga, (9, omega arith, refl), (codes "1", refl, (omega arith, search rules), refl, omega arith), omega arith, omega arith));
   items = (codes "1099511627776", refl, (omega arith, search rules), refl, omega arith);
   streamed = refl;
   in_range = record {
@@ -75,10 +76,20 @@ alone_gives_limits versions = record {
 
 alone_gives_rest : (versions : ValueParser) → (first_of (codes "proto") (given_alone versions) ≡ Some (codes "2"))
     × HasFlag (given_alone versions) (codes "two") false × HasFlag (given_alone versions) (codes "three") false
-    × HasFlag (given_alone versions) (codes "doubles") false × HasNumber (given_alone versions) (codes "piece") 4096
-    × (first_of (codes "file") (given_alone versions) ≡ Some (codes "-")) × HasFlag (given_alone versions) (codes "explain") false × HasFlag (given_alone versions) (codes "no-explain") false
+    × HasFlag (given_alone versions) (codes "doubles") false × HasSize (given_alone versions) (codes "piece") 1 65536 4096
+    × (first_of (codes "file") (given_alone versions) ≡ Some (codes "-")) × HasFlag (given_alone versions) (codes "explain") false
+    × HasFlag (given_alone versions) (codes "no-explain") false
 unfolding clap_on_literals
-alone_gives_rest versions = (refl, refl, refl, refl, (codes "4096", refl, (omega arith, search rules), refl, omega arith), refl, refl, refl)
+alone_gives_rest versions = (
+  refl,
+  refl,
+  refl,
+  refl,
+  (codes "4K", refl, (Kilo, (1, omega arith, refl), (codes "4", refl, (omega arith, search rules), refl, omega arith), omega arith, omega arith)),
+  refl,
+  refl,
+  refl,
+)
 
 pub defaults_are_asked : (versions : ValueParser) → TakesVersions versions → (options : Options) →
     AreOptions Show Two default_limits 4096 (codes "-") false options → AskFor (resp_app versions) show_alone (Stream options)
@@ -94,7 +105,7 @@ defaults_are_asked versions takes options are =
           rest.3 ∙ ap (λ (l : Bounds). Some (flag_text l.doubles)) (sym are.of_limits),
         ));
         limits = subst (HasLimits (given_alone versions)) (sym are.of_limits) (alone_gives_limits versions);
-        piece = rw are.of_piece (rest.4, omega arith, omega arith);
+        piece = rw are.of_piece rest.4;
         file = rest.5 ∙ ap (λ (t : Text). Some t) (sym are.of_file);
         explains = rest.6 ∙ ap (λ b. Some (flag_text b)) (sym are.of_explains);
         never_explains = rest.7 ∙ ap (λ b. Some (flag_text b)) (sym are.of_never_explains);

@@ -3,3 +3,4 @@ pub mod CommandLemmas
 pub mod TaskLemmas
 pub mod AskingLemmas
 pub mod CommandExamples
+pub mod SizeLemmas

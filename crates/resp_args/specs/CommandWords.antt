@@ -16,6 +16,7 @@ use Rattle.clap.specs.declared.parser.matches.ArgMatches.{ArgMatches}
 use Rattle.resp_value.specs.Bounds.{AreBounds, Bounds}
 use Rattle.resp_value.specs.declared.version.Version.{Version}
 use Rattle.resp_value.specs.declared.version.Version.TheVariants.{Two, Three}
+use Rattle.resp_args.specs.Sizes.{IsSize}
 use Rattle.resp_args.specs.declared.asked.Asked.{Asked}
 use Rattle.resp_args.specs.declared.asked.Asked.TheVariants.{Stream, Play, Serve, Tap, Proxy, Ask}
 use Rattle.resp_args.specs.declared.asking.AskOptions.{AskOptions}
@@ -37,6 +38,10 @@ abbrev pub HasNumber : List Row → Text → ℕ → Type 0
 HasNumber given name number = (text : Text) × (one_of name given ≡ Some text) ×
     IsNumeral 10 (without_leading_plus text) × (digits_value 10 (without_leading_plus text) ≡ number)
     × (number < 2 ^ 64)
+
+-- the option is this number of bytes, which is in this range
+abbrev pub HasSize : List Row → Text → ℕ → ℕ → ℕ → Type 0
+HasSize given name least most size = (text : Text) × (first_of name given ≡ Some text) × IsSize text least most size
 
 -- the option is this number, which is from 1 to 65,536
 abbrev pub HasSmallNumber : List Row → Text → ℕ → Type 0
@@ -95,8 +100,8 @@ IsAddressText text address =
 
 pub record HasLimits (given : List Row) (limits : Bounds) : Type 0 where
   pub depth : HasNumber given (codes "depth") limits.depth
-  pub length : HasNumber given (codes "length") limits.length
-  pub total : HasNumber given (codes "total") limits.total
+  pub length : HasSize given (codes "length") 64 1073741824 limits.length
+  pub total : HasSize given (codes "total") 256 1099511627776 limits.total
   pub items : HasNumber given (codes "items") limits.items
   pub streamed : HasFlag given (codes "no-streamed") (not limits.streamed)
   pub in_range : AreBounds limits
@@ -105,7 +110,7 @@ pub record HasLimits (given : List Row) (limits : Bounds) : Type 0 where
 pub record HasOptions (given : List Row) (options : Options) : Type 0 where
   pub reading : HasReading given options.version options.limits.doubles
   pub limits : HasLimits given options.limits
-  pub piece : HasSmallNumber given (codes "piece") options.piece
+  pub piece : HasSize given (codes "piece") 1 65536 options.piece
   pub file : first_of (codes "file") given ≡ Some options.file.now
   pub explains : HasFlag given (codes "explain") options.explains
   pub never_explains : HasFlag given (codes "no-explain") options.never_explains
@@ -115,7 +120,7 @@ pub record HasServeWords (given : List Row) (address : Text) (limits : Bounds) (
   pub in_limits : HasLimits given limits
   pub no_doubles : limits.doubles ≡ false
   pub at_once : HasSmallNumber given (codes "clients") clients
-  pub waiting : HasNumber given (codes "held") held
+  pub waiting : HasSize given (codes "held") 1 1099511627776 held
   pub text : first_of (codes "address") given ≡ Some address
 
 -- the options of `serve`, with its address
@@ -181,8 +186,8 @@ pub record HasProxyOptions (given : List Row) (options : ProxyOptions) : Type 0 
   pub at_once : HasSmallNumber given (codes "clients") options.clients
   pub alone : HasNumberBetween given (codes "own") 0 65536 options.own
   pub unanswered : HasNumberBetween given (codes "waiting") 1 1048576 options.waiting
-  pub for_client : HasNumber given (codes "held") options.held
-  pub for_server : HasNumber given (codes "unsent") options.unsent
+  pub for_client : HasSize given (codes "held") 1 1099511627776 options.held
+  pub for_server : HasSize given (codes "unsent") 1 1099511627776 options.unsent
   pub times : HasProxyTimes given (options.patience, options.report)
   pub flags : HasProxyFlags given (options.local_ping, options.drains)
   pub refuses_lines : HasFlag given (codes "no-inline") options.refuses_lines

@@ -1,12 +1,7 @@
 -- The durations of the command line.
-use Rattle.std.specs.Prelude.{◌≡◌, ◌⊎◌, ◌<◌, ◌^◌, ◌*◌, ℕ, List, ◌++◌, codes}
-use Rattle.std.specs.Str.Parse.{IsNumeral, digits_value, without_leading_plus}
+use Rattle.std.specs.Prelude.{◌⊎◌, ℕ, codes}
 use Rattle.clap.specs.Words.{Text}
-
--- the text is a number with this unit, which is this many microseconds, and they fit into 64 bits
-abbrev pub HasUnit : Text → ℕ → Text → ℕ → Type 0
-HasUnit unit scale text micros = (number : Text) × (text ≡ number ++ unit) × IsNumeral 10 (without_leading_plus number) ×
-    (digits_value 10 (without_leading_plus number) * scale ≡ micros) × (micros < 2 ^ 64)
+use Rattle.resp_args.specs.Units.{HasUnit}
 
 -- the text is a duration of this many microseconds
 abbrev pub IsDuration : Text → ℕ → Type 0

@@ -4,4 +4,6 @@ pub mod Program
 pub mod Tables
 pub mod CommandWords
 pub mod Commands
+pub mod Units
 pub mod Durations
+pub mod Sizes

@@ -34,6 +34,10 @@ value_option name parser default = record (new_rule name) {
 abbrev pub number_option : Text → ℕ → ℕ → Text → Rule
 number_option name least most = value_option name (vp.Unsigned least most)
 
+-- `--name N`, a number of bytes: any text for the parser
+abbrev pub size_option : Text → Text → Rule
+size_option name default = record (new_rule name) { long = Some name; value_names = 1; defaults = default ∷ [] }
+
 -- the parser's representation of a range
 abbrev pub numbers_between : ℤ → ℤ → ValueParser
 numbers_between least most =
@@ -51,8 +55,8 @@ short_flag_option name short = record (new_rule name) { short = Some short; acti
 abbrev pub limit_options : List Rule
 limit_options =
     number_option (codes "depth") 4 128 (codes "32") ∷
-    number_option (codes "length") 64 1073741824 (codes "536870912") ∷
-    number_option (codes "total") 256 1099511627776 (codes "1073741824") ∷
+    size_option (codes "length") (codes "512M") ∷
+    size_option (codes "total") (codes "1G") ∷
     number_option (codes "items") 16 1099511627776 (codes "1099511627776") ∷
     flag_option (codes "no-streamed") ∷ []
 
@@ -72,7 +76,7 @@ explained_file = flag_option (codes "explain") ∷ flag_option (codes "no-explai
 -- the options of `show`, `check` and `canon`, with these versions for `--proto`
 abbrev pub stream_options : ValueParser → List Rule
 stream_options versions = version_options versions ++ limit_options ++ flag_option (codes "doubles") ∷
-    number_option (codes "piece") 1 65536 (codes "4096") ∷ explained_file
+    size_option (codes "piece") (codes "4K") ∷ explained_file
 
 -- the options of `loop`
 abbrev pub loop_options : List Rule
@@ -89,7 +93,7 @@ listening_options others = limit_options ++ number_option (codes "clients") 1 65
 -- the options of `serve`
 abbrev pub serve_options : List Rule
 serve_options = listening_options
-    (number_option (codes "held") 1 1099511627776 (codes "1048576") ∷ address_word (codes "address") ∷ [])
+    (size_option (codes "held") (codes "1M") ∷ address_word (codes "address") ∷ [])
 
 -- `--name VALUE`, an option with any value and without a default
 abbrev pub name_option : Text → Rule
@@ -112,8 +116,8 @@ abbrev pub proxy_options : List Rule
 proxy_options = listening_options
     (number_option (codes "own") 0 65536 (codes "1000") ∷
     number_option (codes "waiting") 1 1048576 (codes "1024") ∷
-    number_option (codes "held") 1 1099511627776 (codes "1048576") ∷
-    number_option (codes "unsent") 1 1099511627776 (codes "1048576") ∷
+    size_option (codes "held") (codes "1M") ∷
+    size_option (codes "unsent") (codes "1M") ∷
     number_option (codes "patience") 1 3600000 (codes "5000") ∷
     number_option (codes "report") 0 86400 (codes "0") ∷
     flag_option (codes "local-ping") ∷ flag_option (codes "no-inline") ∷ flag_option (codes "drain") ∷

@@ -5,14 +5,16 @@ ghost use Rattle.clap.specs.Words.{found_of, rows_of, subcommand_rows_of};
 ghost use Rattle.resp_args.specs.CommandWords.{Enters, IsAsked, task_word};
 
 use crate::asking::{Asking, asking_of};
-use crate::options::{Options, Task, flag_of, options_of, text_of};
+use crate::options::{MOST_BYTES, Options, Task, flag_of, options_of, text_of};
 use crate::proxying::{Proxying, proxying_of};
 use crate::serving::{Serving, serving_of};
+use crate::sizes::size_of;
 use crate::tapping::{Tapping, tapping_of};
 use clap::ArgMatches;
-use resp_print::text::write_text;
+use resp_print::text::{write_number, write_text};
 use resp_value::device::{DeviceFault, Sink};
 use std::alloc::Global;
+use std::num::IntErrorKind;
 
 /// The line for words that ask for something that is not done here.
 pub(crate) const OTHER_WORDS: &[u8] = b"error: these words ask for nothing here\n";
@@ -52,6 +54,13 @@ pub(crate) enum NothingAsked<'a> {
         /// The name of the argument.
         name: &'a str,
     },
+    /// The text of an option is no number of bytes in its range.
+    BadSize {
+        text: &'a str,
+        name: &'static str,
+        least: u64,
+        most: u64,
+    },
     /// An allocation failed.
     Memory,
 }
@@ -63,6 +72,12 @@ impl NothingAsked<'_> {
             Self::OtherWords => write_text(faults, OTHER_WORDS),
             Self::Memory => write_text(faults, b"out of memory\n"),
             Self::BadAddress { text, name } => write_bad_address(text, name, faults),
+            Self::BadSize {
+                text,
+                name,
+                least,
+                most,
+            } => write_bad_size(text, name, least, most, faults),
         }
     }
 }
@@ -78,6 +93,74 @@ fn write_bad_address<F: Sink>(text: &str, name: &str, faults: &mut F) -> Result<
         b">': expected an IP address and a port, such as 127.0.0.1:6380, or a port of this machine, such as 6380 or localhost:6380\n\n",
     )?;
     write_text(faults, b"For more information, try '--help'.\n")
+}
+
+/// Writes the range of an option that is a number of bytes. The line about a number without a unit is that
+/// of clap.
+fn write_bad_size<F: Sink>(
+    text: &str,
+    name: &str,
+    least: u64,
+    most: u64,
+    faults: &mut F,
+) -> Result<(), DeviceFault> {
+    write_text(faults, b"error: invalid value '")?;
+    write_text(faults, text.as_bytes())?;
+    write_text(faults, b"' for '--")?;
+    write_text(faults, name.as_bytes())?;
+    match text.parse::<u64>() {
+        Ok(number) => {
+            write_number(faults, b" <N>': ", number, b" is not in ")?;
+            write_number(faults, b"", least, b"..=")?;
+            write_number(faults, b"", most, b"\n\n")?;
+        }
+        Err(error) => match error.kind() {
+            IntErrorKind::PosOverflow => {
+                write_text(faults, b" <N>': number too large to fit in target type\n\n")?;
+            }
+            _ => {
+                write_number(faults, b" <N>': expected ", least, b" to ")?;
+                write_number(faults, b"", most, b" bytes, such as 4096 or 64K\n\n")?;
+            }
+        },
+    }
+    write_text(faults, b"For more information, try '--help'.\n")
+}
+
+/// Returns why these options ask for nothing: a number of bytes is wrong, or something else.
+pub(crate) fn wrong_options<'a>(given: &ArgMatches<'a>) -> NothingAsked<'a> {
+    if let Some(wrong) = wrong_size(given, "length", 64, 1_073_741_824) {
+        return wrong;
+    }
+    if let Some(wrong) = wrong_size(given, "total", 256, MOST_BYTES) {
+        return wrong;
+    }
+    if let Some(wrong) = wrong_size(given, "piece", 1, 65_536) {
+        return wrong;
+    }
+    if let Some(wrong) = wrong_size(given, "held", 1, MOST_BYTES) {
+        return wrong;
+    }
+    wrong_size(given, "unsent", 1, MOST_BYTES).unwrap_or(NothingAsked::OtherWords)
+}
+
+/// Returns why an option asks for nothing, if it is given and is no number of bytes in its range.
+fn wrong_size<'a>(
+    given: &ArgMatches<'a>,
+    name: &'static str,
+    least: u64,
+    most: u64,
+) -> Option<NothingAsked<'a>> {
+    let text = text_of(given, name)?;
+    match size_of(text, least, most) {
+        Some(_) => None,
+        None => Some(NothingAsked::BadSize {
+            text,
+            name,
+            least,
+            most,
+        }),
+    }
 }
 
 /// Returns what the words ask for, or why they ask for nothing.
@@ -126,7 +209,7 @@ fn stream_of<'a>(task: Task, given: &ArgMatches<'a>) -> Result<Asked<'a>, Nothin
 {
     match options_of(task, given) {
         Some(options) => Ok(Asked::Stream(options)),
-        None => Err(NothingAsked::OtherWords),
+        None => Err(wrong_options(given)),
     }
 }
 

@@ -4,7 +4,7 @@ ghost use Rattle.std.specs.Prelude.{◌≡◌, ◌≢◌, ℕ, Bool, List, Optio
 ghost use Rattle.clap.specs.Words.{all_of, found_of, rows_of};
 ghost use Rattle.resp_args.specs.CommandWords.{HasAskOptions, HasAsking};
 
-use crate::asked::NothingAsked;
+use crate::asked::{NothingAsked, wrong_options};
 use crate::options::{address_of, flag_of, limits_of, small_number_of, text_of};
 use clap::ArgMatches;
 use resp_value::limits::Limits;
@@ -49,7 +49,7 @@ pub(crate) fn asking_of<'a>(
         → HasAsking (rows_of (found_of matches.now)) asking → ⊥) }
 {
     let Some(options) = options_of(matches) else {
-        return Err(NothingAsked::OtherWords);
+        return Err(wrong_options(matches));
     };
     let Some(text) = text_of(matches, "server") else {
         return Err(NothingAsked::OtherWords);
@@ -80,8 +80,8 @@ fn words_of<'a>(alloc: Global, matches: &ArgMatches<'a>) -> Result<Vec<&'a str>,
     }
 }
 
-/// Returns the options that are neither the address nor the words; `None` if a number is outside its
-/// range, which the parser of the command line rejects before.
+/// Returns the options that are neither the address nor the words; `None` if a number is
+/// outside its range.
 fn options_of<'a>(matches: &ArgMatches<'a>) -> Option<AskOptions<'a>>
     ensures some { IfSome result (HasAskOptions (rows_of (found_of matches.now))) }
     ensures none { IfNone result ((options : AskOptions)

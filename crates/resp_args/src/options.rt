@@ -2,10 +2,11 @@
 
 ghost use Rattle.std.specs.Prelude.{◌≡◌, ℕ, Bool, false, IfNone, IfOk, IfSome, OnErr, option_map};
 ghost use Rattle.clap.specs.Words.{first_of, found_of, rows_of};
-ghost use Rattle.resp_args.specs.CommandWords.{HasFlag, HasLimits, HasNumber, HasOptions, HasPort, HasProto, HasReading, HasSmallNumber, IsAddressText, IsLocalPort};
+ghost use Rattle.resp_args.specs.CommandWords.{HasFlag, HasLimits, HasNumber, HasOptions, HasPort, HasProto, HasReading, HasSize, HasSmallNumber, IsAddressText, IsLocalPort};
 ghost use Rattle.resp_value.specs.Bounds.{Bounds};
 
 use crate::asked::NothingAsked;
+use crate::sizes::size_of;
 use clap::ArgMatches;
 use resp_value::limits::Limits;
 use resp_value::version::Version;
@@ -13,6 +14,9 @@ use std::net::{Ipv4Addr, SocketAddr, SocketAddrV4};
 
 /// The file name that stands for standard input.
 pub const STANDARD_INPUT: &str = "-";
+
+/// The greatest number of bytes of an option: 1,024 GB.
+pub(crate) const MOST_BYTES: u64 = 1_099_511_627_776;
 
 /// What is done with the values of a stream.
 #[derive(Clone, Copy, Debug, PartialEq, Eq)]
@@ -52,8 +56,8 @@ pub(crate) fn limits_of(matches: &ArgMatches<'_>) -> Option<Limits>
         → HasLimits (rows_of (found_of matches.now)) limits → ⊥) }
 {
     let depth = number_of(matches, "depth")?;
-    let length = number_of(matches, "length")?;
-    let total = number_of(matches, "total")?;
+    let length = bytes_of(matches, "length", 64, 1_073_741_824)?;
+    let total = bytes_of(matches, "total", 256, MOST_BYTES)?;
     let items = number_of(matches, "items")?;
     let no_streamed = flag_of(matches, "no-streamed")?;
     let limits = Limits::new(depth, length, total).ok()?;
@@ -68,6 +72,19 @@ pub(crate) fn number_of(matches: &ArgMatches<'_>, name: &str) -> Option<u64>
         → HasNumber (rows_of (found_of matches.now)) name.now number → ⊥) }
 {
     matches.get_one::<u64>(name)
+}
+
+/// Returns the number of bytes of an option; `None` if it is outside this range.
+pub(crate) fn bytes_of(matches: &ArgMatches<'_>, name: &str, least: u64, most: u64) -> Option<u64>
+    ensures some { IfSome result
+        (HasSize (rows_of (found_of matches.now)) name.now least most) }
+    ensures none { IfNone result ((size : ℕ)
+        → HasSize (rows_of (found_of matches.now)) name.now least most size → ⊥) }
+{
+    match text_of(matches, name) {
+        Some(text) => size_of(text, least, most),
+        None => None,
+    }
 }
 
 /// Returns the number of an option from 1 to 65,536; `None` if it is outside that range.
@@ -168,8 +185,7 @@ fn reading_of(matches: &ArgMatches<'_>) -> Option<(Version, bool)>
     Some((version_of(matches)?, flag_of(matches, "doubles")?))
 }
 
-/// Returns the options of a subcommand; `None` if a number is outside its range, which the parser
-/// of the command line rejects before.
+/// Returns the options of a subcommand; `None` if a number is outside its range.
 pub(crate) fn options_of<'a>(task: Task, matches: &ArgMatches<'a>) -> Option<Options<'a>>
     ensures task { IfSome result (λ options. options.task ≡ task) }
     ensures some { IfSome result (HasOptions (rows_of (found_of matches.now))) }
@@ -178,7 +194,7 @@ pub(crate) fn options_of<'a>(task: Task, matches: &ArgMatches<'a>) -> Option<Opt
 {
     let (version, doubles) = reading_of(matches)?;
     let limits = limits_of(matches)?.with_doubles(doubles);
-    let piece = small_number_of(matches, "piece")?;
+    let piece = bytes_of(matches, "piece", 1, 65_536)? as usize;
     Some(Options {
         task,
         version,

@@ -30,6 +30,10 @@ pub(crate) enum Form {
         default: &'static str,
         hides_default: bool,
     },
+    /// `--name N`, with a number of bytes such as `64K`.
+    Size {
+        default: &'static str,
+    },
     /// `--name VALUE`, with one of these values.
     Choice {
         value_name: &'static str,
@@ -76,6 +80,7 @@ impl Parameter {
                 .value_parser(clap::value_parser!(u64).range(least..=most))
                 .default_value(default)
                 .hide_default_value(hides_default),
+            Form::Size { default } => arg.long(self.name).value_name("N").default_value(default),
             Form::Choice {
                 value_name,
                 values,

@@ -2,9 +2,7 @@
 
 use crate::parameter::{Form, Parameter};
 use crate::parser::Subcommand;
-use crate::subcommands::{
-    CLIENTS, DEPTH, ITEMS, LENGTH, LISTEN, MOST_TOTAL, NO_STREAMED, SERVER, TOTAL,
-};
+use crate::subcommands::{CLIENTS, DEPTH, ITEMS, LENGTH, LISTEN, NO_STREAMED, SERVER, TOTAL};
 
 /// The subcommand `proxy`.
 pub(crate) const PROXY: Subcommand = Subcommand {
@@ -76,25 +74,15 @@ const WAITING: Parameter = Parameter {
 /// `--held`: the most bytes that wait for a client when its next command is taken.
 const HELD: Parameter = Parameter {
     name: "held",
-    form: Form::Number {
-        least: 1,
-        most: MOST_TOTAL,
-        default: "1048576",
-        hides_default: false,
-    },
-    help: "Maximum bytes waiting for a client when its next\ncommand is read, 1 to 1099511627776",
+    form: Form::Size { default: "1M" },
+    help: "Maximum bytes waiting for a client when its next\ncommand is read, 1 to 1024G",
 };
 
 /// `--unsent`: the most bytes that wait for the server when a command is taken.
 const UNSENT: Parameter = Parameter {
     name: "unsent",
-    form: Form::Number {
-        least: 1,
-        most: MOST_TOTAL,
-        default: "1048576",
-        hides_default: false,
-    },
-    help: "Maximum bytes waiting for the server when a\ncommand is read, 1 to 1099511627776",
+    form: Form::Size { default: "1M" },
+    help: "Maximum bytes waiting for the server when a\ncommand is read, 1 to 1024G",
 };
 
 /// `--patience`: the time without a reply after which the connection to the server is given up.

@@ -4,8 +4,10 @@ ghost use Rattle.std.specs.Prelude.{ℕ, Bool, List, IfNone, IfOk, IfSome, OnErr
 ghost use Rattle.clap.specs.Words.{found_of, rows_of};
 ghost use Rattle.resp_args.specs.CommandWords.{HasNumberBetween, HasProxyFlags, HasProxyOptions, HasProxyTimes, HasProxyWords, HasProxying, IsAddressText};
 
-use crate::asked::NothingAsked;
-use crate::options::{address_of, flag_of, limits_of, number_of, small_number_of, text_of};
+use crate::asked::{NothingAsked, wrong_options};
+use crate::options::{
+    MOST_BYTES, address_of, bytes_of, flag_of, limits_of, number_of, small_number_of, text_of,
+};
 use clap::ArgMatches;
 use resp_value::limits::Limits;
 use std::net::SocketAddr;
@@ -70,7 +72,7 @@ pub(crate) fn proxying_of<'a>(matches: &ArgMatches<'a>) -> Result<Proxying<'a>, 
         → HasProxying (rows_of (found_of matches.now)) proxying → ⊥) }
 {
     let Some(words) = words_of(matches) else {
-        return Err(NothingAsked::OtherWords);
+        return Err(wrong_options(matches));
     };
     match addresses_of(words.address, words.server) {
         Ok((address, server)) => Ok(Proxying {
@@ -98,8 +100,7 @@ fn addresses_of<'a>(
     Ok((address, address_of(server, "SERVER")?))
 }
 
-/// Returns the options before the addresses are parsed; `None` if a number is outside its range,
-/// which the parser of the command line rejects before.
+/// Returns the options before the addresses are parsed; `None` if a number is outside its range.
 fn words_of<'a>(matches: &ArgMatches<'a>) -> Option<Words<'a>>
     ensures some { IfSome result (λ words. HasProxyWords (rows_of (found_of matches.now))
         words.address.now words.server.now words.options) }
@@ -130,8 +131,8 @@ fn options_of(matches: &ArgMatches<'_>) -> Option<ProxyOptions>
         clients: small_number_of(matches, "clients")?,
         own: number_between(matches, "own", 0, 65_536)? as usize,
         waiting: number_between(matches, "waiting", 1, 1_048_576)? as u32,
-        held: number_of(matches, "held")? as usize,
-        unsent: number_of(matches, "unsent")? as usize,
+        held: bytes_of(matches, "held", 1, MOST_BYTES)? as usize,
+        unsent: bytes_of(matches, "unsent", 1, MOST_BYTES)? as usize,
         patience,
         report,
         local_ping,

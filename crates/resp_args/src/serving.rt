@@ -5,8 +5,8 @@ ghost use Rattle.clap.specs.Words.{found_of, rows_of};
 ghost use Rattle.resp_args.specs.CommandWords.{HasServeWords, HasServing};
 ghost use Rattle.resp_value.specs.Bounds.{Bounds};
 
-use crate::asked::NothingAsked;
-use crate::options::{address_of, limits_of, number_of, small_number_of, text_of};
+use crate::asked::{NothingAsked, wrong_options};
+use crate::options::{MOST_BYTES, address_of, bytes_of, limits_of, small_number_of, text_of};
 use clap::ArgMatches;
 use resp_value::limits::Limits;
 use std::net::SocketAddr;
@@ -42,7 +42,7 @@ pub(crate) fn serving_of<'a>(matches: &ArgMatches<'a>) -> Result<Serving<'a>, No
         → HasServing (rows_of (found_of matches.now)) serving → ⊥) }
 {
     let Some(words) = words_of(matches) else {
-        return Err(NothingAsked::OtherWords);
+        return Err(wrong_options(matches));
     };
     Ok(Serving {
         address: address_of(words.address, "ADDRESS")?,
@@ -53,8 +53,7 @@ pub(crate) fn serving_of<'a>(matches: &ArgMatches<'a>) -> Result<Serving<'a>, No
     })
 }
 
-/// Returns the options before the address is parsed; `None` if a number is outside its range, which
-/// the parser of the command line rejects before.
+/// Returns the options before the address is parsed; `None` if a number is outside its range.
 fn words_of<'a>(matches: &ArgMatches<'a>) -> Option<Words<'a>>
     ensures some { IfSome result (λ words. HasServeWords (rows_of (found_of matches.now))
         words.address.now words.limits words.clients words.held) }
@@ -65,6 +64,6 @@ fn words_of<'a>(matches: &ArgMatches<'a>) -> Option<Words<'a>>
         address: text_of(matches, "address")?,
         limits: limits_of(matches)?,
         clients: small_number_of(matches, "clients")?,
-        held: number_of(matches, "held")? as usize,
+        held: bytes_of(matches, "held", 1, MOST_BYTES)? as usize,
     })
 }

@@ -146,7 +146,7 @@ Exit status:
 /// The end of the help of `serve`.
 const SERVE_HELP: &str = r"Examples:
   resp serve 127.0.0.1:6380
-  resp serve --clients 100 --total 1048576 127.0.0.1:0
+  resp serve --clients 100 --total 1M 127.0.0.1:0
 
 The server runs until it is stopped. With port 0 the system chooses the port.
 
@@ -187,8 +187,8 @@ Exit status:
   2  Usage error
   3  The connection, a read or a write failed, or memory is out"#;
 
-/// The greatest limit of total, of items and of held bytes.
-pub(crate) const MOST_TOTAL: i64 = 1_099_511_627_776;
+/// The greatest limit of items, and the greatest number of a client.
+const MOST_ITEMS: i64 = 1_099_511_627_776;
 
 /// `--proto`: the version of the protocol.
 const PROTO: Parameter = Parameter {
@@ -230,25 +230,15 @@ pub(crate) const DEPTH: Parameter = Parameter {
 /// `--length`: the limit of length, in bytes.
 pub(crate) const LENGTH: Parameter = Parameter {
     name: "length",
-    form: Form::Number {
-        least: 64,
-        most: 1_073_741_824,
-        default: "536870912",
-        hides_default: false,
-    },
-    help: "Maximum bytes of a string or line,\n64 to 1073741824",
+    form: Form::Size { default: "512M" },
+    help: "Maximum bytes of a string or line,\n64 to 1G",
 };
 
 /// `--total`: the limit of total, in bytes.
 pub(crate) const TOTAL: Parameter = Parameter {
     name: "total",
-    form: Form::Number {
-        least: 256,
-        most: MOST_TOTAL,
-        default: "1073741824",
-        hides_default: false,
-    },
-    help: "Maximum bytes of a value,\n256 to 1099511627776",
+    form: Form::Size { default: "1G" },
+    help: "Maximum bytes of a value, 256 to 1024G",
 };
 
 /// `--items`: the limit of items, in members or pairs.
@@ -256,7 +246,7 @@ pub(crate) const ITEMS: Parameter = Parameter {
     name: "items",
     form: Form::Number {
         least: 16,
-        most: MOST_TOTAL,
+        most: MOST_ITEMS,
         default: "1099511627776",
         hides_default: true,
     },
@@ -280,13 +270,8 @@ const DOUBLES: Parameter = Parameter {
 /// `--piece`: the most bytes of one read.
 const PIECE: Parameter = Parameter {
     name: "piece",
-    form: Form::Number {
-        least: 1,
-        most: 65_536,
-        default: "4096",
-        hides_default: false,
-    },
-    help: "Maximum bytes of a read, 1 to 65536",
+    form: Form::Size { default: "4K" },
+    help: "Maximum bytes of a read, 1 to 64K",
 };
 
 /// `--explain`: whether an error in the input is explained.
@@ -335,13 +320,8 @@ pub(crate) const CLIENTS: Parameter = Parameter {
 /// `--held`: the most bytes that wait for a client of `serve` before its next command is run.
 const HELD: Parameter = Parameter {
     name: "held",
-    form: Form::Number {
-        least: 1,
-        most: MOST_TOTAL,
-        default: "1048576",
-        hides_default: false,
-    },
-    help: "Maximum bytes waiting for a client when its\nnext command is run, 1 to 1099511627776",
+    form: Form::Size { default: "1M" },
+    help: "Maximum bytes waiting for a client when its\nnext command is run, 1 to 1024G",
 };
 
 /// The address that `serve` listens on.
@@ -390,7 +370,7 @@ const CLIENT: Parameter = Parameter {
     name: "client",
     form: Form::Number {
         least: 0,
-        most: MOST_TOTAL,
+        most: MOST_ITEMS,
         default: "0",
         hides_default: true,
     },

@@ -4,7 +4,7 @@ ghost use Rattle.std.specs.Prelude.{ℕ, List, IfNone, IfOk, IfSome, OnErr};
 ghost use Rattle.clap.specs.Words.{found_of, rows_of};
 ghost use Rattle.resp_args.specs.CommandWords.{HasFilter, HasTapOptions, HasTapWords, HasTapping};
 
-use crate::asked::NothingAsked;
+use crate::asked::{NothingAsked, wrong_options};
 use crate::options::{address_of, flag_of, limits_of, number_of, small_number_of, text_of};
 use clap::ArgMatches;
 use resp_value::limits::Limits;
@@ -77,7 +77,7 @@ pub(crate) fn tapping_of<'a>(matches: &ArgMatches<'a>) -> Result<Tapping<'a>, No
         → HasTapping (rows_of (found_of matches.now)) tapping → ⊥) }
 {
     let Some(words) = words_of(matches) else {
-        return Err(NothingAsked::OtherWords);
+        return Err(wrong_options(matches));
     };
     Ok(Tapping {
         address: address_of(words.address, "LISTEN")?,
@@ -93,8 +93,7 @@ pub(crate) fn tapping_of<'a>(matches: &ArgMatches<'a>) -> Result<Tapping<'a>, No
     })
 }
 
-/// Returns the options before the addresses are parsed; `None` if a number is outside its range,
-/// which the parser of the command line rejects before.
+/// Returns the options before the addresses are parsed; `None` if a number is outside its range.
 fn words_of<'a>(matches: &ArgMatches<'a>) -> Option<Words<'a>>
     ensures some { IfSome result (λ words. HasTapWords (rows_of (found_of matches.now))
         words.address.now words.server.now words.options) }

@@ -160,8 +160,8 @@ fn refuse_nothing<F: Sink>(nothing: NothingAsked<'_>, faults: &mut F) -> u8
 {
     match nothing {
         NothingAsked::Memory => stop(&ToolError::Memory, faults),
-        NothingAsked::OtherWords | NothingAsked::BadAddress { .. } => {
-            let _ = nothing.write(faults);
+        wrong => {
+            let _ = wrong.write(faults);
             BAD_ARGUMENTS
         }
     }

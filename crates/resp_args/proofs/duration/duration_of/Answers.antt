@@ -1,7 +1,8 @@
 use Rattle.std.proofs.Common.{ℕ, Option, None, Some, inl, inr, codes}
 use Rattle.std.specs.Prelude.{IfNone}
 use Rattle.clap.specs.Words.{Text}
-use Rattle.resp_args.specs.Durations.{HasUnit, IsDuration}
+use Rattle.resp_args.specs.Durations.{IsDuration}
+use Rattle.resp_args.specs.Units.{HasUnit}
 use Rattle.resp_args.proofs.duration.duration_of.Goals as goal
 
 -- a text that is a number with none of the units is no duration

@@ -40,14 +40,14 @@ returns-in_err-number_between-2-clause-none c =
     λ options has. c.in_err-number_between-2.ensures.none _ has.unanswered in
     if_none _ _ none
 
-pub returns-in_err-number_of-clause-none : goal.returns-in_err-number_of-clause-none
-returns-in_err-number_of-clause-none c =
+pub returns-in_err-bytes_of-clause-none : goal.returns-in_err-bytes_of-clause-none
+returns-in_err-bytes_of-clause-none c =
     let none : (options : ProxyOptions) → HasProxyOptions (rows_of (found_of c.args.matches.now)) options → ⊥ =
-    λ options has. c.in_err-number_of.ensures.none _ has.for_client in
+    λ options has. c.in_err-bytes_of.ensures.none _ has.for_client in
     if_none _ _ none
 
-pub returns-in_err-number_of-2-clause-none : goal.returns-in_err-number_of-2-clause-none
-returns-in_err-number_of-2-clause-none c =
+pub returns-in_err-bytes_of-2-clause-none : goal.returns-in_err-bytes_of-2-clause-none
+returns-in_err-bytes_of-2-clause-none c =
     let none : (options : ProxyOptions) → HasProxyOptions (rows_of (found_of c.args.matches.now)) options → ⊥ =
-    λ options has. c.in_err-number_of-2.ensures.none _ has.for_server in
+    λ options has. c.in_err-bytes_of-2.ensures.none _ has.for_server in
     if_none _ _ none

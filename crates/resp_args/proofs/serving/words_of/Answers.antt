@@ -11,8 +11,8 @@ returns-in_err-small_number_of-clause-none c =
     λ address limits clients held has. c.in_err-small_number_of.ensures.none _ has.at_once in
     if_none _ _ none
 
-pub returns-in_err-number_of-clause-none : goal.returns-in_err-number_of-clause-none
-returns-in_err-number_of-clause-none c =
+pub returns-in_err-bytes_of-clause-none : goal.returns-in_err-bytes_of-clause-none
+returns-in_err-bytes_of-clause-none c =
     let none : (address : List ℕ) (limits : Bounds) (clients held : ℕ) → HasServeWords (rows_of (found_of c.args.matches.now)) address limits clients held → ⊥ =
-    λ address limits clients held has. c.in_err-number_of.ensures.none _ has.waiting in
+    λ address limits clients held has. c.in_err-bytes_of.ensures.none _ has.waiting in
     if_none _ _ none
