@@ -26,10 +26,11 @@ use std::collections::VecDeque;
 
 /// A tap whose traffic is printed through a [`Filter`].
 ///
-/// If a filter has names, or prints a command only with its reply, the tap keeps 56 bytes of each
-/// command that waits. If the reply decides, it also keeps the first 1,024 bytes of the text of the
-/// command's words. It keeps such a text only of a command behind fewer than 1,024 others that wait,
-/// so it keeps at most 1,024 texts. Use the same filter for all bytes of a connection.
+/// If a filter has names, or prints a command only with its reply, the tap keeps for each command
+/// that waits when it came and whether its name passes. If the reply decides, it also keeps the
+/// first 1,024 bytes of the text of the command's words. It keeps such a text only of a command
+/// behind fewer than 1,024 others that wait, so it keeps at most 1,024 texts. Use the same filter
+/// for all bytes of a connection.
 ///
 /// If an allocation fails, nothing is kept of the command, and of the commands after it as long as
 /// it waits.
