@@ -5,3 +5,4 @@ pub mod WordFronts
 pub mod ManyWords
 pub mod FirstWords
 pub mod Commands
+pub mod Lines
