@@ -3,8 +3,8 @@ use Rattle.std.proofs.lemmas.Grind.{common_steps}
 use Rattle.resp_frames.proofs.Ends.{begins_before, whole_value}
 use Rattle.resp_frames.proofs.frames.string_of_piece.Goals as goal
 
-pub overflow_sub-piece : goal.overflow_sub-piece
-overflow_sub-piece c = begins_before c.args.limits.now c.args.piece.now _ _ c.in_ok-string.ensures.1
+pub overflow_sub-used : goal.overflow_sub-used
+overflow_sub-used c = begins_before c.args.limits.now c.args.piece.now _ _ c.in_ok-string.ensures.1
 
 pub returns : goal.returns
 returns c version =
