@@ -8,7 +8,7 @@ ghost use Rattle.resp_proxy.specs.Refusing.{SameLetters};
 
 use crate::error::ClientError;
 use resp_commands::{Class, entry};
-use resp_frames::CommandFrame;
+use resp_frames::{CommandFrame, Frames};
 use resp_mux::ClientId;
 use resp_scan::whole;
 use resp_value::limits::Limits;
@@ -28,12 +28,13 @@ struct Asked<'a> {
 }
 
 /// Returns whether a command needs a connection of the client's own, and the proxy does not reply to it.
-pub(crate) fn needs_own(limits: &Limits, command: &CommandFrame) -> bool
+#[inline(always)]
+pub(crate) fn needs_own(frames: &Frames, command: &CommandFrame) -> bool
     ensures { IsTrue result → IsForOwn command.now.words.class }
 {
     match command.words.class {
         Some(Class::OwnConnection) => true,
-        Some(Class::Setting) => !keeps_settings(limits, command),
+        Some(Class::Setting) => !keeps_settings(&frames.limits(), command),
         _ => false,
     }
 }

@@ -84,7 +84,7 @@ impl Intake {
         ensures admitted { IsTrue result → self.now.admits_own ≡ true }
         ensures needed { IsTrue result → IsForOwn command.now.words.class }
     {
-        self.admits_own && needs_own(&self.frames.limits(), command)
+        self.admits_own && needs_own(&self.frames, command)
     }
 
     /// Returns whether a command that the table does not have is sent: it is one of the admitted

@@ -21,7 +21,7 @@ pub(crate) fn local_answer(
     mux: &Mux,
     command: &CommandFrame,
 ) -> Result<Option<Vec<u8>>, AllocError> {
-    if command.words.arguments > 1 {
+    if command.words.arguments > 1 || !may_be_local(command.frame.text()) {
         return Ok(None);
     }
     let Some(name) = command.frame.text().get(NAME..NAME + 4) else {
@@ -34,6 +34,12 @@ pub(crate) fn local_answer(
         return pong(alloc, settings, command.frame.text());
     }
     Ok(None)
+}
+
+/// Returns whether the name of a command may be INFO or PING, by its first letter. Most commands are neither.
+#[inline(always)]
+fn may_be_local(text: &[u8]) -> bool {
+    matches!(text.get(NAME), Some(b'I' | b'i' | b'P' | b'p'))
 }
 
 /// Returns the reply to INFO if its word is `proxy`.
