@@ -417,11 +417,11 @@ struct resp_replies {
  *
  * Errors, each about the first byte after those read:
  * - RESP_CAUSE_TRUNCATED: the bytes left are the beginning of a reply. Call again with these and more.
- * - RESP_CAUSE_NO_ROOM: the next reply is whole, and fewer nodes are left than a third of its bytes. As
- *   many nodes as a third of the bytes of the buffer are enough for each buffer.
+ * - RESP_CAUSE_NO_ROOM: the next reply is whole and plain, and has more nodes than are left. As many
+ *   nodes as a third of the bytes of the buffer are enough for each buffer.
  * - RESP_CAUSE_NOT_PLAIN: the next reply is whole, and has a streamed string or a streamed aggregate, a
- *   big number, an integer with a `+`, or more than 16 aggregates inside one another. Read it with a
- *   scanner. With limits that don't allow streamed strings, these are RESP_CAUSE_STREAMED.
+ *   big number, an integer with a `+`, or more than 16 aggregates inside one another, however many nodes
+ *   are left. Read it with a scanner. With limits that don't allow streamed strings, these are RESP_CAUSE_STREAMED.
  * - RESP_CAUSE_BAD_VERSION, RESP_CAUSE_BAD_LIMITS: nothing is written, and `replies` is unchanged.
  * - the error that a scanner returns for the bytes left. */
 uint32_t resp_reply_read(uint32_t version, const struct resp_limits *limits, const uint8_t *buffer,

@@ -130,7 +130,7 @@ static void compare(uint32_t version, const struct resp_limits *limits, const ui
     for (; number < reply_count && replies[number].is_plain && replies[number].nodes <= room; number++)
         last = replies[number];
     if (number < reply_count)
-        cause = room - last.nodes < (replies[number].used - last.used) / 3 ? RESP_CAUSE_NO_ROOM : RESP_CAUSE_NOT_PLAIN;
+        cause = replies[number].is_plain ? RESP_CAUSE_NO_ROOM : RESP_CAUSE_NOT_PLAIN;
     else if (cause == RESP_OK && last.used < length)
         cause = RESP_CAUSE_TRUNCATED;
     if (resp_reply_read(version, limits, buffer, length, room ? nodes : NULL, room, &told) != cause)

@@ -935,6 +935,8 @@ static void flat_replies(void) {
     check(reads("+\r\n", 0, RESP_CAUSE_NO_ROOM, 0, 0) && reads("+\r\n*1\r\n_\r\n", 2, RESP_CAUSE_NO_ROOM, 1, 3), "nodes", "no room");
     check(reads(":1\r\n$?\r\n;1\r\na\r\n;0\r\n", 9, RESP_CAUSE_NOT_PLAIN, 1, 4), "nodes", "a streamed string");
     check(reads(":1\r\n:+1\r\n", 9, RESP_CAUSE_NOT_PLAIN, 1, 4) && reads("(1\r\n", 9, RESP_CAUSE_NOT_PLAIN, 0, 0), "nodes", "numbers");
+    check(reads("*2\r\n:+1\r\n:2\r\n", 0, RESP_CAUSE_NOT_PLAIN, 0, 0), "nodes", "an integer with a sign, and no room");
+    check(reads("$30\r\nabcdefghijklmnopqrstuvwxyz0123\r\n", 1, RESP_OK, 1, 37), "nodes", "a text of many bytes and one node");
     check(reads(":1\r\n$4\r\nabcde\r\n", 9, RESP_CAUSE_SYNTAX, 1, 4), "nodes", "a long text");
     check(reads("$18446744073709551615\r\n", 9, RESP_CAUSE_LENGTH, 0, 0), "nodes", "a great length");
     check(reads("*18446744073709551615\r\n", 9, RESP_CAUSE_TOTAL, 0, 0), "nodes", "a great array");

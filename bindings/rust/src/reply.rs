@@ -15,10 +15,11 @@ pub enum Stop {
     Whole,
     /// The bytes left are the beginning of a reply.
     Truncated,
-    /// The next reply is whole, and fewer nodes are left than a third of its bytes.
+    /// The next reply is whole and of another form than those of `NotPlain`, and it has more nodes than
+    /// are left.
     NoRoom,
     /// The next reply is whole, and has a streamed string or aggregate, a big number, an integer with a
-    /// `+`, or more than 16 aggregates inside one another.
+    /// `+`, or more than 16 aggregates inside one another, however many nodes are left.
     NotPlain,
     /// The next reply has a wrong byte. A [`crate::Scanner`] of the bytes left returns the fault.
     Refused,

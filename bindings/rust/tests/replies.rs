@@ -72,6 +72,7 @@ fn reading_stops_for_a_reason() {
     assert_eq!(stop(b"+\r\n*2\r\n+a\r\n+b\r\n", 4), (2, 15, Stop::Whole));
     assert_eq!(stop(b":1\r\n*?\r\n.\r\n", 4), (1, 4, Stop::NotPlain));
     assert_eq!(stop(b":1\r\n(12\r\n", 3), (1, 4, Stop::NotPlain));
+    assert_eq!(stop(b"*2\r\n:+1\r\n:2\r\n", 0), (0, 0, Stop::NotPlain));
     assert_eq!(stop(b":1\r\n:x\r\n", 3), (1, 4, Stop::Refused));
     let limits = Limits { depth: 3, ..Limits::default() };
     assert_eq!(replies(Version::Two, &limits, b"", &mut []).map(|read| read.used()), Err(BadLimits));

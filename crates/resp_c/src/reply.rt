@@ -48,9 +48,9 @@ fn stop_number(stop: Stop, left: usize) -> u32
 /// is a part of the buffer. `replies` has the number of nodes and of bytes of these replies.
 ///
 /// Returns 0 if the buffer has nothing else, or 9 if the bytes left are the beginning of a reply, or 65
-/// if the next reply lies whole in the buffer and there are fewer nodes than a third of its bytes, or 70
-/// if it lies whole in the buffer and is not plain, or the number of the cause of a fault. Returns 64 for
-/// a version other than 2 and 3, and 63 for a limit outside its range, and then changes nothing.
+/// if the next reply lies whole in the buffer and has more nodes than are left, or 70 if it lies whole in
+/// the buffer and is not plain, or the number of the cause of a fault. Returns 64 for a version other
+/// than 2 and 3, and 63 for a limit outside its range, and then changes nothing.
 #[unsafe(no_mangle)]
 pub extern "C" fn resp_reply_read(
     version: u32,

@@ -110,3 +110,13 @@ abbrev mutual
   pub AreNodesOfEach : List ℕ → Data → List Node → Type 0
   AreNodesOfEach buffer none nodes = nodes ≡ []
   AreNodesOfEach buffer (more x xs) nodes = AreParted (AreNodesOf buffer x) (AreNodesOfEach buffer xs) nodes
+
+abbrev mutual
+  -- the number of nodes of a value: 1, and those of its members
+  pub node_count : Datum → ℕ
+  node_count (scalar s) = 1
+  node_count (aggregate kind xs) = node_count_of_each xs + 1
+
+  pub node_count_of_each : Data → ℕ
+  node_count_of_each none = 0
+  node_count_of_each (more x xs) = node_count x + node_count_of_each xs

@@ -1,19 +1,51 @@
 -- The contracts of a call that reads one value.
-use Rattle.std.specs.Prelude.{◌≡◌, ◌⊎◌, ℕ, ◌+◌, ◌-◌, ◌≤◌, ◌<◌, ◌^◌, List, ◌∷◌, ◌++◌, length, take, drop}
+use Rattle.std.specs.Prelude.{◌≡◌, ◌⊎◌, ℕ, ◌+◌, ◌-◌, ◌/◌, ◌≤◌, ◌<◌, ◌^◌, List, ◌∷◌, ◌++◌, length, take, drop}
 use Rattle.std.specs.Str.{byte}
 use Rattle.resp_value.specs.Bytes.{IsLine, crlf}
-use Rattle.resp_value.specs.Data.{Datum, members_of}
+use Rattle.resp_value.specs.Data.{Datum, Kind, members_of}
 use Rattle.resp_value.specs.Kinds.{kind_of}
 use Rattle.resp_value.specs.declared.kind.OpenKind.{OpenKind}
 use Rattle.resp_value.specs.LocalRules.{HoldsFrom, LeafKeeps, NodeKeeps}
-use Rattle.resp_value.specs.Numbers.{IsDigits, IsNumber, number}
-use Rattle.resp_value.specs.Rules.{Rules, WithinItems}
+use Rattle.resp_value.specs.Numbers.{IsDigits, IsNumber, Plus, number}
+use Rattle.resp_value.specs.Rules.{IsCountedNode, Keeps, Rules, WithinItems, WithinTotal}
 use Rattle.resp_value.specs.Spellings.{IsSpelling}
-use Rattle.resp_value.specs.Trees.{Counted, Leaf, StringKind, Tree, Verbatim, IsLeaf, IsTree, kind_byte, leaf_text, text}
+use Rattle.resp_value.specs.Trees.{Big, Counted, Form, Int, Leaf, Spells, StringKind, Tree, Trees, Verbatim, chunked, numeral, IsLeaf, IsTree, kind_byte, leaf_text, text}
+use Rattle.resp_value.specs.Trees as t
 use Rattle.resp_value.specs.TreeValues.{leaf_value, value}
 use Rattle.resp_nodes.specs.declared.node.Node.{Node}
 use Rattle.resp_nodes.specs.declared.reading.Filled.{Filled}
-use Rattle.resp_nodes.specs.Nodes.{AreNodesOf, IsLeafNode}
+use Rattle.resp_nodes.specs.Nodes.{AreNodesOf, IsLeafNode, node_count}
+
+-- A plain leaf: no streamed string, no big number, and no integer with a `+`. Its text is one part of its spelling.
+abbrev pub IsPlainLeaf : ℕ → Leaf → Type 0
+IsPlainLeaf level (numeral Int Plus digits) = ⊥
+IsPlainLeaf level (numeral Big sign digits) = ⊥
+IsPlainLeaf level (chunked chunks zeros) = ⊥
+IsPlainLeaf level _ = Unit {0}
+
+-- a plain aggregate: not streamed, and in fewer than 16 others
+pub record IsPlainNode (level : ℕ) (kind : Kind) (form : Form) (members : ℕ) : Type 0 where
+  pub shallow : level < 16
+  pub counted : IsCountedNode kind form
+
+-- the bytes begin with a spelling within the rules whose leaves and aggregates are plain
+pub record BeginsWithPlain (rules : Rules) (bytes : List ℕ) : Type 0 where
+  pub size : ℕ
+  pub tree : Tree
+  pub within : size ≤ length bytes
+  pub spells : Spells tree (take size bytes)
+  pub keeps : Keeps rules WithinTotal tree
+  pub plain : HoldsFrom IsPlainLeaf IsPlainNode 0 tree
+
+-- The bytes begin with a spelling of a value within the rules. The value has more nodes than there are. There are fewer
+-- than a third of its bytes.
+pub record LacksNodes (rules : Rules) (bytes : List ℕ) (room : ℕ) : Type 0 where
+  pub value : Datum
+  pub size : ℕ
+  pub within : size ≤ length bytes
+  pub spelling : IsSpelling rules value (take size bytes)
+  pub lacks : room < node_count value
+  pub few : room < size / 3
 
 -- the text begins with digits of this number and CR LF, and then has this rest
 pub record BeginsWithNumber (text : List ℕ) (n : ℕ) (rest : List ℕ) : Type 0 where
@@ -47,6 +79,26 @@ pub record IsLeafAt (rules : Rules) (buffer : List ℕ) (at end : ℕ) (node : N
   pub one : node.size ≡ 1
   pub stands : IsLeafNode buffer node (leaf_value leaf)
 
+-- the buffer has a plain leaf within the rules from this index on, this deep in aggregates
+pub record HasLeaf (rules : Rules) (level : ℕ) (buffer : List ℕ) (at : ℕ) : Type 0 where
+  pub leaf : Leaf
+  pub rest : List ℕ
+  pub is_leaf : IsLeaf leaf
+  pub keeps : LeafKeeps rules WithinItems level leaf
+  pub plain : IsPlainLeaf level leaf
+  pub whole : drop at buffer ≡ leaf_text leaf ++ rest
+
+-- the buffer has a plain aggregate within the rules from this index on, this deep in others
+pub record HasAggregate (rules : Rules) (level : ℕ) (buffer : List ℕ) (at : ℕ) : Type 0 where
+  pub kind : Kind
+  pub form : Form
+  pub members : Trees
+  pub rest : List ℕ
+  pub is_tree : IsTree (t.node kind form members)
+  pub keeps : HoldsFrom (LeafKeeps rules WithinItems) (NodeKeeps rules WithinItems) level (t.node kind form members)
+  pub plain : HoldsFrom IsPlainLeaf IsPlainNode level (t.node kind form members)
+  pub whole : drop at buffer ≡ text (t.node kind form members) ++ rest
+
 -- the buffer has the head of an aggregate of this kind from this index up to that one, this deep in others
 pub record IsHeadAt (rules : Rules) (level : ℕ) (buffer : List ℕ) (at : ℕ) (kind : OpenKind) (members end : ℕ) : Type 0 where
   pub digits : List ℕ
@@ -58,7 +110,7 @@ pub record IsHeadAt (rules : Rules) (level : ℕ) (buffer : List ℕ) (at : ℕ)
   pub few : members < 2 ^ 62
 
 -- The buffer has a value from the one index up to the other, this deep in aggregates. Its nodes follow those that were
--- filled.
+-- filled, if there is room for them.
 pub record IsValueAt (rules : Rules) (level : ℕ) (buffer : List ℕ) (before after : Filled) (old new : List Node) :
     Type 0 where
   pub tree : Tree
@@ -68,9 +120,8 @@ pub record IsValueAt (rules : Rules) (level : ℕ) (buffer : List ℕ) (before a
   pub whole : drop before.end buffer ≡ text tree ++ drop after.end buffer
   pub within : after.end ≤ length buffer
   pub stand : AreNodesOf buffer (value tree) own
-  pub filled : take after.count new ≡ take before.count old ++ own
+  pub filled : after.count ≤ length new → take after.count new ≡ take before.count old ++ own
   pub counted : after.count ≡ before.count + length own
-  pub room : after.count ≤ length new
 
 -- The buffer has a spelling of a value from the one index up to the other. Its nodes follow those that were filled.
 pub record IsPlain (rules : Rules) (buffer : List ℕ) (before after : Filled) (old new : List Node) : Type 0 where

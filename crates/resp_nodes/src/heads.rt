@@ -1,6 +1,6 @@
 //! Numbers at the beginning of lines.
 
-ghost use Rattle.std.specs.Prelude.{◌≡◌, ◌≤◌, ◌+◌, ◌-◌, IfSome, IsTrue, drop, length};
+ghost use Rattle.std.specs.Prelude.{◌≡◌, ℕ, List, ◌≤◌, ◌+◌, ◌-◌, IfNone, IfSome, IsTrue, drop, length};
 ghost use Rattle.std.specs.Bool.{MatchBool};
 ghost use Rattle.resp_value.specs.Bytes.{crlf};
 ghost use Rattle.resp_nodes.specs.Plain.{BeginsWithLine, BeginsWithNumber};
@@ -23,7 +23,7 @@ pub(crate) fn is_line_end(buffer: &[u8], at: usize) -> bool
     requires { at ≤ length buffer.now }
     ensures { MatchBool result
         ((drop at buffer.now ≡ crlf (drop (at + 2) buffer.now)) × (at + 2 ≤ length buffer.now))
-        (Unit {0}) }
+        ((rest : List ℕ) → drop at buffer.now ≡ crlf rest → ⊥) }
 {
     if buffer.len() - at < 2 {
         return false;
@@ -34,11 +34,14 @@ pub(crate) fn is_line_end(buffer: &[u8], at: usize) -> bool
 /// Returns the number from this index on, if it is at most this one and CR LF follows it.
 #[inline(always)]
 pub(crate) fn number_line(buffer: &[u8], at: usize, most: u64) -> Option<Number>
-    requires { at ≤ length buffer.now }
+    requires at { at ≤ length buffer.now }
+    requires most { most ≤ 9_223_372_036_854_775_808 }
     ensures number { IfSome result (λ found.
         BeginsWithNumber (drop at buffer.now) found.number (drop found.end buffer.now)) }
     ensures within { IfSome result (λ found.
         (found.number ≤ most) × (found.end ≤ length buffer.now)) }
+    ensures none { IfNone result ((n : ℕ) (rest : List ℕ) → n ≤ most →
+        BeginsWithNumber (drop at buffer.now) n rest → ⊥) }
 {
     let mut number = 0;
     let mut end = at;
@@ -71,6 +74,8 @@ pub(crate) fn line_end(buffer: &[u8], at: usize) -> Option<usize>
     requires { at ≤ length buffer.now }
     ensures line { IfSome result (λ end. BeginsWithLine (drop at buffer.now) (end - at) (crlf (drop (end + 2) buffer.now))) }
     ensures within { IfSome result (λ end. (at ≤ end) × (end + 2 ≤ length buffer.now)) }
+    ensures none { IfNone result ((size : ℕ) (rest : List ℕ) →
+        BeginsWithLine (drop at buffer.now) size (crlf rest) → ⊥) }
 {
     for end in at..buffer.len().min(at.saturating_add(NEAR)) {
         let byte = buffer[end];
@@ -93,6 +98,8 @@ fn far_line(text: &[u8]) -> Option<usize>
     ensures line { IfSome result (λ run.
         BeginsWithLine text.now run (crlf (drop (run + 2) text.now))) }
     ensures within { IfSome result (λ run. run + 2 ≤ length text.now) }
+    ensures none { IfNone result ((size : ℕ) (rest : List ℕ) →
+        BeginsWithLine text.now size (crlf rest) → ⊥) }
 {
     let run = memchr(b'\r', text)?;
     match memchr(b'\n', &text[..run]) {

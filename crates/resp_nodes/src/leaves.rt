@@ -1,15 +1,16 @@
 //! Values without members.
 
-ghost use Rattle.std.specs.Prelude.{◌≡◌, ◌+◌, ◌<◌, ◌≤◌, [], pos, IfSome, false, get_or, length};
+ghost use Rattle.std.specs.Prelude.{◌≡◌, ℕ, List, Bool, ◌+◌, ◌<◌, ◌≤◌, [], ◌∷◌, ◌++◌, pos, IfNone, IfSome, codes, drop, false, get_or, length};
 ghost use Rattle.std.proofs.Common.{neg_ℤ};
 ghost use Rattle.std.specs.Str.{byte};
 ghost use Rattle.resp_value.specs.Bounds.{Bounds};
+ghost use Rattle.resp_value.specs.Bytes.{crlf};
 ghost use Rattle.resp_value.specs.Rules.{Rules, IsLeafInTwo, IsNoDouble, rules_under};
-ghost use Rattle.resp_value.specs.Trees.{LineKind, StringKind, line, line_byte, string, string_byte};
+ghost use Rattle.resp_value.specs.Trees.{LineKind, StringKind, line, line_byte, string, string_byte, truth_line};
 ghost use Rattle.resp_value.specs.declared.version.Version.{Version};
 ghost use Rattle.resp_value.specs.declared.version.Version.TheVariants.{Two};
 ghost use Rattle.resp_nodes.specs.Numbers.{line_form, string_form};
-ghost use Rattle.resp_nodes.specs.Plain.{HasNoFormat, IsLeafAt, IsNullByte};
+ghost use Rattle.resp_nodes.specs.Plain.{BeginsWithLine, BeginsWithNumber, HasLeaf, HasNoFormat, IsLeafAt, IsNullByte};
 
 use crate::heads::{is_line_end, line_end, number_line};
 use crate::node::{BOOL, INT, NULL, Node, leaf, text, verbatim};
@@ -33,9 +34,11 @@ const LEAST: u64 = 9_223_372_036_854_775_808;
 #[inline(always)]
 fn line(buffer: &[u8], at: usize, limits: &Limits, form: u8) -> Option<Leaf>
     requires { at < length buffer.now }
-    ensures { (version : Version) (k : LineKind) → get_or buffer.now at 0 ≡ line_byte k → form ≡ line_form k →
+    ensures found { (version : Version) (k : LineKind) → get_or buffer.now at 0 ≡ line_byte k → form ≡ line_form k →
         (version ≡ Two → IsLeafInTwo (line k [])) → (limits.now.doubles ≡ false → IsNoDouble (line k [])) →
         IfSome result (λ found. IsLeafAt (rules_under version limits.now) buffer.now at found.end found.node) }
+    ensures none { IfNone result ((size : ℕ) (rest : List ℕ) → size ≤ limits.now.length →
+        BeginsWithLine (drop (at + 1) buffer.now) size (crlf rest) → ⊥) }
 {
     let end = line_end(buffer, at + 1)?;
     let length = end - (at + 1);
@@ -52,9 +55,11 @@ fn line(buffer: &[u8], at: usize, limits: &Limits, form: u8) -> Option<Leaf>
 #[inline(always)]
 fn string(buffer: &[u8], at: usize, limits: &Limits, form: u8) -> Option<Leaf>
     requires { at < length buffer.now }
-    ensures { (version : Version) (k : StringKind) → get_or buffer.now at 0 ≡ string_byte k → form ≡ string_form k →
+    ensures found { (version : Version) (k : StringKind) → get_or buffer.now at 0 ≡ string_byte k → form ≡ string_form k →
         HasNoFormat k → (version ≡ Two → IsLeafInTwo (string k [] [])) →
         IfSome result (λ found. IsLeafAt (rules_under version limits.now) buffer.now at found.end found.node) }
+    ensures none { IfNone result ((text rest : List ℕ) → length text ≤ limits.now.length →
+        BeginsWithNumber (drop (at + 1) buffer.now) (length text) (text ++ crlf rest) → ⊥) }
 {
     let head = number_line(buffer, at + 1, limits.length())?;
     let length = head.number as usize;
@@ -96,8 +101,13 @@ fn below_zero(number: u64) -> i64
 #[inline(always)]
 fn integer(buffer: &[u8], at: usize) -> Option<Leaf>
     requires { at < length buffer.now }
-    ensures { (rules : Rules) → get_or buffer.now at 0 ≡ byte ":" →
+    ensures found { (rules : Rules) → get_or buffer.now at 0 ≡ byte ":" →
         IfSome result (λ found. IsLeafAt rules buffer.now at found.end found.node) }
+    ensures none { IfNone result ((n : ℕ) (rest : List ℕ) → n ≤ 9_223_372_036_854_775_807 →
+        BeginsWithNumber (drop (at + 1) buffer.now) n rest → ⊥) }
+    ensures none_below { IfNone result ((n : ℕ) (more rest : List ℕ) →
+        n ≤ 9_223_372_036_854_775_808 → drop (at + 1) buffer.now ≡ codes "-" ++ more →
+        BeginsWithNumber more n rest → ⊥) }
 {
     if at + 1 < buffer.len() && buffer[at + 1] == b'-' {
         let found = number_line(buffer, at + 2, LEAST)?;
@@ -117,8 +127,10 @@ fn integer(buffer: &[u8], at: usize) -> Option<Leaf>
 #[inline(always)]
 fn null(buffer: &[u8], at: usize) -> Option<Leaf>
     requires { at < length buffer.now }
-    ensures { (rules : Rules) → IsNullByte (get_or buffer.now at 0) →
+    ensures found { (rules : Rules) → IsNullByte (get_or buffer.now at 0) →
         IfSome result (λ found. IsLeafAt rules buffer.now at found.end found.node) }
+    ensures none { IfNone result ((rest : List ℕ) →
+        drop (at + 1) buffer.now ≡ codes "-1" ++ crlf rest → ⊥) }
 {
     if buffer.len() - at < 5 || buffer[at + 1] != b'-' || buffer[at + 2] != b'1' {
         return None;
@@ -136,8 +148,11 @@ fn null(buffer: &[u8], at: usize) -> Option<Leaf>
 #[inline(always)]
 fn verbatim_string(buffer: &[u8], at: usize, limits: &Limits) -> Option<Leaf>
     requires { at < length buffer.now }
-    ensures { (version : Version) → (version ≡ Two → ⊥) → get_or buffer.now at 0 ≡ byte "=" →
+    ensures found { (version : Version) → (version ≡ Two → ⊥) → get_or buffer.now at 0 ≡ byte "=" →
         IfSome result (λ found. IsLeafAt (rules_under version limits.now) buffer.now at found.end found.node) }
+    ensures none { IfNone result ((format text rest : List ℕ) → length format ≡ 3 →
+        length text + 4 ≤ limits.now.length → BeginsWithNumber (drop (at + 1) buffer.now)
+        (length (format ++ byte ":" ∷ text)) ((format ++ byte ":" ∷ text) ++ crlf rest) → ⊥) }
 {
     let head = number_line(buffer, at + 1, limits.length())?;
     let length = head.number as usize;
@@ -159,8 +174,11 @@ fn verbatim_string(buffer: &[u8], at: usize, limits: &Limits) -> Option<Leaf>
 #[inline(never)]
 fn leaf_in_three(buffer: &[u8], at: usize, limits: &Limits) -> Option<Leaf>
     requires { at < length buffer.now }
-    ensures { (version : Version) → (version ≡ Two → ⊥) →
+    ensures found { (version : Version) → (version ≡ Two → ⊥) →
         IfSome result (λ found. IsLeafAt (rules_under version limits.now) buffer.now at found.end found.node) }
+    ensures none { IfNone result ((version : Version) (level : ℕ)
+        (has : HasLeaf (rules_under version limits.now) level buffer.now at) →
+        (IsLeafInTwo has.leaf → ⊥) → ⊥) }
 {
     match buffer[at] {
         b'_' => {
@@ -189,8 +207,10 @@ fn leaf_in_three(buffer: &[u8], at: usize, limits: &Limits) -> Option<Leaf>
 #[inline(always)]
 fn truth(buffer: &[u8], at: usize) -> Option<Leaf>
     requires { at < length buffer.now }
-    ensures { (rules : Rules) → (rules.version ≡ Two → ⊥) → get_or buffer.now at 0 ≡ byte "#" →
+    ensures found { (rules : Rules) → (rules.version ≡ Two → ⊥) → get_or buffer.now at 0 ≡ byte "#" →
         IfSome result (λ found. IsLeafAt rules buffer.now at found.end found.node) }
+    ensures none { IfNone result ((truth : Bool) (rest : List ℕ) →
+        drop at buffer.now ≡ truth_line truth ++ crlf rest → ⊥) }
 {
     if buffer.len() - at < 4 || !is_line_end(buffer, at + 2) {
         return None;
@@ -211,7 +231,9 @@ fn truth(buffer: &[u8], at: usize) -> Option<Leaf>
 /// Reads the value without members at this index.
 #[inline(always)]
 pub(crate) fn leaf_at(version: Version, limits: &Limits, buffer: &[u8], at: usize) -> Option<Leaf>
-    ensures { IfSome result (λ found. IsLeafAt (rules_under version limits.now) buffer.now at found.end found.node) }
+    ensures found { IfSome result (λ found. IsLeafAt (rules_under version limits.now) buffer.now at found.end found.node) }
+    ensures none { IfNone result ((level : ℕ) →
+        HasLeaf (rules_under version limits.now) level buffer.now at → ⊥) }
 {
     if at >= buffer.len() {
         return None;

@@ -1,7 +1,8 @@
 //! Reads one plain reply.
 
-ghost use Rattle.std.specs.Prelude.{◌≡◌, ◌-◌, ◌<◌, ◌^◌, ◌≤◌, IfSome, ℕ, length, take};
-ghost use Rattle.resp_value.specs.Data.{items_of, members_of};
+ghost use Rattle.std.specs.Prelude.{◌≡◌, ◌+◌, ◌-◌, ◌<◌, ◌^◌, ◌≤◌, IfNone, IfErr, IfOk, IfSome, ℕ, drop, length, set, take};
+ghost use Rattle.resp_value.specs.Data.{Kind, items_of, members_of};
+ghost use Rattle.resp_value.specs.Data.{Array as DataArray};
 ghost use Rattle.resp_value.specs.Kinds.{kind_of};
 ghost use Rattle.resp_value.specs.LocalRules.{IsNoPushBelow};
 ghost use Rattle.resp_value.specs.Rules.{rules_under};
@@ -9,7 +10,8 @@ ghost use Rattle.resp_value.specs.Trees.{kind_byte};
 ghost use Rattle.resp_value.specs.declared.version.Version.TheVariants.{Two};
 ghost use Rattle.resp_value.specs.declared.kind.OpenKind.TheVariants.{Array};
 ghost use Rattle.resp_nodes.specs.Numbers.{kind_form};
-ghost use Rattle.resp_nodes.specs.Plain.{IsHeadAt, IsPlain, IsValueAt};
+ghost use Rattle.resp_nodes.specs.declared.reading.Unread.TheVariants.{NoNodes, NoReply};
+ghost use Rattle.resp_nodes.specs.Plain.{BeginsWithPlain, HasAggregate, HasLeaf, IsHeadAt, IsPlain, IsValueAt, LacksNodes};
 
 use crate::heads::number_line;
 use crate::leaves::leaf_at;
@@ -25,6 +27,15 @@ pub struct Filled {
     pub end: usize,
     /// The number of nodes, with those before the value.
     pub count: usize,
+}
+
+/// Why [`plain`] has read no reply.
+#[derive(Clone, Copy, Debug, PartialEq, Eq)]
+pub enum Unread {
+    /// A plain reply lies whole there, and it has more nodes than are left.
+    NoNodes,
+    /// No plain reply lies whole there.
+    NoReply,
 }
 
 /// The greatest number of aggregates around a value that is read.
@@ -45,6 +56,8 @@ fn kind_of_byte(version: Version, byte: u8, level: u64) -> Option<OpenKind>
     ensures kind { IfSome result (λ kind. byte ≡ kind_byte (kind_of kind)) }
     ensures in_version { IfSome result (λ kind. version ≡ Two → kind ≡ Array) }
     ensures no_push { IfSome result (λ kind. IsNoPushBelow level (kind_of kind)) }
+    ensures none { IfNone result ((kind : Kind) → byte ≡ kind_byte kind →
+        (version ≡ Two → kind ≡ DataArray) → IsNoPushBelow level kind → ⊥) }
 {
     if byte == b'*' {
         return Some(OpenKind::Array);
@@ -93,8 +106,10 @@ fn form(kind: OpenKind) -> u8
 /// Reads the head of an aggregate, which is this deep in others.
 #[inline(always)]
 fn head_at(version: Version, limits: &Limits, buffer: &[u8], at: usize, level: u64) -> Option<Head>
-    ensures { IfSome result (λ head. IsHeadAt (rules_under version limits.now) level buffer.now at
-        head.kind head.members head.end) }
+    ensures found { IfSome result (λ head. IsHeadAt (rules_under version limits.now) level
+        buffer.now at head.kind head.members head.end) }
+    ensures none { IfNone result
+        (HasAggregate (rules_under version limits.now) level buffer.now at → ⊥) }
 {
     if at >= buffer.len() || level >= limits.depth() {
         return None;
@@ -108,7 +123,17 @@ fn head_at(version: Version, limits: &Limits, buffer: &[u8], at: usize, level: u
     })
 }
 
-/// Reads the value without members at this index.
+/// Sets the node at this place, if there is one.
+#[inline(always)]
+fn put(nodes: &mut [Node], place: usize, node: Node)
+    ensures { nodes.new ≡ set nodes.old place node }
+{
+    if place < nodes.len() {
+        nodes[place] = node;
+    }
+}
+
+/// Reads the value without members at this index. Sets its node, if there is room.
 #[inline(always)]
 fn leaf_into(
     version: Version,
@@ -117,24 +142,24 @@ fn leaf_into(
     filled: Filled,
     nodes: &mut [Node],
 ) -> Option<Filled>
+    requires { filled.count ≤ length nodes.now + filled.end }
     ensures value { (level : ℕ) → IfSome result (λ found. IsValueAt (rules_under version limits.now)
         level buffer.now filled found nodes.old nodes.new) }
+    ensures none { IfNone result ((level : ℕ) →
+        HasLeaf (rules_under version limits.now) level buffer.now filled.end → ⊥) }
     ensures kept { take filled.count nodes.new ≡ take filled.count nodes.old }
     ensures same_room { length nodes.new ≡ length nodes.old }
 {
-    let count = filled.count;
-    if count >= nodes.len() {
-        return None;
-    }
     let found = leaf_at(version, limits, buffer, filled.end)?;
-    nodes[count] = found.node;
+    put(nodes, filled.count, found.node);
     Some(Filled {
         end: found.end,
-        count: count + 1,
+        count: filled.count + 1,
     })
 }
 
-/// Reads the aggregate at this index, which is this deep in others.
+/// Reads the aggregate at this index, which is this deep in others. Sets those of its nodes for which
+/// there is room.
 fn aggregate_at(
     version: Version,
     limits: &Limits,
@@ -143,8 +168,11 @@ fn aggregate_at(
     level: u64,
     nodes: &mut [Node],
 ) -> Option<Filled>
+    requires { filled.count ≤ length nodes.now + filled.end }
     ensures value { IfSome result (λ found. IsValueAt (rules_under version limits.now) level
         buffer.now filled found nodes.old nodes.new) }
+    ensures none { IfNone result
+        (HasAggregate (rules_under version limits.now) level buffer.now filled.end → ⊥) }
     ensures kept { take filled.count nodes.new ≡ take filled.count nodes.old }
     ensures same_room { length nodes.new ≡ length nodes.old }
 {
@@ -153,9 +181,6 @@ fn aggregate_at(
         return None;
     }
     let head = head_at(version, limits, buffer, filled.end, level)?;
-    if nodes.len().saturating_sub(count) as u64 <= head.members {
-        return None;
-    }
     let mut inner = Filled {
         end: head.end,
         count: count + 1,
@@ -168,34 +193,60 @@ fn aggregate_at(
         inner = aggregate_at(version, limits, buffer, inner, level + 1, nodes)?;
     }
     let size = inner.count.saturating_sub(count);
-    nodes[count] = aggregate(form(head.kind), head.members as usize, size);
+    put(
+        nodes,
+        count,
+        aggregate(form(head.kind), head.members as usize, size),
+    );
     Some(inner)
 }
 
-/// Reads the value at this index, which is in no aggregate.
+/// Reads the plain aggregate at this index, as [`plain`] does.
 #[inline(always)]
-fn value_at(
+fn aggregate_reply(
     version: Version,
     limits: &Limits,
     buffer: &[u8],
     filled: Filled,
     nodes: &mut [Node],
-) -> Option<Filled>
-    ensures value { IfSome result (λ found. IsValueAt (rules_under version limits.now) 0
-        buffer.now filled found nodes.old nodes.new) }
+) -> Result<Filled, Unread>
+    requires { HasLeaf (rules_under version limits.now) 0 buffer.now filled.end → ⊥ }
+    ensures reply { IfOk result (λ found. IsPlain (rules_under version limits.now) buffer.now
+        filled found nodes.old nodes.new) }
+    ensures no_nodes { IfErr result (λ why. why ≡ NoNodes → LacksNodes
+        (rules_under version limits.now) (drop filled.end buffer.now)
+        (length nodes.new - filled.count)) }
+    ensures no_reply { IfErr result (λ why. why ≡ NoReply →
+        BeginsWithPlain (rules_under version limits.now) (drop filled.end buffer.now) → ⊥) }
     ensures kept { take filled.count nodes.new ≡ take filled.count nodes.old }
     ensures same_room { length nodes.new ≡ length nodes.old }
 {
-    if let Some(found) = leaf_into(version, limits, buffer, filled, nodes) {
-        return Some(found);
+    let before = Filled {
+        end: filled.end,
+        count: filled.count.min(nodes.len()),
+    };
+    let Some(found) = aggregate_at(version, limits, buffer, before, 0, nodes) else {
+        return Err(Unread::NoReply);
+    };
+    if (found.end - filled.end) as u64 > limits.total() {
+        return Err(Unread::NoReply);
     }
-    aggregate_at(version, limits, buffer, filled, 0, nodes)
+    if found.count > nodes.len() {
+        return Err(Unread::NoNodes);
+    }
+    Ok(found)
 }
 
 /// Reads the plain reply at this index of the buffer. Fills the nodes after those that are filled.
 ///
-/// Returns `None` if no reply lies whole there, or if it is not plain, or if there is no room for its
-/// nodes.
+/// A plain reply has no streamed string or aggregate, no big number and no integer with a `+`, and at
+/// most 16 aggregates inside one another.
+///
+/// # Errors
+///
+/// [`Unread::NoReply`] if no plain reply within the limits lies whole there. [`Unread::NoNodes`] if one
+/// lies there and has more nodes than are left after those that are filled. The nodes that are filled
+/// keep their values, and the others have no meaning.
 #[inline(always)]
 pub fn plain(
     version: Version,
@@ -203,15 +254,32 @@ pub fn plain(
     buffer: &[u8],
     filled: Filled,
     nodes: &mut [Node],
-) -> Option<Filled>
-    ensures reply { IfSome result (λ found. IsPlain (rules_under version limits.now) buffer.now
+) -> Result<Filled, Unread>
+    // The bytes up to the index are a spelling of a value, and its nodes follow those that are filled.
+    ensures reply { IfOk result (λ found. IsPlain (rules_under version limits.now) buffer.now
         filled found nodes.old nodes.new) }
+    // A spelling of a value is there, and the value has more nodes than are left.
+    ensures no_nodes { IfErr result (λ why. why ≡ NoNodes → LacksNodes
+        (rules_under version limits.now) (drop filled.end buffer.now)
+        (length nodes.new - filled.count)) }
+    // No spelling of a plain reply is there.
+    ensures no_reply { IfErr result (λ why. why ≡ NoReply →
+        BeginsWithPlain (rules_under version limits.now) (drop filled.end buffer.now) → ⊥) }
     ensures kept { take filled.count nodes.new ≡ take filled.count nodes.old }
     ensures same_room { length nodes.new ≡ length nodes.old }
 {
-    let found = value_at(version, limits, buffer, filled, nodes)?;
-    if found.end.saturating_sub(filled.end) as u64 > limits.total() {
-        return None;
+    let Some(leaf) = leaf_at(version, limits, buffer, filled.end) else {
+        return aggregate_reply(version, limits, buffer, filled, nodes);
+    };
+    if (leaf.end - filled.end) as u64 > limits.total() {
+        return Err(Unread::NoReply);
     }
-    Some(found)
+    if filled.count >= nodes.len() {
+        return Err(Unread::NoNodes);
+    }
+    nodes[filled.count] = leaf.node;
+    Ok(Filled {
+        end: leaf.end,
+        count: filled.count + 1,
+    })
 }

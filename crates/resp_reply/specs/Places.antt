@@ -1,11 +1,12 @@
 -- The contract of a call that reads replies whose texts stay in the buffer.
-use Rattle.std.specs.Prelude.{ℕ, ◌/◌, ◌<◌, ◌≤◌, List, length, take}
+use Rattle.std.specs.Prelude.{ℕ, ◌≤◌, List, length, take}
 use Rattle.resp_value.specs.Data.{Datum, data_of_list}
 use Rattle.resp_value.specs.Rules.{Rules}
 use Rattle.resp_value.specs.Spellings.{AreSpellings}
 use Rattle.resp_scan.specs.Reading.{IsSpelled}
 use Rattle.resp_nodes.specs.declared.node.Node.{Node}
 use Rattle.resp_nodes.specs.Nodes.{AreNodesOfEach}
+use Rattle.resp_nodes.specs.Plain.{BeginsWithPlain, LacksNodes}
 use Rattle.resp_reply.specs.declared.in_place.Stop.{Stop}
 use Rattle.resp_reply.specs.declared.in_place.Stop.TheVariants as stop
 use Rattle.resp_reply.specs.Replies.{IsIncomplete, RejectsByte}
@@ -24,21 +25,15 @@ pub record BeginsWithReply (rules : Rules) (bytes : List ℕ) (size : ℕ) : Typ
   pub within : size ≤ length bytes
   pub spelled : IsSpelled rules (take size bytes)
 
--- the bytes begin with a spelling within the rules, and there are fewer nodes than a third of its bytes
-pub record LacksNodes (rules : Rules) (bytes : List ℕ) (room : ℕ) : Type 0 where
+-- the bytes begin with a spelling within the rules, and not with that of a plain reply
+pub record BeginsWithOther (rules : Rules) (bytes : List ℕ) : Type 0 where
   pub size : ℕ
   pub begins : BeginsWithReply rules bytes size
-  pub few : room < size / 3
-
--- the bytes begin with a spelling within the rules, and there are as many nodes as a third of its bytes
-pub record HasNodes (rules : Rules) (bytes : List ℕ) (room : ℕ) : Type 0 where
-  pub size : ℕ
-  pub begins : BeginsWithReply rules bytes size
-  pub enough : size / 3 ≤ room
+  pub not_plain : BeginsWithPlain rules bytes → ⊥
 
 -- why no further reply was read: these bytes are left, and this many nodes
 abbrev pub StopsFor : Rules → List ℕ → ℕ → Stop → Type 0
 StopsFor rules left room stop.Incomplete = IsIncomplete rules left
 StopsFor rules left room stop.NoNodes = LacksNodes rules left room
-StopsFor rules left room stop.NotPlain = HasNodes rules left room
+StopsFor rules left room stop.NotPlain = BeginsWithOther rules left
 StopsFor rules left room (stop.Refused fault) = RejectsByte rules left fault

@@ -1,10 +1,12 @@
 //! Reads replies whose texts stay in the buffer.
 
-ghost use Rattle.std.specs.Prelude.{◌≡◌, ◌-◌, ◌≤◌, drop, length};
+ghost use Rattle.std.specs.Prelude.{◌≡◌, ℕ, ◌-◌, drop, length};
+ghost use Rattle.resp_nodes.specs.Plain.{BeginsWithPlain, LacksNodes};
+ghost use Rattle.resp_nodes.specs.declared.reading.Unread.TheVariants.{NoNodes, NoReply};
 ghost use Rattle.resp_value.specs.Rules.{rules_under};
 ghost use Rattle.resp_reply.specs.Places.{AreReadInPlace, StopsFor};
 
-use resp_nodes::{Filled, Node, plain};
+use resp_nodes::{Filled, Node, Unread, plain};
 use resp_scan::event::{Fault, ScanError};
 use resp_scan::nobody::Nobody;
 use resp_scan::scanner::Scanner;
@@ -19,9 +21,10 @@ const LOOP: usize = 71;
 pub enum Stop {
     /// No reply lies whole in the bytes that are left. They are the beginning of one, or there are none.
     Incomplete,
-    /// The next reply lies whole in the bytes, and there are fewer nodes than a third of its bytes.
+    /// The next reply lies whole in the bytes, and it has more nodes than are left.
     NoNodes,
-    /// The next reply lies whole in the bytes, and its texts are not all in one place.
+    /// The next reply lies whole in the bytes, and it is not plain: it has a streamed string or
+    /// aggregate, a big number, an integer with a `+`, or more than 16 aggregates inside one another.
     NotPlain,
     /// A byte of the next reply was rejected.
     Refused(Fault),
@@ -38,23 +41,35 @@ pub struct InPlace {
     pub stop: Stop,
 }
 
-/// Returns why these bytes begin with no reply that is read into this many nodes.
-fn stop_for(version: Version, limits: &Limits, bytes: &[u8], room: usize) -> Stop
-    ensures { StopsFor (rules_under version limits.now) bytes.now room result }
+/// Returns why these bytes, with which no plain reply begins, have no reply that is read.
+fn stop_without_reply(version: Version, limits: &Limits, bytes: &[u8]) -> Stop
+    requires { BeginsWithPlain (rules_under version limits.now) bytes.now → ⊥ }
+    ensures { (room : ℕ) → StopsFor (rules_under version limits.now) bytes.now room result }
 {
     let mut scanner = Scanner::new(version, limits);
     match scanner.scan(bytes, &mut Nobody::<LOOP>) {
         Ok(scanned) => {
-            if !scanned.is_whole {
-                return Stop::Incomplete;
+            if scanned.is_whole {
+                Stop::NotPlain
+            } else {
+                Stop::Incomplete
             }
-            if room < scanned.used / 3 {
-                return Stop::NoNodes;
-            }
-            Stop::NotPlain
         }
         Err(ScanError::Fault(fault)) => Stop::Refused(fault),
         Err(ScanError::Stopped { taken: _ }) => Stop::Incomplete,
+    }
+}
+
+/// Returns why these bytes have no reply that is read, if [`plain`] has read none for this reason.
+fn stop_for(version: Version, limits: &Limits, bytes: &[u8], why: Unread) -> Stop
+    requires { why ≡ NoReply → BeginsWithPlain (rules_under version limits.now) bytes.now → ⊥ }
+    ensures { (room : ℕ) →
+        (why ≡ NoNodes → LacksNodes (rules_under version limits.now) bytes.now room) →
+        StopsFor (rules_under version limits.now) bytes.now room result }
+{
+    match why {
+        Unread::NoNodes => Stop::NoNodes,
+        Unread::NoReply => stop_without_reply(version, limits, bytes),
     }
 }
 
@@ -86,14 +101,13 @@ pub fn read_in_place(
     let mut filled = Filled { end: 0, count: 0 };
     while filled.end < buffer.len() {
         match plain(version, limits, buffer, filled, nodes) {
-            Some(next) => filled = next,
-            None => {
+            Ok(next) => filled = next,
+            Err(why) => {
                 let rest = &buffer[filled.end..];
-                let room = nodes.len().saturating_sub(filled.count);
                 return InPlace {
                     nodes: filled.count,
                     used: filled.end,
-                    stop: stop_for(version, limits, rest, room),
+                    stop: stop_for(version, limits, rest, why),
                 };
             }
         }

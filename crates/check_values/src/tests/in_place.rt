@@ -91,6 +91,16 @@ fn a_reason_is_true_of_the_bytes_left(rt: HostRuntime) {
     check(&rt, b":1\r\n:2\r\n", 1, &one, 4, Stop::NoNodes);
     check(&rt, b":1\r\n(2\r\n", 9, &one, 4, Stop::NotPlain);
     check(&rt, b":1\r\n*?\r\n.\r\n", 9, &one, 4, Stop::NotPlain);
+    check(
+        &rt,
+        b":1\r\n*2\r\n:+1\r\n:2\r\n",
+        1,
+        &one,
+        4,
+        Stop::NotPlain,
+    );
+    check(&rt, b":1\r\n*2\r\n:1\r\n:2\r\n", 3, &one, 4, Stop::NoNodes);
+    check(&rt, b":1\r\n*2\r\n:1\r\n", 1, &one, 4, Stop::Incomplete);
     let fault = Fault {
         cause: Cause::Syntax,
         at: 1,

@@ -1,9 +1,11 @@
-use Rattle.std.proofs.Common.{◌≡◌, ◌+◌, ◌-◌, drop, get_or, ap, subst, ◌∙◌, arith}
+use Rattle.std.proofs.Common.{◌≡◌, ◌∷◌, ◌+◌, ◌-◌, drop, get_or, sym, ap, subst, ◌∙◌, arith}
 use Rattle.std.proofs.lemmas.List.{drop-drop, take_rest}
 use Rattle.resp_value.specs.Bytes.{crlf}
 use Rattle.resp_nodes.specs.Plain.{BeginsWithLine}
 use Rattle.resp_nodes.proofs.Digits.{byte_first, one_byte_more}
+use Rattle.resp_nodes.proofs.NoneThere.{no_line_at_newline, no_line_at_return, none_if}
 use Rattle.resp_nodes.proofs.heads.line_end.Goals as goal
+use Rattle.resp_nodes.proofs.heads.line_end.Goals.{then-byte-eq13-via-then-byte-eq13, then-byte-eq13-via-else-byte-eq13+then-byte-eq10}
 
 pub loop-end-preserved : goal.loop-end-preserved
 loop-end-preserved c = one_byte_more (drop c.args.at c.args.buffer.now) (c.loop-end.end - c.args.at) (get_or c.args.buffer.now c.loop-end.end 0)
@@ -21,3 +23,22 @@ returns-clause-line c =
     subst (λ z. BeginsWithLine z run (crlf (drop (run + 2) z))) (take_rest buffer at) c.in_ok-run.ensures.line in
     subst (λ k. BeginsWithLine (drop at buffer) k (crlf (drop (at + run + 2) buffer))) (omega arith)
     (subst (λ z. BeginsWithLine (drop at buffer) run (crlf z)) (drop-drop (run + 2) at buffer ∙ ap (λ k. drop k buffer) place) begun)
+
+pub returns-else-is_line_end-clause-none : goal.returns-else-is_line_end-clause-none
+returns-else-is_line_end-clause-none c size rest b =
+    let text = drop c.args.at c.args.buffer.now in
+    let many = c.loop-end.end - c.args.at in
+    let here = drop c.loop-end.end c.args.buffer.now in
+    let more = drop (c.loop-end.end + 1) c.args.buffer.now in
+    let first = byte_first c.args.buffer.now c.loop-end.end (omega (arith, c.loop-end-test.true, c.min-end-end.ensures)) in
+    elim c.then-byte-eq13.branch [
+      | then-byte-eq13-via-then-byte-eq13 w ↦
+          no_line_at_return text many here more c.loop-end.invariant (first ∙ ap (λ z. z ∷ more) w.if-byte-eq13.true) c.if-is_line_end.ensures size rest b
+      | then-byte-eq13-via-else-byte-eq13+then-byte-eq10 w ↦
+          no_line_at_newline text many here more c.loop-end.invariant (first ∙ ap (λ z. z ∷ more) w.if-byte-eq10.true) size rest b
+    ]
+
+pub returns-in_err-run-clause-none : goal.returns-in_err-run-clause-none
+returns-in_err-run-clause-none c = none_if c.from_residual.result _ (λ size rest b.
+    c.in_err-run.ensures.none size rest
+    (subst (λ z. BeginsWithLine z size (crlf rest)) (sym (take_rest c.args.buffer.now c.args.at)) b))

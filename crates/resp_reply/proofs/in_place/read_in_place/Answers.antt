@@ -5,8 +5,8 @@ use Rattle.resp_reply.proofs.in_place.read_in_place.Goals as goal
 
 pub loop-filled-preserved : goal.loop-filled-preserved
 loop-filled-preserved c =
-    one_place_more (rules_under c.args.version c.args.limits.now) c.args.buffer.now c.loop-filled.filled c.in-Some.next c.loop-filled.nodes c.plain.new.nodes
-    c.loop-filled.invariant c.in-Some.ensures.reply
+    one_place_more (rules_under c.args.version c.args.limits.now) c.args.buffer.now c.loop-filled.filled c.in-Ok.next c.loop-filled.nodes c.plain.new.nodes
+    c.loop-filled.invariant c.in-Ok.ensures.reply
 
 pub returns-clause-stopped : goal.returns-clause-stopped
 returns-clause-stopped c =
