@@ -1,0 +1,6 @@
+use Rattle.std.proofs.Common.{◌≡◌, ◌≤◌, ◌++◌, length, map, take}
+use Rattle.resp_counts.specs.Names.{name_byte}
+use Rattle.resp_counts.proofs.name.Name.add.Given as goal
+
+abbrev pub invariant-loop-byte : goal.invariant-loop-byte
+invariant-loop-byte l = l.self.text.items ≡ l.fn.self.text.items ++ map name_byte (take l.byte-index l.word)
