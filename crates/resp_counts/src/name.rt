@@ -116,11 +116,13 @@ impl Name {
     fn add(&mut self, word: &[u8])
         ensures { self.new.text.items ≡ take 20 (self.old.text.items ++ map name_byte word.now) }
     {
-        for byte in word {
-            if self.text.is_full() {
+        let mut index = 0;
+        while !self.text.is_full() {
+            let Some(byte) = word.get(index).copied() else {
                 return;
-            }
-            self.text.push(name_byte(*byte));
+            };
+            self.text.push(name_byte(byte));
+            index += 1;
         }
     }
 }

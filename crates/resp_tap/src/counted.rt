@@ -1,10 +1,11 @@
 //! A tap whose commands are counted.
 
-ghost use Rattle.std.specs.Prelude.{◌≡◌, ◌<◌, ◌≤◌, List, [], Some, length, drop};
-ghost use Rattle.resp_tap.specs.Counting.{AnswersCall, AsksCall, IsPlaceFor, is_counted, is_error};
+ghost use Rattle.std.specs.Prelude.{◌≡◌, ◌+◌, ◌<◌, ◌≤◌, List, [], Some, length, drop, min, slice_get};
+ghost use Rattle.resp_tap.specs.Counting.{AnswersCall, AsksCall, CountsAfter, CountsSeen, IsPlaceFor, ReleasesCall, is_counted, is_error, taken_of};
 ghost use Rattle.resp_counts.specs.Names.{table_name};
 ghost use Rattle.resp_counts.specs.Rows.{MayAddRow};
 ghost use Rattle.resp_tap.specs.Taps.{new_tap, tap_state};
+ghost use Rattle.resp_tap.specs.Times.{waits_in};
 ghost use Rattle.resp_tap.specs.Watches.{KeepsOther, SeesFirst};
 ghost use Rattle.resp_tap.specs.Watching.{HasTakenRequest, HasTakenValue};
 
@@ -115,6 +116,7 @@ impl CountedTap {
 
     /// Returns the number of bytes that one side has sent of a command or value, after these bytes.
     fn take_bytes(&mut self, side: Side, used: usize, seen: &Seen) -> u64
+        ensures bytes { result ≡ min (taken_of side self.old + used) 18446744073709551615 }
         ensures same_tap { self.new.timed ≡ self.old.timed }
         ensures same_asked { self.new.asked ≡ self.old.asked }
     {
@@ -143,6 +145,9 @@ impl CountedTap {
         heard: Heard,
         seen: &Seen,
     )
+        ensures counts { CountsAfter filter.now client seen.now heard before
+            (waits_in self.old.timed) at self.old.asked.items self.new.asked.items
+            counts.old.rows.items counts.new.rows.items }
         ensures same_tap { self.new.timed ≡ self.old.timed }
     {
         let after = self.timed.tap.waiting();
@@ -150,12 +155,20 @@ impl CountedTap {
             Seen::Command { words, .. } if before < after => {
                 self.ask(counts, filter, client, before, heard.bytes, words);
             }
-            _ => {
-                if after < before {
-                    answer(counts, filter, self.asked.get(at).copied(), heard);
-                }
-                self.drop_first(before.saturating_sub(after));
-            }
+            _ => self.release(counts, filter, before.saturating_sub(after), at, heard),
+        }
+    }
+
+    /// Drops what is kept of so many commands that wait no more, and counts the one at this index.
+    fn release(&mut self, counts: &mut Counts, filter: &Filter, gone: u64, at: usize, heard: Heard)
+        ensures asked { self.new.asked.items ≡ drop gone self.old.asked.items }
+        ensures counts { ReleasesCall gone filter.now (slice_get self.old.asked.items at) heard
+            counts.old.rows.items counts.new.rows.items }
+        ensures same_tap { self.new.timed ≡ self.old.timed }
+    {
+        if gone > 0 {
+            answer(counts, filter, self.asked.get(at).copied(), heard);
+            self.drop_first(gone);
         }
     }
 
@@ -222,6 +235,8 @@ pub fn count_some(
 ) -> Step
     ensures sees { SeesFirst side (Some now) tap.old.timed tap.new.timed piece.now result.used
         result.seen }
+    ensures counts { CountsSeen filter.now client side now tap.old tap.new result.used result.seen
+        counts.old.rows.items counts.new.rows.items }
     ensures other_side { KeepsOther side tap.old.timed.tap tap.new.timed.tap }
     ensures within_piece { result.used ≤ length piece.now }
     ensures uses_bytes { 0 < length piece.now → 0 < result.used }
