@@ -37,7 +37,7 @@ is_counted f client words = keeps_client f client && keeps_words f words
 -- command before it.
 pub record AsksCall (f : Filter) (client : ℕ) (words : List (List ℕ)) (bytes : ℕ) (old new : List Asked) (rows rows' : List Row) :
     Type 0 where
-  pub rows : MayAddRow (table_name words) rows rows'
+  pub may_add : MayAddRow (table_name words) rows rows'
   pub asked : (new ≡ old) ⊎ ((place : Option ℕ) × IsPlaceFor (is_counted f client words) (table_name words) rows' place ×
       (new ≡ old ++ record { place = place; bytes = bytes } ∷ []))
 

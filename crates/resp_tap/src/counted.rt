@@ -55,6 +55,14 @@ fn is_error(seen: &Seen) -> bool
     }
 }
 
+/// Returns the number of bytes of an incomplete command or value after a result for so many bytes.
+fn left_of(bytes: u64, seen: &Seen) -> u64 {
+    match seen {
+        Seen::Nothing => bytes,
+        _ => 0,
+    }
+}
+
 /// Counts a command that waits no more, of which this is kept, if the filter lets the reply through.
 fn answer(counts: &mut Counts, filter: &Filter, asked: Option<Asked>, heard: Heard)
     ensures { AnswersCall filter.now asked heard counts.old.rows.items counts.new.rows.items }
@@ -120,17 +128,18 @@ impl CountedTap {
         ensures same_tap { self.new.timed ≡ self.old.timed }
         ensures same_asked { self.new.asked ≡ self.old.asked }
     {
-        let taken = match side {
-            Side::Client => &mut self.sent,
-            Side::Server => &mut self.received,
-        };
-        let bytes = taken.saturating_add(used as u64);
-        *taken = if matches!(seen, Seen::Nothing) {
-            bytes
-        } else {
-            0
-        };
-        bytes
+        match side {
+            Side::Client => {
+                let bytes = self.sent.saturating_add(used as u64);
+                self.sent = left_of(bytes, seen);
+                bytes
+            }
+            Side::Server => {
+                let bytes = self.received.saturating_add(used as u64);
+                self.received = left_of(bytes, seen);
+                bytes
+            }
+        }
     }
 
     /// Counts the command at this index if it waits no more, or keeps a new command that waits. So many
