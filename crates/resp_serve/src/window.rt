@@ -49,9 +49,9 @@ const FINISHES: &str = "write failed\n\
 /// The notice on standard error after a failed write, if the window goes on.
 const KEEPS_GOING: &str = "write failed\nnothing more is printed; clients are still accepted";
 
-/// Forwards connections to a server, and prints their traffic. Each client gets its own connection
-/// to the server, and the bytes of both sides are forwarded unchanged. Nothing is read from a client
-/// before its connection to the server is open.
+/// Forwards connections to a server, and prints their traffic, or counts the commands and prints a
+/// table of them. Each client gets its own connection to the server, and the bytes of both sides are
+/// forwarded unchanged. Nothing is read from a client before its connection to the server is open.
 ///
 /// A side is not read while its bytes wait to be forwarded. Connections with much to do are visited
 /// in turns. Text is written as far as standard output accepts it without blocking. At most

@@ -126,7 +126,7 @@ impl CountedTap {
     fn take_bytes(&mut self, side: Side, used: usize, seen: &Seen) -> u64
         ensures bytes { result ≡ min (taken_of side self.old + used) 18446744073709551615 }
         ensures same_tap { self.new.timed ≡ self.old.timed }
-        ensures same_asked { self.new.asked ≡ self.old.asked }
+        ensures same_asked { self.new.asked.items ≡ self.old.asked.items }
     {
         match side {
             Side::Client => {
