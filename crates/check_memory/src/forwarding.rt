@@ -2,10 +2,12 @@
 //! written are lost, and the words of a command that waits are not known.
 
 use crate::outcome::Outcome;
+use resp_counts::{Counts, table_of};
+use resp_tap::counted::watch_counted;
 use resp_tap::filtered::watch_filtered;
 use resp_tap::watch::Side;
 use resp_tap::way::{Visited, Way};
-use resp_tap::{Filter, FilteredTap, Printing};
+use resp_tap::{CountedTap, Filter, FilteredTap, Moment, Printing};
 use resp_value::{Limits, MemorySink, MemorySource};
 use std::alloc::Global;
 
@@ -60,4 +62,49 @@ pub(crate) fn of_filtered_tap(alloc: Global) -> Outcome {
     Outcome::of(
         text == b"client 1 command 1\n  \"a\"\nclient 1 reply 1\n  error \"E\" 1\n".as_slice(),
     )
+}
+
+/// A command that is counted with its reply, and the table of it.
+pub(crate) fn of_counted_tap(alloc: Global) -> Outcome {
+    let filter = Filter::all(alloc);
+    let printing = Printing {
+        client: 1,
+        shows_passwords: false,
+    };
+    let now = Moment {
+        of_day: 0,
+        steady: 0,
+    };
+    let mut tap = CountedTap::new(alloc, &Limits::standard());
+    let (Ok(mut counts), Ok(mut text)) = (Counts::new(alloc), MemorySink::new(alloc, 4_096, 4_096))
+    else {
+        return Outcome::OutOfMemory;
+    };
+    for (side, piece) in [
+        (Side::Client, b"*1\r\n$1\r\na\r\n".as_slice()),
+        (Side::Server, b"-E\r\n".as_slice()),
+    ] {
+        let out = &mut text;
+        if watch_counted(
+            &mut tap,
+            &mut counts,
+            &filter,
+            printing,
+            side,
+            piece,
+            now,
+            out,
+        )
+        .is_err()
+        {
+            return Outcome::Wrong;
+        }
+    }
+    if table_of(alloc, &counts).is_err() {
+        return Outcome::OutOfMemory;
+    }
+    match counts.rows() {
+        [_, row] if row.calls() == 1 => Outcome::of(row.errors() == 1 && row.sent() == 11),
+        _ => Outcome::OutOfMemory,
+    }
 }

@@ -66,7 +66,7 @@ fn print(rt: &impl Print, parts: &[Part]) -> Result<()> {
 }
 
 /// Runs each part, and returns their outcomes in order.
-fn parts(alloc: Global) -> [Part; 47] {
+fn parts(alloc: Global) -> [Part; 48] {
     [
         ("decode a piece", decoding::of_one_piece(alloc)),
         ("decode bytes", decoding::of_single_bytes(alloc)),
@@ -106,6 +106,7 @@ fn parts(alloc: Global) -> [Part; 47] {
         ("take reply", frames::of_join(alloc)),
         ("way", forwarding::of_way(alloc)),
         ("filtered tap", forwarding::of_filtered_tap(alloc)),
+        ("counted tap", forwarding::of_counted_tap(alloc)),
         ("proxy open", proxying::of_open(alloc)),
         ("proxy client", proxying::of_client(alloc)),
         ("proxy lines", proxying::of_lines(alloc)),

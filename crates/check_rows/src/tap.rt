@@ -5,12 +5,14 @@ use crate::cut::{Cut, pieces};
 use crate::subject::Subject;
 use crate::text::bytes;
 use anyhow::{Result, bail};
+use resp_counts::{Counts, table_of};
+use resp_tap::counted::watch_counted;
 use resp_tap::end::write_end;
 use resp_tap::filtered::watch_filtered;
 use resp_tap::screen::Screen;
 use resp_tap::stamp::Stamp;
 use resp_tap::watch::Side;
-use resp_tap::{Filter, FilteredTap, Moment, Printing};
+use resp_tap::{CountedTap, Filter, FilteredTap, Moment, Printing};
 use resp_value::Limits;
 use std::alloc::Global;
 use std::str;
@@ -23,6 +25,8 @@ const MOST: usize = 65_536;
 pub(crate) struct Tapping {
     alloc: Global,
     tap: FilteredTap,
+    /// The tap and the counts, if commands are counted.
+    counting: Option<(CountedTap, Counts)>,
     /// The time at which the next bytes pass, if the row sets a time.
     now: Option<Moment>,
     printing: Printing,
@@ -34,6 +38,7 @@ impl Subject for Tapping {
         Ok(Tapping {
             alloc,
             tap: FilteredTap::new(alloc, &Limits::standard().with_doubles(true)),
+            counting: None,
             now: None,
             printing: Printing {
                 client: 1,
@@ -62,6 +67,8 @@ impl Subject for Tapping {
             "slower" => self.set_slower(given),
             "command" => self.add_name(given),
             "only" => self.set_client(given),
+            "count" => self.begin_counting(),
+            "table" => self.say_table(said),
             "client" => self.pass(Side::Client, given, cut, said),
             "server" => self.pass(Side::Server, given, cut, said),
             "end" => self.end(given, said),
@@ -110,6 +117,24 @@ impl Tapping {
         Ok(())
     }
 
+    /// `count` begins to count the commands of a new connection, and prints them no more.
+    fn begin_counting(&mut self) -> Result<()> {
+        let limits = Limits::standard().with_doubles(true);
+        let tap = CountedTap::new(self.alloc, &limits);
+        self.counting = Some((tap, Counts::new(self.alloc)?));
+        Ok(())
+    }
+
+    /// `table` prints the counts.
+    fn say_table(&self, said: &mut String) -> Result<()> {
+        let Some((_, counts)) = &self.counting else {
+            bail!("nothing is counted");
+        };
+        let table = table_of(self.alloc, counts)?;
+        said.push_str(table.as_str())?;
+        Ok(())
+    }
+
     /// `end client` and `end server` print what the tap shows when this side has ended.
     fn end(&mut self, side: &str, said: &mut String) -> Result<()> {
         let (side, cut) = match side {
@@ -132,7 +157,17 @@ impl Tapping {
         let alloc = self.alloc;
         let text = bytes(alloc, given)?;
         let mut screen = Screen::new(alloc, MOST);
+        let start = Moment {
+            of_day: 0,
+            steady: 0,
+        };
         for piece in pieces(alloc, text.as_slice(), cut)? {
+            if let Some((tap, counts)) = &mut self.counting {
+                let now = self.now.unwrap_or(start);
+                let (filter, printing) = (&self.filter, self.printing);
+                watch_counted(tap, counts, filter, printing, side, piece, now, &mut screen)?;
+                continue;
+            }
             watch_filtered(
                 &mut self.tap,
                 &self.filter,

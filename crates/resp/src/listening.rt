@@ -3,12 +3,12 @@
 use resp_args::duration::duration_of;
 use resp_args::proxying::{ProxyOptions, Proxying};
 use resp_args::serving::Serving;
-use resp_args::tapping::{FilterOptions, Tapping};
+use resp_args::tapping::{FilterOptions, StatsOptions, Tapping};
 use resp_args::tool_error::ToolError;
 use resp_args::words::{refuse_file, stop};
 use resp_print::live::LiveSink;
 use resp_print::text::write_text;
-use resp_serve::{AfterFailure, ProxyServer, ProxySettings, Server, Settings, Window};
+use resp_serve::{AfterFailure, ProxyServer, ProxySettings, Server, Settings, Tables, Window};
 use resp_tap::Filter;
 use resp_value::device::{DeviceFault, Sink};
 use std::alloc::{AllocError, Global};
@@ -152,6 +152,18 @@ fn filter_of(
     Ok(filter)
 }
 
+/// Returns when tables are printed, if commands are counted.
+fn tables_of(stats: StatsOptions) -> Option<Tables> {
+    if stats.every > 0 {
+        return Some(Tables::Every(Duration::from_secs(stats.every)));
+    }
+    if stats.is_on {
+        Some(Tables::AtEnd)
+    } else {
+        None
+    }
+}
+
 /// Returns what the words ask for after a failed write. `--exit-with-output` has precedence.
 fn after_failure(tapping: &Tapping<'_>) -> AfterFailure {
     if tapping.exits_with_output {
@@ -181,6 +193,7 @@ fn tap<W: LiveSink>(
         tells_time: tapping.tells_time || slower.is_some(),
         after_failure: after_failure(tapping),
         shows_passwords: tapping.shows_passwords,
+        tables: tables_of(tapping.stats),
     };
     let mut window = Window::listen(rt, alloc, tapping.address, tapping.server, settings, filter)?;
     write_listening(alloc, window.address()?, writer)?;

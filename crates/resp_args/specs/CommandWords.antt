@@ -28,6 +28,7 @@ use Rattle.resp_args.specs.declared.proxying.ProxyOptions.{ProxyOptions}
 use Rattle.resp_args.specs.declared.proxying.Proxying.{Proxying}
 use Rattle.resp_args.specs.declared.serving.Serving.{Serving}
 use Rattle.resp_args.specs.declared.tapping.FilterOptions.{FilterOptions}
+use Rattle.resp_args.specs.declared.tapping.StatsOptions.{StatsOptions}
 use Rattle.resp_args.specs.declared.tapping.TapOptions.{TapOptions}
 use Rattle.resp_args.specs.declared.tapping.Tapping.{Tapping}
 
@@ -136,6 +137,11 @@ pub record HasFilter (given : List Row) (filter : FilterOptions) : Type 0 where
   pub named : option_map (λ names. names.now) filter.names ≡ first_of (codes "command") given
   pub only : HasNumber given (codes "client") filter.client
 
+-- the options of `tap` that say that commands are counted
+pub record HasStats (given : List Row) (stats : StatsOptions) : Type 0 where
+  pub on : HasFlag given (codes "stats") stats.is_on
+  pub seconds : HasNumber given (codes "stats-every") stats.every
+
 -- the options of `tap` that are no address
 pub record HasTapOptions (given : List Row) (options : TapOptions) : Type 0 where
   pub in_limits : HasLimits given options.limits
@@ -146,6 +152,7 @@ pub record HasTapOptions (given : List Row) (options : TapOptions) : Type 0 wher
   pub keeps : HasFlag given (codes "keep-going") options.keeps_going
   pub shows : HasFlag given (codes "show-passwords") options.shows_passwords
   pub filters : HasFilter given options.filter
+  pub tables : HasStats given options.stats
 
 -- the options of `tap`, with the texts of its addresses
 pub record HasTapWords (given : List Row) (address server : Text) (options : TapOptions) : Type 0 where
@@ -162,6 +169,7 @@ tap_options_of tapping = record {
   keeps_going = tapping.keeps_going;
   shows_passwords = tapping.shows_passwords;
   filter = tapping.filter;
+  stats = tapping.stats;
 }
 
 -- the options of `tap`, with its addresses

@@ -104,10 +104,14 @@ abbrev pub filter_options : List Rule
 filter_options = flag_option (codes "errors") ∷ name_option (codes "slower") ∷ name_option (codes "command") ∷
     number_option (codes "client") 0 1099511627776 (codes "0") ∷ []
 
+-- the options of `tap` that say that commands are counted
+abbrev pub stats_options : List Rule
+stats_options = flag_option (codes "stats") ∷ number_option (codes "stats-every") 0 86400 (codes "0") ∷ []
+
 -- the options of `tap`
 abbrev pub tap_options : List Rule
 tap_options = listening_options
-    (flag_option (codes "time") ∷ filter_options ++
+    (flag_option (codes "time") ∷ filter_options ++ stats_options ++
     flag_option (codes "exit-with-output") ∷ flag_option (codes "keep-going") ∷ flag_option (codes "show-passwords") ∷
     address_word (codes "listen") ∷ address_word (codes "server") ∷ [])
 

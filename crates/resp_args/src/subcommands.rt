@@ -89,6 +89,8 @@ const TAP: Subcommand = Subcommand {
         SLOWER,
         COMMAND,
         CLIENT,
+        STATS,
+        STATS_EVERY,
         EXIT_WITH_OUTPUT,
         KEEP_GOING,
         SHOW_PASSWORDS,
@@ -159,6 +161,7 @@ const TAP_HELP: &str = r"Examples:
   resp tap 127.0.0.1:6380 127.0.0.1:6379
   resp tap --time 127.0.0.1:6380 127.0.0.1:6379 >traffic.txt
   resp tap --slower 10ms --command get,mget 6380 6379
+  resp tap --stats-every 10 6380 6379
 
 Clients connect to LISTEN instead of SERVER. All commands and replies are
 printed, or those that pass all of --errors, --slower, --command and --client.
@@ -375,6 +378,25 @@ const CLIENT: Parameter = Parameter {
         hides_default: true,
     },
     help: "Prints only the lines about client N",
+};
+
+/// `--stats`: whether `tap` counts commands instead of printing them.
+const STATS: Parameter = Parameter {
+    name: "stats",
+    form: Form::Flag,
+    help: "Prints a table of commands when the last connection\ncloses, and not the commands",
+};
+
+/// `--stats-every`: the seconds between two tables.
+const STATS_EVERY: Parameter = Parameter {
+    name: "stats-every",
+    form: Form::Number {
+        least: 0,
+        most: 86_400,
+        default: "0",
+        hides_default: true,
+    },
+    help: "As --stats, and prints the table every N seconds\ntoo, 1 to 86400",
 };
 
 /// `--exit-with-output`: whether `tap` ends at once when its output fails.

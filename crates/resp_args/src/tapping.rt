@@ -2,7 +2,7 @@
 
 ghost use Rattle.std.specs.Prelude.{ℕ, List, IfNone, IfOk, IfSome, OnErr};
 ghost use Rattle.clap.specs.Words.{found_of, rows_of};
-ghost use Rattle.resp_args.specs.CommandWords.{HasFilter, HasTapOptions, HasTapWords, HasTapping};
+ghost use Rattle.resp_args.specs.CommandWords.{HasFilter, HasStats, HasTapOptions, HasTapWords, HasTapping};
 
 use crate::asked::{NothingAsked, wrong_options};
 use crate::options::{address_of, flag_of, limits_of, number_of, small_number_of, text_of};
@@ -31,8 +31,20 @@ pub struct Tapping<'a> {
     pub keeps_going: bool,
     /// Whether passwords in commands are printed.
     pub shows_passwords: bool,
-    /// Which commands are printed.
+    /// Which commands are printed, or counted.
     pub filter: FilterOptions<'a>,
+    /// Whether commands are counted instead of printed.
+    pub stats: StatsOptions,
+}
+
+/// The options that say that commands are counted.
+#[derive(Clone, Copy, Debug)]
+pub struct StatsOptions {
+    /// Whether `--stats` is given.
+    pub is_on: bool,
+    /// The seconds between two tables, or 0 if there is one only when the last connection closes. Any
+    /// other number has the effect of `--stats` too.
+    pub every: u64,
 }
 
 /// The options that say which commands are printed.
@@ -60,6 +72,7 @@ struct TapOptions<'a> {
     keeps_going: bool,
     shows_passwords: bool,
     filter: FilterOptions<'a>,
+    stats: StatsOptions,
 }
 
 /// The options before the addresses are parsed.
@@ -90,6 +103,7 @@ pub(crate) fn tapping_of<'a>(matches: &ArgMatches<'a>) -> Result<Tapping<'a>, No
         keeps_going: words.options.keeps_going,
         shows_passwords: words.options.shows_passwords,
         filter: words.options.filter,
+        stats: words.options.stats,
     })
 }
 
@@ -124,6 +138,7 @@ fn options_of<'a>(matches: &ArgMatches<'a>) -> Option<TapOptions<'a>>
         keeps_going: flag_of(matches, "keep-going")?,
         shows_passwords: flag_of(matches, "show-passwords")?,
         filter: filter_of(matches)?,
+        stats: stats_of(matches)?,
     })
 }
 
@@ -139,5 +154,18 @@ fn filter_of<'a>(matches: &ArgMatches<'a>) -> Option<FilterOptions<'a>>
         slower: text_of(matches, "slower"),
         names: text_of(matches, "command"),
         client: number_of(matches, "client")?,
+    })
+}
+
+/// Returns the options that say that commands are counted; `None` if a number does not fit.
+fn stats_of(matches: &ArgMatches<'_>) -> Option<StatsOptions>
+    ensures some { IfSome result (HasStats (rows_of (found_of matches.now))) }
+    ensures none { IfNone result ((stats : StatsOptions)
+        → HasStats (rows_of (found_of matches.now)) stats → ⊥) }
+{
+    let is_on = flag_of(matches, "stats")?;
+    Some(StatsOptions {
+        is_on,
+        every: number_of(matches, "stats-every")?,
     })
 }

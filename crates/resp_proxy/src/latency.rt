@@ -1,70 +1,13 @@
 //! How long replies take.
 
-ghost use Rattle.std.specs.Prelude.{◌<◌};
-
+use resp_times::Histogram;
 use std::alloc::Global;
 use std::collections::VecDeque;
 use std::mem;
 use std::time::Duration;
 
-/// The number of ranges of times. The last one has all times from 4,160,749,568 microseconds on.
-const RANGES: usize = 464;
-
-/// The least time of the last range, in microseconds.
-const MOST: u128 = 4_160_749_568;
-
-/// How often a time is halved at most until it is less than 32 microseconds, or in the last range.
-const MOST_DOUBLINGS: usize = 28;
-
 /// The seconds after which the older times are dropped.
 const MINUTE: u64 = 60;
-
-/// How often each range of times was counted. Range 0 to 31 is one time in microseconds each. After them each
-/// power of two has 16 ranges.
-#[derive(Drop)]
-struct Histogram {
-    counts: [u64; RANGES],
-}
-
-impl Histogram {
-    /// Returns a histogram without times.
-    fn new() -> Self {
-        Histogram {
-            counts: [0; RANGES],
-        }
-    }
-
-    /// Counts this number of equal times.
-    fn add(&mut self, micros: u64, count: u64) {
-        let range = range_of(micros);
-        self.counts[range] = self.counts[range].saturating_add(count);
-    }
-}
-
-/// Returns the range of a time in microseconds.
-fn range_of(micros: u64) -> usize
-    ensures { result < 464 }
-{
-    let mut rest = micros;
-    let mut first = 0usize;
-    for _ in 0..MOST_DOUBLINGS {
-        if rest >= 32 {
-            rest /= 2;
-            first = first.saturating_add(16);
-        }
-    }
-    first.saturating_add(rest as usize).min(RANGES - 1)
-}
-
-/// Returns the greatest time of a range, in microseconds.
-fn end_of(range: usize) -> u64 {
-    let doublings = (range / 16).saturating_sub(1);
-    let mut end = range.saturating_sub(doublings.saturating_mul(16)) as u64;
-    for _ in 0..doublings {
-        end = end.saturating_mul(2).saturating_add(1);
-    }
-    end
-}
 
 /// Commands that were queued at one time.
 #[derive(Clone, Copy)]
@@ -133,7 +76,8 @@ impl Latency {
             let Some(run) = self.take(rest) else {
                 return;
             };
-            let micros = now.saturating_sub(run.since).as_micros().min(MOST) as u64;
+            let micros = now.saturating_sub(run.since).as_micros();
+            let micros = u64::try_from(micros).unwrap_or(u64::MAX);
             self.recent.add(micros, run.count as u64);
             rest = rest.saturating_sub(run.count);
         }
@@ -175,27 +119,13 @@ impl Latency {
 
     /// Returns how long the replies took.
     pub(crate) fn times(&self) -> Times {
-        let total = self.least_end(u64::MAX).0;
+        let mut all = self.recent;
+        all.append(&self.older);
         Times {
-            median: self.least_end(total.div_ceil(2)).1,
-            percentile_99: self.least_end(total.saturating_mul(99).div_ceil(100)).1,
-            most: self.least_end(total).1,
+            median: all.percentile(50).unwrap_or(0),
+            percentile_99: all.percentile(99).unwrap_or(0),
+            most: all.percentile(100).unwrap_or(0),
         }
-    }
-
-    /// Returns the number of replies in the first ranges that have so many, and the end of the last of these
-    /// ranges.
-    fn least_end(&self, wanted: u64) -> (u64, u64) {
-        let mut count = 0u64;
-        for range in 0..RANGES {
-            count = count
-                .saturating_add(self.recent.counts[range])
-                .saturating_add(self.older.counts[range]);
-            if count >= wanted {
-                return (count, end_of(range));
-            }
-        }
-        (count, end_of(RANGES))
     }
 }
 

@@ -34,13 +34,16 @@ mod server_link;
 mod service;
 mod spare;
 mod stalled;
+mod stats;
 mod tapped;
 mod terminal;
 mod timing;
+mod watcher;
 mod window;
 
 pub use connection::{PIECE, Rest, Room, answer};
 pub use proxying::{ProxyServer, ProxySettings};
 pub use server::Server;
 pub use service::Next;
+pub use stats::Tables;
 pub use window::{AfterFailure, Settings, Window};

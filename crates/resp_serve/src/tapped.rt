@@ -6,11 +6,11 @@ use crate::lane::{Forwarded, Lane, Progress, TURNS, next_of};
 use crate::non_blocking::is_open;
 use crate::printer::Printer;
 use crate::service::Next;
+use crate::watcher::Watcher;
 use mio::net::TcpStream;
+use resp_tap::Printing;
 use resp_tap::watch::Side;
-use resp_tap::{FilteredTap, Printing};
 use resp_value::device::Sink;
-use resp_value::limits::Limits;
 use std::alloc::Global;
 use std::io;
 use std::rt::Clock;
@@ -35,7 +35,7 @@ pub(crate) struct Tapped {
     is_connected: bool,
     to_server: Lane,
     to_client: Lane,
-    tap: FilteredTap,
+    watcher: Watcher,
     /// The client's number, and how its traffic is printed.
     printing: Printing,
 }
@@ -43,7 +43,7 @@ pub(crate) struct Tapped {
 /// Gives the pieces that one side sends to the tap, and prints the results.
 #[derive(Drop)]
 struct Seeing<'a, 'b, 'f, W, C> {
-    tap: &'a mut FilteredTap,
+    watcher: &'a mut Watcher,
     printing: Printing,
     side: Side,
     /// Whether the other side has not ended.
@@ -56,7 +56,7 @@ impl<W: Sink, C: Clock> Seeing<'_, '_, '_, W, C> {
     fn piece(&mut self, piece: &[u8]) {
         if !piece.is_empty() {
             self.printer
-                .print(self.tap, self.printing, self.side, piece);
+                .print(self.watcher, self.printing, self.side, piece);
         }
     }
 
@@ -73,7 +73,7 @@ impl<W: Sink, C: Clock> Seeing<'_, '_, '_, W, C> {
     fn end(&mut self) {
         if self.is_first {
             self.printer
-                .print_end(self.tap, self.printing.client, self.side);
+                .print_end(self.watcher.tap(), self.printing.client, self.side);
         }
     }
 }
@@ -84,7 +84,7 @@ impl Tapped {
         alloc: Global,
         client: TcpStream,
         server: TcpStream,
-        limits: &Limits,
+        watcher: Watcher,
         printing: Printing,
     ) -> Self {
         Tapped {
@@ -93,7 +93,7 @@ impl Tapped {
             is_connected: false,
             to_server: Lane::new(alloc),
             to_client: Lane::new(alloc),
-            tap: FilteredTap::new(alloc, limits),
+            watcher,
             printing,
         }
     }
@@ -155,7 +155,7 @@ impl Tapped {
     {
         let is_first = !self.to_server.has_ended() && !self.to_client.has_ended();
         let mut see = Seeing {
-            tap: &mut self.tap,
+            watcher: &mut self.watcher,
             printing: self.printing,
             side,
             is_first,

@@ -22,6 +22,11 @@ impl Timing {
         Ok(Timing { last })
     }
 
+    /// Returns the moment that was read last.
+    pub(crate) fn last(&self) -> Option<Moment> {
+        self.last
+    }
+
     /// Returns the current moment if times are printed. If a clock can't be read, it returns the
     /// last moment.
     pub(crate) fn now(&mut self, clock: &impl Clock) -> Option<Moment> {

@@ -7,9 +7,11 @@ use crate::printer::Printer;
 use crate::register::register;
 use crate::service::{Cause, Next, Service, Tokens};
 use crate::spare::Spare;
+use crate::stats::{Stats, Tables};
 use crate::tapped::{Opening, Tapped};
 use crate::terminal::Terminal;
 use crate::timing::Timing;
+use crate::watcher::Watcher;
 use mio::Registry;
 use mio::net::TcpStream;
 use resp_print::live::LiveSink;
@@ -47,9 +49,9 @@ const FINISHES: &str = "write failed\n\
 /// The notice on standard error after a failed write, if the window goes on.
 const KEEPS_GOING: &str = "write failed\nnothing more is printed; clients are still accepted";
 
-/// Forwards connections to a server, and prints their traffic. Each client gets its own connection
-/// to the server, and the bytes of both sides are forwarded unchanged. Nothing is read from a client
-/// before its connection to the server is open.
+/// Forwards connections to a server, and prints their traffic, or counts the commands and prints a
+/// table of them. Each client gets its own connection to the server, and the bytes of both sides are
+/// forwarded unchanged. Nothing is read from a client before its connection to the server is open.
 ///
 /// A side is not read while its bytes wait to be forwarded. Connections with much to do are visited
 /// in turns. Text is written as far as standard output accepts it without blocking. At most
@@ -85,6 +87,8 @@ pub struct Settings {
     pub after_failure: AfterFailure,
     /// Whether passwords and other secret words of commands are printed.
     pub shows_passwords: bool,
+    /// When the counts of commands are printed, if commands are counted and not printed.
+    pub tables: Option<Tables>,
 }
 
 /// The server to which connections are forwarded, and what is printed of them.
@@ -107,6 +111,8 @@ struct View {
     /// Whether nothing is printed any more, because a write has failed.
     is_silent: bool,
     timing: Timing,
+    /// The counts of commands, if they are counted.
+    stats: Option<Stats>,
     /// The bytes of one read of any connection.
     buffer: [u8; PIECE],
 }
@@ -190,7 +196,11 @@ impl View {
     ) -> io::Result<View> {
         let server_text = format!(in alloc; "{server}")?;
         let terminal = Terminal::new(rt, alloc)?;
-        let timing = Timing::new(rt, settings.tells_time)?;
+        let timing = Timing::new(rt, settings.tells_time || settings.tables.is_some())?;
+        let stats = match settings.tables {
+            Some(tables) => Some(Stats::new(alloc, tables)?),
+            None => None,
+        };
         Ok(View {
             alloc,
             server,
@@ -204,6 +214,7 @@ impl View {
             has_failed: false,
             is_silent: false,
             timing,
+            stats,
             buffer: [0; PIECE],
         })
     }
@@ -255,9 +266,10 @@ impl View {
         self.count
     }
 
-    /// Prints that a client's connection has gone, unless only some commands are printed.
+    /// Prints that a client's connection has gone, unless only some commands are printed
+    /// or all are counted.
     fn print_gone<W: Sink, C: Clock>(&mut self, client: u64, clock: &C, out: &mut W) {
-        if self.filter.keeps_gone(client) {
+        if self.stats.is_none() && self.filter.keeps_gone(client) {
             self.print_line(client, b" gone", clock, out);
         }
     }
@@ -266,13 +278,52 @@ impl View {
     fn print_line<W: Sink, C: Clock>(&mut self, client: u64, what: &[u8], clock: &C, out: &mut W) {
         if self.terminal.may_wait() {
             let screen = as_long(!self.is_silent, &mut self.screen);
-            Printer::new(clock, &mut self.timing, &self.filter, screen).print_line(client, what);
+            Printer::new(
+                clock,
+                &mut self.timing,
+                self.stats.as_mut(),
+                &self.filter,
+                screen,
+            )
+            .print_line(client, what);
             return;
         }
         let out = as_long(!self.is_silent, out);
-        let mut printer = Printer::new(clock, &mut self.timing, &self.filter, out);
+        let mut printer = Printer::new(
+            clock,
+            &mut self.timing,
+            self.stats.as_mut(),
+            &self.filter,
+            out,
+        );
         printer.print_line(client, what);
         self.has_failed = self.has_failed || printer.has_failed();
+    }
+
+    /// Prints the table of the counts.
+    fn print_table<W: Sink, C: Clock>(&mut self, clock: &C, out: &mut W) {
+        let (timing, stats) = (&mut self.timing, self.stats.as_mut());
+        if self.terminal.may_wait() {
+            let screen = as_long(!self.is_silent, &mut self.screen);
+            Printer::new(clock, timing, stats, &self.filter, screen).print_table(self.alloc);
+            return;
+        }
+        let out = as_long(!self.is_silent, out);
+        let mut printer = Printer::new(clock, timing, stats, &self.filter, out);
+        printer.print_table(self.alloc);
+        self.has_failed = self.has_failed || printer.has_failed();
+    }
+
+    /// Prints the table if it is time for it.
+    fn go_on<W: Sink, C: Clock>(&mut self, clock: &C, out: &mut W) {
+        let Some(stats) = &self.stats else {
+            return;
+        };
+        if let Some(now) = self.timing.now(clock) {
+            if stats.is_due(now.steady) {
+                self.print_table(clock, out);
+            }
+        }
     }
 
     /// Prints that no connection to the server could be opened for a client, and why.
@@ -321,11 +372,23 @@ impl View {
     ) -> Next {
         if self.terminal.may_wait() {
             let screen = as_long(!self.is_silent, &mut self.screen);
-            let mut printer = Printer::new(clock, &mut self.timing, &self.filter, screen);
+            let mut printer = Printer::new(
+                clock,
+                &mut self.timing,
+                self.stats.as_mut(),
+                &self.filter,
+                screen,
+            );
             return connection.hand_on(is_at_end, &mut self.buffer, &mut printer);
         }
         let out = as_long(!self.is_silent, out);
-        let mut printer = Printer::new(clock, &mut self.timing, &self.filter, out);
+        let mut printer = Printer::new(
+            clock,
+            &mut self.timing,
+            self.stats.as_mut(),
+            &self.filter,
+            out,
+        );
         let next = connection.hand_on(is_at_end, &mut self.buffer, &mut printer);
         self.has_failed = self.has_failed || printer.has_failed();
         next
@@ -348,7 +411,8 @@ impl View {
             client: number,
             shows_passwords: self.settings.shows_passwords,
         };
-        Ok(Tapped::new(self.alloc, client, server, &self.settings.limits, printing))
+        let watcher = Watcher::new(self.alloc, &self.settings.limits, self.stats.is_some());
+        Ok(Tapped::new(self.alloc, client, server, watcher, printing))
     }
 }
 
@@ -366,8 +430,13 @@ impl<R: Net + Clock + Eprint, W: LiveSink> Service<Tapped> for Watching<'_, R, W
     ) -> io::Result<Tapped> {
         let number = self.view.next_number();
         let admitted = self.view.connect(self.rt, client, number, registry, tokens);
-        if let Err(error) = &admitted {
-            self.view.print_failure(number, error, self.rt, self.out);
+        match &admitted {
+            Ok(_) => {
+                if let Some(stats) = &mut self.view.stats {
+                    stats.open();
+                }
+            }
+            Err(error) => self.view.print_failure(number, error, self.rt, self.out),
         }
         admitted
     }
@@ -396,6 +465,11 @@ impl<R: Net + Clock + Eprint, W: LiveSink> Service<Tapped> for Watching<'_, R, W
         // Its descriptors are closed first.
         drop(connection);
         self.view.spare.keep(self.rt);
+        if let Some(stats) = &mut self.view.stats {
+            if stats.close() {
+                self.view.print_table(self.rt, self.out);
+            }
+        }
     }
 
     fn accepts(&self) -> bool {
@@ -403,14 +477,21 @@ impl<R: Net + Clock + Eprint, W: LiveSink> Service<Tapped> for Watching<'_, R, W
     }
 
     fn patience(&self) -> Option<Duration> {
-        let is_empty = self.view.screen.text().is_empty() && self.view.screen.unshown() == 0;
-        if is_empty || self.view.is_silent {
+        if self.view.is_silent {
             return None;
         }
-        Some(Duration::from_millis(PATIENCE))
+        let is_empty = self.view.screen.text().is_empty() && self.view.screen.unshown() == 0;
+        if !is_empty {
+            return Some(Duration::from_millis(PATIENCE));
+        }
+        let stats = self.view.stats.as_ref()?;
+        stats.patience(self.view.timing.last()?.steady)
     }
 
     fn work(&mut self, _registry: &Registry) -> io::Result<()> {
+        if !self.view.is_silent {
+            self.view.go_on(self.rt, self.out);
+        }
         if !self.view.is_silent && self.view.show(self.out).is_err() {
             return self.view.fail(self.rt);
         }

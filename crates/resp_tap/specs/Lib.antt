@@ -21,3 +21,4 @@ pub mod Filtering
 -- What the steps of a tap promise one another, which no public clause names.
 pub mod SeenOf
 pub mod Streams
+pub mod Counting

@@ -124,7 +124,7 @@ impl Filter {
     }
 
     /// Returns whether a reply is printed that arrived after this delay.
-    fn keeps_answer(&self, is_error: bool, waited: Option<u64>) -> bool
+    pub(crate) fn keeps_answer(&self, is_error: bool, waited: Option<u64>) -> bool
         ensures { result ≡ keeps_answer self.now is_error waited }
     {
         (!self.errors || is_error) && is_late(self.slower, waited)

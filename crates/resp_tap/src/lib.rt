@@ -7,6 +7,7 @@
 //! forwards the bytes of one direction.
 #![tactic(auto)]
 
+pub mod counted;
 pub mod end;
 pub mod filter;
 pub mod filtered;
@@ -28,6 +29,7 @@ pub mod timed;
 pub mod watch;
 pub mod way;
 
+pub use counted::CountedTap;
 pub use end::Cut;
 pub use filter::Filter;
 pub use filtered::FilteredTap;

@@ -173,6 +173,23 @@ pub(crate) fn write_numbered_line<W: Sink>(
     write_numbered_end(number, stamp, writer)
 }
 
+/// Writes a line, with the time if there is a stamp.
+///
+/// # Errors
+///
+/// `DeviceFault` if a write fails. The first part of the line was written.
+pub fn write_line<W: Sink>(
+    what: &[u8],
+    stamp: Option<Stamp>,
+    writer: &mut W,
+) -> Result<(), DeviceFault>
+    ensures { WritesText (W.written writer.old) (W.written writer.new) (W.failures writer.old)
+        (W.failures writer.new) result (what.now ++ ending_text stamp) }
+{
+    write_text(writer, what)?;
+    write_ending(stamp, writer)
+}
+
 /// Writes a line about a client without a number, such as `client 1 gone`.
 ///
 /// # Errors

@@ -52,6 +52,13 @@ pub enum Seen {
     },
 }
 
+impl Seen {
+    /// Returns whether this is an error, after which the bytes of its side are not read.
+    pub(crate) fn is_refused(&self) -> bool {
+        matches!(self, Seen::NotCommand { .. } | Seen::Refused { .. })
+    }
+}
+
 /// The part of the traffic that contains a wrong byte.
 #[derive(Clone, Copy, Debug, PartialEq, Eq)]
 pub enum Place {

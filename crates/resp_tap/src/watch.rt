@@ -44,7 +44,7 @@ pub(crate) fn step(tap: &mut TimedTap, side: Side, piece: &[u8], now: Option<Mom
 }
 
 /// Returns how long the command waited that was sent at `asked`, if `seen` is its reply.
-fn waited_of(now: Moment, asked: Option<u64>, seen: &Seen) -> Option<u64>
+pub(crate) fn waited_of(now: Moment, asked: Option<u64>, seen: &Seen) -> Option<u64>
     ensures { result ≡ waited_of now asked seen.now }
 {
     match (asked, seen) {

@@ -13,6 +13,7 @@ mod scanning;
 mod serving;
 mod sessions;
 mod tapping;
+mod timing;
 mod values;
 mod wire;
 mod worlds;
@@ -34,5 +35,6 @@ fn main(rt: HostRuntime) -> Result<()> {
     printing::run(&rt, alloc)?;
     tapping::run(&rt, alloc)?;
     framing::run(&rt, alloc)?;
-    flat::run(&rt)
+    flat::run(&rt)?;
+    timing::run(&rt)
 }

@@ -1,0 +1,11 @@
+use Rattle.clap.specs.Words.{found_of, rows_of}
+use Rattle.resp_args.specs.CommandWords.{HasStats}
+use Rattle.resp_args.specs.declared.tapping.StatsOptions.{StatsOptions}
+use Rattle.resp_args.proofs.AskingLemmas.{if_none}
+use Rattle.resp_args.proofs.tapping.stats_of.Goals as goal
+
+pub returns-in_err-number_of-clause-none : goal.returns-in_err-number_of-clause-none
+returns-in_err-number_of-clause-none c =
+    let none : (stats : StatsOptions) → HasStats (rows_of (found_of c.args.matches.now)) stats → ⊥ =
+    λ stats has. c.in_err-number_of.ensures.none _ has.seconds in
+    if_none _ _ none

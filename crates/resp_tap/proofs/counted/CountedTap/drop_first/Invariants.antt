@@ -1,0 +1,12 @@
+use Rattle.std.proofs.Common.{◌≡◌, drop}
+use Rattle.resp_tap.proofs.counted.CountedTap.drop_first.Given as goal
+
+-- what is left in the end stays the same
+abbrev pub invariant-loop-left : goal.invariant-loop-left
+invariant-loop-left l = record {
+  same_tap : l.self.timed ≡ l.initial.self.timed;
+  rest : drop l.left l.self.asked.items ≡ drop l.count l.initial.self.asked.items;
+}
+
+abbrev pub decreases-loop-left : goal.decreases-loop-left
+decreases-loop-left l = l.left

@@ -1,0 +1,28 @@
+use Rattle.std.proofs.Common.{rules, arith, ◌≡◌, ◌<◌, ◌-◌, ℕ, List, Bool, true, subst, sym}
+use Rattle.std.specs.Prelude.{nat_lt}
+use Rattle.resp_counts.specs.declared.row.Row.{Row}
+use Rattle.resp_tap.specs.Counting.{AsksCall, CountsAfter, CountsBy}
+use Rattle.resp_tap.specs.Times.{waits_in}
+use Rattle.resp_tap.specs.declared.counted.Asked.{Asked}
+use Rattle.resp_tap.specs.declared.counted.Heard.{Heard}
+use Rattle.resp_tap.specs.declared.filter.Filter.{Filter}
+use Rattle.resp_tap.specs.declared.seen.Seen.{Seen}
+use Rattle.resp_tap.specs.declared.seen.Seen.TheVariants as seen
+use Rattle.resp_tap.proofs.counted.CountedTap.follow.Goals as goal
+
+is_more : (before after : ℕ) → before < after → nat_lt before after ≡ true
+is_more before after less = search rules
+
+one_more : (f : Filter) (client : ℕ) (what : Seen) (number : ℕ) (words : List (List ℕ)) (heard : Heard) (before after at : ℕ) (old new : List Asked) (rows rows' : List Row) →
+    what ≡ seen.Command number words → before < after → AsksCall f client words heard.bytes old new rows rows' →
+    CountsAfter f client what heard before after at old new rows rows'
+one_more f client what number words heard before after at old new rows rows' is less asks =
+    subst (λ w. CountsBy (nat_lt before after) f client w heard (before - after) at old new rows rows') (sym is)
+    (subst (λ b. CountsBy b f client (seen.Command number words) heard (before - after) at old new rows rows') (sym (is_more before after less)) asks)
+
+pub returns-in-Command-clause-counts : goal.returns-in-Command-clause-counts
+returns-in-Command-clause-counts c =
+    let more : c.args.before < waits_in c.args.self.now.timed = search rules in
+    one_more c.args.filter.now c.args.client c.args.seen.now c.in-Command.number c.in-Command.words c.args.heard c.args.before
+    (waits_in c.args.self.now.timed) c.args.at c.args.self.now.asked.items c.ask.new.self.asked.items
+    c.args.counts.now.rows.items c.ask.new.counts.rows.items c.in-Command.is more c.ask.ensures.asks

@@ -1,0 +1,46 @@
+use Rattle.std.proofs.Common.{rules, ◌≡◌, ◌∙◌, ◌+◌, ℕ, List, refl, ap, sym, subst, min}
+use Rattle.resp_tap.specs.Counting.{CountsAfter, taken_of}
+use Rattle.resp_tap.specs.Lines.{asked_at}
+use Rattle.resp_tap.specs.Taps.{tap_state}
+use Rattle.resp_tap.specs.Times.{waits_in}
+use Rattle.resp_tap.specs.declared.counted.Asked.{Asked}
+use Rattle.resp_tap.specs.declared.counted.CountedTap.{CountedTap}
+use Rattle.resp_tap.specs.declared.counted.Heard.{Heard}
+use Rattle.resp_tap.specs.declared.timed.TimedTap.{TimedTap}
+use Rattle.resp_tap.specs.declared.watch.Side.{Side}
+use Rattle.resp_tap.specs.declared.watch.Side.TheVariants.{Client, Server}
+use Rattle.resp_tap.proofs.counted.count_some.Goals as goal
+
+-- the bytes of a side do not depend on its commands
+same_taken : (side : Side) (old new : CountedTap) → new.sent ≡ old.sent → new.received ≡ old.received → taken_of side new ≡ taken_of side old
+same_taken Client old new sent received = sent
+same_taken Server old new sent received = received
+
+pub returns-clause-counts : goal.returns-clause-counts
+returns-clause-counts c =
+    let f = c.args.filter.now in
+    let client = c.args.client in
+    let old = c.args.tap.now in
+    let read = c.take_bytes.new.self in
+    let new = c.follow.new.tap in
+    let what = c.step-step.result.seen in
+    let heard : Heard = record { bytes = c.take_bytes.result; is_error = c.is_error.result; waited = c.waited_of.result } in
+    let rows = c.args.counts.now.rows.items in
+    let rows' = c.follow.new.counts.rows.items in
+    let at = asked_at (tap_state old.timed.tap).line.due in
+    record {
+      heard = heard;
+      is_heard = record {
+        bytes = c.take_bytes.ensures.bytes ∙
+            ap (λ (n : ℕ). min (n + c.step-step.result.used) 18446744073709551615) (same_taken c.args.side old (record old { timed = c.step-step.new.tap }) refl refl);
+        error = c.is_error.ensures;
+        asked = c.asked-asked.result;
+        of_command = c.asked-asked.ensures;
+        delay = c.waited_of.ensures;
+      };
+      counts = subst (λ (t : TimedTap). CountsAfter f client what heard (waits_in old.timed) (waits_in t) at old.asked.items new.asked.items rows rows') (sym c.follow.ensures.same_tap)
+          (subst (λ (l : List Asked). CountsAfter f client what heard (waits_in old.timed) (waits_in read.timed) at l new.asked.items rows rows') c.take_bytes.ensures.same_asked
+          (subst (λ (n : ℕ). CountsAfter f client what heard (waits_in old.timed) (waits_in read.timed) n read.asked.items new.asked.items rows rows') c.asked_at-at.ensures
+          (subst (λ (n : ℕ). CountsAfter f client what heard n (waits_in read.timed) c.asked_at-at.result read.asked.items new.asked.items rows rows') c.waiting-before.ensures
+          c.follow.ensures.counts)));
+    }

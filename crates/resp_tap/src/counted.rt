@@ -1,0 +1,294 @@
+//! A tap whose commands are counted.
+
+ghost use Rattle.std.specs.Prelude.{◌≡◌, ◌+◌, ◌<◌, ◌≤◌, List, [], Some, length, drop, min, slice_get};
+ghost use Rattle.resp_tap.specs.Counting.{AnswersCall, AsksCall, CountsAfter, CountsSeen, IsPlaceFor, ReleasesCall, is_counted, is_error, taken_of};
+ghost use Rattle.resp_counts.specs.Names.{table_name};
+ghost use Rattle.resp_counts.specs.Rows.{MayAddRow};
+ghost use Rattle.resp_tap.specs.Taps.{new_tap, tap_state};
+ghost use Rattle.resp_tap.specs.Times.{waits_in};
+ghost use Rattle.resp_tap.specs.Watches.{KeepsOther, SeesFirst};
+ghost use Rattle.resp_tap.specs.Watching.{HasTakenRequest, HasTakenValue};
+
+use crate::filter::Filter;
+use crate::line::is_refusal;
+use crate::moment::Moment;
+use crate::print::{Printing, write_seen};
+use crate::seen::{Seen, Step};
+use crate::tap::Tap;
+use crate::timed::TimedTap;
+use crate::watch::{Side, first_error, stamp_of, step, waited_of};
+use resp_counts::{Call, Counts, name_of};
+use resp_print::print_error::PrintError;
+use resp_session::words::Words;
+use resp_value::device::Sink;
+use resp_value::limits::Limits;
+use std::alloc::Global;
+use std::collections::VecDeque;
+
+/// A command that waits, as it is counted.
+#[derive(Clone, Copy, Debug, PartialEq, Eq)]
+pub(crate) struct Asked {
+    /// The place of its row, if it is counted.
+    pub(crate) place: Option<usize>,
+    /// The number of its bytes.
+    pub(crate) bytes: u64,
+}
+
+/// What was heard in reply to a command.
+#[derive(Clone, Copy, Debug, PartialEq, Eq)]
+pub(crate) struct Heard {
+    /// The number of bytes.
+    pub(crate) bytes: u64,
+    /// Whether it is an error.
+    pub(crate) is_error: bool,
+    /// The microseconds that the command waited, if they are known.
+    pub(crate) waited: Option<u64>,
+}
+
+/// Returns whether a result is a reply that is an error.
+fn is_error(seen: &Seen) -> bool
+    ensures { result ≡ is_error seen.now }
+{
+    match seen {
+        Seen::Reply { value, .. } => is_refusal(value),
+        _ => false,
+    }
+}
+
+/// Returns the number of bytes of an incomplete command or value after a result for so many bytes.
+fn left_of(bytes: u64, seen: &Seen) -> u64 {
+    match seen {
+        Seen::Nothing => bytes,
+        _ => 0,
+    }
+}
+
+/// Counts a command that waits no more, of which this is kept, if the filter lets the reply through.
+fn answer(counts: &mut Counts, filter: &Filter, asked: Option<Asked>, heard: Heard)
+    ensures { AnswersCall filter.now asked heard counts.old.rows.items counts.new.rows.items }
+{
+    let Some(Asked { place, bytes }) = asked else {
+        return;
+    };
+    let Some(place) = place else {
+        return;
+    };
+    if place < counts.rows().len() && filter.keeps_answer(heard.is_error, heard.waited) {
+        let call = Call {
+            sent: bytes,
+            received: heard.bytes,
+            is_error: heard.is_error,
+            waited: heard.waited,
+        };
+        counts.count(place, call);
+    }
+}
+
+/// A tap whose commands are counted in [`Counts`], each with its reply. Use the same counts and the
+/// same filter for all bytes of a connection.
+///
+/// If an allocation fails, a command is not counted, and neither are the commands after it as long as
+/// it waits.
+#[derive(Drop)]
+pub struct CountedTap {
+    pub(crate) timed: TimedTap,
+    /// The commands that wait, in their order.
+    pub(crate) asked: VecDeque<Asked>,
+    /// The bytes read of the client's incomplete command, and of the server's incomplete value.
+    pub(crate) sent: u64,
+    pub(crate) received: u64,
+}
+
+impl CountedTap {
+    /// Returns a tap of a new connection, which is read within these limits. It allocates nothing.
+    pub fn new(alloc: Global, limits: &Limits) -> CountedTap
+        ensures nothing_passed { tap_state result.timed.tap ≡ new_tap limits.now }
+        ensures nothing_requested { HasTakenRequest result.timed.tap [] }
+        ensures nothing_answered { HasTakenValue result.timed.tap [] }
+        ensures nothing_asked { result.asked.items ≡ [] }
+    {
+        CountedTap {
+            timed: TimedTap::new(alloc, limits),
+            asked: VecDeque::new(alloc),
+            sent: 0,
+            received: 0,
+        }
+    }
+
+    /// Returns the tap without what is kept to count.
+    pub fn tap(&self) -> &Tap
+        ensures { result.now ≡ self.now.timed.tap }
+    {
+        self.timed.tap()
+    }
+
+    /// Returns the number of bytes that one side has sent of a command or value, after these bytes.
+    fn take_bytes(&mut self, side: Side, used: usize, seen: &Seen) -> u64
+        ensures bytes { result ≡ min (taken_of side self.old + used) 18446744073709551615 }
+        ensures same_tap { self.new.timed ≡ self.old.timed }
+        ensures same_asked { self.new.asked.items ≡ self.old.asked.items }
+    {
+        match side {
+            Side::Client => {
+                let bytes = self.sent.saturating_add(used as u64);
+                self.sent = left_of(bytes, seen);
+                bytes
+            }
+            Side::Server => {
+                let bytes = self.received.saturating_add(used as u64);
+                self.received = left_of(bytes, seen);
+                bytes
+            }
+        }
+    }
+
+    /// Counts the command at this index if it waits no more, or keeps a new command that waits. So many
+    /// commands waited before.
+    fn follow(
+        &mut self,
+        counts: &mut Counts,
+        filter: &Filter,
+        client: u64,
+        before: u64,
+        at: usize,
+        heard: Heard,
+        seen: &Seen,
+    )
+        ensures counts { CountsAfter filter.now client seen.now heard before
+            (waits_in self.old.timed) at self.old.asked.items self.new.asked.items
+            counts.old.rows.items counts.new.rows.items }
+        ensures same_tap { self.new.timed ≡ self.old.timed }
+    {
+        let after = self.timed.tap.waiting();
+        match seen {
+            Seen::Command { words, .. } if before < after => {
+                self.ask(counts, filter, client, before, heard.bytes, words);
+            }
+            _ => self.release(counts, filter, before.saturating_sub(after), at, heard),
+        }
+    }
+
+    /// Drops what is kept of so many commands that wait no more, and counts the one at this index.
+    fn release(&mut self, counts: &mut Counts, filter: &Filter, gone: u64, at: usize, heard: Heard)
+        ensures asked { self.new.asked.items ≡ drop gone self.old.asked.items }
+        ensures counts { ReleasesCall gone filter.now (slice_get self.old.asked.items at) heard
+            counts.old.rows.items counts.new.rows.items }
+        ensures same_tap { self.new.timed ≡ self.old.timed }
+    {
+        if gone > 0 {
+            answer(counts, filter, self.asked.get(at).copied(), heard);
+            self.drop_first(gone);
+        }
+    }
+
+    /// Keeps what is needed of a command behind so many others that wait.
+    fn ask(
+        &mut self,
+        counts: &mut Counts,
+        filter: &Filter,
+        client: u64,
+        before: u64,
+        bytes: u64,
+        words: &Words,
+    )
+        ensures asks { AsksCall filter.now client words.now bytes self.old.asked.items
+            self.new.asked.items counts.old.rows.items counts.new.rows.items }
+        ensures same_tap { self.new.timed ≡ self.old.timed }
+    {
+        // Otherwise nothing is kept of a command before this one.
+        if self.asked.len() as u64 != before {
+            return;
+        }
+        let place = place_for(counts, filter, client, words);
+        let _ = self.asked.push_back(Asked { place, bytes });
+    }
+
+    /// Drops what is kept of the first commands.
+    fn drop_first(&mut self, count: u64)
+        ensures asked { self.new.asked.items ≡ drop count self.old.asked.items }
+        ensures same_tap { self.new.timed ≡ self.old.timed }
+    {
+        let mut left = count;
+        while left > 0 && !self.asked.is_empty() {
+            let _ = self.asked.pop_front();
+            left -= 1;
+        }
+    }
+}
+
+/// Returns the place of the row of a command, if the command is counted.
+fn place_for(counts: &mut Counts, filter: &Filter, client: u64, words: &Words) -> Option<usize>
+    ensures rows { MayAddRow (table_name words.now) counts.old.rows.items counts.new.rows.items }
+    ensures place { IsPlaceFor (is_counted filter.now client words.now) (table_name words.now)
+        counts.new.rows.items result }
+{
+    if !filter.keeps_client(client) || !filter.keeps_words(words) {
+        return None;
+    }
+    Some(counts.place_of(name_of(words)))
+}
+
+/// Reads bytes that one side sent, until there is a result or the piece ends. Counts a command when
+/// it waits no more, if the filter lets it and its reply through.
+///
+/// The call reads at least one byte of a piece that is not empty. Call it again with the rest of the
+/// piece.
+pub fn count_some(
+    tap: &mut CountedTap,
+    counts: &mut Counts,
+    filter: &Filter,
+    client: u64,
+    side: Side,
+    piece: &[u8],
+    now: Moment,
+) -> Step
+    ensures sees { SeesFirst side (Some now) tap.old.timed tap.new.timed piece.now result.used
+        result.seen }
+    ensures counts { CountsSeen filter.now client side now tap.old tap.new result.used result.seen
+        counts.old.rows.items counts.new.rows.items }
+    ensures other_side { KeepsOther side tap.old.timed.tap tap.new.timed.tap }
+    ensures within_piece { result.used ≤ length piece.now }
+    ensures uses_bytes { 0 < length piece.now → 0 < result.used }
+{
+    let asked = tap.timed.asked();
+    let before = tap.timed.tap.waiting();
+    let at = tap.timed.tap.line.asked_at();
+    let step = step(&mut tap.timed, side, piece, Some(now));
+    let heard = Heard {
+        bytes: tap.take_bytes(side, step.used, &step.seen),
+        is_error: is_error(&step.seen),
+        waited: waited_of(now, asked, &step.seen),
+    };
+    tap.follow(counts, filter, client, before, at, heard, &step.seen);
+    step
+}
+
+/// Reads a piece that one side sent, as [`count_some`] does, and counts all commands that wait no
+/// more. Errors of a side are printed, as without counting.
+///
+/// # Errors
+///
+/// The first error of printing. The tap has read the whole piece.
+pub fn watch_counted<W: Sink>(
+    tap: &mut CountedTap,
+    counts: &mut Counts,
+    filter: &Filter,
+    printing: Printing,
+    side: Side,
+    piece: &[u8],
+    now: Moment,
+    writer: &mut W,
+) -> Result<(), PrintError> {
+    let mut rest = piece;
+    let mut printed = Ok(());
+    while !rest.is_empty() {
+        let step = count_some(tap, counts, filter, printing.client, side, rest, now);
+        if filter.keeps_client(printing.client) && step.seen.is_refused() {
+            let stamp = stamp_of(Some(now), None, &step.seen);
+            printed = first_error(printed, write_seen(printing, stamp, &step.seen, writer));
+        }
+        // At least one byte was read.
+        rest = &rest[step.used..];
+    }
+    printed
+}
