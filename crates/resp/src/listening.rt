@@ -1,5 +1,6 @@
 //! The commands `serve`, `tap` and `proxy`, which listen on an address for clients.
 
+use crate::hosts::{addresses_of, name_of, refuse_server};
 use resp_args::duration::duration_of;
 use resp_args::proxying::{ProxyOptions, Proxying};
 use resp_args::serving::Serving;
@@ -8,7 +9,7 @@ use resp_args::tool_error::ToolError;
 use resp_args::words::{refuse_file, stop};
 use resp_print::live::LiveSink;
 use resp_print::text::write_text;
-use resp_serve::{AfterFailure, ProxyServer, ProxySettings, Server, Settings, Window};
+use resp_serve::{AfterFailure, Backend, ProxyServer, ProxySettings, Server, Settings, Window};
 use resp_tap::Filter;
 use resp_value::device::{DeviceFault, Sink};
 use std::alloc::{AllocError, Global};
@@ -99,7 +100,12 @@ pub fn run_tap<W: LiveSink, F: Sink>(
         let _ = write_bad_duration(tapping.filter.slower.unwrap_or(""), faults);
         return Ok(BAD_ARGUMENTS);
     };
-    match tap(rt, tapping, slower, writer) {
+    let addresses = match addresses_of(rt, rt.alloc(), &tapping.server) {
+        Ok(addresses) => addresses,
+        Err(error) => return refuse_server(rt.alloc(), &tapping.server, &error, faults),
+    };
+    let backend = Backend::new(name_of(rt.alloc(), &tapping.server)?, addresses);
+    match tap(rt, tapping, backend, slower, writer) {
         // It ends this way only after a write has failed, which was reported then.
         Ok(()) => Ok(DEVICE_FAILED),
         Err(error) => refuse(rt.alloc(), tapping.address_text, &error, faults),
@@ -168,6 +174,7 @@ fn after_failure(tapping: &Tapping<'_>) -> AfterFailure {
 fn tap<W: LiveSink>(
     rt: &HostRuntime,
     tapping: &Tapping<'_>,
+    backend: Backend,
     slower: Option<u64>,
     writer: &mut W,
 ) -> Result<(), ListenError> {
@@ -182,7 +189,7 @@ fn tap<W: LiveSink>(
         after_failure: after_failure(tapping),
         shows_passwords: tapping.shows_passwords,
     };
-    let mut window = Window::listen(rt, alloc, tapping.address, tapping.server, settings, filter)?;
+    let mut window = Window::listen(rt, alloc, tapping.address, backend, settings, filter)?;
     write_listening(alloc, window.address()?, writer)?;
     match window.run(rt, writer) {
         Err(error) if error.kind() == ErrorKind::WriteZero => Err(ToolError::Write.into()),
@@ -197,7 +204,12 @@ pub fn run_proxy<W: LiveSink, F: Sink>(
     writer: &mut W,
     faults: &mut F,
 ) -> Result<u8, AllocError> {
-    match proxy(rt, proxying, writer) {
+    let addresses = match addresses_of(rt, rt.alloc(), &proxying.server) {
+        Ok(addresses) => addresses,
+        Err(error) => return refuse_server(rt.alloc(), &proxying.server, &error, faults),
+    };
+    let backend = Backend::new(name_of(rt.alloc(), &proxying.server)?, addresses);
+    match proxy(rt, proxying, backend, writer) {
         Ok(()) => Ok(0),
         Err(error) => refuse(rt.alloc(), proxying.address_text, &error, faults),
     }
@@ -207,6 +219,7 @@ pub fn run_proxy<W: LiveSink, F: Sink>(
 fn proxy<W: LiveSink>(
     rt: &HostRuntime,
     proxying: &Proxying<'_>,
+    backend: Backend,
     writer: &mut W,
 ) -> Result<(), ListenError> {
     let alloc = rt.alloc();
@@ -218,7 +231,7 @@ fn proxy<W: LiveSink>(
         rt,
         alloc,
         proxying.address,
-        proxying.server,
+        backend,
         login,
         settings,
     )?;

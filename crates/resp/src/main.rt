@@ -5,6 +5,7 @@
 
 mod asking;
 mod failures;
+mod hosts;
 mod input;
 mod lines;
 mod listening;

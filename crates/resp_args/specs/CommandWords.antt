@@ -1,11 +1,6 @@
 -- The meaning of the words of a command line.
 use Rattle.std.specs.Prelude.{◌≡◌, ◌≢◌, ◌⊎◌, ◌≤◌, ◌<◌, ◌^◌, ℕ, Bool, false, true, not, if◌then◌else◌, codes}
 use Rattle.std.specs.Prelude.{List, [], ◌∷◌, ◌++◌, map, option_map, unwrap_or, Option, Some, None, Result, Ok, Err}
-use Rattle.std.specs.Net.Addr.{ipv4_octets}
-use Rattle.std.specs.Net.Socket.{v4_ip, v4_port}
-use Rattle.std.specs.declared.net.socket_addr.SocketAddr.{SocketAddr}
-use Rattle.std.specs.declared.net.socket_addr.SocketAddr.TheVariants as Socket
-use Rattle.std.specs.Net.Grammar.{IsSocketText}
 use Rattle.std.specs.Str.Parse.{IsNumeral, digits_value, without_leading_plus}
 use Rattle.clap.specs.Words.{App, HasKind, IsAmong, Row, Text, all_of, fault_of, first_of, one_of, subcommand_of}
 use Rattle.clap.specs.Words.{subcommand_rows_of}
@@ -16,6 +11,8 @@ use Rattle.clap.specs.declared.parser.matches.ArgMatches.{ArgMatches}
 use Rattle.resp_value.specs.Bounds.{AreBounds, Bounds}
 use Rattle.resp_value.specs.declared.version.Version.{Version}
 use Rattle.resp_value.specs.declared.version.Version.TheVariants.{Two, Three}
+use Rattle.resp_args.specs.Addresses.{IsAddressText}
+use Rattle.resp_args.specs.Hosts.{IsServerText}
 use Rattle.resp_args.specs.Sizes.{IsSize}
 use Rattle.resp_args.specs.declared.asked.Asked.{Asked}
 use Rattle.resp_args.specs.declared.asked.Asked.TheVariants.{Stream, Play, Serve, Tap, Proxy, Ask}
@@ -74,27 +71,6 @@ HasReading given version doubles =
     ⊎ HasFlag given (codes "two") false × HasFlag given (codes "three") true × (version ≡ Three) × (doubles ≡ true)
     ⊎ HasFlag given (codes "two") false × HasFlag given (codes "three") false × HasProto given version
     × HasFlag given (codes "doubles") doubles
-
--- the text is the number of a port after this prefix
-abbrev pub HasPort : Text → Text → ℕ → Type 0
-HasPort before text number = (port : Text) × (text ≡ before ++ port) × IsNumeral 10 (without_leading_plus port) ×
-    (digits_value 10 (without_leading_plus port) ≡ number) × (number < 65536)
-
--- the text is a port of this machine, as `6379`, `:6379` or `localhost:6379`
-abbrev pub IsLocalPort : Text → ℕ → Type 0
-IsLocalPort text number =
-    HasPort [] text number ⊎ HasPort (codes ":") text number ⊎ HasPort (codes "localhost:") text number
-
--- the address is this port of 127.0.0.1
-abbrev pub IsLoopback : SocketAddr → ℕ → Type 0
-IsLoopback (Socket.V4 address) number =
-    (ipv4_octets (v4_ip address) ≡ 127 ∷ 0 ∷ 0 ∷ 1 ∷ []) × (v4_port address ≡ number)
-IsLoopback (Socket.V6 address) number = ⊥
-
--- the text is an IP address and a port, or a port of this machine
-abbrev pub IsAddressText : Text → SocketAddr → Type 0
-IsAddressText text address =
-    IsSocketText text address ⊎ (number : ℕ) × IsLocalPort text number × IsLoopback address number
 
 -- ---- all options of a subcommand
 
@@ -168,7 +144,7 @@ tap_options_of tapping = record {
 abbrev pub HasTapping : List Row → Tapping → Type 0
 HasTapping given tapping = (server_text : Text) ×
     HasTapWords given tapping.address_text.now server_text (tap_options_of tapping) ×
-    IsAddressText tapping.address_text.now tapping.address × IsAddressText server_text tapping.server
+    IsAddressText tapping.address_text.now tapping.address × IsServerText server_text tapping.server
 
 -- `--patience` in milliseconds and `--report` in seconds, within an hour and a day
 abbrev pub HasProxyTimes : List Row → ℕ × ℕ → Type 0
@@ -202,7 +178,7 @@ pub record HasProxyWords (given : List Row) (address server : Text) (options : P
 abbrev pub HasProxying : List Row → Proxying → Type 0
 HasProxying given proxying = (server_text : Text) ×
     HasProxyWords given proxying.address_text.now server_text proxying.options ×
-    IsAddressText proxying.address_text.now proxying.address × IsAddressText server_text proxying.server ×
+    IsAddressText proxying.address_text.now proxying.address × IsServerText server_text proxying.server ×
     (option_map (λ names. names.now) proxying.also ≡ first_of (codes "also") given)
 
 -- the options of `ask` that are neither the address nor the words
@@ -218,7 +194,7 @@ pub record HasAskOptions (given : List Row) (options : AskOptions) : Type 0 wher
 pub record HasAsking (given : List Row) (asking : Asking) : Type 0 where
   pub has : HasAskOptions given asking.options
   pub text : first_of (codes "server") given ≡ Some asking.server_text.now
-  pub address : IsAddressText asking.server_text.now asking.server
+  pub address : IsServerText asking.server_text.now asking.server
   pub words : map (λ word. word.now) asking.words.items ≡ unwrap_or (all_of (codes "words") given) []
 
 abbrev pub task_word : Task → Text

@@ -5,17 +5,17 @@ ghost use Rattle.clap.specs.Words.{all_of, found_of, rows_of};
 ghost use Rattle.resp_args.specs.CommandWords.{HasAskOptions, HasAsking};
 
 use crate::asked::{NothingAsked, wrong_options};
-use crate::options::{address_of, flag_of, limits_of, small_number_of, text_of};
+use crate::options::{flag_of, limits_of, small_number_of, text_of};
+use crate::server_address::{ServerAddress, server_of};
 use clap::ArgMatches;
 use resp_value::limits::Limits;
 use std::alloc::{AllocError, Global};
-use std::net::SocketAddr;
 
 /// The options of `resp ask`.
 #[derive(Debug, Drop)]
 pub struct Asking<'a> {
     /// The address of the server.
-    pub server: SocketAddr,
+    pub server: ServerAddress<'a>,
     /// The address as it was given.
     pub server_text: &'a str,
     /// The options that are neither the address nor the words.
@@ -54,7 +54,7 @@ pub(crate) fn asking_of<'a>(
     let Some(text) = text_of(matches, "server") else {
         return Err(NothingAsked::OtherWords);
     };
-    let server = match address_of(text, "SERVER") {
+    let server = match server_of(text) {
         Ok(server) => server,
         Err(nothing) => return Err(nothing),
     };

@@ -13,6 +13,7 @@ mod parameter;
 mod parser;
 mod proxy_command;
 pub mod proxying;
+pub mod server_address;
 pub mod serving;
 mod sizes;
 mod subcommands;

@@ -2,7 +2,8 @@
 
 ghost use Rattle.std.specs.Prelude.{◌≡◌, ℕ, Bool, false, IfNone, IfOk, IfSome, OnErr, option_map};
 ghost use Rattle.clap.specs.Words.{first_of, found_of, rows_of};
-ghost use Rattle.resp_args.specs.CommandWords.{HasFlag, HasLimits, HasNumber, HasOptions, HasPort, HasProto, HasReading, HasSize, HasSmallNumber, IsAddressText, IsLocalPort};
+ghost use Rattle.resp_args.specs.Addresses.{HasPort, IsAddressText, IsLocalPort};
+ghost use Rattle.resp_args.specs.CommandWords.{HasFlag, HasLimits, HasNumber, HasOptions, HasProto, HasReading, HasSize, HasSmallNumber};
 ghost use Rattle.resp_value.specs.Bounds.{Bounds};
 
 use crate::asked::NothingAsked;

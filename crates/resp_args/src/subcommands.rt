@@ -158,7 +158,7 @@ Exit status:
 const TAP_HELP: &str = r"Examples:
   resp tap 127.0.0.1:6380 127.0.0.1:6379
   resp tap --time 127.0.0.1:6380 127.0.0.1:6379 >traffic.txt
-  resp tap --slower 10ms --command get,mget 6380 6379
+  resp tap --slower 10ms --command get,mget 6380 redis.internal:6379
 
 Clients connect to LISTEN instead of SERVER. All commands and replies are
 printed, or those that pass all of --errors, --slower, --command and --client.
@@ -172,7 +172,7 @@ Exit status:
 
 /// The end of the help of `ask`.
 const ASK_HELP: &str = r#"Examples:
-  resp ask 127.0.0.1:6379 GET a
+  resp ask redis.internal:6379 GET a
   resp ask -3 6379 HGETALL h
   printf 'SET a "1 2"\nGET a\n' | resp ask 6379
   resp ask --count 6379 <commands.txt
@@ -413,7 +413,7 @@ pub(crate) const SERVER: Parameter = Parameter {
     form: Form::Required {
         value_name: "SERVER",
     },
-    help: "Address of the server, such as 127.0.0.1:6379",
+    help: "Address of the server: HOST, HOST:PORT or PORT",
 };
 
 /// `-3` of `ask`: whether HELLO 3 is sent first.

@@ -6,6 +6,7 @@ ghost use Rattle.resp_args.specs.CommandWords.{HasFilter, HasTapOptions, HasTapW
 
 use crate::asked::{NothingAsked, wrong_options};
 use crate::options::{address_of, flag_of, limits_of, number_of, small_number_of, text_of};
+use crate::server_address::{ServerAddress, server_of};
 use clap::ArgMatches;
 use resp_value::limits::Limits;
 use std::net::SocketAddr;
@@ -18,7 +19,7 @@ pub struct Tapping<'a> {
     /// The address as it was given.
     pub address_text: &'a str,
     /// The address of the server.
-    pub server: SocketAddr,
+    pub server: ServerAddress<'a>,
     /// The limits, which allow doubles.
     pub limits: Limits,
     /// The most clients at once, from 1 to 65,536.
@@ -82,7 +83,7 @@ pub(crate) fn tapping_of<'a>(matches: &ArgMatches<'a>) -> Result<Tapping<'a>, No
     Ok(Tapping {
         address: address_of(words.address, "LISTEN")?,
         address_text: words.address,
-        server: address_of(words.server, "SERVER")?,
+        server: server_of(words.server)?,
         limits: words.options.limits,
         clients: words.options.clients,
         tells_time: words.options.tells_time,

@@ -14,6 +14,7 @@
 //! next, when it accepts connections, and when it waits.
 #![tactic(auto)]
 
+mod backend;
 mod connection;
 mod event_loop;
 mod input_end;
@@ -39,6 +40,7 @@ mod terminal;
 mod timing;
 mod window;
 
+pub use backend::Backend;
 pub use connection::{PIECE, Rest, Room, answer};
 pub use proxying::{ProxyServer, ProxySettings};
 pub use server::Server;

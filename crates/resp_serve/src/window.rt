@@ -1,13 +1,13 @@
 //! The window: its loop, its screen, and what it does with a connection.
 
+use crate::backend::Backend;
 use crate::event_loop::Loop;
 use crate::lane::PIECE;
-use crate::own_address::check_server;
 use crate::printer::Printer;
 use crate::register::register;
 use crate::service::{Cause, Next, Service, Tokens};
 use crate::spare::Spare;
-use crate::tapped::{Opening, Tapped};
+use crate::tapped::{Opening, Sockets, Tapped};
 use crate::terminal::Terminal;
 use crate::timing::Timing;
 use mio::Registry;
@@ -91,9 +91,7 @@ pub struct Settings {
 #[derive(Drop)]
 struct View {
     alloc: Global,
-    server: SocketAddr,
-    /// The address of the server, as it is printed.
-    server_text: String,
+    backend: Backend,
     settings: Settings,
     filter: Filter,
     /// The number of connections that were accepted.
@@ -120,25 +118,25 @@ struct Watching<'a, R, W> {
 }
 
 impl Window {
-    /// Listens on an address for clients, and connects them to the server at another address. What
-    /// the filter lets through is printed.
+    /// Listens on an address for clients, and connects them to a server. What the filter lets
+    /// through is printed.
     ///
     /// # Errors
     ///
     /// The error of the system if the address can't be opened or a clock can't be read, an error of
-    /// kind `InvalidInput` if the address of the server is the address to listen on, or an error of
+    /// kind `InvalidInput` if an address of the server is the address to listen on, or an error of
     /// kind `OutOfMemory` if an allocation fails.
     pub fn listen<R: Net + Clock + Files<File = File>>(
         rt: &R,
         alloc: Global,
         address: SocketAddr,
-        server: SocketAddr,
+        backend: Backend,
         settings: Settings,
         filter: Filter,
     ) -> io::Result<Self> {
         let connections = Loop::listen(rt, alloc, address, settings.most)?;
-        check_server(rt, server, connections.address())?;
-        let view = View::new(rt, alloc, server, settings, filter)?;
+        backend.check(rt, connections.address())?;
+        let view = View::new(rt, alloc, backend, settings, filter)?;
         Ok(Window { connections, view })
     }
 
@@ -184,17 +182,15 @@ impl View {
     fn new<R: Net + Clock + Files<File = File>>(
         rt: &R,
         alloc: Global,
-        server: SocketAddr,
+        backend: Backend,
         settings: Settings,
         filter: Filter,
     ) -> io::Result<View> {
-        let server_text = format!(in alloc; "{server}")?;
         let terminal = Terminal::new(rt, alloc)?;
         let timing = Timing::new(rt, settings.tells_time)?;
         Ok(View {
             alloc,
-            server,
-            server_text,
+            backend,
             settings,
             filter,
             count: 0,
@@ -283,32 +279,63 @@ impl View {
         clock: &C,
         out: &mut W,
     ) {
-        let server = self.server_text.as_str();
+        let server = self.backend.name();
         match format!(in self.alloc; ": cannot connect to {server}: {error}") {
             Ok(line) => self.print_line(client, line.as_str().as_bytes(), clock, out),
             Err(_) => self.print_line(client, NOT_CONNECTED, clock, out),
         }
     }
 
-    /// Forwards the bytes of a connection once the connection to the server is open.
-    fn visit<W: Sink, C: Clock>(
+    /// Forwards the bytes of a connection once the connection to the server is open. If it can't be
+    /// opened, it is tried at the next address of the server.
+    fn visit<R: Net + Clock, W: Sink>(
         &mut self,
+        rt: &R,
         connection: &mut Tapped,
+        registry: &Registry,
         is_at_end: bool,
-        clock: &C,
         out: &mut W,
     ) -> Next {
-        match connection.opening() {
-            Opening::Connecting => Next::Wait,
-            // The event that reports the end of an input may already have passed.
+        let error = match connection.opening() {
+            Opening::Connecting => return Next::Wait,
             Opening::Connected { is_new } => {
-                self.hand_on(connection, is_at_end || is_new, clock, out)
+                if is_new {
+                    self.backend.prefer(connection.attempt());
+                }
+                // The event that reports the end of an input may already have passed.
+                return self.hand_on(connection, is_at_end || is_new, rt, out);
             }
-            Opening::Failed(error) => {
-                self.print_failure(connection.number(), &error, clock, out);
+            Opening::Failed(error) => error,
+        };
+        match self.connect_again(rt, connection, registry, error) {
+            Ok(()) => Next::Wait,
+            Err(error) => {
+                self.print_failure(connection.number(), &error, rt, out);
                 Next::Close
             }
         }
+    }
+
+    /// Begins to connect to the next address of the server, after one could not be reached for this
+    /// reason.
+    ///
+    /// # Errors
+    ///
+    /// That reason if each address was tried, or an error of the system.
+    fn connect_again(
+        &mut self,
+        net: &impl Net,
+        connection: &mut Tapped,
+        registry: &Registry,
+        error: io::Error,
+    ) -> io::Result<()> {
+        let Some(attempt) = self.backend.after(connection.attempt()) else {
+            return Err(error);
+        };
+        let (server, attempt) = self.backend.connect(&mut self.spare, net, attempt)?;
+        connection.set_server(server, attempt, registry)?;
+        self.spare.keep(net);
+        Ok(())
     }
 
     /// Forwards the bytes of a connection.
@@ -341,14 +368,21 @@ impl View {
         tokens: Tokens,
     ) -> io::Result<Tapped> {
         let mut client = client;
-        let mut server = self.spare.connect(net, self.server)?;
+        let first = self.backend.first();
+        let (mut server, attempt) = self.backend.connect(&mut self.spare, net, first)?;
         register(&mut client, registry, tokens.client)?;
         register(&mut server, registry, tokens.server)?;
         let printing = Printing {
             client: number,
             shows_passwords: self.settings.shows_passwords,
         };
-        Ok(Tapped::new(self.alloc, client, server, &self.settings.limits, printing))
+        let sockets = Sockets {
+            client,
+            server,
+            tokens,
+            attempt,
+        };
+        Ok(Tapped::new(self.alloc, sockets, &self.settings.limits, printing))
     }
 }
 
@@ -383,9 +417,9 @@ impl<R: Net + Clock + Eprint, W: LiveSink> Service<Tapped> for Watching<'_, R, W
         self.view.print_line(number, REJECTED, self.rt, self.out);
     }
 
-    fn visit(&mut self, connection: &mut Tapped, _registry: &Registry, cause: Cause) -> Next {
+    fn visit(&mut self, connection: &mut Tapped, registry: &Registry, cause: Cause) -> Next {
         self.view
-            .visit(connection, cause.is_at_end(), self.rt, self.out)
+            .visit(self.rt, connection, registry, cause.is_at_end(), self.out)
     }
 
     fn close(&mut self, connection: Tapped) {
