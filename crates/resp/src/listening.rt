@@ -1,12 +1,14 @@
 //! The commands `serve`, `tap` and `proxy`, which listen on an address for clients.
 
 use crate::hosts::{addresses_of, name_of, refuse_server};
+use crate::style::style_of;
 use resp_args::duration::duration_of;
 use resp_args::proxying::{ProxyOptions, Proxying};
 use resp_args::serving::Serving;
 use resp_args::tapping::{FilterOptions, Tapping};
 use resp_args::tool_error::ToolError;
 use resp_args::words::{refuse_file, stop};
+use resp_paint::{Painted, Style};
 use resp_print::live::LiveSink;
 use resp_print::text::write_text;
 use resp_serve::{AfterFailure, Backend, ProxyServer, ProxySettings, Server, Settings, Window};
@@ -93,9 +95,16 @@ fn serve<W: LiveSink>(
 pub fn run_tap<W: LiveSink, F: Sink>(
     rt: &HostRuntime,
     tapping: &Tapping<'_>,
-    writer: &mut W,
+    writer: &mut Painted<W>,
     faults: &mut F,
 ) -> Result<u8, AllocError> {
+    let style = match style_of(rt, &tapping.style) {
+        Ok(style) => style,
+        Err(bad) => {
+            let _ = bad.write(faults);
+            return Ok(BAD_ARGUMENTS);
+        }
+    };
     let Ok(slower) = slower_of(tapping.filter.slower) else {
         let _ = write_bad_duration(tapping.filter.slower.unwrap_or(""), faults);
         return Ok(BAD_ARGUMENTS);
@@ -105,7 +114,7 @@ pub fn run_tap<W: LiveSink, F: Sink>(
         Err(error) => return refuse_server(rt.alloc(), &tapping.server, &error, faults),
     };
     let backend = Backend::new(name_of(rt.alloc(), &tapping.server)?, addresses);
-    match tap(rt, tapping, backend, slower, writer) {
+    match tap(rt, tapping, backend, slower, style, writer) {
         // It ends this way only after a write has failed, which was reported then.
         Ok(()) => Ok(DEVICE_FAILED),
         Err(error) => refuse(rt.alloc(), tapping.address_text, &error, faults),
@@ -176,7 +185,8 @@ fn tap<W: LiveSink>(
     tapping: &Tapping<'_>,
     backend: Backend,
     slower: Option<u64>,
-    writer: &mut W,
+    style: Style,
+    writer: &mut Painted<W>,
 ) -> Result<(), ListenError> {
     let alloc = rt.alloc();
     let Ok(filter) = filter_of(alloc, &tapping.filter, slower) else {
@@ -188,8 +198,12 @@ fn tap<W: LiveSink>(
         tells_time: tapping.tells_time || slower.is_some(),
         after_failure: after_failure(tapping),
         shows_passwords: tapping.shows_passwords,
+        style,
     };
     let mut window = Window::listen(rt, alloc, tapping.address, backend, settings, filter)?;
+    if !window.may_wait() {
+        writer.set_style(style);
+    }
     write_listening(alloc, window.address()?, writer)?;
     match window.run(rt, writer) {
         Err(error) if error.kind() == ErrorKind::WriteZero => Err(ToolError::Write.into()),
@@ -227,14 +241,7 @@ fn proxy<W: LiveSink>(
     let Ok(login) = login_of(rt) else {
         return Err(ToolError::Memory.into());
     };
-    let mut server = ProxyServer::listen(
-        rt,
-        alloc,
-        proxying.address,
-        backend,
-        login,
-        settings,
-    )?;
+    let mut server = ProxyServer::listen(rt, alloc, proxying.address, backend, login, settings)?;
     if admit(&mut server, proxying.also).is_err() {
         return Err(ToolError::Memory.into());
     }

@@ -1,6 +1,7 @@
 -- The meaning of the words of a command line.
 use Rattle.std.specs.Prelude.{◌≡◌, ◌≢◌, ◌⊎◌, ◌≤◌, ◌<◌, ◌^◌, ℕ, Bool, false, true, not, if◌then◌else◌, codes}
 use Rattle.std.specs.Prelude.{List, [], ◌∷◌, ◌++◌, map, option_map, unwrap_or, Option, Some, None, Result, Ok, Err}
+use Rattle.std.specs.Str.{bytes_eq}
 use Rattle.std.specs.Str.Parse.{IsNumeral, digits_value, without_leading_plus}
 use Rattle.clap.specs.Words.{App, HasKind, IsAmong, Row, Text, all_of, fault_of, first_of, one_of, subcommand_of}
 use Rattle.clap.specs.Words.{subcommand_rows_of}
@@ -24,6 +25,7 @@ use Rattle.resp_args.specs.declared.options.Task.TheVariants.{Show, Check, Canon
 use Rattle.resp_args.specs.declared.proxying.ProxyOptions.{ProxyOptions}
 use Rattle.resp_args.specs.declared.proxying.Proxying.{Proxying}
 use Rattle.resp_args.specs.declared.serving.Serving.{Serving}
+use Rattle.resp_args.specs.declared.style.StyleOptions.{StyleOptions}
 use Rattle.resp_args.specs.declared.tapping.FilterOptions.{FilterOptions}
 use Rattle.resp_args.specs.declared.tapping.TapOptions.{TapOptions}
 use Rattle.resp_args.specs.declared.tapping.Tapping.{Tapping}
@@ -74,6 +76,16 @@ HasReading given version doubles =
 
 -- ---- all options of a subcommand
 
+-- whether the text of the value of an option is that of one that is on
+abbrev pub is_on : Option Text → Bool
+is_on None = false
+is_on (Some text) = bytes_eq text (codes "true")
+
+-- the options that say how text is printed
+pub record HasStyle (given : List Row) (style : StyleOptions) : Type 0 where
+  pub in_color : option_map (λ text. text.now) style.color ≡ first_of (codes "color") given
+  pub as_utf8 : style.utf8 ≡ is_on (first_of (codes "utf8") given)
+
 pub record HasLimits (given : List Row) (limits : Bounds) : Type 0 where
   pub depth : HasNumber given (codes "depth") limits.depth
   pub length : HasSize given (codes "length") 64 1073741824 limits.length
@@ -90,6 +102,7 @@ pub record HasOptions (given : List Row) (options : Options) : Type 0 where
   pub file : first_of (codes "file") given ≡ Some options.file.now
   pub explains : HasFlag given (codes "explain") options.explains
   pub never_explains : HasFlag given (codes "no-explain") options.never_explains
+  pub styled : HasStyle given options.style
 
 -- the options of `serve`, with the text of its address
 pub record HasServeWords (given : List Row) (address : Text) (limits : Bounds) (clients held : ℕ) : Type 0 where
@@ -122,6 +135,7 @@ pub record HasTapOptions (given : List Row) (options : TapOptions) : Type 0 wher
   pub keeps : HasFlag given (codes "keep-going") options.keeps_going
   pub shows : HasFlag given (codes "show-passwords") options.shows_passwords
   pub filters : HasFilter given options.filter
+  pub styled : HasStyle given options.style
 
 -- the options of `tap`, with the texts of its addresses
 pub record HasTapWords (given : List Row) (address server : Text) (options : TapOptions) : Type 0 where
@@ -137,6 +151,7 @@ tap_options_of tapping = record {
   exits_with_output = tapping.exits_with_output;
   keeps_going = tapping.keeps_going;
   shows_passwords = tapping.shows_passwords;
+  style = tapping.style;
   filter = tapping.filter;
 }
 
@@ -187,6 +202,7 @@ pub record HasAskOptions (given : List Row) (options : AskOptions) : Type 0 wher
   pub named : option_map (λ name. name.now) options.user ≡ first_of (codes "user") given
   pub in_flight : HasSmallNumber given (codes "window") options.window
   pub counted : HasFlag given (codes "count") options.counts
+  pub styled : HasStyle given options.style
   pub in_limits : HasLimits given options.limits
   pub with_doubles : options.limits.doubles ≡ options.is_three
 

@@ -7,6 +7,7 @@ ghost use Rattle.resp_args.specs.CommandWords.{HasAskOptions, HasAsking};
 use crate::asked::{NothingAsked, wrong_options};
 use crate::options::{flag_of, limits_of, small_number_of, text_of};
 use crate::server_address::{ServerAddress, server_of};
+use crate::style::{StyleOptions, style_of};
 use clap::ArgMatches;
 use resp_value::limits::Limits;
 use std::alloc::{AllocError, Global};
@@ -35,6 +36,8 @@ pub struct AskOptions<'a> {
     pub window: usize,
     /// Whether replies are counted and not printed.
     pub counts: bool,
+    /// How text is printed.
+    pub style: StyleOptions<'a>,
     /// The limits of commands and replies, which allow doubles if HELLO 3 is sent.
     pub limits: Limits,
 }
@@ -93,6 +96,7 @@ fn options_of<'a>(matches: &ArgMatches<'a>) -> Option<AskOptions<'a>>
         user: text_of(matches, "user"),
         window: small_number_of(matches, "window")?,
         counts: flag_of(matches, "count")?,
+        style: style_of(matches),
         limits: limits_of(matches)?.with_doubles(is_three),
     })
 }

@@ -16,6 +16,7 @@ pub mod proxying;
 pub mod server_address;
 pub mod serving;
 mod sizes;
+pub mod style;
 mod subcommands;
 pub mod tapping;
 pub mod tool_error;

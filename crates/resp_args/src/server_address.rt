@@ -1,10 +1,10 @@
 //! The address of a server in the words of a command line.
 
-ghost use Rattle.std.specs.Prelude.{◌↔◌, ℕ, List, IfNone, IfOk, IfSome, IsTrue, OnErr};
-ghost use Rattle.resp_args.specs.Hosts.{IsHost, IsHostText, IsHostByte, IsServerText};
+ghost use Rattle.std.specs.Prelude.{◌↔◌, ℕ, All, List, IfNone, IfOk, IfSome, IsTrue, OnErr};
+ghost use Rattle.resp_args.specs.Hosts.{IsDigitByte, IsHost, IsHostText, IsHostByte, IsServerText};
 
 use crate::asked::NothingAsked;
-use crate::options::address_of;
+use crate::options::{address_of, port_after};
 use std::net::SocketAddr;
 
 /// The port of a server if its address has none.
@@ -45,13 +45,18 @@ fn named<'a>(text: &'a str) -> Option<(&'a str, u16)>
     ensures none { IfNone result ((host : List ℕ) (port : ℕ)
         → IsHostText text.now host port → ⊥) }
 {
-    match text.split_once(':') {
-        None if is_host(text) => Some((text, USUAL_PORT)),
-        Some((host, port)) if is_host(host) => match port.parse::<u16>() {
-            Ok(port) => Some((host, port)),
-            Err(_) => None,
-        },
-        _ => None,
+    let Some((host, port)) = text.split_once(':') else {
+        if is_host(text) {
+            return Some((text, USUAL_PORT));
+        }
+        return None;
+    };
+    if !is_host(host) {
+        return None;
+    }
+    match port_after("", port) {
+        Some(port) => Some((host, port)),
+        None => None,
     }
 }
 
@@ -59,8 +64,21 @@ fn named<'a>(text: &'a str) -> Option<(&'a str, u16)>
 fn is_host(text: &str) -> bool
     ensures { IsTrue result ↔ IsHost text.now }
 {
-    let bytes = text.as_bytes();
-    bytes.iter().all(is_host_byte) && !bytes.iter().all(u8::is_ascii_digit)
+    has_host_bytes(text.as_bytes()) && !is_number(text.as_bytes())
+}
+
+/// Returns whether each byte may be part of the name of a host.
+fn has_host_bytes(bytes: &[u8]) -> bool
+    ensures { IsTrue result ↔ All IsHostByte bytes.now }
+{
+    bytes.iter().all(is_host_byte)
+}
+
+/// Returns whether each byte is a digit.
+fn is_number(bytes: &[u8]) -> bool
+    ensures { IsTrue result ↔ All IsDigitByte bytes.now }
+{
+    bytes.iter().all(|byte| byte.is_ascii_digit())
 }
 
 /// Returns whether a byte may be part of the name of a host.

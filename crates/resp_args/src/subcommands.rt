@@ -41,6 +41,8 @@ const SHOW: Subcommand = Subcommand {
         NO_STREAMED,
         DOUBLES,
         PIECE,
+        COLOR,
+        UTF8,
         EXPLAIN,
         NO_EXPLAIN,
         FILE,
@@ -92,6 +94,8 @@ const TAP: Subcommand = Subcommand {
         EXIT_WITH_OUTPUT,
         KEEP_GOING,
         SHOW_PASSWORDS,
+        COLOR,
+        UTF8,
         LISTEN,
         SERVER,
     ],
@@ -107,6 +111,8 @@ const ASK: Subcommand = Subcommand {
         USER,
         WINDOW,
         COUNT,
+        COLOR,
+        UTF8,
         DEPTH,
         LENGTH,
         TOTAL,
@@ -272,6 +278,20 @@ const PIECE: Parameter = Parameter {
     name: "piece",
     form: Form::Size { default: "4K" },
     help: "Maximum bytes of a read, 1 to 64K",
+};
+
+/// `--color`: when text is printed in color.
+const COLOR: Parameter = Parameter {
+    name: "color",
+    form: Form::Text { value_name: "WHEN" },
+    help: "Prints in color: auto, always or never\n[default: auto, which is on a terminal]",
+};
+
+/// `--utf8`: whether printable characters are printed as they are.
+const UTF8: Parameter = Parameter {
+    name: "utf8",
+    form: Form::Flag,
+    help: "Prints printable UTF-8 without escapes",
 };
 
 /// `--explain`: whether an error in the input is explained.

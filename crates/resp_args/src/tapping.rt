@@ -7,6 +7,7 @@ ghost use Rattle.resp_args.specs.CommandWords.{HasFilter, HasTapOptions, HasTapW
 use crate::asked::{NothingAsked, wrong_options};
 use crate::options::{address_of, flag_of, limits_of, number_of, small_number_of, text_of};
 use crate::server_address::{ServerAddress, server_of};
+use crate::style::{StyleOptions, style_of};
 use clap::ArgMatches;
 use resp_value::limits::Limits;
 use std::net::SocketAddr;
@@ -32,6 +33,8 @@ pub struct Tapping<'a> {
     pub keeps_going: bool,
     /// Whether passwords in commands are printed.
     pub shows_passwords: bool,
+    /// How text is printed.
+    pub style: StyleOptions<'a>,
     /// Which commands are printed.
     pub filter: FilterOptions<'a>,
 }
@@ -60,6 +63,7 @@ struct TapOptions<'a> {
     exits_with_output: bool,
     keeps_going: bool,
     shows_passwords: bool,
+    style: StyleOptions<'a>,
     filter: FilterOptions<'a>,
 }
 
@@ -90,6 +94,7 @@ pub(crate) fn tapping_of<'a>(matches: &ArgMatches<'a>) -> Result<Tapping<'a>, No
         exits_with_output: words.options.exits_with_output,
         keeps_going: words.options.keeps_going,
         shows_passwords: words.options.shows_passwords,
+        style: words.options.style,
         filter: words.options.filter,
     })
 }
@@ -124,6 +129,7 @@ fn options_of<'a>(matches: &ArgMatches<'a>) -> Option<TapOptions<'a>>
         exits_with_output: flag_of(matches, "exit-with-output")?,
         keeps_going: flag_of(matches, "keep-going")?,
         shows_passwords: flag_of(matches, "show-passwords")?,
+        style: style_of(matches),
         filter: filter_of(matches)?,
     })
 }

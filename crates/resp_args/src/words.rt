@@ -144,7 +144,12 @@ pub fn refuse_host<F: Sink>(name: &str, why: &str, faults: &mut F) -> u8
     ensures told { TriesText (F.written faults.old) (F.written faults.new)
         (F.failures faults.old) (F.failures faults.new) (no_host_line name.now why.now) }
 {
-    let _ = write_reason(b"cannot find the address of ", name.as_bytes(), why.as_bytes(), faults);
+    let _ = write_reason(
+        b"cannot find the address of ",
+        name.as_bytes(),
+        why.as_bytes(),
+        faults,
+    );
     DEVICE_FAILED
 }
 

@@ -47,7 +47,11 @@ impl Backend {
     /// # Errors
     ///
     /// The error of the address, or an error of kind `InvalidInput`.
-    pub(crate) fn check(&self, net: &impl Net, listening: io::Result<SocketAddr>) -> io::Result<()> {
+    pub(crate) fn check(
+        &self,
+        net: &impl Net,
+        listening: io::Result<SocketAddr>,
+    ) -> io::Result<()> {
         let listening = listening?;
         for address in &self.addresses {
             check_server(net, *address, listening)?;

@@ -12,6 +12,7 @@ use crate::terminal::Terminal;
 use crate::timing::Timing;
 use mio::Registry;
 use mio::net::TcpStream;
+use resp_paint::{Painted, Style};
 use resp_print::live::LiveSink;
 use resp_tap::screen::Screen;
 use resp_tap::{Filter, Printing};
@@ -85,6 +86,8 @@ pub struct Settings {
     pub after_failure: AfterFailure,
     /// Whether passwords and other secret words of commands are printed.
     pub shows_passwords: bool,
+    /// The style of text that waits for a terminal, a pipe or a socket.
+    pub style: Style,
 }
 
 /// The server to which connections are forwarded, and what is printed of them.
@@ -98,7 +101,7 @@ struct View {
     count: u64,
     /// With it a client is accepted only if a descriptor is left for its connection to the server too.
     spare: Spare,
-    screen: Screen,
+    screen: Painted<Screen>,
     terminal: Terminal,
     /// Whether a write to a file has failed.
     has_failed: bool,
@@ -149,6 +152,11 @@ impl Window {
         self.connections.address()
     }
 
+    /// Returns whether standard output is a terminal, a pipe or a socket, for which text may wait.
+    pub fn may_wait(&self) -> bool {
+        self.view.terminal.may_wait()
+    }
+
     /// Forwards the bytes of all connections and prints their traffic, until waiting for
     /// connections fails. If printing fails, that is said on standard error, and the window goes on
     /// or ends as [`AfterFailure`] says. It returns without an error if printing had failed and the
@@ -187,6 +195,8 @@ impl View {
         filter: Filter,
     ) -> io::Result<View> {
         let terminal = Terminal::new(rt, alloc)?;
+        let mut screen = Painted::new(Screen::new(alloc, SCREEN));
+        screen.set_style(settings.style);
         let timing = Timing::new(rt, settings.tells_time)?;
         Ok(View {
             alloc,
@@ -195,7 +205,7 @@ impl View {
             filter,
             count: 0,
             spare: Spare::new(rt),
-            screen: Screen::new(alloc, SCREEN),
+            screen,
             terminal,
             has_failed: false,
             is_silent: false,
@@ -214,14 +224,15 @@ impl View {
             return Ok(());
         }
         for _ in 0..WRITES {
-            let _ = self.screen.say_what_is_left_out();
-            let text = self.screen.text();
+            let screen = self.screen.inner_mut();
+            let _ = screen.say_what_is_left_out();
+            let text = screen.text();
             if text.is_empty() {
                 return Ok(());
             }
             match self.terminal.print(text, out)? {
                 0 => return Ok(()),
-                count => self.screen.shown(count),
+                count => screen.shown(count),
             }
         }
         Ok(())
@@ -240,7 +251,7 @@ impl View {
         };
         self.is_silent = true;
         // The text that waits is never printed.
-        self.screen = Screen::new(self.alloc, 0);
+        self.screen = Painted::new(Screen::new(self.alloc, 0));
         let _ = rt.eprintln(notice);
         Ok(())
     }
@@ -437,7 +448,8 @@ impl<R: Net + Clock + Eprint, W: LiveSink> Service<Tapped> for Watching<'_, R, W
     }
 
     fn patience(&self) -> Option<Duration> {
-        let is_empty = self.view.screen.text().is_empty() && self.view.screen.unshown() == 0;
+        let screen = self.view.screen.inner();
+        let is_empty = screen.text().is_empty() && screen.unshown() == 0;
         if is_empty || self.view.is_silent {
             return None;
         }
