@@ -127,7 +127,6 @@ pub fn refuse_request<F: Sink>(faults: &mut F) -> u8
 }
 
 /// Writes that a file can't be opened, and why. Returns the exit status, 3.
-#[tactic(auto, using(crate::proofs::Tried::tries_text))]
 pub fn refuse_file<F: Sink>(name: &str, why: &str, faults: &mut F) -> u8
     ensures status { result ≡ 3 }
     ensures told { TriesText (F.written faults.old) (F.written faults.new)
@@ -138,7 +137,6 @@ pub fn refuse_file<F: Sink>(name: &str, why: &str, faults: &mut F) -> u8
 }
 
 /// Writes that the address of a host can't be found, and why. Returns the exit status, 3.
-#[tactic(auto, using(crate::proofs::Tried::tries_text))]
 pub fn refuse_host<F: Sink>(name: &str, why: &str, faults: &mut F) -> u8
     ensures status { result ≡ 3 }
     ensures told { TriesText (F.written faults.old) (F.written faults.new)

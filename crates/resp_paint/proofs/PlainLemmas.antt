@@ -18,8 +18,8 @@ shows_next painted plain painted' plain' first second rest =
 -- a byte that begins no sequence, and a text behind it
 pub shows_byte : (byte : ℕ) (beyond plain rest : List ℕ) → (byte == 27) ≡ false → plain ≡ shown_byte byte ++ rest → Shows beyond rest →
     Shows (byte ∷ beyond) plain
-shows_byte byte beyond plain rest no e shows more =
-    ap (λ b. cond b (beyond_sequence (beyond ++ more)) (shown_byte byte ++ plain_text (beyond ++ more))) no ∙
+shows_byte byte beyond plain rest other e shows more =
+    ap (λ b. cond b (beyond_sequence (beyond ++ more)) (shown_byte byte ++ plain_text (beyond ++ more))) other ∙
     ap (λ z. shown_byte byte ++ z) (shows more) ∙ sym (append_assoc (shown_byte byte) rest (plain_text more)) ∙
     ap (λ z. z ++ plain_text more) (sym e)
 

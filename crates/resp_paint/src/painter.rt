@@ -1,5 +1,7 @@
 //! Colors and characters for the bytes of printed text, one byte after another.
 
+ghost use Rattle.std.specs.Prelude.{◌<◌};
+
 use crate::place::Place;
 use crate::printable::{is_printable, length_from};
 use crate::style::Style;
@@ -120,7 +122,9 @@ fn byte_of(escape: &[u8]) -> Option<u8> {
 }
 
 /// Returns the value of a hexadecimal digit in lower case, and 0 for any other byte.
-fn digit_of(digit: u8) -> u8 {
+fn digit_of(digit: u8) -> u8
+    ensures { result < 16 }
+{
     match digit {
         b'0'..=b'9' => digit - b'0',
         b'a'..=b'f' => digit - b'a' + 10,
@@ -143,7 +147,10 @@ fn escaped_bytes(held: &[u8]) -> ArrayVec<u8, MOST_HELD> {
 /// announces.
 fn is_whole(held: &[u8], bytes: &[u8]) -> bool {
     match bytes.first() {
-        Some(first) => bytes.len() >= length_from(*first) && held.len() == bytes.len() * ESCAPE,
+        Some(first) => {
+            let is_complete = held.len() % ESCAPE == 0;
+            is_complete && bytes.len() >= length_from(*first)
+        }
         None => false,
     }
 }
