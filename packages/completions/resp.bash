@@ -10,20 +10,21 @@ _resp() {
     fi
     case $before in
     --proto) COMPREPLY=($(compgen -W "2 3" -- "$word")) && return ;;
+    --color) COMPREPLY=($(compgen -W "auto always never" -- "$word")) && return ;;
     --depth | --length | --total | --items | --piece | --clients | --held | --user | --window | \
         --own | --waiting | --unsent | --patience | --report | --slower | --command | --client) return ;;
     esac
     case $command in
-    show | check | canon) options="-2 -3 --proto $limits --doubles --piece --explain --no-explain -h --help" ;;
+    show | check | canon) options="-2 -3 --proto $limits --doubles --piece --color --utf8 --explain --no-explain -h --help" ;;
     loop) options="--explain --no-explain -h --help" ;;
     serve) options="$limits --clients --held -h --help" ;;
     tap)
-        options="$limits --clients --time --errors --slower --command --client --stats --stats-every --exit-with-output --keep-going --show-passwords -h --help"
+        options="$limits --clients --time --errors --slower --command --client --stats --stats-every --exit-with-output --keep-going --show-passwords --color --utf8 -h --help"
         ;;
     proxy)
         options="$limits --clients --own --waiting --held --unsent --patience --report --local-ping --no-inline --drain --also -h --help"
         ;;
-    ask) options="-3 --user --window --count $limits -h --help" ;;
+    ask) options="-3 --user --window --count --color --utf8 $limits -h --help" ;;
     help) [ "$COMP_CWORD" -ne 2 ] || COMPREPLY=($(compgen -W "$commands" -- "$word")) ;;
     esac
     case $word in

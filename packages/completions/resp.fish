@@ -23,6 +23,10 @@ complete -c resp -n $reads -l piece -x -d 'Maximum bytes of a read, 1 to 64K'
 complete -c resp -n '__fish_seen_subcommand_from show check canon loop' -l explain -d 'Says where an error is, and why'
 complete -c resp -n '__fish_seen_subcommand_from show check canon loop' -l no-explain -d 'Does not explain errors'
 
+set -l styled '__fish_seen_subcommand_from show check canon tap ask'
+complete -c resp -n $styled -l color -x -a 'auto always never' -d 'Prints in color'
+complete -c resp -n $styled -l utf8 -d 'Prints printable UTF-8 without escapes'
+
 set -l limited '__fish_seen_subcommand_from show check canon serve tap proxy ask'
 complete -c resp -n $limited -l depth -x -d 'Maximum nesting of aggregates, 4 to 128'
 complete -c resp -n $limited -l length -x -d 'Maximum bytes of a string or line, 64 to 1G'

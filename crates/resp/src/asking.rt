@@ -1,6 +1,7 @@
 //! The command `ask`, which sends commands to a server.
 
 use crate::failures::{Failures, Input, Output};
+use crate::hosts::{addresses_of, refuse_server};
 use crate::lines::Lines;
 use crate::talk::{Failure, Talk};
 use resp_args::asking::Asking;
@@ -41,7 +42,11 @@ pub fn run_ask<O: LiveSink, F: Sink>(
         let _ = write_text(faults, b"error: --user needs the variable RESP_PASSWORD\n");
         return Ok(BAD_ARGUMENTS);
     }
-    let stream = match TcpStream::connect(rt, asking.server) {
+    let addresses = match addresses_of(rt, alloc, &asking.server) {
+        Ok(addresses) => addresses,
+        Err(error) => return refuse_server(alloc, &asking.server, &error, faults),
+    };
+    let stream = match TcpStream::connect(rt, addresses.as_slice()) {
         Ok(stream) => stream,
         Err(error) => {
             let why = format!(in alloc; "{error}")?;

@@ -1,14 +1,19 @@
 //! The commands `serve`, `tap` and `proxy`, which listen on an address for clients.
 
+use crate::hosts::{addresses_of, name_of, refuse_server};
+use crate::style::style_of;
 use resp_args::duration::duration_of;
 use resp_args::proxying::{ProxyOptions, Proxying};
 use resp_args::serving::Serving;
 use resp_args::tapping::{FilterOptions, StatsOptions, Tapping};
 use resp_args::tool_error::ToolError;
 use resp_args::words::{refuse_file, stop};
+use resp_paint::{Painted, Style};
 use resp_print::live::LiveSink;
 use resp_print::text::write_text;
-use resp_serve::{AfterFailure, ProxyServer, ProxySettings, Server, Settings, Tables, Window};
+use resp_serve::{
+    AfterFailure, Backend, ProxyServer, ProxySettings, Server, Settings, Tables, Window,
+};
 use resp_tap::Filter;
 use resp_value::device::{DeviceFault, Sink};
 use std::alloc::{AllocError, Global};
@@ -92,14 +97,26 @@ fn serve<W: LiveSink>(
 pub fn run_tap<W: LiveSink, F: Sink>(
     rt: &HostRuntime,
     tapping: &Tapping<'_>,
-    writer: &mut W,
+    writer: &mut Painted<W>,
     faults: &mut F,
 ) -> Result<u8, AllocError> {
+    let style = match style_of(rt, &tapping.style) {
+        Ok(style) => style,
+        Err(bad) => {
+            let _ = bad.write(faults);
+            return Ok(BAD_ARGUMENTS);
+        }
+    };
     let Ok(slower) = slower_of(tapping.filter.slower) else {
         let _ = write_bad_duration(tapping.filter.slower.unwrap_or(""), faults);
         return Ok(BAD_ARGUMENTS);
     };
-    match tap(rt, tapping, slower, writer) {
+    let addresses = match addresses_of(rt, rt.alloc(), &tapping.server) {
+        Ok(addresses) => addresses,
+        Err(error) => return refuse_server(rt.alloc(), &tapping.server, &error, faults),
+    };
+    let backend = Backend::new(name_of(rt.alloc(), &tapping.server)?, addresses);
+    match tap(rt, tapping, backend, slower, style, writer) {
         // It ends this way only after a write has failed, which was reported then.
         Ok(()) => Ok(DEVICE_FAILED),
         Err(error) => refuse(rt.alloc(), tapping.address_text, &error, faults),
@@ -180,8 +197,10 @@ fn after_failure(tapping: &Tapping<'_>) -> AfterFailure {
 fn tap<W: LiveSink>(
     rt: &HostRuntime,
     tapping: &Tapping<'_>,
+    backend: Backend,
     slower: Option<u64>,
-    writer: &mut W,
+    style: Style,
+    writer: &mut Painted<W>,
 ) -> Result<(), ListenError> {
     let alloc = rt.alloc();
     let Ok(filter) = filter_of(alloc, &tapping.filter, slower) else {
@@ -194,8 +213,12 @@ fn tap<W: LiveSink>(
         after_failure: after_failure(tapping),
         shows_passwords: tapping.shows_passwords,
         tables: tables_of(tapping.stats),
+        style,
     };
-    let mut window = Window::listen(rt, alloc, tapping.address, tapping.server, settings, filter)?;
+    let mut window = Window::listen(rt, alloc, tapping.address, backend, settings, filter)?;
+    if !window.may_wait() {
+        writer.set_style(style);
+    }
     write_listening(alloc, window.address()?, writer)?;
     match window.run(rt, writer) {
         Err(error) if error.kind() == ErrorKind::WriteZero => Err(ToolError::Write.into()),
@@ -210,7 +233,12 @@ pub fn run_proxy<W: LiveSink, F: Sink>(
     writer: &mut W,
     faults: &mut F,
 ) -> Result<u8, AllocError> {
-    match proxy(rt, proxying, writer) {
+    let addresses = match addresses_of(rt, rt.alloc(), &proxying.server) {
+        Ok(addresses) => addresses,
+        Err(error) => return refuse_server(rt.alloc(), &proxying.server, &error, faults),
+    };
+    let backend = Backend::new(name_of(rt.alloc(), &proxying.server)?, addresses);
+    match proxy(rt, proxying, backend, writer) {
         Ok(()) => Ok(0),
         Err(error) => refuse(rt.alloc(), proxying.address_text, &error, faults),
     }
@@ -220,6 +248,7 @@ pub fn run_proxy<W: LiveSink, F: Sink>(
 fn proxy<W: LiveSink>(
     rt: &HostRuntime,
     proxying: &Proxying<'_>,
+    backend: Backend,
     writer: &mut W,
 ) -> Result<(), ListenError> {
     let alloc = rt.alloc();
@@ -227,14 +256,7 @@ fn proxy<W: LiveSink>(
     let Ok(login) = login_of(rt) else {
         return Err(ToolError::Memory.into());
     };
-    let mut server = ProxyServer::listen(
-        rt,
-        alloc,
-        proxying.address,
-        proxying.server,
-        login,
-        settings,
-    )?;
+    let mut server = ProxyServer::listen(rt, alloc, proxying.address, backend, login, settings)?;
     if admit(&mut server, proxying.also).is_err() {
         return Err(ToolError::Memory.into());
     }

@@ -5,9 +5,11 @@
 
 mod asking;
 mod failures;
+mod hosts;
 mod input;
 mod lines;
 mod listening;
+mod style;
 mod talk;
 
 ghost use Rattle.std.specs.Prelude.{◌≤◌};
@@ -17,9 +19,11 @@ use failures::{Failures, Input, StandardOutput};
 use input::read_input;
 use listening::{run_proxy, run_serve, run_tap};
 use resp_args::asked::Asked;
-use resp_args::options::{Options, STANDARD_INPUT};
+use resp_args::options::{Options, STANDARD_INPUT, Task};
+use resp_args::style::StyleOptions;
 use resp_args::tool_error::ToolError;
 use resp_args::words::{read_words, refuse_file, refuse_words, stop};
+use resp_paint::Painted;
 use resp_print::live::{Gathering, LiveSink};
 use resp_script::play::{PlayError, play, write_no_connection};
 use resp_script::script::{Script, read_script};
@@ -35,6 +39,10 @@ use std::fs::File;
 use std::hash::RandomState;
 use std::io::{self, IsTerminal, Read, Write};
 use std::process::ExitCode;
+use style::style_of;
+
+/// The exit status of a usage error.
+const BAD_ARGUMENTS: u8 = 2;
 
 /// The exit status after a failed device or when out of memory.
 const DEVICE_FAILED: u8 = 3;
@@ -69,7 +77,7 @@ fn run(rt: &HostRuntime) -> Result<u8, AllocError> {
     };
     let failures = Failures::new();
     let output = StandardOutput::new(rt.stdout(), &failures);
-    let mut writer = Gathering::new(alloc, Device::new(output))?;
+    let mut writer = Painted::new(Gathering::new(alloc, Device::new(output))?);
     let status = run_words(rt, words.as_slice(), &mut writer, &failures, &mut faults)?;
     let is_written = writer.flush().is_ok();
     if failures.is_output_closed() {
@@ -96,12 +104,15 @@ fn refuse_output(rt: &HostRuntime, failures: &Failures) -> Result<u8, AllocError
 fn run_words<W: LiveSink, F: Sink>(
     rt: &HostRuntime,
     words: &[String],
-    writer: &mut W,
+    writer: &mut Painted<W>,
     failures: &Failures,
     faults: &mut F,
 ) -> Result<u8, AllocError> {
     match read_words(rt.alloc(), words, writer, faults) {
         Ok(Asked::Stream(options)) => {
+            if options.task == Task::Show && !set_style(rt, &options.style, writer, faults) {
+                return Ok(BAD_ARGUMENTS);
+            }
             failures.set_explains(is_explained(rt, options.explains, options.never_explains));
             run_task(rt, &options, writer, failures, faults)
         }
@@ -119,10 +130,32 @@ fn run_words<W: LiveSink, F: Sink>(
         Ok(Asked::Tap(tapping)) => run_tap(rt, &tapping, writer, faults),
         Ok(Asked::Proxy(proxying)) => run_proxy(rt, &proxying, writer, faults),
         Ok(Asked::Ask(asking)) => {
+            if !set_style(rt, &asking.options.style, writer, faults) {
+                return Ok(BAD_ARGUMENTS);
+            }
             failures.set_explains(is_explained(rt, false, false));
             run_ask(rt, &asking, writer, failures, faults)
         }
         Err(status) => Ok(status),
+    }
+}
+
+/// Sets the style that the options ask for. If a word is wrong, reports it and returns false.
+fn set_style<W: LiveSink, F: Sink>(
+    rt: &HostRuntime,
+    options: &StyleOptions<'_>,
+    writer: &mut Painted<W>,
+    faults: &mut F,
+) -> bool {
+    match style_of(rt, options) {
+        Ok(style) => {
+            writer.set_style(style);
+            true
+        }
+        Err(bad) => {
+            let _ = bad.write(faults);
+            false
+        }
     }
 }
 

@@ -10,7 +10,10 @@ use Rattle.clap.specs.declared.parser.matches.ArgMatches.{ArgMatches}
 use Rattle.clap.specs.declared.parser.matches.Found.{Found}
 use Rattle.clap.proofs.OnLiterals.{clap_on_literals}
 use Rattle.clap.proofs.WalkLemmas.{one_text-rows}
-use Rattle.resp_args.specs.CommandWords.{AnswersSort, AnswersStatus, AskFor, Enters, IsOfSort, FindsWords, HasAsking, HasFlag, HasNumber, HasPort, HasProxying, HasReading, HasServing, HasTapping, IsAddressText, IsAsked, IsLocalPort, flag_text, task_word}
+use Rattle.resp_args.specs.CommandWords.{AnswersSort, AnswersStatus, AskFor, Enters, IsOfSort, FindsWords, HasAsking, HasFlag, HasNumber, HasProxying, HasReading, HasServing, HasTapping, IsAsked, flag_text, task_word}
+use Rattle.resp_args.specs.Addresses.{HasPort, IsAddressText, IsLocalPort}
+use Rattle.resp_args.specs.Hosts.{IsServerText}
+use Rattle.resp_args.specs.declared.server_address.ServerAddress.{ServerAddress}
 use Rattle.resp_args.specs.Faults.{IsWordStatus}
 use Rattle.std.specs.Str.{bytes_eq}
 use Rattle.std.specs.Prelude.{if◌then◌else◌}
@@ -133,28 +136,28 @@ no_listener given text is none tapping has =
     none tapping.address (subst (λ z. IsAddressText z tapping.address) (sym same) listen)
 
 pub no_server : (given : List Row) (text : Text) → first_of (codes "server") given ≡ Some text →
-    ((address : SocketAddr) → IsAddressText text address → ⊥) → (tapping : Tapping) → HasTapping given tapping → ⊥
+    ((server : ServerAddress) → IsServerText text server → ⊥) → (tapping : Tapping) → HasTapping given tapping → ⊥
 no_server given text is none tapping has =
     let (server, words, listen, to) = has in
     let same = same_text text server (first_of (codes "server") given) is words.server_text in
-    none tapping.server (subst (λ z. IsAddressText z tapping.server) (sym same) to)
+    none tapping.server (subst (λ z. IsServerText z tapping.server) (sym same) to)
 
 pub no_proxy_addresses : (given : List Row) (text text' : Text) → first_of (codes "listen") given ≡ Some text →
     first_of (codes "server") given ≡ Some text' →
-    ((here there : SocketAddr) → IsAddressText text here → IsAddressText text' there → ⊥) →
+    ((here : SocketAddr) (there : ServerAddress) → IsAddressText text here → IsServerText text' there → ⊥) →
     (proxying : Proxying) → HasProxying given proxying → ⊥
 no_proxy_addresses given text text' is is' none proxying has =
     let (server, words, listen, to, also) = has in
     let same = same_text text proxying.address_text.now (first_of (codes "listen") given) is words.listen_text in
     let same' = same_text text' server (first_of (codes "server") given) is' words.server_text in
     none proxying.address proxying.server (subst (λ z. IsAddressText z proxying.address) (sym same) listen)
-    (subst (λ z. IsAddressText z proxying.server) (sym same') to)
+    (subst (λ z. IsServerText z proxying.server) (sym same') to)
 
 pub no_asking : (given : List Row) (text : Text) → first_of (codes "server") given ≡ Some text →
-    ((address : SocketAddr) → IsAddressText text address → ⊥) → (asking : Asking) → HasAsking given asking → ⊥
+    ((server : ServerAddress) → IsServerText text server → ⊥) → (asking : Asking) → HasAsking given asking → ⊥
 no_asking given text is none asking has =
     let same = same_text text asking.server_text.now (first_of (codes "server") given) is has.text in
-    none asking.server (subst (λ z. IsAddressText z asking.server) (sym same) has.address)
+    none asking.server (subst (λ z. IsServerText z asking.server) (sym same) has.address)
 
 pub on_err : {X E : Type 0} (r : Result X E) (P : Type 0) → P → OnErr r P
 on_err (Ok x) P p = tt

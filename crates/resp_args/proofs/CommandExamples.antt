@@ -13,7 +13,7 @@ use Rattle.std.specs.Option.{option_map_or}
 use Rattle.resp_value.specs.Bounds.{Bounds}
 use Rattle.resp_value.specs.declared.version.Version.TheVariants.{Two}
 use Rattle.resp_args.specs.declared.sizes.Unit.TheVariants.{Giga, Kilo, Mega}
-use Rattle.resp_args.specs.CommandWords.{AreWrong, AskFor, Enters, HasFlag, HasLimits, HasSize, flag_text, task_word, version_word}
+use Rattle.resp_args.specs.CommandWords.{AreWrong, AskFor, Enters, HasFlag, HasLimits, HasSize, is_on, flag_text, task_word, version_word}
 use Rattle.resp_args.specs.declared.asked.Asked.TheVariants.{Stream, Play}
 use Rattle.resp_args.specs.declared.options.Options.{Options}
 use Rattle.resp_args.specs.declared.options.Task.{Task}
@@ -79,6 +79,7 @@ alone_gives_rest : (versions : ValueParser) → (first_of (codes "proto") (given
     × HasFlag (given_alone versions) (codes "doubles") false × HasSize (given_alone versions) (codes "piece") 1 65536 4096
     × (first_of (codes "file") (given_alone versions) ≡ Some (codes "-")) × HasFlag (given_alone versions) (codes "explain") false
     × HasFlag (given_alone versions) (codes "no-explain") false
+    × (first_of (codes "color") (given_alone versions) ≡ None) × (first_of (codes "utf8") (given_alone versions) ≡ Some (codes "false"))
 unfolding clap_on_literals
 alone_gives_rest versions = (
   refl,
@@ -86,6 +87,8 @@ alone_gives_rest versions = (
   refl,
   refl,
   (codes "4K", refl, (Kilo, (1, omega arith, refl), (codes "4", refl, (omega arith, search rules), refl, omega arith), omega arith, omega arith)),
+  refl,
+  refl,
   refl,
   refl,
   refl,
@@ -109,6 +112,7 @@ defaults_are_asked versions takes options are =
         file = rest.5 ∙ ap (λ (t : Text). Some t) (sym are.of_file);
         explains = rest.6 ∙ ap (λ b. Some (flag_text b)) (sym are.of_explains);
         never_explains = rest.7 ∙ ap (λ b. Some (flag_text b)) (sym are.of_never_explains);
+        styled = record { in_color = are.of_color ∙ sym rest.8; as_utf8 = are.of_utf8 ∙ sym (ap is_on rest.9) };
       },
     ) in (
       show_alone_is_taken versions takes,

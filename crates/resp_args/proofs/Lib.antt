@@ -4,3 +4,4 @@ pub mod TaskLemmas
 pub mod AskingLemmas
 pub mod CommandExamples
 pub mod SizeLemmas
+pub mod HostLemmas

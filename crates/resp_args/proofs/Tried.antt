@@ -1,6 +1,7 @@
 -- Lines, piece by piece, and a text that was tried to be written.
-use Rattle.std.proofs.Common.{◌≡◌, inl, inr, ℕ, List, ◌++◌, Option, Result, Ok, Err, sym, ap, ◌∙◌, codes, append_assoc}
+use Rattle.std.proofs.Common.{◌≡◌, inl, inr, ℕ, List, ◌++◌, Option, Result, Ok, Err, sym, ap, ◌∙◌, codes, append_assoc, subst}
 use Rattle.resp_print.specs.Written.{WritesText}
+use Rattle.resp_args.specs.Faults.{reason_line}
 use Rattle.resp_args.specs.Tried.{TriesText}
 
 -- a line of two pieces and of a number between two more, piece by piece
@@ -23,3 +24,12 @@ pub tries_text : {X E : Type 0} (r : Result X E) (before after : Option (List �
     WritesText before after failures failures' r text → TriesText before after failures failures' text
 tries_text (Ok x) before after failures failures' text written = inl written
 tries_text (Err e) before after failures failures' text written = inr written
+
+-- and so a line about a name, whatever holds the name and the reason
+pub tries_line : {X E : Type 0} (r : Result X E) (before after : Option (List ℕ)) (failures failures' : ℕ) (front name name' why why' : List ℕ) →
+    name ≡ name' → why ≡ why' → WritesText before after failures failures' r (reason_line front name why) →
+    TriesText before after failures failures' (reason_line front name' why')
+tries_line r before after failures failures' front name name' why why' same same' written =
+    subst (λ z. TriesText before after failures failures' (reason_line front z why')) same
+    (subst (λ z. TriesText before after failures failures' (reason_line front name z)) same'
+    (tries_text r before after failures failures' (reason_line front name why) written))

@@ -1,11 +1,7 @@
 -- The meaning of the words of a command line.
 use Rattle.std.specs.Prelude.{◌≡◌, ◌≢◌, ◌⊎◌, ◌≤◌, ◌<◌, ◌^◌, ℕ, Bool, false, true, not, if◌then◌else◌, codes}
 use Rattle.std.specs.Prelude.{List, [], ◌∷◌, ◌++◌, map, option_map, unwrap_or, Option, Some, None, Result, Ok, Err}
-use Rattle.std.specs.Net.Addr.{ipv4_octets}
-use Rattle.std.specs.Net.Socket.{v4_ip, v4_port}
-use Rattle.std.specs.declared.net.socket_addr.SocketAddr.{SocketAddr}
-use Rattle.std.specs.declared.net.socket_addr.SocketAddr.TheVariants as Socket
-use Rattle.std.specs.Net.Grammar.{IsSocketText}
+use Rattle.std.specs.Str.{bytes_eq}
 use Rattle.std.specs.Str.Parse.{IsNumeral, digits_value, without_leading_plus}
 use Rattle.clap.specs.Words.{App, HasKind, IsAmong, Row, Text, all_of, fault_of, first_of, one_of, subcommand_of}
 use Rattle.clap.specs.Words.{subcommand_rows_of}
@@ -16,6 +12,8 @@ use Rattle.clap.specs.declared.parser.matches.ArgMatches.{ArgMatches}
 use Rattle.resp_value.specs.Bounds.{AreBounds, Bounds}
 use Rattle.resp_value.specs.declared.version.Version.{Version}
 use Rattle.resp_value.specs.declared.version.Version.TheVariants.{Two, Three}
+use Rattle.resp_args.specs.Addresses.{IsAddressText}
+use Rattle.resp_args.specs.Hosts.{IsServerText}
 use Rattle.resp_args.specs.Sizes.{IsSize}
 use Rattle.resp_args.specs.declared.asked.Asked.{Asked}
 use Rattle.resp_args.specs.declared.asked.Asked.TheVariants.{Stream, Play, Serve, Tap, Proxy, Ask}
@@ -27,6 +25,7 @@ use Rattle.resp_args.specs.declared.options.Task.TheVariants.{Show, Check, Canon
 use Rattle.resp_args.specs.declared.proxying.ProxyOptions.{ProxyOptions}
 use Rattle.resp_args.specs.declared.proxying.Proxying.{Proxying}
 use Rattle.resp_args.specs.declared.serving.Serving.{Serving}
+use Rattle.resp_args.specs.declared.style.StyleOptions.{StyleOptions}
 use Rattle.resp_args.specs.declared.tapping.FilterOptions.{FilterOptions}
 use Rattle.resp_args.specs.declared.tapping.StatsOptions.{StatsOptions}
 use Rattle.resp_args.specs.declared.tapping.TapOptions.{TapOptions}
@@ -76,28 +75,17 @@ HasReading given version doubles =
     ⊎ HasFlag given (codes "two") false × HasFlag given (codes "three") false × HasProto given version
     × HasFlag given (codes "doubles") doubles
 
--- the text is the number of a port after this prefix
-abbrev pub HasPort : Text → Text → ℕ → Type 0
-HasPort before text number = (port : Text) × (text ≡ before ++ port) × IsNumeral 10 (without_leading_plus port) ×
-    (digits_value 10 (without_leading_plus port) ≡ number) × (number < 65536)
-
--- the text is a port of this machine, as `6379`, `:6379` or `localhost:6379`
-abbrev pub IsLocalPort : Text → ℕ → Type 0
-IsLocalPort text number =
-    HasPort [] text number ⊎ HasPort (codes ":") text number ⊎ HasPort (codes "localhost:") text number
-
--- the address is this port of 127.0.0.1
-abbrev pub IsLoopback : SocketAddr → ℕ → Type 0
-IsLoopback (Socket.V4 address) number =
-    (ipv4_octets (v4_ip address) ≡ 127 ∷ 0 ∷ 0 ∷ 1 ∷ []) × (v4_port address ≡ number)
-IsLoopback (Socket.V6 address) number = ⊥
-
--- the text is an IP address and a port, or a port of this machine
-abbrev pub IsAddressText : Text → SocketAddr → Type 0
-IsAddressText text address =
-    IsSocketText text address ⊎ (number : ℕ) × IsLocalPort text number × IsLoopback address number
-
 -- ---- all options of a subcommand
+
+-- whether the text of the value of an option is that of one that is on
+abbrev pub is_on : Option Text → Bool
+is_on None = false
+is_on (Some text) = bytes_eq text (codes "true")
+
+-- the options that say how text is printed
+pub record HasStyle (given : List Row) (style : StyleOptions) : Type 0 where
+  pub in_color : option_map (λ text. text.now) style.color ≡ first_of (codes "color") given
+  pub as_utf8 : style.utf8 ≡ is_on (first_of (codes "utf8") given)
 
 pub record HasLimits (given : List Row) (limits : Bounds) : Type 0 where
   pub depth : HasNumber given (codes "depth") limits.depth
@@ -115,6 +103,7 @@ pub record HasOptions (given : List Row) (options : Options) : Type 0 where
   pub file : first_of (codes "file") given ≡ Some options.file.now
   pub explains : HasFlag given (codes "explain") options.explains
   pub never_explains : HasFlag given (codes "no-explain") options.never_explains
+  pub styled : HasStyle given options.style
 
 -- the options of `serve`, with the text of its address
 pub record HasServeWords (given : List Row) (address : Text) (limits : Bounds) (clients held : ℕ) : Type 0 where
@@ -153,6 +142,7 @@ pub record HasTapOptions (given : List Row) (options : TapOptions) : Type 0 wher
   pub shows : HasFlag given (codes "show-passwords") options.shows_passwords
   pub filters : HasFilter given options.filter
   pub tables : HasStats given options.stats
+  pub styled : HasStyle given options.style
 
 -- the options of `tap`, with the texts of its addresses
 pub record HasTapWords (given : List Row) (address server : Text) (options : TapOptions) : Type 0 where
@@ -168,6 +158,7 @@ tap_options_of tapping = record {
   exits_with_output = tapping.exits_with_output;
   keeps_going = tapping.keeps_going;
   shows_passwords = tapping.shows_passwords;
+  style = tapping.style;
   filter = tapping.filter;
   stats = tapping.stats;
 }
@@ -176,7 +167,7 @@ tap_options_of tapping = record {
 abbrev pub HasTapping : List Row → Tapping → Type 0
 HasTapping given tapping = (server_text : Text) ×
     HasTapWords given tapping.address_text.now server_text (tap_options_of tapping) ×
-    IsAddressText tapping.address_text.now tapping.address × IsAddressText server_text tapping.server
+    IsAddressText tapping.address_text.now tapping.address × IsServerText server_text tapping.server
 
 -- `--patience` in milliseconds and `--report` in seconds, within an hour and a day
 abbrev pub HasProxyTimes : List Row → ℕ × ℕ → Type 0
@@ -210,7 +201,7 @@ pub record HasProxyWords (given : List Row) (address server : Text) (options : P
 abbrev pub HasProxying : List Row → Proxying → Type 0
 HasProxying given proxying = (server_text : Text) ×
     HasProxyWords given proxying.address_text.now server_text proxying.options ×
-    IsAddressText proxying.address_text.now proxying.address × IsAddressText server_text proxying.server ×
+    IsAddressText proxying.address_text.now proxying.address × IsServerText server_text proxying.server ×
     (option_map (λ names. names.now) proxying.also ≡ first_of (codes "also") given)
 
 -- the options of `ask` that are neither the address nor the words
@@ -219,6 +210,7 @@ pub record HasAskOptions (given : List Row) (options : AskOptions) : Type 0 wher
   pub named : option_map (λ name. name.now) options.user ≡ first_of (codes "user") given
   pub in_flight : HasSmallNumber given (codes "window") options.window
   pub counted : HasFlag given (codes "count") options.counts
+  pub styled : HasStyle given options.style
   pub in_limits : HasLimits given options.limits
   pub with_doubles : options.limits.doubles ≡ options.is_three
 
@@ -226,7 +218,7 @@ pub record HasAskOptions (given : List Row) (options : AskOptions) : Type 0 wher
 pub record HasAsking (given : List Row) (asking : Asking) : Type 0 where
   pub has : HasAskOptions given asking.options
   pub text : first_of (codes "server") given ≡ Some asking.server_text.now
-  pub address : IsAddressText asking.server_text.now asking.server
+  pub address : IsServerText asking.server_text.now asking.server
   pub words : map (λ word. word.now) asking.words.items ≡ unwrap_or (all_of (codes "words") given) []
 
 abbrev pub task_word : Task → Text

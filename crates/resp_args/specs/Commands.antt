@@ -1,5 +1,5 @@
 -- The words of the worked examples of command lines.
-use Rattle.std.specs.Prelude.{◌≡◌, ℕ, Bool, true, false, List, [], ◌∷◌, codes}
+use Rattle.std.specs.Prelude.{◌≡◌, ℕ, Bool, true, false, List, [], ◌∷◌, None, codes, option_map}
 use Rattle.std.specs.Borrow.{Bor}
 use Rattle.clap.specs.Words.{App, Text, fault_of}
 use Rattle.resp_value.specs.Bounds.{Bounds}
@@ -10,7 +10,7 @@ use Rattle.resp_args.specs.declared.asked.Asked.TheVariants.{Stream, Play}
 use Rattle.resp_args.specs.declared.options.Options.{Options}
 use Rattle.resp_args.specs.declared.options.Task.{Task}
 
--- the options have these values, whatever holds the file's name, and `--no-explain` is not given
+-- the options have these values, whatever holds the file's name, and `--no-explain`, `--color` and `--utf8` are not given
 pub record AreOptions (task : Task) (version : Version) (limits : Bounds) (piece : ℕ) (file : Text) (explains : Bool)
     (options : Options) : Type 0 where
   pub of_task : options.task ≡ task
@@ -20,6 +20,8 @@ pub record AreOptions (task : Task) (version : Version) (limits : Bounds) (piece
   pub of_file : options.file.now ≡ file
   pub of_explains : options.explains ≡ explains
   pub of_never_explains : options.never_explains ≡ false
+  pub of_color : option_map (λ text. text.now) options.style.color ≡ None
+  pub of_utf8 : options.style.utf8 ≡ false
 
 -- the words ask for a stream to be read, with these options
 abbrev pub AskForThese : List Text → (Options → Type 0) → Type 0

@@ -23,9 +23,17 @@ status_of (OverLimits value) = 1
 status_of TooManyValues = 1
 status_of _ = 3
 
+-- the line about a name, with the reason
+abbrev pub reason_line : List ℕ → List ℕ → List ℕ → List ℕ
+reason_line before name why = before ++ (name ++ (codes ": " ++ (why ++ codes "\n")))
+
 -- the line for a file that can't be opened, with the reason
 abbrev pub open_failed_line : List ℕ → List ℕ → List ℕ
-open_failed_line name why = codes "open failed: " ++ (name ++ (codes ": " ++ (why ++ codes "\n")))
+open_failed_line = reason_line (codes "open failed: ")
+
+-- the line for a host whose address can't be found, with the reason
+abbrev pub no_host_line : List ℕ → List ℕ → List ℕ
+no_host_line = reason_line (codes "cannot find the address of ")
 
 -- Memory was out, or a write of help failed: the line of that error was written, or one write of it failed. The last
 -- numbers are the counts of failed writes of help.

@@ -2,6 +2,8 @@ pub mod Tried
 pub mod Faults
 pub mod Program
 pub mod Tables
+pub mod Addresses
+pub mod Hosts
 pub mod CommandWords
 pub mod Commands
 pub mod Units

@@ -51,6 +51,14 @@ flag_option name = record (new_rule name) { long = Some name; action = Some SetT
 abbrev pub short_flag_option : Text → ℕ → Rule
 short_flag_option name short = record (new_rule name) { short = Some short; action = Some SetTrue }
 
+-- `--name VALUE`, an option with any value and without a default
+abbrev pub name_option : Text → Rule
+name_option name = record (new_rule name) { long = Some name; value_names = 1 }
+
+-- the options that say how text is printed
+abbrev pub style_options : List Rule
+style_options = name_option (codes "color") ∷ flag_option (codes "utf8") ∷ []
+
 -- the options that limit values
 abbrev pub limit_options : List Rule
 limit_options =
@@ -76,7 +84,7 @@ explained_file = flag_option (codes "explain") ∷ flag_option (codes "no-explai
 -- the options of `show`, `check` and `canon`, with these versions for `--proto`
 abbrev pub stream_options : ValueParser → List Rule
 stream_options versions = version_options versions ++ limit_options ++ flag_option (codes "doubles") ∷
-    size_option (codes "piece") (codes "4K") ∷ explained_file
+    size_option (codes "piece") (codes "4K") ∷ style_options ++ explained_file
 
 -- the options of `loop`
 abbrev pub loop_options : List Rule
@@ -95,10 +103,6 @@ abbrev pub serve_options : List Rule
 serve_options = listening_options
     (size_option (codes "held") (codes "1M") ∷ address_word (codes "address") ∷ [])
 
--- `--name VALUE`, an option with any value and without a default
-abbrev pub name_option : Text → Rule
-name_option name = record (new_rule name) { long = Some name; value_names = 1 }
-
 -- the options of `tap` that say which commands are printed
 abbrev pub filter_options : List Rule
 filter_options = flag_option (codes "errors") ∷ name_option (codes "slower") ∷ name_option (codes "command") ∷
@@ -113,7 +117,7 @@ abbrev pub tap_options : List Rule
 tap_options = listening_options
     (flag_option (codes "time") ∷ filter_options ++ stats_options ++
     flag_option (codes "exit-with-output") ∷ flag_option (codes "keep-going") ∷ flag_option (codes "show-passwords") ∷
-    address_word (codes "listen") ∷ address_word (codes "server") ∷ [])
+    style_options ++ address_word (codes "listen") ∷ address_word (codes "server") ∷ [])
 
 -- the options of `proxy`
 abbrev pub proxy_options : List Rule
@@ -139,7 +143,7 @@ command_word = record (new_rule (codes "words")) {
 -- the options of `ask` that do not limit values
 abbrev pub asking_options : List Rule
 asking_options = short_flag_option (codes "three") 51 ∷ name_option (codes "user") ∷
-    number_option (codes "window") 1 65536 (codes "1000") ∷ flag_option (codes "count") ∷ []
+    number_option (codes "window") 1 65536 (codes "1000") ∷ flag_option (codes "count") ∷ style_options
 
 -- the options of `ask`
 abbrev pub ask_options : List Rule

@@ -54,6 +54,10 @@ pub(crate) enum NothingAsked<'a> {
         /// The name of the argument.
         name: &'a str,
     },
+    /// The text is not the address of a server.
+    BadServer {
+        text: &'a str,
+    },
     /// The text of an option is no number of bytes in its range.
     BadSize {
         text: &'a str,
@@ -72,6 +76,7 @@ impl NothingAsked<'_> {
             Self::OtherWords => write_text(faults, OTHER_WORDS),
             Self::Memory => write_text(faults, b"out of memory\n"),
             Self::BadAddress { text, name } => write_bad_address(text, name, faults),
+            Self::BadServer { text } => write_bad_server(text, faults),
             Self::BadSize {
                 text,
                 name,
@@ -91,6 +96,17 @@ fn write_bad_address<F: Sink>(text: &str, name: &str, faults: &mut F) -> Result<
     write_text(
         faults,
         b">': expected an IP address and a port, such as 127.0.0.1:6380, or a port of this machine, such as 6380 or localhost:6380\n\n",
+    )?;
+    write_text(faults, b"For more information, try '--help'.\n")
+}
+
+/// Writes what is wrong with the address given for the argument `SERVER`.
+fn write_bad_server<F: Sink>(text: &str, faults: &mut F) -> Result<(), DeviceFault> {
+    write_text(faults, b"error: invalid value '")?;
+    write_text(faults, text.as_bytes())?;
+    write_text(
+        faults,
+        b"' for '<SERVER>': expected the name or the IP address of a host and a port, such as redis.internal:6379, 127.0.0.1:6379 or [::1]:6379, a host alone, or a port of this machine, such as 6379\n\n",
     )?;
     write_text(faults, b"For more information, try '--help'.\n")
 }

@@ -5,17 +5,18 @@ ghost use Rattle.clap.specs.Words.{all_of, found_of, rows_of};
 ghost use Rattle.resp_args.specs.CommandWords.{HasAskOptions, HasAsking};
 
 use crate::asked::{NothingAsked, wrong_options};
-use crate::options::{address_of, flag_of, limits_of, small_number_of, text_of};
+use crate::options::{flag_of, limits_of, small_number_of, text_of};
+use crate::server_address::{ServerAddress, server_of};
+use crate::style::{StyleOptions, style_of};
 use clap::ArgMatches;
 use resp_value::limits::Limits;
 use std::alloc::{AllocError, Global};
-use std::net::SocketAddr;
 
 /// The options of `resp ask`.
 #[derive(Debug, Drop)]
 pub struct Asking<'a> {
     /// The address of the server.
-    pub server: SocketAddr,
+    pub server: ServerAddress<'a>,
     /// The address as it was given.
     pub server_text: &'a str,
     /// The options that are neither the address nor the words.
@@ -35,6 +36,8 @@ pub struct AskOptions<'a> {
     pub window: usize,
     /// Whether replies are counted and not printed.
     pub counts: bool,
+    /// How text is printed.
+    pub style: StyleOptions<'a>,
     /// The limits of commands and replies, which allow doubles if HELLO 3 is sent.
     pub limits: Limits,
 }
@@ -54,7 +57,7 @@ pub(crate) fn asking_of<'a>(
     let Some(text) = text_of(matches, "server") else {
         return Err(NothingAsked::OtherWords);
     };
-    let server = match address_of(text, "SERVER") {
+    let server = match server_of(text) {
         Ok(server) => server,
         Err(nothing) => return Err(nothing),
     };
@@ -93,6 +96,7 @@ fn options_of<'a>(matches: &ArgMatches<'a>) -> Option<AskOptions<'a>>
         user: text_of(matches, "user"),
         window: small_number_of(matches, "window")?,
         counts: flag_of(matches, "count")?,
+        style: style_of(matches),
         limits: limits_of(matches)?.with_doubles(is_three),
     })
 }

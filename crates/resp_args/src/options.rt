@@ -2,11 +2,13 @@
 
 ghost use Rattle.std.specs.Prelude.{◌≡◌, ℕ, Bool, false, IfNone, IfOk, IfSome, OnErr, option_map};
 ghost use Rattle.clap.specs.Words.{first_of, found_of, rows_of};
-ghost use Rattle.resp_args.specs.CommandWords.{HasFlag, HasLimits, HasNumber, HasOptions, HasPort, HasProto, HasReading, HasSize, HasSmallNumber, IsAddressText, IsLocalPort};
+ghost use Rattle.resp_args.specs.Addresses.{HasPort, IsAddressText, IsLocalPort};
+ghost use Rattle.resp_args.specs.CommandWords.{HasFlag, HasLimits, HasNumber, HasOptions, HasProto, HasReading, HasSize, HasSmallNumber};
 ghost use Rattle.resp_value.specs.Bounds.{Bounds};
 
 use crate::asked::NothingAsked;
 use crate::sizes::size_of;
+use crate::style::{StyleOptions, style_of};
 use clap::ArgMatches;
 use resp_value::limits::Limits;
 use resp_value::version::Version;
@@ -42,6 +44,8 @@ pub struct Options<'a> {
     pub piece: usize,
     /// The name of the file to read, or [`STANDARD_INPUT`].
     pub file: &'a str,
+    /// How `show` prints text.
+    pub style: StyleOptions<'a>,
     /// Whether `--explain` is given: an error in the input is explained.
     pub explains: bool,
     /// Whether `--no-explain` is given, which has precedence over `--explain`.
@@ -147,7 +151,7 @@ fn local_port(text: &str) -> Option<u16>
 }
 
 /// Returns the port in a text after a prefix.
-fn port_after(prefix: &str, text: &str) -> Option<u16>
+pub(crate) fn port_after(prefix: &str, text: &str) -> Option<u16>
     ensures some { IfSome result (HasPort prefix.now text.now) }
     ensures none { IfNone result ((number : ℕ) → HasPort prefix.now text.now number → ⊥) }
 {
@@ -201,6 +205,7 @@ pub(crate) fn options_of<'a>(task: Task, matches: &ArgMatches<'a>) -> Option<Opt
         limits,
         piece,
         file: text_of(matches, "file")?,
+        style: style_of(matches),
         explains: flag_of(matches, "explain")?,
         never_explains: flag_of(matches, "no-explain")?,
     })

@@ -34,7 +34,7 @@ pub(crate) const PROXY: Subcommand = Subcommand {
 /// The end of the help of `proxy`.
 const PROXY_HELP: &str = r"Examples:
   resp proxy 127.0.0.1:6380 127.0.0.1:6379
-  resp proxy --clients 10000 --patience 1000 6380 10.0.0.7:6379
+  resp proxy --clients 10000 --patience 1000 6380 redis.internal:6379
 
 Clients connect to LISTEN instead of SERVER. All of them share one connection to
 the server. A client that sends a command such as MULTI, SUBSCRIBE or HELLO 3

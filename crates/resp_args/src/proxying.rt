@@ -2,12 +2,15 @@
 
 ghost use Rattle.std.specs.Prelude.{ℕ, Bool, List, IfNone, IfOk, IfSome, OnErr};
 ghost use Rattle.clap.specs.Words.{found_of, rows_of};
-ghost use Rattle.resp_args.specs.CommandWords.{HasNumberBetween, HasProxyFlags, HasProxyOptions, HasProxyTimes, HasProxyWords, HasProxying, IsAddressText};
+ghost use Rattle.resp_args.specs.CommandWords.{HasNumberBetween, HasProxyFlags, HasProxyOptions, HasProxyTimes, HasProxyWords, HasProxying};
+ghost use Rattle.resp_args.specs.Addresses.{IsAddressText};
+ghost use Rattle.resp_args.specs.Hosts.{IsServerText};
 
 use crate::asked::{NothingAsked, wrong_options};
 use crate::options::{
     MOST_BYTES, address_of, bytes_of, flag_of, limits_of, number_of, small_number_of, text_of,
 };
+use crate::server_address::{ServerAddress, server_of};
 use clap::ArgMatches;
 use resp_value::limits::Limits;
 use std::net::SocketAddr;
@@ -20,7 +23,7 @@ pub struct Proxying<'a> {
     /// The address as it was given.
     pub address_text: &'a str,
     /// The address of the server.
-    pub server: SocketAddr,
+    pub server: ServerAddress<'a>,
     /// The names of the commands that are sent although the table does not have them, with a comma between
     /// two of them, if they were given.
     pub also: Option<&'a str>,
@@ -90,14 +93,14 @@ pub(crate) fn proxying_of<'a>(matches: &ArgMatches<'a>) -> Result<Proxying<'a>, 
 fn addresses_of<'a>(
     listen: &'a str,
     server: &'a str,
-) -> Result<(SocketAddr, SocketAddr), NothingAsked<'a>>
+) -> Result<(SocketAddr, ServerAddress<'a>), NothingAsked<'a>>
     ensures ok { IfOk result (λ both. IsAddressText listen.now both.0 ×
-        IsAddressText server.now both.1) }
-    ensures err { OnErr result ((here there : SocketAddr) → IsAddressText listen.now here
-        → IsAddressText server.now there → ⊥) }
+        IsServerText server.now both.1) }
+    ensures err { OnErr result ((here : SocketAddr) (there : ServerAddress)
+        → IsAddressText listen.now here → IsServerText server.now there → ⊥) }
 {
     let address = address_of(listen, "LISTEN")?;
-    Ok((address, address_of(server, "SERVER")?))
+    Ok((address, server_of(server)?))
 }
 
 /// Returns the options before the addresses are parsed; `None` if a number is outside its range.

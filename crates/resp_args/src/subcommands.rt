@@ -41,6 +41,8 @@ const SHOW: Subcommand = Subcommand {
         NO_STREAMED,
         DOUBLES,
         PIECE,
+        COLOR,
+        UTF8,
         EXPLAIN,
         NO_EXPLAIN,
         FILE,
@@ -94,6 +96,8 @@ const TAP: Subcommand = Subcommand {
         EXIT_WITH_OUTPUT,
         KEEP_GOING,
         SHOW_PASSWORDS,
+        COLOR,
+        UTF8,
         LISTEN,
         SERVER,
     ],
@@ -109,6 +113,8 @@ const ASK: Subcommand = Subcommand {
         USER,
         WINDOW,
         COUNT,
+        COLOR,
+        UTF8,
         DEPTH,
         LENGTH,
         TOTAL,
@@ -160,7 +166,7 @@ Exit status:
 const TAP_HELP: &str = r"Examples:
   resp tap 127.0.0.1:6380 127.0.0.1:6379
   resp tap --time 127.0.0.1:6380 127.0.0.1:6379 >traffic.txt
-  resp tap --slower 10ms --command get,mget 6380 6379
+  resp tap --slower 10ms --command get,mget 6380 redis.internal:6379
   resp tap --stats-every 10 6380 6379
 
 Clients connect to LISTEN instead of SERVER. All commands and replies are
@@ -175,7 +181,7 @@ Exit status:
 
 /// The end of the help of `ask`.
 const ASK_HELP: &str = r#"Examples:
-  resp ask 127.0.0.1:6379 GET a
+  resp ask redis.internal:6379 GET a
   resp ask -3 6379 HGETALL h
   printf 'SET a "1 2"\nGET a\n' | resp ask 6379
   resp ask --count 6379 <commands.txt
@@ -275,6 +281,20 @@ const PIECE: Parameter = Parameter {
     name: "piece",
     form: Form::Size { default: "4K" },
     help: "Maximum bytes of a read, 1 to 64K",
+};
+
+/// `--color`: when text is printed in color.
+const COLOR: Parameter = Parameter {
+    name: "color",
+    form: Form::Text { value_name: "WHEN" },
+    help: "Prints in color: auto, always or never\n[default: auto, which is on a terminal]",
+};
+
+/// `--utf8`: whether printable characters are printed as they are.
+const UTF8: Parameter = Parameter {
+    name: "utf8",
+    form: Form::Flag,
+    help: "Prints printable UTF-8 without escapes",
 };
 
 /// `--explain`: whether an error in the input is explained.
@@ -435,7 +455,7 @@ pub(crate) const SERVER: Parameter = Parameter {
     form: Form::Required {
         value_name: "SERVER",
     },
-    help: "Address of the server, such as 127.0.0.1:6379",
+    help: "Address of the server: HOST, HOST:PORT or PORT",
 };
 
 /// `-3` of `ask`: whether HELLO 3 is sent first.

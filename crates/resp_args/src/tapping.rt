@@ -6,6 +6,8 @@ ghost use Rattle.resp_args.specs.CommandWords.{HasFilter, HasStats, HasTapOption
 
 use crate::asked::{NothingAsked, wrong_options};
 use crate::options::{address_of, flag_of, limits_of, number_of, small_number_of, text_of};
+use crate::server_address::{ServerAddress, server_of};
+use crate::style::{StyleOptions, style_of};
 use clap::ArgMatches;
 use resp_value::limits::Limits;
 use std::net::SocketAddr;
@@ -18,7 +20,7 @@ pub struct Tapping<'a> {
     /// The address as it was given.
     pub address_text: &'a str,
     /// The address of the server.
-    pub server: SocketAddr,
+    pub server: ServerAddress<'a>,
     /// The limits, which allow doubles.
     pub limits: Limits,
     /// The most clients at once, from 1 to 65,536.
@@ -31,6 +33,8 @@ pub struct Tapping<'a> {
     pub keeps_going: bool,
     /// Whether passwords in commands are printed.
     pub shows_passwords: bool,
+    /// How text is printed.
+    pub style: StyleOptions<'a>,
     /// Which commands are printed, or counted.
     pub filter: FilterOptions<'a>,
     /// Whether commands are counted instead of printed.
@@ -71,6 +75,7 @@ struct TapOptions<'a> {
     exits_with_output: bool,
     keeps_going: bool,
     shows_passwords: bool,
+    style: StyleOptions<'a>,
     filter: FilterOptions<'a>,
     stats: StatsOptions,
 }
@@ -95,13 +100,14 @@ pub(crate) fn tapping_of<'a>(matches: &ArgMatches<'a>) -> Result<Tapping<'a>, No
     Ok(Tapping {
         address: address_of(words.address, "LISTEN")?,
         address_text: words.address,
-        server: address_of(words.server, "SERVER")?,
+        server: server_of(words.server)?,
         limits: words.options.limits,
         clients: words.options.clients,
         tells_time: words.options.tells_time,
         exits_with_output: words.options.exits_with_output,
         keeps_going: words.options.keeps_going,
         shows_passwords: words.options.shows_passwords,
+        style: words.options.style,
         filter: words.options.filter,
         stats: words.options.stats,
     })
@@ -137,6 +143,7 @@ fn options_of<'a>(matches: &ArgMatches<'a>) -> Option<TapOptions<'a>>
         exits_with_output: flag_of(matches, "exit-with-output")?,
         keeps_going: flag_of(matches, "keep-going")?,
         shows_passwords: flag_of(matches, "show-passwords")?,
+        style: style_of(matches),
         filter: filter_of(matches)?,
         stats: stats_of(matches)?,
     })

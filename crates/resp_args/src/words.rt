@@ -3,7 +3,7 @@
 ghost use Rattle.std.specs.Prelude.{◌≡◌, ◌≢◌, ◌⊎◌, IfErr, IfOk, IsErrOf, OnOk, codes, map};
 ghost use Rattle.clap.specs.Words.{App, kind_of};
 ghost use Rattle.resp_args.specs.CommandWords.{AnswersSort, AnswersStatus, AskFor, IsInRange};
-ghost use Rattle.resp_args.specs.Faults.{IsWordStatus, TellsFailure, fault_line, open_failed_line, status_of};
+ghost use Rattle.resp_args.specs.Faults.{IsWordStatus, TellsFailure, fault_line, no_host_line, open_failed_line, reason_line, status_of};
 ghost use Rattle.resp_args.specs.Program.{IsProgram};
 ghost use Rattle.resp_args.specs.Tried.{TriesText, WritesSome};
 ghost use Rattle.resp_print.specs.Written.{WritesText};
@@ -127,22 +127,41 @@ pub fn refuse_request<F: Sink>(faults: &mut F) -> u8
 }
 
 /// Writes that a file can't be opened, and why. Returns the exit status, 3.
-#[tactic(auto, using(crate::proofs::Tried::tries_text))]
 pub fn refuse_file<F: Sink>(name: &str, why: &str, faults: &mut F) -> u8
     ensures status { result ≡ 3 }
     ensures told { TriesText (F.written faults.old) (F.written faults.new)
         (F.failures faults.old) (F.failures faults.new) (open_failed_line name.now why.now) }
 {
-    let _ = write_open_failed(name.as_bytes(), why.as_bytes(), faults);
+    let _ = write_reason(b"open failed: ", name.as_bytes(), why.as_bytes(), faults);
     DEVICE_FAILED
 }
 
-/// Writes the line of a file that can't be opened.
-fn write_open_failed<F: Sink>(name: &[u8], why: &[u8], faults: &mut F) -> Result<(), DeviceFault>
-    ensures { WritesText (F.written faults.old) (F.written faults.new) (F.failures faults.old)
-        (F.failures faults.new) result (open_failed_line name.now why.now) }
+/// Writes that the address of a host can't be found, and why. Returns the exit status, 3.
+pub fn refuse_host<F: Sink>(name: &str, why: &str, faults: &mut F) -> u8
+    ensures status { result ≡ 3 }
+    ensures told { TriesText (F.written faults.old) (F.written faults.new)
+        (F.failures faults.old) (F.failures faults.new) (no_host_line name.now why.now) }
 {
-    write_text(faults, b"open failed: ")?;
+    let _ = write_reason(
+        b"cannot find the address of ",
+        name.as_bytes(),
+        why.as_bytes(),
+        faults,
+    );
+    DEVICE_FAILED
+}
+
+/// Writes a line about a name, with the reason.
+fn write_reason<F: Sink>(
+    before: &[u8],
+    name: &[u8],
+    why: &[u8],
+    faults: &mut F,
+) -> Result<(), DeviceFault>
+    ensures { WritesText (F.written faults.old) (F.written faults.new) (F.failures faults.old)
+        (F.failures faults.new) result (reason_line before.now name.now why.now) }
+{
+    write_text(faults, before)?;
     write_text(faults, name)?;
     write_text(faults, b": ")?;
     write_text(faults, why)?;

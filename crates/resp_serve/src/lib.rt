@@ -14,6 +14,7 @@
 //! next, when it accepts connections, and when it waits.
 #![tactic(auto)]
 
+mod backend;
 mod connection;
 mod event_loop;
 mod input_end;
@@ -41,6 +42,7 @@ mod timing;
 mod watcher;
 mod window;
 
+pub use backend::Backend;
 pub use connection::{PIECE, Rest, Room, answer};
 pub use proxying::{ProxyServer, ProxySettings};
 pub use server::Server;

@@ -2,6 +2,7 @@
 
 ghost use Rattle.std.specs.Prelude.{◌<◌, length};
 
+use crate::backend::Backend;
 use crate::lane::{Lane, Progress, TURNS, next_of};
 use crate::login;
 use crate::login::{Login, write_some};
@@ -15,7 +16,7 @@ use mio::net::TcpStream;
 use std::alloc::Global;
 use std::io;
 use std::io::ErrorKind;
-use std::net::{Net, SocketAddr};
+use std::net::Net;
 
 /// A connection to the server for one client. The bytes of both sides are forwarded unchanged.
 #[derive(Drop)]
@@ -44,7 +45,8 @@ enum Stage {
 }
 
 impl Own {
-    /// Begins to connect to the server. `first` are the bytes that are sent first.
+    /// Begins to connect to the server, at the address to which a connection was opened last. `first`
+    /// are the bytes that are sent first.
     ///
     /// # Errors
     ///
@@ -52,11 +54,12 @@ impl Own {
     pub(crate) fn connect(
         net: &impl Net,
         alloc: Global,
-        address: SocketAddr,
+        backend: &Backend,
         registry: &Registry,
         tokens: Tokens,
         first: BytesMut,
     ) -> io::Result<Self> {
+        let address = backend.address(backend.first())?;
         let mut server = TcpStream::connect(net, address)?;
         register(&mut server, registry, tokens.server)?;
         Ok(Own {

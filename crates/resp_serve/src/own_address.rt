@@ -15,13 +15,13 @@ const COMES_BACK: &str = "connections to the server would come back to this addr
 ///
 /// # Errors
 ///
-/// The error of the address, or an error of kind `InvalidInput`.
+/// An error of kind `InvalidInput`.
 pub(crate) fn check_server(
     net: &impl Net,
     server: SocketAddr,
-    address: io::Result<SocketAddr>,
+    listening: SocketAddr,
 ) -> io::Result<()> {
-    if comes_back(server, address?, is_own(net, server.ip())) {
+    if comes_back(server, listening, is_own(net, server.ip())) {
         return Err(io::Error::new(ErrorKind::InvalidInput, COMES_BACK));
     }
     Ok(())

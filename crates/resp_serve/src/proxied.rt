@@ -2,6 +2,7 @@
 
 ghost use Rattle.std.specs.Prelude.{◌<◌, length};
 
+use crate::backend::Backend;
 use crate::lane::{Progress, after_write};
 use crate::non_blocking::{Input, Output};
 use crate::own::Own;
@@ -12,7 +13,7 @@ use resp_mux::ClientId;
 use resp_proxy::{Client, Proxy, Read, Written};
 use resp_value::device::Device;
 use std::alloc::Global;
-use std::net::{Net, SocketAddr};
+use std::net::Net;
 use std::{io, mem};
 
 /// The socket of a client, and the client. They were made together, and never part.
@@ -142,7 +143,7 @@ impl Proxied {
         proxy: &mut Proxy,
         net: &impl Net,
         alloc: Global,
-        address: SocketAddr,
+        backend: &Backend,
         registry: &Registry,
     ) -> io::Result<()> {
         let link = mem::replace(&mut self.link, Link::Closed);
@@ -150,7 +151,7 @@ impl Proxied {
             return Ok(());
         };
         let first = proxy.leave(client);
-        let own = Own::connect(net, alloc, address, registry, self.tokens, first)?;
+        let own = Own::connect(net, alloc, backend, registry, self.tokens, first)?;
         self.link = Link::Own(own);
         Ok(())
     }

@@ -1,9 +1,9 @@
 //! The proxy over sockets: its loop, and its settings.
 
+use crate::backend::Backend;
 use crate::connection;
 use crate::event_loop::Loop;
 use crate::input_end::InputEnd;
-use crate::own_address::check_server;
 use crate::proxied::Proxied;
 use crate::register::register;
 use crate::relay::Relay;
@@ -62,25 +62,25 @@ struct Relaying<'a, R, I, W> {
 }
 
 impl ProxyServer {
-    /// Listens on an address for clients of the server at another address. `login` is the command AUTH
+    /// Listens on an address for clients of a server. `login` is the command AUTH
     /// that is sent first over each connection to the server, or empty.
     ///
     /// # Errors
     ///
-    /// The error of the system if the address can't be opened, an error of kind `InvalidInput` if the
+    /// The error of the system if the address can't be opened, an error of kind `InvalidInput` if an
     /// address of the server is the address to listen on, or an error of kind `OutOfMemory` if an
     /// allocation fails.
     pub fn listen<R: Net>(
         rt: &R,
         alloc: Global,
         address: SocketAddr,
-        server: SocketAddr,
+        backend: Backend,
         login: Vec<u8>,
         settings: ProxySettings,
     ) -> io::Result<Self> {
         let connections = Loop::listen(rt, alloc, address, settings.most)?;
-        check_server(rt, server, connections.address())?;
-        match Relay::new(rt, alloc, server, login, settings) {
+        backend.check(rt, connections.address())?;
+        match Relay::new(rt, alloc, backend, login, settings) {
             Ok(relay) => Ok(ProxyServer { connections, relay }),
             Err(_) => Err(ErrorKind::OutOfMemory.into()),
         }

@@ -1,5 +1,6 @@
 //! The proxy with its connections: what it does with a client, and with the server.
 
+use crate::backend::Backend;
 use crate::connection::refuse;
 use crate::lane::PIECE;
 use crate::proxied::{Link, Proxied};
@@ -14,7 +15,7 @@ use resp_proxy::{Counted, Proxy};
 use std::alloc::{AllocError, Global};
 use std::io;
 use std::io::ErrorKind;
-use std::net::{Net, SocketAddr};
+use std::net::Net;
 use std::rt::Clock;
 use std::time::Duration;
 
@@ -73,7 +74,7 @@ impl Relay {
     pub(crate) fn new(
         net: &impl Net,
         alloc: Global,
-        server: SocketAddr,
+        backend: Backend,
         login: Vec<u8>,
         settings: ProxySettings,
     ) -> Result<Self, AllocError> {
@@ -81,7 +82,7 @@ impl Relay {
             alloc,
             proxy: Proxy::new(alloc, settings.proxy)?,
             settings,
-            link: ServerLink::new(net, alloc, server, login, settings.patience),
+            link: ServerLink::new(net, alloc, backend, login, settings.patience),
             places: Vec::new(alloc),
             end: 0,
             stalled: Stalled::new(alloc),
@@ -185,8 +186,8 @@ impl Relay {
 
     /// Gives a client a connection of its own.
     fn leave(&mut self, net: &impl Net, connection: &mut Proxied, registry: &Registry) -> Next {
-        let server = self.link.server();
-        match connection.leave(&mut self.proxy, net, self.alloc, server, registry) {
+        let backend = self.link.backend();
+        match connection.leave(&mut self.proxy, net, self.alloc, backend, registry) {
             Ok(()) => Next::Wait,
             Err(error) => self.give_up(connection, &error),
         }

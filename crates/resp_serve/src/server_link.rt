@@ -2,6 +2,7 @@
 
 ghost use Rattle.std.specs.Prelude.{◌<◌, length};
 
+use crate::backend::{Attempt, Backend};
 use crate::login::{Login, Progress};
 use crate::non_blocking::{Input, Output, is_open};
 use crate::register::register;
@@ -14,7 +15,7 @@ use resp_proxy::{Proxy, ServerError, Written};
 use resp_value::device::Device;
 use std::alloc::Global;
 use std::io::ErrorKind;
-use std::net::{Net, SocketAddr};
+use std::net::Net;
 use std::time::Duration;
 use std::{io, mem};
 use thiserror::Error;
@@ -105,7 +106,9 @@ struct Line {
 #[derive(Drop)]
 pub(crate) struct ServerLink {
     alloc: Global,
-    server: SocketAddr,
+    backend: Backend,
+    /// The attempt to connect that is made, or is made next.
+    attempt: Attempt,
     /// The command that logs in to the server, or no byte.
     login: Vec<u8>,
     patience: Duration,
@@ -123,13 +126,15 @@ impl ServerLink {
     pub(crate) fn new(
         net: &impl Net,
         alloc: Global,
-        server: SocketAddr,
+        backend: Backend,
         login: Vec<u8>,
         patience: Duration,
     ) -> Self {
+        let attempt = backend.first();
         ServerLink {
             alloc,
-            server,
+            backend,
+            attempt,
             login,
             patience,
             spare: Spare::new(net),
@@ -141,9 +146,9 @@ impl ServerLink {
         }
     }
 
-    /// Returns the address of the server.
-    pub(crate) fn server(&self) -> SocketAddr {
-        self.server
+    /// Returns the server.
+    pub(crate) fn backend(&self) -> &Backend {
+        &self.backend
     }
 
     /// Returns the command that logs in to the server, or no byte.
@@ -205,8 +210,9 @@ impl ServerLink {
         if until > self.now {
             return Ok(());
         }
-        match open(&mut self.spare, net, self.server, registry) {
-            Ok(stream) => {
+        match open(&mut self.spare, net, &self.backend, self.attempt, registry) {
+            Ok((stream, attempt)) => {
+                self.attempt = attempt;
                 let since = self.now;
                 self.state = State::Opening { stream, since };
                 Ok(())
@@ -238,7 +244,24 @@ impl ServerLink {
                 self.finish_login()
             }
             Ok(Stage::LogsIn) => self.finish_login(),
-            Err(error) => {
+            Err(error) => self.try_next(error),
+        }
+    }
+
+    /// Tries the next address of the server at once, if this was not the last one.
+    ///
+    /// # Errors
+    ///
+    /// The error that the attempt failed with. The next attempt is made after a pause.
+    fn try_next(&mut self, error: io::Error) -> io::Result<bool> {
+        let was_opening = matches!(self.state, State::Opening { .. });
+        match self.backend.after(self.attempt) {
+            Some(next) if was_opening => {
+                self.attempt = next;
+                self.state = State::Down { until: self.now };
+                Ok(false)
+            }
+            _ => {
                 self.pause();
                 Err(error)
             }
@@ -312,6 +335,7 @@ impl ServerLink {
         let state = mem::replace(&mut self.state, State::Down { until });
         match state {
             State::Opening { stream, .. } | State::Greeting { stream, .. } => {
+                self.backend.prefer(self.attempt);
                 self.state = State::Open(Line::new(stream, self.now));
             }
             _ => {}
@@ -319,8 +343,9 @@ impl ServerLink {
     }
 
     /// Closes the connection. The next attempt is made after a pause, or at once if a reply came over
-    /// this connection.
+    /// this connection. It begins with the address that was connected last.
     fn pause(&mut self) {
+        self.attempt = self.backend.first();
         let has_replied = matches!(&self.state, State::Open(line) if line.has_replied);
         self.pause = if has_replied {
             0
@@ -477,14 +502,15 @@ fn exchange(
     }
 }
 
-/// Begins a connection to a server, and registers its socket.
+/// Begins a connection to a server by this attempt or a later one, and registers its socket.
 fn open(
     spare: &mut Spare,
     net: &impl Net,
-    server: SocketAddr,
+    backend: &Backend,
+    attempt: Attempt,
     registry: &Registry,
-) -> io::Result<TcpStream> {
-    let mut stream = spare.connect(net, server)?;
+) -> io::Result<(TcpStream, Attempt)> {
+    let (mut stream, attempt) = backend.connect(spare, net, attempt)?;
     register(&mut stream, registry, OWN_SOCKET)?;
-    Ok(stream)
+    Ok((stream, attempt))
 }

@@ -2,11 +2,14 @@
 
 ghost use Rattle.std.specs.Prelude.{◌<◌, length};
 
+use crate::backend::Attempt;
 use crate::lane::{Forwarded, Lane, Progress, TURNS, next_of};
 use crate::non_blocking::is_open;
 use crate::printer::Printer;
-use crate::service::Next;
+use crate::register::register;
+use crate::service::{Next, Tokens};
 use crate::watcher::Watcher;
+use mio::Registry;
 use mio::net::TcpStream;
 use resp_tap::Printing;
 use resp_tap::watch::Side;
@@ -26,11 +29,21 @@ pub(crate) enum Opening {
     Failed(io::Error),
 }
 
+/// The sockets of a connection.
+#[derive(Drop)]
+pub(crate) struct Sockets {
+    pub(crate) client: TcpStream,
+    pub(crate) server: TcpStream,
+    /// The tokens under which they are registered.
+    pub(crate) tokens: Tokens,
+    /// The attempt to connect to the server that the second one belongs to.
+    pub(crate) attempt: Attempt,
+}
+
 /// The connection of a client, and the connection to the server for it.
 #[derive(Drop)]
 pub(crate) struct Tapped {
-    client: TcpStream,
-    server: TcpStream,
+    sockets: Sockets,
     /// Whether the connection to the server is open. Nothing is read from the client before.
     is_connected: bool,
     to_server: Lane,
@@ -82,14 +95,12 @@ impl Tapped {
     /// Returns a connection of which nothing was read.
     pub(crate) fn new(
         alloc: Global,
-        client: TcpStream,
-        server: TcpStream,
+        sockets: Sockets,
         watcher: Watcher,
         printing: Printing,
     ) -> Self {
         Tapped {
-            client,
-            server,
+            sockets,
             is_connected: false,
             to_server: Lane::new(alloc),
             to_client: Lane::new(alloc),
@@ -103,7 +114,7 @@ impl Tapped {
         if self.is_connected {
             return Opening::Connected { is_new: false };
         }
-        match is_open(&self.server) {
+        match is_open(&self.sockets.server) {
             Ok(false) => Opening::Connecting,
             Ok(true) => {
                 self.is_connected = true;
@@ -111,6 +122,29 @@ impl Tapped {
             }
             Err(error) => Opening::Failed(error),
         }
+    }
+
+    /// Returns the attempt to connect to the server.
+    pub(crate) fn attempt(&self) -> Attempt {
+        self.sockets.attempt
+    }
+
+    /// Sets the connection to the server to that of a further attempt.
+    ///
+    /// # Errors
+    ///
+    /// The error of the system if it can't be registered.
+    pub(crate) fn set_server(
+        &mut self,
+        server: TcpStream,
+        attempt: Attempt,
+        registry: &Registry,
+    ) -> io::Result<()> {
+        let mut server = server;
+        register(&mut server, registry, self.sockets.tokens.server)?;
+        self.sockets.server = server;
+        self.sockets.attempt = attempt;
+        Ok(())
     }
 
     /// Returns the client's number, from 1.
@@ -161,7 +195,7 @@ impl Tapped {
             is_first,
             printer,
         };
-        let (client, server) = (&self.client, &self.server);
+        let (client, server) = (&self.sockets.client, &self.sockets.server);
         let forwarded = match side {
             Side::Client => self.to_server.visit(client, server, is_at_end, buffer),
             Side::Server => self.to_client.visit(server, client, is_at_end, buffer),

@@ -1,19 +1,20 @@
 //! The window: its loop, its screen, and what it does with a connection.
 
+use crate::backend::Backend;
 use crate::event_loop::Loop;
 use crate::lane::PIECE;
-use crate::own_address::check_server;
 use crate::printer::Printer;
 use crate::register::register;
 use crate::service::{Cause, Next, Service, Tokens};
 use crate::spare::Spare;
 use crate::stats::{Stats, Tables};
-use crate::tapped::{Opening, Tapped};
+use crate::tapped::{Opening, Sockets, Tapped};
 use crate::terminal::Terminal;
 use crate::timing::Timing;
 use crate::watcher::Watcher;
 use mio::Registry;
 use mio::net::TcpStream;
+use resp_paint::{Painted, Style};
 use resp_print::live::LiveSink;
 use resp_tap::screen::Screen;
 use resp_tap::{Filter, Printing};
@@ -89,22 +90,22 @@ pub struct Settings {
     pub shows_passwords: bool,
     /// When the counts of commands are printed, if commands are counted and not printed.
     pub tables: Option<Tables>,
+    /// The style of text that waits for a terminal, a pipe or a socket.
+    pub style: Style,
 }
 
 /// The server to which connections are forwarded, and what is printed of them.
 #[derive(Drop)]
 struct View {
     alloc: Global,
-    server: SocketAddr,
-    /// The address of the server, as it is printed.
-    server_text: String,
+    backend: Backend,
     settings: Settings,
     filter: Filter,
     /// The number of connections that were accepted.
     count: u64,
     /// With it a client is accepted only if a descriptor is left for its connection to the server too.
     spare: Spare,
-    screen: Screen,
+    screen: Painted<Screen>,
     terminal: Terminal,
     /// Whether a write to a file has failed.
     has_failed: bool,
@@ -126,25 +127,25 @@ struct Watching<'a, R, W> {
 }
 
 impl Window {
-    /// Listens on an address for clients, and connects them to the server at another address. What
-    /// the filter lets through is printed.
+    /// Listens on an address for clients, and connects them to a server. What the filter lets
+    /// through is printed.
     ///
     /// # Errors
     ///
     /// The error of the system if the address can't be opened or a clock can't be read, an error of
-    /// kind `InvalidInput` if the address of the server is the address to listen on, or an error of
+    /// kind `InvalidInput` if an address of the server is the address to listen on, or an error of
     /// kind `OutOfMemory` if an allocation fails.
     pub fn listen<R: Net + Clock + Files<File = File>>(
         rt: &R,
         alloc: Global,
         address: SocketAddr,
-        server: SocketAddr,
+        backend: Backend,
         settings: Settings,
         filter: Filter,
     ) -> io::Result<Self> {
         let connections = Loop::listen(rt, alloc, address, settings.most)?;
-        check_server(rt, server, connections.address())?;
-        let view = View::new(rt, alloc, server, settings, filter)?;
+        backend.check(rt, connections.address())?;
+        let view = View::new(rt, alloc, backend, settings, filter)?;
         Ok(Window { connections, view })
     }
 
@@ -155,6 +156,11 @@ impl Window {
     /// The error of the system if it can't be read.
     pub fn address(&self) -> io::Result<SocketAddr> {
         self.connections.address()
+    }
+
+    /// Returns whether standard output is a terminal, a pipe or a socket, for which text may wait.
+    pub fn may_wait(&self) -> bool {
+        self.view.terminal.may_wait()
     }
 
     /// Forwards the bytes of all connections and prints their traffic, until waiting for
@@ -190,12 +196,13 @@ impl View {
     fn new<R: Net + Clock + Files<File = File>>(
         rt: &R,
         alloc: Global,
-        server: SocketAddr,
+        backend: Backend,
         settings: Settings,
         filter: Filter,
     ) -> io::Result<View> {
-        let server_text = format!(in alloc; "{server}")?;
         let terminal = Terminal::new(rt, alloc)?;
+        let mut screen = Painted::new(Screen::new(alloc, SCREEN));
+        screen.set_style(settings.style);
         let timing = Timing::new(rt, settings.tells_time || settings.tables.is_some())?;
         let stats = match settings.tables {
             Some(tables) => Some(Stats::new(alloc, tables)?),
@@ -203,13 +210,12 @@ impl View {
         };
         Ok(View {
             alloc,
-            server,
-            server_text,
+            backend,
             settings,
             filter,
             count: 0,
             spare: Spare::new(rt),
-            screen: Screen::new(alloc, SCREEN),
+            screen,
             terminal,
             has_failed: false,
             is_silent: false,
@@ -229,14 +235,15 @@ impl View {
             return Ok(());
         }
         for _ in 0..WRITES {
-            let _ = self.screen.say_what_is_left_out();
-            let text = self.screen.text();
+            let screen = self.screen.inner_mut();
+            let _ = screen.say_what_is_left_out();
+            let text = screen.text();
             if text.is_empty() {
                 return Ok(());
             }
             match self.terminal.print(text, out)? {
                 0 => return Ok(()),
-                count => self.screen.shown(count),
+                count => screen.shown(count),
             }
         }
         Ok(())
@@ -255,7 +262,7 @@ impl View {
         };
         self.is_silent = true;
         // The text that waits is never printed.
-        self.screen = Screen::new(self.alloc, 0);
+        self.screen = Painted::new(Screen::new(self.alloc, 0));
         let _ = rt.eprintln(notice);
         Ok(())
     }
@@ -334,32 +341,63 @@ impl View {
         clock: &C,
         out: &mut W,
     ) {
-        let server = self.server_text.as_str();
+        let server = self.backend.name();
         match format!(in self.alloc; ": cannot connect to {server}: {error}") {
             Ok(line) => self.print_line(client, line.as_str().as_bytes(), clock, out),
             Err(_) => self.print_line(client, NOT_CONNECTED, clock, out),
         }
     }
 
-    /// Forwards the bytes of a connection once the connection to the server is open.
-    fn visit<W: Sink, C: Clock>(
+    /// Forwards the bytes of a connection once the connection to the server is open. If it can't be
+    /// opened, it is tried at the next address of the server.
+    fn visit<R: Net + Clock, W: Sink>(
         &mut self,
+        rt: &R,
         connection: &mut Tapped,
+        registry: &Registry,
         is_at_end: bool,
-        clock: &C,
         out: &mut W,
     ) -> Next {
-        match connection.opening() {
-            Opening::Connecting => Next::Wait,
-            // The event that reports the end of an input may already have passed.
+        let error = match connection.opening() {
+            Opening::Connecting => return Next::Wait,
             Opening::Connected { is_new } => {
-                self.hand_on(connection, is_at_end || is_new, clock, out)
+                if is_new {
+                    self.backend.prefer(connection.attempt());
+                }
+                // The event that reports the end of an input may already have passed.
+                return self.hand_on(connection, is_at_end || is_new, rt, out);
             }
-            Opening::Failed(error) => {
-                self.print_failure(connection.number(), &error, clock, out);
+            Opening::Failed(error) => error,
+        };
+        match self.connect_again(rt, connection, registry, error) {
+            Ok(()) => Next::Wait,
+            Err(error) => {
+                self.print_failure(connection.number(), &error, rt, out);
                 Next::Close
             }
         }
+    }
+
+    /// Begins to connect to the next address of the server, after one could not be reached for this
+    /// reason.
+    ///
+    /// # Errors
+    ///
+    /// That reason if each address was tried, or an error of the system.
+    fn connect_again(
+        &mut self,
+        net: &impl Net,
+        connection: &mut Tapped,
+        registry: &Registry,
+        error: io::Error,
+    ) -> io::Result<()> {
+        let Some(attempt) = self.backend.after(connection.attempt()) else {
+            return Err(error);
+        };
+        let (server, attempt) = self.backend.connect(&mut self.spare, net, attempt)?;
+        connection.set_server(server, attempt, registry)?;
+        self.spare.keep(net);
+        Ok(())
     }
 
     /// Forwards the bytes of a connection.
@@ -404,15 +442,22 @@ impl View {
         tokens: Tokens,
     ) -> io::Result<Tapped> {
         let mut client = client;
-        let mut server = self.spare.connect(net, self.server)?;
+        let first = self.backend.first();
+        let (mut server, attempt) = self.backend.connect(&mut self.spare, net, first)?;
         register(&mut client, registry, tokens.client)?;
         register(&mut server, registry, tokens.server)?;
         let printing = Printing {
             client: number,
             shows_passwords: self.settings.shows_passwords,
         };
+        let sockets = Sockets {
+            client,
+            server,
+            tokens,
+            attempt,
+        };
         let watcher = Watcher::new(self.alloc, &self.settings.limits, self.stats.is_some());
-        Ok(Tapped::new(self.alloc, client, server, watcher, printing))
+        Ok(Tapped::new(self.alloc, sockets, watcher, printing))
     }
 }
 
@@ -452,9 +497,9 @@ impl<R: Net + Clock + Eprint, W: LiveSink> Service<Tapped> for Watching<'_, R, W
         self.view.print_line(number, REJECTED, self.rt, self.out);
     }
 
-    fn visit(&mut self, connection: &mut Tapped, _registry: &Registry, cause: Cause) -> Next {
+    fn visit(&mut self, connection: &mut Tapped, registry: &Registry, cause: Cause) -> Next {
         self.view
-            .visit(connection, cause.is_at_end(), self.rt, self.out)
+            .visit(self.rt, connection, registry, cause.is_at_end(), self.out)
     }
 
     fn close(&mut self, connection: Tapped) {
@@ -480,7 +525,8 @@ impl<R: Net + Clock + Eprint, W: LiveSink> Service<Tapped> for Watching<'_, R, W
         if self.view.is_silent {
             return None;
         }
-        let is_empty = self.view.screen.text().is_empty() && self.view.screen.unshown() == 0;
+        let screen = self.view.screen.inner();
+        let is_empty = screen.text().is_empty() && screen.unshown() == 0;
         if !is_empty {
             return Some(Duration::from_millis(PATIENCE));
         }

@@ -10,7 +10,7 @@ returns-in_err-address_of-clause-err c =
     let given = rows_of (found_of c.args.matches.now) in
     on_err _ _ (no_listener given _ c.in-Some.ensures.some.listen_text c.in_err-address_of.ensures.err)
 
-pub returns-in_err-address_of-2-clause-err : goal.returns-in_err-address_of-2-clause-err
-returns-in_err-address_of-2-clause-err c =
+pub returns-in_err-server_of-clause-err : goal.returns-in_err-server_of-clause-err
+returns-in_err-server_of-clause-err c =
     let given = rows_of (found_of c.args.matches.now) in
-    on_err _ _ (no_server given _ c.in-Some.ensures.some.server_text c.in_err-address_of-2.ensures.err)
+    on_err _ _ (no_server given _ c.in-Some.ensures.some.server_text c.in_err-server_of.ensures.err)

@@ -1,0 +1,53 @@
+//! The addresses of servers that are given by the name of a host.
+
+use resp_args::server_address::ServerAddress;
+use resp_args::words::refuse_host;
+use resp_value::device::Sink;
+use std::alloc::{AllocError, Global};
+use std::io;
+use std::net::{Net, SocketAddr, ToSocketAddrs};
+
+/// Returns the addresses of a server. The system looks up a name, and may wait for other machines.
+///
+/// # Errors
+///
+/// The error of the system if it finds no address, or an error of kind `OutOfMemory`.
+pub fn addresses_of(
+    net: &impl Net,
+    alloc: Global,
+    server: &ServerAddress<'_>,
+) -> io::Result<Vec<SocketAddr>> {
+    let mut addresses = Vec::new(alloc);
+    match *server {
+        ServerAddress::Socket(address) => addresses.push(address)?,
+        ServerAddress::Named { host, port } => {
+            for address in (host, port).to_socket_addrs(net)? {
+                addresses.push(address)?;
+            }
+        }
+    }
+    Ok(addresses)
+}
+
+/// Returns the name of a server for lines about it: the host and the port.
+pub fn name_of(alloc: Global, server: &ServerAddress<'_>) -> Result<String, AllocError> {
+    match server {
+        ServerAddress::Socket(address) => format!(in alloc; "{address}"),
+        ServerAddress::Named { host, port } => format!(in alloc; "{host}:{port}"),
+    }
+}
+
+/// Reports that the system found no address of a server, and why. Returns the exit status.
+pub fn refuse_server<F: Sink>(
+    alloc: Global,
+    server: &ServerAddress<'_>,
+    error: &io::Error,
+    faults: &mut F,
+) -> Result<u8, AllocError> {
+    let why = format!(in alloc; "{error}")?;
+    let host = match server {
+        ServerAddress::Socket(address) => format!(in alloc; "{address}")?,
+        ServerAddress::Named { host, .. } => format!(in alloc; "{host}")?,
+    };
+    Ok(refuse_host(host.as_str(), why.as_str(), faults))
+}

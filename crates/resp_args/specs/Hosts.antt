@@ -1,0 +1,32 @@
+-- The address of a server in words, which may have the name of a host.
+use Rattle.std.specs.Prelude.{◌≡◌, ◌≤◌, ◌<◌, ◌++◌, ◌⊎◌, ℕ, All, List, codes}
+use Rattle.std.specs.Net.Grammar.{IsSocketText}
+use Rattle.std.specs.declared.net.socket_addr.SocketAddr.{SocketAddr}
+use Rattle.resp_args.specs.Addresses.{HasPort, IsAddressText}
+use Rattle.resp_args.specs.declared.server_address.ServerAddress.{ServerAddress}
+use Rattle.resp_args.specs.declared.server_address.ServerAddress.TheVariants.{Socket, Named}
+
+abbrev IsBetween : ℕ → ℕ → ℕ → Type 0
+IsBetween least most byte = (least ≤ byte) × (byte ≤ most)
+
+abbrev pub IsDigitByte : ℕ → Type 0
+IsDigitByte = IsBetween 48 57
+
+-- the byte is a letter or a digit, or `-`, `_` or `.`
+abbrev pub IsHostByte : ℕ → Type 0
+IsHostByte byte = IsDigitByte byte ⊎ IsBetween 65 90 byte ⊎ IsBetween 97 122 byte ⊎ (byte ≡ 45) ⊎ (byte ≡ 95) ⊎ (byte ≡ 46)
+
+-- the text has only such bytes, and not only digits
+abbrev pub IsHost : List ℕ → Type 0
+IsHost text = All IsHostByte text × (All IsDigitByte text → ⊥)
+
+-- the text is the name of a host, with `:` and a port, or without them if the port is 6379
+abbrev pub IsHostText : List ℕ → List ℕ → ℕ → Type 0
+IsHostText text host port = IsHost host ×
+    ((text ≡ host) × (port ≡ 6379) ⊎ HasPort (host ++ codes ":") text port)
+
+-- the text is an address that a listener may have, or else the name of a host with its port
+abbrev pub IsServerText : List ℕ → ServerAddress → Type 0
+IsServerText text (Socket address) = IsAddressText text address
+IsServerText text (Named host port) =
+    ((address : SocketAddr) → IsAddressText text address → ⊥) × IsHostText text host.now port

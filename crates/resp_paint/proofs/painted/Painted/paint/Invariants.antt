@@ -1,0 +1,10 @@
+use Rattle.std.proofs.Common.{◌≡◌, ◌++◌, ℕ, List, length}
+use Rattle.resp_paint.specs.Paints.{Paints}
+use Rattle.resp_paint.proofs.painted.Painted.paint.Given as goal
+
+abbrev pub invariant-loop-byte : goal.invariant-loop-byte
+invariant-loop-byte g l = (front : List ℕ) × (l.text ≡ front ++ l.rest) ×
+    Paints (g.W.Sink.written l.initial.self.inner) (g.W.Sink.written l.self.inner) l.initial.self.held.items front l.self.held.items
+
+abbrev pub decreases-loop-byte : goal.decreases-loop-byte
+decreases-loop-byte g l = length l.rest

@@ -1,0 +1,156 @@
+//! Colors and characters for the bytes of printed text, one byte after another.
+
+ghost use Rattle.std.specs.Prelude.{◌<◌};
+
+use crate::place::Place;
+use crate::printable::{is_printable, length_from};
+use crate::style::Style;
+use arrayvec::ArrayVec;
+
+/// The most bytes of text that wait for the end of a character: the escapes of four bytes.
+pub(crate) const MOST_HELD: usize = 16;
+
+/// The most bytes that are printed for the bytes that wait.
+pub(crate) const MOST_PAINTED: usize = 64;
+
+/// The bytes of an escape: a backslash, `x`, and two digits.
+const ESCAPE: usize = 4;
+
+/// What is printed for the bytes that wait, of which the last one is new.
+#[derive(Drop)]
+pub(crate) enum Paint {
+    /// Nothing, since the bytes may be part of a character.
+    Later,
+    /// This text.
+    Now(ArrayVec<u8, MOST_PAINTED>),
+}
+
+/// The state of a text that is printed in a style.
+#[derive(Clone, Copy)]
+pub(crate) struct Painter {
+    style: Style,
+    place: Place,
+}
+
+impl Painter {
+    /// Returns the state at the beginning of a line.
+    pub(crate) fn new(style: Style) -> Self {
+        Painter {
+            style,
+            place: Place::Start,
+        }
+    }
+
+    /// Returns the style.
+    pub(crate) fn style(&self) -> Style {
+        self.style
+    }
+
+    /// Returns what is printed for the bytes that wait, after one more byte was added to them.
+    pub(crate) fn next(&mut self, held: &[u8]) -> Paint {
+        if self.style.utf8 && self.place.is_quoted() && may_be_character(held) {
+            let bytes = escaped_bytes(held);
+            if !is_whole(held, &bytes) {
+                return Paint::Later;
+            }
+            if is_printable(&bytes) {
+                let mut text = ArrayVec::new();
+                append(&mut text, &bytes);
+                return Paint::Now(text);
+            }
+        }
+        Paint::Now(self.as_they_are(held))
+    }
+
+    /// Returns the bytes with their colors.
+    fn as_they_are(&mut self, held: &[u8]) -> ArrayVec<u8, MOST_PAINTED> {
+        let mut text = ArrayVec::new();
+        for byte in held {
+            let step = self.place.step(*byte);
+            self.place = step.place;
+            if self.style.colors {
+                append(&mut text, step.before.sequence());
+            }
+            append(&mut text, &[*byte]);
+            if self.style.colors {
+                append(&mut text, step.after.sequence());
+            }
+        }
+        text
+    }
+}
+
+/// Appends bytes, as far as there is room.
+fn append<const N: usize>(text: &mut ArrayVec<u8, N>, bytes: &[u8]) {
+    for byte in bytes {
+        let _ = text.try_push(*byte);
+    }
+}
+
+/// Returns whether the bytes are escapes of bytes that are not ASCII, of which the last may be
+/// incomplete, and may begin or be a character.
+fn may_be_character(held: &[u8]) -> bool {
+    held.len() <= MOST_HELD
+        && held
+            .chunks(ESCAPE)
+            .enumerate()
+            .all(|(index, escape)| may_be_escape(index, escape))
+}
+
+/// Returns whether the bytes begin or are the escape of the byte at this index of a character.
+fn may_be_escape(index: usize, escape: &[u8]) -> bool {
+    let begins = match escape {
+        [b'\\'] | [b'\\', b'x'] => true,
+        [b'\\', b'x', digit] | [b'\\', b'x', digit, _] =>
+            matches!(*digit, b'8'..=b'9' | b'a'..=b'f'),
+        _ => false,
+    };
+    begins
+        && match byte_of(escape) {
+            Some(byte) if index == 0 => length_from(byte) > 0,
+            Some(byte) => (0x80..=0xBF).contains(&byte),
+            None => true,
+        }
+}
+
+/// Returns the byte of an escape, or `None` if it is not complete.
+fn byte_of(escape: &[u8]) -> Option<u8> {
+    match escape {
+        [_, _, high, low] => Some(digit_of(*high) * 16 + digit_of(*low)),
+        _ => None,
+    }
+}
+
+/// Returns the value of a hexadecimal digit in lower case, and 0 for any other byte.
+fn digit_of(digit: u8) -> u8
+    ensures { result < 16 }
+{
+    match digit {
+        b'0'..=b'9' => digit - b'0',
+        b'a'..=b'f' => digit - b'a' + 10,
+        _ => 0,
+    }
+}
+
+/// Returns the bytes whose complete escapes these are.
+fn escaped_bytes(held: &[u8]) -> ArrayVec<u8, MOST_HELD> {
+    let mut bytes = ArrayVec::new();
+    for escape in held.chunks(ESCAPE) {
+        if let Some(byte) = byte_of(escape) {
+            append(&mut bytes, &[byte]);
+        }
+    }
+    bytes
+}
+
+/// Returns whether the escapes are complete, and are those of as many bytes as the first one
+/// announces.
+fn is_whole(held: &[u8], bytes: &[u8]) -> bool {
+    match bytes.first() {
+        Some(first) => {
+            let is_complete = held.len() % ESCAPE == 0;
+            is_complete && bytes.len() >= length_from(*first)
+        }
+        None => false,
+    }
+}

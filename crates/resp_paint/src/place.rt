@@ -1,0 +1,130 @@
+//! The place of a byte in a line of printed text, from which its color follows.
+
+use crate::color::Color;
+
+/// The word `int`, as the number that its bytes are.
+const INT: u64 = 0x69_6E74;
+
+/// The word `big`.
+const BIG: u64 = 0x62_6967;
+
+/// The word `double`.
+const DOUBLE: u64 = 0x646F_7562_6C65;
+
+/// The word `error`.
+const ERROR: u64 = 0x65_7272_6F72;
+
+/// The last eight bytes of the word `bulkerror`.
+const BULK_ERROR: u64 = 0x756C_6B65_7272_6F72;
+
+/// The place behind the bytes of a line so far.
+#[derive(Clone, Copy, Debug, PartialEq, Eq)]
+pub(crate) enum Place {
+    /// At the beginning of a line, or in its indentation.
+    Start,
+    /// In the first word, of which this number has the last eight bytes.
+    Word(u64),
+    /// Behind the first word. Texts in quotes have this color.
+    Beyond(Color),
+    /// In quotes.
+    Quoted(Color),
+    /// In quotes, behind a backslash.
+    Escaped(Color),
+    /// In a line that is colored up to its end.
+    Colored,
+}
+
+/// The effect of a byte.
+#[derive(Clone, Copy)]
+pub(crate) struct Step {
+    /// The color that is switched to before the byte.
+    pub(crate) before: Color,
+    /// The color that is switched to after the byte.
+    pub(crate) after: Color,
+    /// The place behind the byte.
+    pub(crate) place: Place,
+}
+
+/// Returns the step to a place, without a change of color.
+fn to(place: Place) -> Step {
+    colored(Color::Same, place)
+}
+
+/// Returns the step to a place, with a color from the byte on.
+fn colored(before: Color, place: Place) -> Step {
+    Step {
+        before,
+        after: Color::Same,
+        place,
+    }
+}
+
+impl Place {
+    /// Returns whether the next byte is inside quotes, and not behind a backslash.
+    pub(crate) fn is_quoted(self) -> bool {
+        matches!(self, Place::Quoted(_))
+    }
+
+    /// Returns the effect of the next byte.
+    pub(crate) fn step(self, byte: u8) -> Step {
+        match self {
+            Place::Start => begin(byte),
+            Place::Word(word) => in_word(word, byte),
+            Place::Beyond(color) => match byte {
+                b'\n' => to(Place::Start),
+                b'"' => colored(color, Place::Quoted(color)),
+                _ => to(self),
+            },
+            Place::Quoted(color) => in_quotes(color, byte),
+            Place::Escaped(color) => to(Place::Quoted(color)),
+            Place::Colored => match byte {
+                b'\n' => colored(Color::Reset, Place::Start),
+                _ => to(self),
+            },
+        }
+    }
+}
+
+/// Returns the effect of a byte at the beginning of a line.
+fn begin(byte: u8) -> Step {
+    match byte {
+        b' ' | b'\n' => to(Place::Start),
+        b'"' => colored(Color::Green, Place::Quoted(Color::Green)),
+        b'n' => colored(Color::Dim, Place::Colored),
+        b't' | b'f' => colored(Color::Magenta, Place::Colored),
+        b'c' | b'r' => colored(Color::Bold, Place::Colored),
+        _ => to(Place::Word(u64::from(byte))),
+    }
+}
+
+/// Returns the effect of a byte in the first word of a line.
+fn in_word(word: u64, byte: u8) -> Step {
+    match byte {
+        b'\n' => to(Place::Start),
+        b' ' => match word {
+            INT | BIG => Step {
+                before: Color::Same,
+                after: Color::Magenta,
+                place: Place::Colored,
+            },
+            DOUBLE => to(Place::Beyond(Color::Magenta)),
+            ERROR | BULK_ERROR => to(Place::Beyond(Color::Red)),
+            _ => to(Place::Beyond(Color::Green)),
+        },
+        _ => to(Place::Word(word.wrapping_mul(256) | u64::from(byte))),
+    }
+}
+
+/// Returns the effect of a byte in quotes.
+fn in_quotes(color: Color, byte: u8) -> Step {
+    match byte {
+        b'\\' => to(Place::Escaped(color)),
+        b'\n' => colored(Color::Reset, Place::Start),
+        b'"' => Step {
+            before: Color::Same,
+            after: Color::Reset,
+            place: Place::Beyond(color),
+        },
+        _ => to(Place::Quoted(color)),
+    }
+}
