@@ -41,7 +41,7 @@ pub struct InPlace {
     pub stop: Stop,
 }
 
-/// Returns why these bytes, with which no plain reply begins, have no reply that is read.
+/// Returns why no reply of these bytes was read. The bytes do not begin with a plain reply.
 fn stop_without_reply(version: Version, limits: &Limits, bytes: &[u8]) -> Stop
     requires { BeginsWithPlain (rules_under version limits.now) bytes.now → ⊥ }
     ensures { (room : ℕ) → StopsFor (rules_under version limits.now) bytes.now room result }
@@ -60,7 +60,7 @@ fn stop_without_reply(version: Version, limits: &Limits, bytes: &[u8]) -> Stop
     }
 }
 
-/// Returns why these bytes have no reply that is read, if [`plain`] has read none for this reason.
+/// Returns why no reply of these bytes was read, after [`plain`] has failed for this reason.
 fn stop_for(version: Version, limits: &Limits, bytes: &[u8], why: Unread) -> Stop
     requires { why ≡ NoReply → BeginsWithPlain (rules_under version limits.now) bytes.now → ⊥ }
     ensures { (room : ℕ) →
