@@ -9,7 +9,7 @@ const ESCAPE: u8 = 27;
 
 /// Returns whether `painted` shows `plain`: without the sequences that switch colors, and with an
 /// escape in place of each byte that is not ASCII, it is that text, and it ends outside a sequence.
-pub fn shows(painted: &[u8], plain: &[u8]) -> bool
+pub(crate) fn shows(painted: &[u8], plain: &[u8]) -> bool
     ensures { result ≡ true → Shows painted.now plain.now }
 {
     let Some((byte, beyond)) = painted.split_first() else {
