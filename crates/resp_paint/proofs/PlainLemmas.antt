@@ -71,3 +71,10 @@ paints_next a b c held text held' text' held'' first second = record {
   all = sym (append_assoc held text text') ∙ ap (λ z. z ++ text') first.all ∙ append_assoc first.shown held' text' ∙
       ap (λ z. first.shown ++ z) second.all ∙ sym (append_assoc first.shown second.shown held'');
 }
+
+-- all that waited was painted, in the words of a call
+pub paints_all : (before after : Option (List ℕ)) (held text held' painted here there whole pushed : List ℕ) → here ≡ painted → there ≡ painted →
+    whole ≡ pushed → pushed ≡ held ++ text → Shows here whole → Appends before after there → held' ≡ [] → Paints before after held text held'
+paints_all before after held text held' painted here there whole pushed same same' is is' shows appended none =
+    paints_now before after held text held' painted (subst (Appends before after) same' appended)
+    (subst (λ z. Shows painted z) (is ∙ is') (subst (λ z. Shows z whole) same shows)) none

@@ -15,5 +15,4 @@ mod printable;
 mod style;
 
 pub use painted::Painted;
-pub use plain::shows;
 pub use style::Style;

@@ -60,26 +60,53 @@ impl<W> Painted<W> {
 }
 
 impl<W: Sink> Painted<W> {
-    /// Prints a text in this style.
+    /// Prints some bytes in this style, and returns their number.
+    fn print(&mut self, from: &[u8]) -> Result<usize, DeviceFault>
+        ensures within { IfOk result (λ n. n ≤ length from.now) }
+        ensures passed_on { is_plain_style self.old.painter.style ≡ true →
+            Writes (W.written self.old.inner) (W.written self.new.inner) from.now result }
+        ensures painted { is_plain_style self.old.painter.style ≡ false → IfOk result (λ n.
+            (n ≡ length from.now) × Paints (W.written self.old.inner) (W.written self.new.inner)
+            self.old.held.items from.now self.new.held.items) }
+        ensures same_calls { self.new.calls ≡ self.old.calls }
+        ensures same_failures { self.new.failures ≡ self.old.failures }
+    {
+        if self.painter.style().is_plain() {
+            return self.inner.write(from);
+        }
+        match self.paint(from) {
+            Ok(()) => Ok(from.len()),
+            Err(fault) => Err(fault),
+        }
+    }
+
+    /// Prints a text in a style.
     fn paint(&mut self, text: &[u8]) -> Result<(), DeviceFault>
-        ensures { OnOk result (Paints (W.written self.old.inner) (W.written self.new.inner)
-            self.old.held.items text.now self.new.held.items) }
+        ensures paints { OnOk result (Paints (W.written self.old.inner)
+            (W.written self.new.inner) self.old.held.items text.now self.new.held.items) }
+        ensures same_calls { self.new.calls ≡ self.old.calls }
+        ensures same_failures { self.new.failures ≡ self.old.failures }
     {
         let mut rest = text;
         while let Some((byte, beyond)) = rest.split_first() {
-            self.paint_byte(*byte)?;
-            rest = beyond;
+            match self.paint_byte(*byte) {
+                Ok(()) => rest = beyond,
+                Err(fault) => return Err(fault),
+            }
         }
         Ok(())
     }
 
     /// Prints one byte more, or lets it wait.
     fn paint_byte(&mut self, byte: u8) -> Result<(), DeviceFault>
-        ensures { OnOk result (Paints (W.written self.old.inner) (W.written self.new.inner)
-            self.old.held.items (byte ∷ []) self.new.held.items) }
+        ensures paints { OnOk result (Paints (W.written self.old.inner)
+            (W.written self.new.inner) self.old.held.items (byte ∷ []) self.new.held.items) }
+        ensures same_calls { self.new.calls ≡ self.old.calls }
+        ensures same_failures { self.new.failures ≡ self.old.failures }
     {
-        if self.held.try_push(byte).is_err() {
-            return Err(DeviceFault);
+        match self.held.try_push(byte) {
+            Ok(()) => {}
+            Err(_) => return Err(DeviceFault),
         }
         let Paint::Now(painted) = self.painter.next(self.held.as_slice()) else {
             return Ok(());
@@ -87,7 +114,10 @@ impl<W: Sink> Painted<W> {
         if !shows(painted.as_slice(), self.held.as_slice()) {
             return Err(DeviceFault);
         }
-        write_text(&mut self.inner, painted.as_slice())?;
+        match write_text(&mut self.inner, painted.as_slice()) {
+            Ok(()) => {}
+            Err(fault) => return Err(fault),
+        }
         self.held.clear();
         Ok(())
     }
@@ -113,18 +143,17 @@ impl<W: Sink> Sink for Painted<W> {
             self.old.held.items from.now self.new.held.items) }
     {
         self.calls = self.calls.saturating_add(1);
-        let result = if self.painter.style().is_plain() {
-            self.inner.write(from)
-        } else {
-            match self.paint(from) {
-                Ok(()) => Ok(from.len()),
-                Err(fault) => Err(fault),
+        match self.print(from) {
+            Ok(0) => {
+                self.failures = self.failures.saturating_add(1);
+                Ok(0)
             }
-        };
-        if matches!(result, Ok(0) | Err(DeviceFault)) {
-            self.failures = self.failures.saturating_add(1);
+            Ok(count) => Ok(count),
+            Err(fault) => {
+                self.failures = self.failures.saturating_add(1);
+                Err(fault)
+            }
         }
-        result
     }
 }
 

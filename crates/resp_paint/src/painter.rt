@@ -1,6 +1,6 @@
 //! Colors and characters for the bytes of printed text, one byte after another.
 
-ghost use Rattle.std.specs.Prelude.{◌<◌};
+ghost use Rattle.std.specs.Prelude.{◌≡◌, ◌<◌};
 
 use crate::place::Place;
 use crate::printable::{is_printable, length_from};
@@ -42,7 +42,9 @@ impl Painter {
     }
 
     /// Returns the style.
-    pub(crate) fn style(&self) -> Style {
+    pub(crate) fn style(&self) -> Style
+        ensures { result ≡ self.now.style }
+    {
         self.style
     }
 

@@ -1,6 +1,6 @@
 //! The text without colors and with escapes that a painted text stands for.
 
-ghost use Rattle.std.specs.Prelude.{◌≡◌, ◌<◌, ◌∷◌, ◌++◌, ℕ, List, true, IfSome};
+ghost use Rattle.std.specs.Prelude.{◌≡◌, ◌≤◌, ◌<◌, ◌∷◌, ◌++◌, ℕ, List, length, true, IfSome};
 ghost use Rattle.resp_print.specs.Shown.{hex_digit};
 ghost use Rattle.resp_paint.specs.Plain.{Shows, beyond_sequence, plain_text, shown_byte};
 
@@ -9,7 +9,7 @@ const ESCAPE: u8 = 27;
 
 /// Returns whether `painted` shows `plain`: without the sequences that switch colors, and with an
 /// escape in place of each byte that is not ASCII, it is that text, and it ends outside a sequence.
-pub fn shows(painted: &[u8], plain: &[u8]) -> bool
+pub(crate) fn shows(painted: &[u8], plain: &[u8]) -> bool
     ensures { result ≡ true → Shows painted.now plain.now }
 {
     let Some((byte, beyond)) = painted.split_first() else {
@@ -29,8 +29,9 @@ pub fn shows(painted: &[u8], plain: &[u8]) -> bool
 
 /// Returns the bytes behind a sequence of which the first byte was read.
 fn after_sequence(text: &[u8]) -> Option<&[u8]>
-    ensures { IfSome result (λ rest. (more : List ℕ) →
+    ensures same_text { IfSome result (λ rest. (more : List ℕ) →
         beyond_sequence (text.now ++ more) ≡ plain_text (rest.now ++ more)) }
+    ensures shorter { IfSome result (λ rest. length rest.now ≤ length text.now) }
 {
     let (byte, beyond) = text.split_first()?;
     if *byte == b'm' {
