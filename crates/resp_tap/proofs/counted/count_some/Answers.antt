@@ -22,7 +22,7 @@ returns-clause-counts c =
     let client = c.args.client in
     let old = c.args.tap.now in
     let read = c.take_bytes.new.self in
-    let new = c.follow.new.tap in
+    let new = c.follow.new.self in
     let what = c.step-step.result.seen in
     let heard : Heard = record { bytes = c.take_bytes.result; is_error = c.is_error.result; waited = c.waited_of.result } in
     let rows = c.args.counts.now.rows.items in
