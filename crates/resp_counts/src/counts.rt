@@ -1,6 +1,6 @@
 //! The counts of all commands.
 
-ghost use Rattle.std.specs.Prelude.{◌≡◌, ◌<◌, ℕ, ◌&&◌, List, [], ◌∷◌, length, nat_lt, slice_get, IfOk, IfSome, IfNone, option_map, true, false};
+ghost use Rattle.std.specs.Prelude.{◌≡◌, ◌<◌, ◌≤◌, ℕ, ◌&&◌, List, [], ◌∷◌, length, nat_lt, slice_get, IfOk, IfSome, IfNone, option_map, true, false};
 ghost use Rattle.resp_counts.specs.Rows.{CountsCall, HasNoCall, MayAddRow, has_name, row_has};
 
 use crate::name::Name;
@@ -13,7 +13,7 @@ const MOST_ROWS: usize = 257;
 /// The number of places that are remembered.
 const SLOTS: usize = 256;
 
-/// What was counted of commands, in a row for each name. The first row is that of the commands whose
+/// The counts of all commands, in a row for each name. The first row is that of the commands whose
 /// name has no row of its own, because 256 names have or because an allocation failed.
 #[derive(Drop)]
 pub struct Counts {
@@ -21,6 +21,7 @@ pub struct Counts {
     /// The place of the row that was found last for a name, by a number that is made from the name.
     recent: [usize; SLOTS],
     ghost some: { 0 < length rows.items },
+    ghost few: { length rows.items ≤ 257 },
 }
 
 /// Returns a number that is made from the bytes of a name.
@@ -64,7 +65,8 @@ impl Counts {
 
     /// Returns the rows. The first one is that of the commands without a row of their own.
     pub fn rows(&self) -> &[Row]
-        ensures { result.now ≡ self.now.rows.items }
+        ensures rows { result.now ≡ self.now.rows.items }
+        ensures few { length result.now ≤ 257 }
     {
         self.rows.as_slice()
     }

@@ -33,13 +33,19 @@ IsPlaceFor false name rows place = place ≡ None
 abbrev pub is_counted : Filter → ℕ → List (List ℕ) → Bool
 is_counted f client words = keeps_client f client && keeps_words f words
 
--- A command of so many bytes waits behind those that wait. Nothing is kept of it if memory is out, or nothing is kept of a
--- command before it.
-pub record AsksCall (f : Filter) (client : ℕ) (words : List (List ℕ)) (bytes : ℕ) (old new : List Asked) (rows rows' : List Row) :
+-- the command is kept behind the others, with the place of its row and its bytes
+pub record KeepsCall (f : Filter) (client : ℕ) (words : List (List ℕ)) (bytes : ℕ) (old new : List Asked) (rows' : List Row) :
     Type 0 where
+  pub place : Option ℕ
+  pub is_place : IsPlaceFor (is_counted f client words) (table_name words) rows' place
+  pub kept : new ≡ old ++ record { place = place; bytes = bytes } ∷ []
+
+-- A command of this many bytes waits behind this many others. It is kept if each of the others is kept and memory is
+-- available, and otherwise nothing is kept of it.
+pub record AsksCall (f : Filter) (client : ℕ) (words : List (List ℕ)) (before bytes : ℕ) (old new : List Asked)
+    (rows rows' : List Row) : Type 0 where
   pub may_add : MayAddRow (table_name words) rows rows'
-  pub asked : (new ≡ old) ⊎ ((place : Option ℕ) × IsPlaceFor (is_counted f client words) (table_name words) rows' place ×
-      (new ≡ old ++ record { place = place; bytes = bytes } ∷ []))
+  pub asked : (new ≡ old) ⊎ ((length old ≡ before) × KeepsCall f client words bytes old new rows')
 
 -- ---- replies
 
@@ -72,21 +78,31 @@ ReleasesCall gone f asked heard rows rows' =
 -- ---- steps
 
 -- what is kept and counted after a result, by which one more command waits or this many wait no more
-abbrev pub CountsBy : Bool → Filter → ℕ → Seen → Heard → ℕ → ℕ → List Asked → List Asked → List Row → List Row → Type 0
-CountsBy true f client (seen.Command number words) heard gone at old new rows rows' =
-    AsksCall f client words heard.bytes old new rows rows'
-CountsBy more f client what heard gone at old new rows rows' =
+abbrev pub CountsBy : Bool → Filter → ℕ → Seen → Heard → ℕ → ℕ → ℕ → List Asked → List Asked → List Row → List Row → Type 0
+CountsBy true f client (seen.Command number words) heard before gone at old new rows rows' =
+    AsksCall f client words before heard.bytes old new rows rows'
+CountsBy more f client what heard before gone at old new rows rows' =
     (new ≡ drop gone old) × ReleasesCall gone f (slice_get old at) heard rows rows'
 
 -- the same, if this many commands waited before it and after it
 abbrev pub CountsAfter : Filter → ℕ → Seen → Heard → ℕ → ℕ → ℕ → List Asked → List Asked → List Row → List Row → Type 0
 CountsAfter f client what heard before after at old new rows rows' =
-    CountsBy (nat_lt before after) f client what heard (before - after) at old new rows rows'
+    CountsBy (nat_lt before after) f client what heard before (before - after) at old new rows rows'
 
 -- the bytes that were read of a side's incomplete command or value
 abbrev pub taken_of : Side → CountedTap → ℕ
 taken_of Client t = t.sent
 taken_of Server t = t.received
+
+-- the bytes of an incomplete command or value after a result for this many bytes
+abbrev pub left_of : Seen → ℕ → ℕ
+left_of seen.Nothing bytes = bytes
+left_of what bytes = 0
+
+-- the bytes that were read of the other side's incomplete command or value stay the same
+abbrev pub KeepsTaken : Side → CountedTap → CountedTap → Type 0
+KeepsTaken Client old new = new.received ≡ old.received
+KeepsTaken Server old new = new.sent ≡ old.sent
 
 -- What was heard by a result: its bytes, and the delay of the command that it answers.
 pub record IsHeard (side : Side) (now : Moment) (old : CountedTap) (used : ℕ) (what : Seen) (heard : Heard) : Type 0 where
@@ -102,5 +118,7 @@ pub record CountsSeen (f : Filter) (client : ℕ) (side : Side) (now : Moment) (
     (rows rows' : List Row) : Type 0 where
   pub heard : Heard
   pub is_heard : IsHeard side now old used what heard
+  pub left : taken_of side new ≡ left_of what heard.bytes
+  pub same_taken : KeepsTaken side old new
   pub counts : CountsAfter f client what heard (waits_in old.timed) (waits_in new.timed)
       (asked_at (tap_state old.timed.tap).line.due) old.asked.items new.asked.items rows rows'

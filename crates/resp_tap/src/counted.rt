@@ -1,7 +1,7 @@
 //! A tap whose commands are counted.
 
 ghost use Rattle.std.specs.Prelude.{◌≡◌, ◌+◌, ◌<◌, ◌≤◌, List, [], Some, length, drop, min, slice_get};
-ghost use Rattle.resp_tap.specs.Counting.{AnswersCall, AsksCall, CountsAfter, CountsSeen, IsPlaceFor, ReleasesCall, is_counted, is_error, taken_of};
+ghost use Rattle.resp_tap.specs.Counting.{AnswersCall, AsksCall, CountsAfter, CountsSeen, IsPlaceFor, KeepsTaken, ReleasesCall, is_counted, is_error, left_of, taken_of};
 ghost use Rattle.resp_counts.specs.Names.{table_name};
 ghost use Rattle.resp_counts.specs.Rows.{MayAddRow};
 ghost use Rattle.resp_tap.specs.Taps.{new_tap, tap_state};
@@ -34,7 +34,7 @@ pub(crate) struct Asked {
     pub(crate) bytes: u64,
 }
 
-/// What was heard in reply to a command.
+/// The reply to a command.
 #[derive(Clone, Copy, Debug, PartialEq, Eq)]
 pub(crate) struct Heard {
     /// The number of bytes.
@@ -55,15 +55,17 @@ fn is_error(seen: &Seen) -> bool
     }
 }
 
-/// Returns the number of bytes of an incomplete command or value after a result for so many bytes.
-fn left_of(bytes: u64, seen: &Seen) -> u64 {
+/// Returns the number of bytes of an incomplete command or value after a result for this many bytes.
+fn left_of(bytes: u64, seen: &Seen) -> u64
+    ensures { result ≡ left_of seen.now bytes }
+{
     match seen {
         Seen::Nothing => bytes,
         _ => 0,
     }
 }
 
-/// Counts a command that waits no more, of which this is kept, if the filter lets the reply through.
+/// Counts a command that has its reply, if the filter lets the reply through.
 fn answer(counts: &mut Counts, filter: &Filter, asked: Option<Asked>, heard: Heard)
     ensures { AnswersCall filter.now asked heard counts.old.rows.items counts.new.rows.items }
 {
@@ -115,7 +117,7 @@ impl CountedTap {
         }
     }
 
-    /// Returns the tap without what is kept to count.
+    /// Returns the tap without the counting.
     pub fn tap(&self) -> &Tap
         ensures { result.now ≡ self.now.timed.tap }
     {
@@ -125,6 +127,8 @@ impl CountedTap {
     /// Returns the number of bytes that one side has sent of a command or value, after these bytes.
     fn take_bytes(&mut self, side: Side, used: usize, seen: &Seen) -> u64
         ensures bytes { result ≡ min (taken_of side self.old + used) 18446744073709551615 }
+        ensures left { taken_of side self.new ≡ left_of seen.now result }
+        ensures same_taken { KeepsTaken side self.old self.new }
         ensures same_tap { self.new.timed ≡ self.old.timed }
         ensures same_asked { self.new.asked.items ≡ self.old.asked.items }
     {
@@ -142,7 +146,7 @@ impl CountedTap {
         }
     }
 
-    /// Counts the command at this index if it waits no more, or keeps a new command that waits. So many
+    /// Counts the command at this index if it waits no more, or keeps a new command that waits. This many
     /// commands waited before.
     fn follow(
         &mut self,
@@ -158,6 +162,8 @@ impl CountedTap {
             (waits_in self.old.timed) at self.old.asked.items self.new.asked.items
             counts.old.rows.items counts.new.rows.items }
         ensures same_tap { self.new.timed ≡ self.old.timed }
+        ensures same_bytes { (self.new.sent ≡ self.old.sent) ×
+            (self.new.received ≡ self.old.received) }
     {
         let after = self.timed.tap.waiting();
         match seen {
@@ -168,12 +174,14 @@ impl CountedTap {
         }
     }
 
-    /// Drops what is kept of so many commands that wait no more, and counts the one at this index.
+    /// Removes this many commands that wait no more, and counts the command at this index.
     fn release(&mut self, counts: &mut Counts, filter: &Filter, gone: u64, at: usize, heard: Heard)
         ensures asked { self.new.asked.items ≡ drop gone self.old.asked.items }
         ensures counts { ReleasesCall gone filter.now (slice_get self.old.asked.items at) heard
             counts.old.rows.items counts.new.rows.items }
         ensures same_tap { self.new.timed ≡ self.old.timed }
+        ensures same_bytes { (self.new.sent ≡ self.old.sent) ×
+            (self.new.received ≡ self.old.received) }
     {
         if gone > 0 {
             answer(counts, filter, self.asked.get(at).copied(), heard);
@@ -181,7 +189,7 @@ impl CountedTap {
         }
     }
 
-    /// Keeps what is needed of a command behind so many others that wait.
+    /// Keeps the place and the bytes of a command behind this many others that wait.
     fn ask(
         &mut self,
         counts: &mut Counts,
@@ -191,9 +199,11 @@ impl CountedTap {
         bytes: u64,
         words: &Words,
     )
-        ensures asks { AsksCall filter.now client words.now bytes self.old.asked.items
+        ensures asks { AsksCall filter.now client words.now before bytes self.old.asked.items
             self.new.asked.items counts.old.rows.items counts.new.rows.items }
         ensures same_tap { self.new.timed ≡ self.old.timed }
+        ensures same_bytes { (self.new.sent ≡ self.old.sent) ×
+            (self.new.received ≡ self.old.received) }
     {
         // Otherwise nothing is kept of a command before this one.
         if self.asked.len() as u64 != before {
@@ -203,10 +213,12 @@ impl CountedTap {
         let _ = self.asked.push_back(Asked { place, bytes });
     }
 
-    /// Drops what is kept of the first commands.
+    /// Removes the first commands that are kept.
     fn drop_first(&mut self, count: u64)
         ensures asked { self.new.asked.items ≡ drop count self.old.asked.items }
         ensures same_tap { self.new.timed ≡ self.old.timed }
+        ensures same_bytes { (self.new.sent ≡ self.old.sent) ×
+            (self.new.received ≡ self.old.received) }
     {
         let mut left = count;
         while left > 0 && !self.asked.is_empty() {

@@ -1,5 +1,5 @@
 use Rattle.std.proofs.Common.{rules, ◌≡◌, ◌∙◌, ◌+◌, ℕ, List, refl, ap, sym, subst, min}
-use Rattle.resp_tap.specs.Counting.{CountsAfter, taken_of}
+use Rattle.resp_tap.specs.Counting.{CountsAfter, KeepsTaken, taken_of}
 use Rattle.resp_tap.specs.Lines.{asked_at}
 use Rattle.resp_tap.specs.Taps.{tap_state}
 use Rattle.resp_tap.specs.Times.{waits_in}
@@ -15,6 +15,15 @@ use Rattle.resp_tap.proofs.counted.count_some.Goals as goal
 same_taken : (side : Side) (old new : CountedTap) → new.sent ≡ old.sent → new.received ≡ old.received → taken_of side new ≡ taken_of side old
 same_taken Client old new sent received = sent
 same_taken Server old new sent received = received
+
+-- neither do the bytes of the other side
+same_other : (side : Side) (old new next : CountedTap) → next.sent ≡ new.sent → next.received ≡ new.received → KeepsTaken side old new → KeepsTaken side old next
+same_other Client old new next sent received kept = received ∙ kept
+same_other Server old new next sent received kept = sent ∙ kept
+
+stepped_other : (side : Side) (old new : CountedTap) (t : TimedTap) → KeepsTaken side (record old { timed = t }) new → KeepsTaken side old new
+stepped_other Client old new t kept = kept
+stepped_other Server old new t kept = kept
 
 pub returns-clause-counts : goal.returns-clause-counts
 returns-clause-counts c =
@@ -38,6 +47,9 @@ returns-clause-counts c =
         of_command = c.asked-asked.ensures;
         delay = c.waited_of.ensures;
       };
+      left = same_taken c.args.side read new c.follow.ensures.same_bytes.0 c.follow.ensures.same_bytes.1 ∙ c.take_bytes.ensures.left;
+      same_taken = same_other c.args.side old read new c.follow.ensures.same_bytes.0 c.follow.ensures.same_bytes.1
+          (stepped_other c.args.side old read c.step-step.new.tap c.take_bytes.ensures.same_taken);
       counts = subst (λ (t : TimedTap). CountsAfter f client what heard (waits_in old.timed) (waits_in t) at old.asked.items new.asked.items rows rows') (sym c.follow.ensures.same_tap)
           (subst (λ (l : List Asked). CountsAfter f client what heard (waits_in old.timed) (waits_in read.timed) at l new.asked.items rows rows') c.take_bytes.ensures.same_asked
           (subst (λ (n : ℕ). CountsAfter f client what heard (waits_in old.timed) (waits_in read.timed) n read.asked.items new.asked.items rows rows') c.asked_at-at.ensures
