@@ -115,7 +115,3 @@ whole_value law three version limits piece frame used x rest b text same size =
     ap (λ n. take n piece) (omega (arith, size, sum)) ∙ ap (take (length b.written)) b.whole ∙ take-append_seam b.written rest in
     frame_of (rules_under version limits) [] piece used frame text same (omega (arith, size)) (omega (arith, size, more))
     (subst (IsSpelled (rules_under version limits)) (sym at) (in_version three version limits x b.written b.spelled))
-
--- the bytes after a value are no more than those that begin with it
-pub begins_before : (limits : Bounds) (piece : List ℕ) (x : Datum) (rest : List ℕ) → BeginsWith limits piece x rest → length rest ≤ length piece
-begins_before limits piece x rest b = let sum = ap length b.whole ∙ length-append b.written rest in omega (arith, sum)

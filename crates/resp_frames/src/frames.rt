@@ -1,9 +1,7 @@
 //! Where values end.
 
 ghost use Rattle.std.specs.Prelude.{◌≡◌, ◌++◌, ◌≤◌, length, take, ℕ, List, None, false, true, [], IfErr, IfNone, IfOk, IfSome, IsErrOf, OnErr, OnOk, ◌≢◌};
-ghost use Rattle.resp_value.specs.Data.{Datum};
 ghost use Rattle.resp_value.specs.Rules.{Rules, rules_under};
-ghost use Rattle.resp_scan.specs.Whole.{BeginsWith};
 ghost use Rattle.resp_value.specs.declared.version.Version.{Version};
 ghost use Rattle.resp_frames.specs.Framing.{EndsWithin, HasBegun, IsFrame, IsHeld, OnFault, RejectsByte};
 ghost use Rattle.resp_frames.specs.Texts.{used_of};
@@ -17,7 +15,7 @@ use crate::frame::Frame;
 use resp_scan::event::{ScanError, Scanned};
 use resp_scan::nobody::Nobody;
 use resp_scan::scanner::Scanner;
-use resp_scan::whole::{self, Text};
+use resp_scan::whole;
 use resp_value::laws::{no_spelling_is_empty, version_three_spells_what_two_does};
 use resp_value::limits::Limits;
 use resp_value::version::Version;
@@ -107,7 +105,7 @@ impl Frames {
         ensures same_rules { frame_rules self.new ≡ frame_rules self.old }
     {
         if begun.held.is_none() {
-            if let Some(frame) = string_of_piece(piece, &self.limits) {
+            if let Some(frame) = bulk_string_of_piece(piece, &self.limits) {
                 return Ok(Some(frame));
             }
             return self.begin::<ALONE>(begun, piece);
@@ -232,31 +230,17 @@ impl Frames {
     }
 }
 
-/// Returns the bulk string or the simple string at the beginning of the piece, if it lies whole in it. Most
-/// replies are such strings.
+/// Returns the bulk string at the beginning of the piece, the most common reply, if it lies whole in it.
 #[inline(always)]
-fn string_of_piece<'a>(piece: &'a [u8], limits: &Limits) -> Option<Frame<'a>>
+fn bulk_string_of_piece<'a>(piece: &'a [u8], limits: &Limits) -> Option<Frame<'a>>
     ensures { IfSome result (λ frame. (version : Version) →
         IsFrame (rules_under version limits.now) [] piece.now frame) }
 {
     no_spelling_is_empty();
     version_three_spells_what_two_does();
-    let string = string_at(piece, limits)?;
-    let used = piece.len() - string.rest.len();
+    let found = whole::bulk_string(piece, limits)?;
+    let used = piece.len() - found.rest.len();
     Some(Frame::InPiece(&piece[..used]))
-}
-
-/// Returns the bulk string or the simple string at the beginning of the piece, and the bytes after it.
-#[inline(always)]
-fn string_at<'a>(piece: &'a [u8], limits: &Limits) -> Option<Text<'a>>
-    ensures { IfSome result (λ string. (x : Datum) ×
-        BeginsWith limits.now piece.now x string.rest.now) }
-{
-    match piece.first()? {
-        b'$' => whole::bulk_string(piece, limits),
-        b'+' => whole::simple_string(piece, limits),
-        _ => None,
-    }
 }
 
 /// Copies the bytes of a piece. Makes room for this many further bytes, but at most for four times as

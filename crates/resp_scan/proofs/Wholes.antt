@@ -5,4 +5,3 @@ pub mod WordFronts
 pub mod ManyWords
 pub mod FirstWords
 pub mod Commands
-pub mod Lines

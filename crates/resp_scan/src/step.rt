@@ -112,7 +112,7 @@ impl Machine {
 
     /// Returns the result of a step whose token gave this.
     #[inline(always)]
-    pub fn answer<'a>(&mut self, piece: &'a [u8], got: Taken) -> Result<Step<'a>, Fault>
+    fn answer<'a>(&mut self, piece: &'a [u8], got: Taken) -> Result<Step<'a>, Fault>
         requires { (s : Place) × IsSound s × (out_of got self.old ≡ out_from s piece.now) }
         ensures heard { (s : Place) → IsSound s → out_of got self.old ≡ out_from s piece.now →
             out_of_step s.taken result (place_of self.new) ≡ after_step (out_from s piece.now) }

@@ -215,16 +215,51 @@ impl Machine {
             FillsSlot (S.shows slot.new) (S.shows_text slot.new) s self.new piece.now result }
         ensures left { IfNotShown result (slot.new ≡ slot.old) }
     {
-        let step = match self.answer(piece, taken) {
-            Ok(step) => step,
-            Err(fault) => return Err(fault),
-        };
-        let Some(event) = step.event else {
-            return Ok(None);
-        };
-        slot.event(event);
-        Ok(Some(step.used))
+        let used = taken.used;
+        self.taken += used as u64;
+        match taken.tag {
+            EventTag::More => Ok(None),
+            EventTag::Failed => Err(Fault {
+                cause: self.cause,
+                at: self.taken,
+            }),
+            EventTag::Done => given(used, slot.event(Event::Done)),
+            EventTag::Null => given(used, slot.event(Event::Null)),
+            EventTag::Bool => given(used, slot.event(Event::Bool(self.truth))),
+            EventTag::Int => given(used, slot.event(Event::Int(self.value))),
+            EventTag::Simple => given(used, slot.event(Event::Text(TextKind::Simple))),
+            EventTag::Error => given(used, slot.event(Event::Text(TextKind::Error))),
+            EventTag::Double => given(used, slot.event(Event::Text(TextKind::Double))),
+            EventTag::Bulk => given(used, slot.event(Event::Text(TextKind::Bulk))),
+            EventTag::BulkError => given(used, slot.event(Event::Text(TextKind::BulkError))),
+            EventTag::Verbatim => {
+                let kind = TextKind::Verbatim(self.format);
+                given(used, slot.event(Event::Text(kind)))
+            }
+            EventTag::Big => {
+                let negative = self.big_negative;
+                given(used, slot.event(Event::Text(TextKind::Big { negative })))
+            }
+            EventTag::Part => given(used, slot.event(Event::Part(&piece[..used]))),
+            EventTag::ChunkPart => {
+                let part = run(piece, self.part_start, used);
+                given(used, slot.event(Event::Part(part)))
+            }
+            EventTag::Digit => given(used, slot.event(Event::Part(digit_text(self.digit)))),
+            EventTag::TextEnd => given(used, slot.event(Event::TextEnd)),
+            EventTag::Open => given(used, slot.event(Event::Open(self.kind, Some(self.count)))),
+            EventTag::OpenStreamed => given(used, slot.event(Event::Open(self.kind, None))),
+            EventTag::Close => given(used, slot.event(Event::Close)),
+        }
     }
+}
+
+/// Returns the result for an event that was passed, for which `used` bytes were used.
+#[inline(always)]
+fn given(used: usize, _shown: ()) -> Result<Option<usize>, Fault>
+    ensures { result ≡ Ok (Some used) }
+{
+    Ok(Some(used))
 }
 
 /// Where a step begins.

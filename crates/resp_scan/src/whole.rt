@@ -1,5 +1,5 @@
-//! Recognises what lies completely at the beginning of some bytes: heads, bulk strings, simple
-//! strings and commands. Nothing is copied, and nothing is allocated.
+//! Recognises what lies completely at the beginning of some bytes: heads, bulk strings and
+//! commands. Nothing is copied, and nothing is allocated.
 
 ghost use Rattle.std.specs.Prelude.{◌≡◌, ◌+◌, ◌≤◌, ◌<◌, ◌^◌, ◌∷◌, List, ℕ, drop, length, IfNone, IfSome};
 ghost use Rattle.std.specs.Bool.{MatchBool};
@@ -7,12 +7,10 @@ ghost use Rattle.std.specs.Iterator.{at_most};
 ghost use Rattle.std.specs.Map.Iter.{TakesFirst, deref};
 ghost use Rattle.std.specs.Str.{byte};
 ghost use Rattle.resp_value.specs.Bytes.{crlf};
-ghost use Rattle.resp_value.specs.Examples.{simple};
 ghost use Rattle.resp_value.specs.Words.{word_datum, command_of};
 ghost use Rattle.resp_scan.specs.Whole.{BeginsWith, BeginsWithHead, BeginsWithWord, BeginsWithWords};
 ghost use Rattle.resp_scan.specs.Machine.Wholes.{BeginsWithDigits, HasNoDigit, HasTooMany};
 
-use crate::lines::line_run;
 use crate::short::short_number;
 use resp_value::limits::Limits;
 use std::marker::Model;
@@ -145,12 +143,12 @@ fn head_with_rest(text: &[u8], kind: u8, most: u64) -> Option<Head<'_>>
     })
 }
 
-/// A bulk string or a simple string, and the bytes after it.
+/// A bulk string, and the bytes after it.
 #[derive(Clone, Copy, Debug)]
 pub struct Text<'a> {
     /// The content.
     pub content: &'a [u8],
-    /// The bytes after the string.
+    /// The bytes after the bulk string.
     pub rest: &'a [u8],
 }
 
@@ -325,32 +323,6 @@ pub fn bulk_string<'a>(text: &'a [u8], limits: &Limits) -> Option<Text<'a>>
         return None;
     }
     Some(found)
-}
-
-/// Returns the simple string at the beginning of some bytes, if it is within the limits.
-#[inline(always)]
-pub fn simple_string<'a>(text: &'a [u8], limits: &Limits) -> Option<Text<'a>>
-    ensures begins { IfSome result (λ found. BeginsWith limits.now text.now
-        (simple found.content.now) found.rest.now) }
-    ensures none { IfNone result ((content rest : List ℕ) →
-        BeginsWith limits.now text.now (simple content) rest → ⊥) }
-{
-    if text.is_empty() || text[0] != b'+' {
-        return None;
-    }
-    let line = &text[1..];
-    let run = line_run(line);
-    if !is_line_end(line, run) {
-        return None;
-    }
-    if run as u64 > limits.length() || run as u64 + 3 > limits.total() {
-        return None;
-    }
-    let (content, after) = line.split_at(run);
-    Some(Text {
-        content,
-        rest: &after[2..],
-    })
 }
 
 /// Returns the command at the beginning of some bytes: an array of at least one bulk string and of

@@ -11,6 +11,7 @@ use Rattle.resp_scan.specs.declared.event.Step.{Step}
 use Rattle.resp_scan.specs.declared.event.TextKind.{TextKind}
 use Rattle.resp_scan.specs.declared.event.TextKind.TheVariants as kind
 use Rattle.resp_scan.specs.declared.machine.State.TheVariants as state
+use Rattle.resp_scan.specs.declared.machine.EventTag.{EventTag}
 use Rattle.resp_scan.specs.declared.machine.EventTag.TheVariants as tag
 use Rattle.resp_scan.specs.declared.machine.Taken.{Taken}
 use Rattle.resp_scan.specs.declared.machine.Machine.{Machine}
@@ -21,11 +22,12 @@ use Rattle.resp_scan.specs.Machine.Fields.{out_by, out_of, place_of}
 use Rattle.resp_scan.specs.Machine.Tokens.{Place, Text}
 use Rattle.resp_scan.specs.Machine.Room.{total_room}
 use Rattle.resp_scan.specs.Machine.Runs.{plain_run}
-use Rattle.resp_scan.specs.Machine.Scan.{Bad, Gave, More, Out, Part, Whole, out_from}
+use Rattle.resp_scan.specs.Machine.Scan.{Bad, Gave, out_from}
 use Rattle.resp_scan.specs.Machine.Sound.{IsSound}
 use Rattle.resp_scan.specs.Machine.StepOutcomes.{after_bytes, after_step, out_of_event, out_of_part}
 use Rattle.resp_scan.specs.Machine.Slots.{StepAnswers, FillsSlot, TellsText}
 use Rattle.resp_scan.specs.Machine.Turns.{EndsAt, IsLineTag, IsTurn, LeavesContent}
+use Rattle.resp_scan.specs.Parts.{IsPartOf}
 use Rattle.resp_scan.specs.Slots.{IfNothingShown, IfShown, ShowsEvent, ShowsText, Steps, StepsOverText}
 use Rattle.resp_scan.proofs.CallClauses.Calls.{is_faulted, rules_stay}
 use Rattle.resp_scan.proofs.CallClauses.Faults.{fault_stands}
@@ -33,9 +35,9 @@ use Rattle.resp_scan.proofs.CallClauses.Steps.{if_done, if_in_time, if_no_event,
 use Rattle.resp_scan.proofs.CallClauses.Told.{told}
 use Rattle.resp_scan.proofs.CallClauses.Turns.{from_dead, shows}
 use Rattle.resp_scan.proofs.CallClauses.WholeTexts.{content_turn, line_tag, line_text_is, line_turn, run_is_line}
-use Rattle.resp_scan.proofs.Soundness.Counted.{IsCounted, counted_out, sound_heard}
+use Rattle.resp_scan.proofs.Soundness.Counted.{IsCounted, counted_out, place_counted, sound_heard}
 use Rattle.resp_scan.proofs.Soundness.Kept.{is_advanced}
-use Rattle.resp_scan.proofs.Soundness.Pieces.{Takes, takes_advanced}
+use Rattle.resp_scan.proofs.Soundness.Pieces.{Takes, failed_is, said_kept, used_within}
 
 -- A listener that knows what was given when it began to listen.
 
@@ -241,20 +243,45 @@ is_refused E T (Err fault) s m p text sound h = steps_are _ s m p text sound h
 
 -- Of a step that shows its event.
 
--- A step without an event uses up the piece.
-none_takes_all : (o : Out) (l n : ℕ) (t : Place) → More n t ≡ after_step o → Takes l o → n ≡ l
-none_takes_all (More k s) l n t is all = let same : n ≡ k = cc in same ∙ all
-none_takes_all (Gave k e s) l n t is all = absurd cc
-none_takes_all (Part i k s) l n t is all = absurd cc
-none_takes_all (Whole s) l n t is all = absurd cc
-none_takes_all (Bad k c s) l n t is all = absurd cc
+-- an event by its tag
+pub event_fills : (E : Event → Type 0) (T : TextKind → List ℕ → Type 0) (taken : Taken) (m : Machine) (s : Place) (p : List ℕ) (w : EventTag) (x : Event)
+    (result : Result (Option ℕ) Fault) → result ≡ Ok (Some taken.used) → E x → IsSound s → out_of taken m ≡ out_from s p → taken.tag ≡ w →
+    out_of_event taken.used (Some x) (after_bytes taken.used (place_of m)) ≡ after_step (out_by w taken.used m) → IsPartOf p taken.used (Some x) →
+    FillsSlot E T s (record m { taken = m.taken + taken.used }) p result
+event_fills E T taken m s p w x result is shows sound out by_tag heard lent =
+    subst (FillsSlot E T s (record m { taken = m.taken + taken.used }) p) (sym is) (inl (record {
+      event = x;
+      shows = shows;
+      answers = record {
+        heard = told taken m s p w (Some x) out by_tag heard;
+        within = (used_within taken m s p sound out).0;
+        lent = lent;
+        counted = tt;
+      };
+    }))
 
--- the result for a step without an event
-pub none_fills : (s : Place) (m : Machine) (p : List ℕ) (step : Step) → step.event ≡ None → StepAnswers s m p (Ok step) →
-    StepAnswers s m p (Ok (record { used = length p; event = None }))
-none_fills s m p step none answers =
-    let more : More step.used (place_of m) ≡ after_step (out_from s p) =
-    subst (λ x. out_of_event step.used x (place_of m) ≡ after_step (out_from s p)) none answers.heard in
-    let all : step.used ≡ length p = none_takes_all (out_from s p) (length p) step.used (place_of m) more (takes_advanced s p) in
-    subst (λ n. StepAnswers s m p (Ok (record { used = n; event = None }))) all
-    (subst (λ x. StepAnswers s m p (Ok (record { used = step.used; event = x }))) none answers)
+-- the end of the piece
+pub more_fills : (taken : Taken) (m : Machine) (s : Place) (p : List ℕ) → IsSound s → out_of taken m ≡ out_from s p → taken.tag ≡ tag.More →
+    StepAnswers s (record m { taken = m.taken + taken.used }) p (Ok (record { used = length p; event = None }))
+more_fills taken m s p sound out by_tag =
+    let all : taken.used ≡ length p = subst (λ w. Takes (length p) (out_by w taken.used m)) by_tag (said_kept taken m s p sound out).1 in
+    subst (λ n. StepAnswers s (record m { taken = m.taken + taken.used }) p (Ok (record { used = n; event = None }))) all (record {
+      heard = told taken m s p tag.More None out by_tag refl;
+      within = (used_within taken m s p sound out).0;
+      lent = tt;
+      counted = tt;
+    })
+
+-- a refusal
+pub failed_fills : (taken : Taken) (m : Machine) (s : Place) (p : List ℕ) → IsSound s → out_of taken m ≡ out_from s p → taken.tag ≡ tag.Failed →
+    StepAnswers s (record m { taken = m.taken + taken.used }) p (Err (record { cause = m.cause; at = m.taken + taken.used }))
+failed_fills taken m s p sound out by_tag =
+    let f = failed_is taken m s p sound out by_tag in
+    let size : (m.taken + taken.used) - s.taken ≡ taken.used = omega (arith, f.1) in
+    record {
+      heard = ap (λ t. Bad ((m.taken + taken.used) - s.taken) m.cause t) (place_counted m taken.used)
+          ∙ ap (λ n. Bad n m.cause (after_bytes taken.used (place_of m))) size ∙ ap after_step (sym f.0);
+      within = tt;
+      lent = tt;
+      counted = refl;
+    }
