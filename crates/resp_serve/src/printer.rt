@@ -11,7 +11,7 @@ use resp_tap::filtered::watch_filtered;
 use resp_tap::print::{write_client_line, write_line};
 use resp_tap::stamp::Stamp;
 use resp_tap::watch::Side;
-use resp_tap::{Filter, Printing, Tap};
+use resp_tap::{CountedTap, Filter, FilteredTap, Moment, Printing, Tap};
 use resp_value::device::Sink;
 use std::alloc::Global;
 use std::rt::Clock;
@@ -23,21 +23,21 @@ const NO_TABLE: &[u8] = b"out of memory for the table\n";
 /// If commands are counted, only errors and the table are printed. Without a writer nothing is printed,
 /// and no tap is read.
 #[derive(Drop)]
-pub(crate) struct Printer<'a, 'f, W, C> {
+pub(crate) struct Printer<'a, 'f, 's, W, C> {
     clock: &'a C,
     timing: &'a mut Timing,
-    stats: Option<&'a mut Stats>,
+    stats: Option<&'s mut Stats>,
     filter: &'f Filter,
     writer: Option<&'a mut W>,
     has_failed: bool,
 }
 
-impl<'a, 'f, W: Sink, C: Clock> Printer<'a, 'f, W, C> {
+impl<'a, 'f, 's, W: Sink, C: Clock> Printer<'a, 'f, 's, W, C> {
     /// Returns a printer over `writer`, to which nothing was printed.
     pub(crate) fn new(
         clock: &'a C,
         timing: &'a mut Timing,
-        stats: Option<&'a mut Stats>,
+        stats: Option<&'s mut Stats>,
         filter: &'f Filter,
         writer: Option<&'a mut W>,
     ) -> Self {
@@ -56,7 +56,7 @@ impl<'a, 'f, W: Sink, C: Clock> Printer<'a, 'f, W, C> {
         self.has_failed
     }
 
-    /// Reads a piece that one side of a client's connection sent, and prints the results.
+    /// Reads a piece that one side of a client's connection sent, and prints or counts the results.
     pub(crate) fn print(
         &mut self,
         watcher: &mut Watcher,
@@ -64,33 +64,58 @@ impl<'a, 'f, W: Sink, C: Clock> Printer<'a, 'f, W, C> {
         side: Side,
         piece: &[u8],
     ) {
+        let now = self.timing.now(self.clock);
+        match watcher {
+            Watcher::Printed(tap) => self.print_seen(tap, printing, side, piece, now),
+            Watcher::Counted(tap) => self.count_seen(tap, printing, side, piece, now),
+        }
+    }
+
+    /// Reads a piece and prints the results.
+    fn print_seen(
+        &mut self,
+        tap: &mut FilteredTap,
+        printing: Printing,
+        side: Side,
+        piece: &[u8],
+        now: Option<Moment>,
+    ) {
         let Some(writer) = &mut self.writer else {
             return;
         };
-        let now = self.timing.now(self.clock);
-        let printed = match watcher {
-            Watcher::Printed(tap) => {
-                watch_filtered(tap, self.filter, printing, side, piece, now, *writer)
-            }
-            Watcher::Counted(tap) => {
-                let (Some(stats), Some(now)) = (&mut self.stats, now) else {
-                    return;
-                };
-                stats.note(now.steady);
-                let counts = &mut stats.counts;
-                watch_counted(
-                    tap,
-                    counts,
-                    self.filter,
-                    printing,
-                    side,
-                    piece,
-                    now,
-                    *writer,
-                )
-            }
+        if watch_filtered(tap, self.filter, printing, side, piece, now, *writer).is_err() {
+            self.has_failed = true;
+        }
+    }
+
+    /// Reads a piece and counts the commands that have their replies.
+    fn count_seen(
+        &mut self,
+        tap: &mut CountedTap,
+        printing: Printing,
+        side: Side,
+        piece: &[u8],
+        now: Option<Moment>,
+    ) {
+        let Some(now) = now else {
+            return;
         };
-        if printed.is_err() {
+        let Some(stats) = &mut self.stats else {
+            return;
+        };
+        let Some(writer) = &mut self.writer else {
+            return;
+        };
+        if !count_piece(
+            *stats,
+            tap,
+            self.filter,
+            printing,
+            side,
+            piece,
+            now,
+            *writer,
+        ) {
             self.has_failed = true;
         }
     }
@@ -132,18 +157,16 @@ impl<'a, 'f, W: Sink, C: Clock> Printer<'a, 'f, W, C> {
 
     /// Prints the table of the counts.
     pub(crate) fn print_table(&mut self, alloc: Global) {
-        let now = self.timing.now(self.clock);
-        let (Some(stats), Some(writer), Some(now)) = (&mut self.stats, &mut self.writer, now) else {
+        let Some(now) = self.timing.now(self.clock) else {
             return;
         };
-        stats.printed(now.steady);
-        let table = table_of(alloc, &stats.counts);
-        let text = match &table {
-            Ok(table) => table.as_str().as_bytes(),
-            Err(_) => NO_TABLE,
+        let Some(stats) = &mut self.stats else {
+            return;
         };
-        let head = write_line(b"stats", Some(Stamp::new(now)), *writer);
-        if head.is_err() || write_text(*writer, text).is_err() {
+        let Some(writer) = &mut self.writer else {
+            return;
+        };
+        if !write_table(alloc, *stats, now, *writer) {
             self.has_failed = true;
         }
     }
@@ -155,4 +178,33 @@ impl<'a, 'f, W: Sink, C: Clock> Printer<'a, 'f, W, C> {
             None => None,
         }
     }
+}
+
+/// Reads a piece and counts the commands that have their replies. Returns whether all errors were
+/// printed.
+fn count_piece<W: Sink>(
+    stats: &mut Stats,
+    tap: &mut CountedTap,
+    filter: &Filter,
+    printing: Printing,
+    side: Side,
+    piece: &[u8],
+    now: Moment,
+    writer: &mut W,
+) -> bool {
+    stats.note(now.steady);
+    let counts = &mut stats.counts;
+    watch_counted(tap, counts, filter, printing, side, piece, now, writer).is_ok()
+}
+
+/// Writes the table of the counts, and returns whether it was written.
+fn write_table<W: Sink>(alloc: Global, stats: &mut Stats, now: Moment, writer: &mut W) -> bool {
+    stats.printed(now.steady);
+    let table = table_of(alloc, &stats.counts);
+    let text = match &table {
+        Ok(table) => table.as_str().as_bytes(),
+        Err(_) => NO_TABLE,
+    };
+    let head = write_line(b"stats", Some(Stamp::new(now)), writer);
+    head.is_ok() && write_text(writer, text).is_ok()
 }

@@ -55,16 +55,16 @@ pub(crate) struct Tapped {
 
 /// Gives the pieces that one side sends to the tap, and prints the results.
 #[derive(Drop)]
-struct Seeing<'a, 'b, 'f, W, C> {
+struct Seeing<'a, 'b, 'f, 's, W, C> {
     watcher: &'a mut Watcher,
     printing: Printing,
     side: Side,
     /// Whether the other side has not ended.
     is_first: bool,
-    printer: &'a mut Printer<'b, 'f, W, C>,
+    printer: &'a mut Printer<'b, 'f, 's, W, C>,
 }
 
-impl<W: Sink, C: Clock> Seeing<'_, '_, '_, W, C> {
+impl<W: Sink, C: Clock> Seeing<'_, '_, '_, '_, W, C> {
     /// Receives a piece.
     fn piece(&mut self, piece: &[u8]) {
         if !piece.is_empty() {
@@ -163,7 +163,7 @@ impl Tapped {
         &mut self,
         is_at_end: bool,
         buffer: &mut [u8],
-        printer: &mut Printer<'_, '_, W, C>,
+        printer: &mut Printer<'_, '_, '_, W, C>,
     ) -> Next
         requires { 0 < length buffer.old }
     {
@@ -183,7 +183,7 @@ impl Tapped {
         side: Side,
         is_at_end: bool,
         buffer: &mut [u8],
-        printer: &mut Printer<'_, '_, W, C>,
+        printer: &mut Printer<'_, '_, '_, W, C>,
     ) -> Progress
         requires { 0 < length buffer.old }
     {
