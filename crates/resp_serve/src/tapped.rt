@@ -3,7 +3,7 @@
 ghost use Rattle.std.specs.Prelude.{◌<◌, length};
 
 use crate::backend::Attempt;
-use crate::lane::{Forwarded, Lane, Progress, TURNS, next_of};
+use crate::lane::{Lane, Progress, TURNS, next_of};
 use crate::non_blocking::is_open;
 use crate::printer::Printer;
 use crate::register::register;
@@ -51,44 +51,6 @@ pub(crate) struct Tapped {
     watcher: Watcher,
     /// The client's number, and how its traffic is printed.
     printing: Printing,
-}
-
-/// Gives the pieces that one side sends to the tap, and prints the results.
-#[derive(Drop)]
-struct Seeing<'a, 'b, 'f, 's, W, C> {
-    watcher: &'a mut Watcher,
-    printing: Printing,
-    side: Side,
-    /// Whether the other side has not ended.
-    is_first: bool,
-    printer: &'a mut Printer<'b, 'f, 's, W, C>,
-}
-
-impl<W: Sink, C: Clock> Seeing<'_, '_, '_, '_, W, C> {
-    /// Receives a piece.
-    fn piece(&mut self, piece: &[u8]) {
-        if !piece.is_empty() {
-            self.printer
-                .print(self.watcher, self.printing, self.side, piece);
-        }
-    }
-
-    /// Receives what a visit of a lane has read.
-    fn all(&mut self, piece: &[u8], forwarded: Forwarded) -> Progress {
-        self.piece(piece);
-        if forwarded.has_ended {
-            self.end();
-        }
-        forwarded.progress
-    }
-
-    /// Receives the end of the side. It is printed if the other side has not ended before.
-    fn end(&mut self) {
-        if self.is_first {
-            self.printer
-                .print_end(self.watcher.tap(), self.printing.client, self.side);
-        }
-    }
 }
 
 impl Tapped {
@@ -188,19 +150,20 @@ impl Tapped {
         requires { 0 < length buffer.old }
     {
         let is_first = !self.to_server.has_ended() && !self.to_client.has_ended();
-        let mut see = Seeing {
-            watcher: &mut self.watcher,
-            printing: self.printing,
-            side,
-            is_first,
-            printer,
-        };
         let (client, server) = (&self.sockets.client, &self.sockets.server);
         let forwarded = match side {
             Side::Client => self.to_server.visit(client, server, is_at_end, buffer),
             Side::Server => self.to_client.visit(server, client, is_at_end, buffer),
         };
-        see.all(&buffer[..buffer.len().min(forwarded.count)], forwarded)
+        let piece = &buffer[..buffer.len().min(forwarded.count)];
+        if !piece.is_empty() {
+            printer.print(&mut self.watcher, self.printing, side, piece);
+        }
+        // The end of a side is printed if the other side has not ended before.
+        if forwarded.has_ended && is_first {
+            printer.print_end(self.watcher.tap(), self.printing.client, side);
+        }
+        forwarded.progress
     }
 
     /// Returns whether both sides have ended.
