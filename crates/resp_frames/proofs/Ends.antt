@@ -4,14 +4,13 @@ use Rattle.std.proofs.Math.Seq.{take-append_seam, take-length}
 use Rattle.std.proofs.lemmas.List.{append-nil}
 use Rattle.resp_value.specs.Bounds.{Bounds}
 use Rattle.resp_value.specs.Data.{Datum}
-use Rattle.resp_value.specs.Laws.{NoSpellingIsEmpty, VersionThreeSpellsWhatTwoDoes}
+use Rattle.resp_value.specs.Laws.{NoSpellingIsEmpty}
 use Rattle.resp_value.specs.Rules.{Rules, rules_under}
 use Rattle.resp_value.specs.Spellings.{IsSpelling}
 use Rattle.resp_value.specs.Trees.{Spells}
 use Rattle.resp_value.specs.TreeValues.{value}
 use Rattle.resp_value.specs.Words.{command_of}
-use Rattle.resp_value.specs.declared.version.Version.{Version}
-use Rattle.resp_value.specs.declared.version.Version.TheVariants.{Two, Three}
+use Rattle.resp_value.specs.declared.version.Version.TheVariants.{Two}
 use Rattle.resp_scan.specs.declared.event.ScanError.{ScanError}
 use Rattle.resp_scan.specs.declared.event.ScanError.TheVariants as stop
 use Rattle.resp_scan.specs.Listening.{HearsRefusal, HearsValue}
@@ -96,22 +95,3 @@ whole_command law limits piece found used name arguments rest b text same size h
       };
       words = record { name = name; arguments = arguments; spelled = spelled; has = has };
     }
-
--- a spelling in version 2 is one in each version
-in_version : VersionThreeSpellsWhatTwoDoes → (version : Version) (limits : Bounds) (x : Datum) (text : List ℕ) → IsSpelling (rules_under Two limits) x text →
-    IsSpelled (rules_under version limits) text
-in_version law Two limits x text h = record { tree = h.tree; spells = h.spells; keeps = h.keeps }
-in_version law Three limits x text h =
-    let three = law (rules_under Two limits) x text refl h in record { tree = three.tree; spells = three.spells; keeps = three.keeps }
-
--- the bytes before those that follow a value are a frame, in each version
-pub whole_value : NoSpellingIsEmpty → VersionThreeSpellsWhatTwoDoes → (version : Version) (limits : Bounds) (piece : List ℕ) (frame : Frame) (used : ℕ)
-    (x : Datum) (rest : List ℕ) → BeginsWith limits piece x rest → text_of frame ≡ take used piece → used_of frame ≡ used →
-    used + length rest ≡ length piece → IsFrame (rules_under version limits) [] piece frame
-whole_value law three version limits piece frame used x rest b text same size =
-    let more : length rest < length piece = begins_some law (rules_under Two limits) x b.written rest piece b.spelled b.whole in
-    let sum : length piece ≡ length b.written + length rest = ap length b.whole ∙ length-append b.written rest in
-    let at : take used piece ≡ b.written =
-    ap (λ n. take n piece) (omega (arith, size, sum)) ∙ ap (take (length b.written)) b.whole ∙ take-append_seam b.written rest in
-    frame_of (rules_under version limits) [] piece used frame text same (omega (arith, size)) (omega (arith, size, more))
-    (subst (IsSpelled (rules_under version limits)) (sym at) (in_version three version limits x b.written b.spelled))

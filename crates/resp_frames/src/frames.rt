@@ -2,7 +2,6 @@
 
 ghost use Rattle.std.specs.Prelude.{◌≡◌, ◌++◌, ◌≤◌, length, take, ℕ, List, None, false, true, [], IfErr, IfNone, IfOk, IfSome, IsErrOf, OnErr, OnOk, ◌≢◌};
 ghost use Rattle.resp_value.specs.Rules.{Rules, rules_under};
-ghost use Rattle.resp_value.specs.declared.version.Version.{Version};
 ghost use Rattle.resp_frames.specs.Framing.{EndsWithin, HasBegun, IsFrame, IsHeld, OnFault, RejectsByte};
 ghost use Rattle.resp_frames.specs.Texts.{used_of};
 ghost use Rattle.resp_scan.specs.Kinds.{rules_of};
@@ -12,11 +11,11 @@ ghost use Rattle.resp_scan.specs.Reading.{Events, HasNoValue, HasRead};
 use crate::begun::{Begun, Held};
 use crate::error::FrameError;
 use crate::frame::Frame;
+use resp_nodes::plain_end;
 use resp_scan::event::{ScanError, Scanned};
 use resp_scan::nobody::Nobody;
 use resp_scan::scanner::Scanner;
-use resp_scan::whole;
-use resp_value::laws::{no_spelling_is_empty, version_three_spells_what_two_does};
+use resp_value::laws::no_spelling_is_empty;
 use resp_value::limits::Limits;
 use resp_value::version::Version;
 use std::alloc::{AllocError, Global};
@@ -105,7 +104,7 @@ impl Frames {
         ensures same_rules { frame_rules self.new ≡ frame_rules self.old }
     {
         if begun.held.is_none() {
-            if let Some(frame) = bulk_string_of_piece(piece, &self.limits) {
+            if let Some(frame) = whole_reply(self.version, &self.limits, piece) {
                 return Ok(Some(frame));
             }
             return self.begin::<ALONE>(begun, piece);
@@ -230,17 +229,14 @@ impl Frames {
     }
 }
 
-/// Returns the bulk string at the beginning of the piece, the most common reply, if it lies whole in it.
+/// Returns the plain reply at the beginning of the piece, if it lies whole in it. No scanner is used.
 #[inline(always)]
-fn bulk_string_of_piece<'a>(piece: &'a [u8], limits: &Limits) -> Option<Frame<'a>>
-    ensures { IfSome result (λ frame. (version : Version) →
+fn whole_reply<'a>(version: Version, limits: &Limits, piece: &'a [u8]) -> Option<Frame<'a>>
+    ensures { IfSome result (λ frame.
         IsFrame (rules_under version limits.now) [] piece.now frame) }
 {
-    no_spelling_is_empty();
-    version_three_spells_what_two_does();
-    let found = whole::bulk_string(piece, limits)?;
-    let used = piece.len() - found.rest.len();
-    Some(Frame::InPiece(&piece[..used]))
+    let end = plain_end(version, limits, piece)?;
+    Some(Frame::InPiece(&piece[..end]))
 }
 
 /// Copies the bytes of a piece. Makes room for this many further bytes, but at most for four times as

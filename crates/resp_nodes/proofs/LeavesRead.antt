@@ -72,6 +72,7 @@ line_read r buffer at n end k bytes some first b within fits two double =
       leaf = line k b.line;
       is_leaf = (b.is_line, all_front IsByte b.line (crlf (drop end buffer)) body);
       keeps = line_keeps r k two double b.line (omega (arith, size, fits));
+      plain = λ level. tt;
       whole = byte_first buffer at some ∙ ap (λ c. c ∷ drop (at + 1) buffer) first ∙ ap (λ l. line_byte k ∷ l) b.whole ∙
           sym (append_assoc (line_byte k ∷ b.line) (crlf []) (drop end buffer));
       within = within;
@@ -121,6 +122,7 @@ string_read r buffer at n start end k bytes some first b room ends within fits n
       leaf = string k b.digits s;
       is_leaf = ((b.counted.0, b.counted.1 ∙ sym long), format, all_front IsByte s (crlf (drop end buffer)) body);
       keeps = string_keeps r k none two b.digits s (omega (arith, size, fits));
+      plain = λ level. tt;
       whole = byte_first buffer at some ∙ ap (λ c. c ∷ drop (at + 1) buffer) first ∙ ap (λ l. string_byte k ∷ l) b.whole ∙
           ap (λ l. (string_byte k ∷ b.digits) ++ crlf l) parts ∙ sym (string_on (string_byte k) b.digits (payload k s) s (drop end buffer) plain);
       within = within;
@@ -141,6 +143,7 @@ integer_read r buffer at n end some first b within few = record {
   leaf = numeral Int Unsigned b.digits;
   is_leaf = b.counted.0;
   keeps = λ level. leaf_keeps r WithinItems level (numeral Int Unsigned b.digits) tt (λ is. tt) in_range (λ off. tt) (omega arith);
+  plain = λ level. tt;
   whole = byte_first buffer at some ∙ ap (λ c. c ∷ drop (at + 1) buffer) first ∙ ap (λ l. 58 ∷ l) b.whole ∙
       sym (line_alone (58 ∷ b.digits) (drop end buffer));
   within = within;
@@ -159,6 +162,7 @@ negative_read r buffer at n end some first sign b within few number is = record 
   leaf = numeral Int Minus b.digits;
   is_leaf = b.counted.0;
   keeps = λ level. leaf_keeps r WithinItems level (numeral Int Minus b.digits) tt (λ is. tt) in_range (λ off. tt) (omega arith);
+  plain = λ level. tt;
   whole = byte_first buffer at (omega (arith, some)) ∙ ap (λ c. c ∷ drop (at + 1) buffer) first ∙ ap (λ l. 58 ∷ l)
       (byte_first buffer (at + 1) some ∙ ap (λ c. c ∷ drop (at + 1 + 1) buffer) sign ∙ ap (λ l. 45 ∷ l) b.whole) ∙
       sym (line_alone (58 ∷ 45 ∷ b.digits) (drop end buffer));
@@ -188,6 +192,7 @@ null_read r buffer at end first second third ends some within = cases first
       leaf = null form;
       is_leaf = tt;
       keeps = λ level. leaf_keeps r WithinItems level (null form) tt two tt (λ off. tt) (omega arith);
+      plain = λ level. tt;
       whole = begun ∙ ap (λ c. c ∷ 45 ∷ 49 ∷ crlf (drop end buffer)) is ∙ sym (ap (λ l. (l ++ crlf []) ++ drop end buffer) written);
       within = within;
       one = refl;
@@ -205,6 +210,7 @@ plain_null_read r buffer at end three some first ends within = record {
   leaf = null PlainNull;
   is_leaf = tt;
   keeps = λ level. leaf_keeps r WithinItems level (null PlainNull) tt three tt (λ off. tt) (omega arith);
+  plain = λ level. tt;
   whole = byte_first buffer at some ∙ ap (λ c. c ∷ drop (at + 1) buffer) first ∙ ap (λ l. 95 ∷ l) ends;
   within = within;
   one = refl;
@@ -219,6 +225,7 @@ truth_read r buffer at end t b three some first second written ends within = rec
   leaf = truth t;
   is_leaf = tt;
   keeps = λ level. leaf_keeps r WithinItems level (truth t) tt three tt (λ off. tt) (omega arith);
+  plain = λ level. tt;
   whole = byte_first buffer at (omega (arith, some)) ∙ ap (λ c. c ∷ drop (at + 1) buffer) first ∙ ap (λ l. 35 ∷ l)
       (byte_first buffer (at + 1) some ∙ ap (λ c. c ∷ drop (at + 1 + 1) buffer) second ∙ ap (λ l. b ∷ l)
       (let e : at + 1 + 1 ≡ at + 2 = omega arith in ap (λ k. drop k buffer) e ∙ ends)) ∙
@@ -277,6 +284,7 @@ verbatim_read r buffer at n head end three bytes some first b least room colon e
         all_front IsByte s (crlf (drop end buffer)) (subst IsText parts (text_from start buffer bytes)),
       );
       keeps = λ level. leaf_keeps r WithinItems level (string (Verbatim format) b.digits s) tt three tt (λ off. tt) (omega (arith, size, fits, least));
+      plain = λ level. tt;
       whole = byte_first buffer at some ∙ ap (λ c. c ∷ drop (at + 1) buffer) first ∙ ap (λ l. 61 ∷ l) b.whole ∙
           ap (λ l. (61 ∷ b.digits) ++ crlf l) begun ∙ sym (verbatim_on b.digits format s (drop end buffer));
       within = within;

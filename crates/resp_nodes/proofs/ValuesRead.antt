@@ -8,10 +8,10 @@ use Rattle.resp_value.specs.declared.kind.OpenKind.{OpenKind}
 use Rattle.resp_value.specs.LocalRules.{HoldsFrom, HoldsFromEach, LeafKeeps, NodeKeeps}
 use Rattle.resp_value.specs.Rules.{Rules, WithinItems}
 use Rattle.resp_value.specs.Spellings.{IsSpelling}
-use Rattle.resp_value.specs.Data.{Datum, Data, scalar, aggregate}
+use Rattle.resp_value.specs.Data.{Datum, Data, Kind, scalar, aggregate}
 use Rattle.resp_value.specs.Data as d
 use Rattle.resp_value.proofs.FirstBytes.{leaf_begins}
-use Rattle.resp_value.specs.Trees.{Tree, Trees, leaf, node, none, more, Counted, leaf_line, leaf_rest, leaf_text, IsTree, AreTrees, close, count, form_line, text, texts, kind_byte}
+use Rattle.resp_value.specs.Trees.{Form, Leaf, Tree, Trees, leaf, node, none, more, Counted, leaf_line, leaf_rest, leaf_text, IsTree, AreTrees, close, count, form_line, text, texts, kind_byte}
 use Rattle.resp_value.specs.TreeValues.{value, values}
 use Rattle.resp_value.proofs.LocalRuleLemmas.{count-values, keeps_locally}
 use Rattle.resp_fronts.proofs.FrameLaws.FrontLaws.{all_rules}
@@ -19,7 +19,7 @@ use Rattle.resp_nodes.specs.declared.node.Node.{Node}
 use Rattle.resp_nodes.specs.declared.reading.Filled.{Filled}
 use Rattle.resp_nodes.specs.Nodes.{AreNodesOf, AreNodesOfEach, aggregate_node, node_count, node_count_of_each}
 use Rattle.resp_nodes.specs.Numbers.{kind_form}
-use Rattle.resp_nodes.specs.Plain.{IsHeadAt, IsLeafAt, IsPlain, IsValueAt, LacksNodes}
+use Rattle.resp_nodes.specs.Plain.{IsHeadAt, IsLeafAt, IsPlain, IsPlainLeaf, IsPlainNode, IsValueAt, LacksNodes}
 
 -- trees, and one more after them
 abbrev pub with_tree : Trees → Tree → Trees
@@ -38,10 +38,10 @@ trees_with : (ts : Trees) (t : Tree) → AreTrees ts → IsTree t → AreTrees (
 trees_with none t p q = (q, tt)
 trees_with (more u us) t p q = (p.0, trees_with us t p.1 q)
 
-holds_with : (r : Rules) (level : ℕ) (ts : Trees) (t : Tree) → HoldsFromEach (LeafKeeps r WithinItems) (NodeKeeps r WithinItems) level ts →
-    HoldsFrom (LeafKeeps r WithinItems) (NodeKeeps r WithinItems) level t → HoldsFromEach (LeafKeeps r WithinItems) (NodeKeeps r WithinItems) level (with_tree ts t)
-holds_with r level none t p q = (q, tt)
-holds_with r level (more u us) t p q = (p.0, holds_with r level us t p.1 q)
+holds_with : (L : ℕ → Leaf → Type 0) (N : ℕ → Kind → Form → ℕ → Type 0) (level : ℕ) (ts : Trees) (t : Tree) → HoldsFromEach L N level ts →
+    HoldsFrom L N level t → HoldsFromEach L N level (with_tree ts t)
+holds_with L N level none t p q = (q, tt)
+holds_with L N level (more u us) t p q = (p.0, holds_with L N level us t p.1 q)
 
 nodes_with : (buffer : List ℕ) (ts : Trees) (t : Tree) (ns ns' : List Node) → AreNodesOfEach buffer (values ts) ns → AreNodesOf buffer (value t) ns' →
     AreNodesOfEach buffer (values (with_tree ts t)) (ns ++ ns')
@@ -97,6 +97,7 @@ leaf_is_value r level buffer before end item old same l = record {
   own = item ∷ [];
   is_tree = l.is_leaf;
   keeps = l.keeps level;
+  plain = l.plain level;
   whole = l.whole;
   within = l.within;
   stand = record { node = item; alone = refl; one = l.one; is_leaf = l.stands };
@@ -110,6 +111,7 @@ pub record HasMembers (r : Rules) (level : ℕ) (buffer : List ℕ) (start : Fil
   pub own : List Node
   pub are_trees : AreTrees trees
   pub keeps : HoldsFromEach (LeafKeeps r WithinItems) (NodeKeeps r WithinItems) level trees
+  pub plain : HoldsFromEach IsPlainLeaf IsPlainNode level trees
   pub whole : drop start.end buffer ≡ texts trees ++ drop inner.end buffer
   pub within : inner.end ≤ length buffer
   pub stand : AreNodesOfEach buffer (values trees) own
@@ -126,6 +128,7 @@ no_member r level buffer start old within n e = record {
   own = [];
   are_trees = tt;
   keeps = tt;
+  plain = tt;
   whole = refl;
   within = within;
   stand = refl;
@@ -143,7 +146,8 @@ one_member_more r level buffer start inner next old nodes nodes' n m h v same e 
   trees = with_tree h.trees v.tree;
   own = h.own ++ v.own;
   are_trees = trees_with h.trees v.tree h.are_trees v.is_tree;
-  keeps = holds_with r level h.trees v.tree h.keeps v.keeps;
+  keeps = holds_with (LeafKeeps r WithinItems) (NodeKeeps r WithinItems) level h.trees v.tree h.keeps v.keeps;
+  plain = holds_with IsPlainLeaf IsPlainNode level h.trees v.tree h.plain v.plain;
   whole = h.whole ∙ ap (λ l. texts h.trees ++ l) v.whole ∙ sym (append_assoc (texts h.trees) (text v.tree) (drop next.end buffer)) ∙
       ap (λ l. l ++ drop next.end buffer) (sym (texts_with h.trees v.tree));
   within = v.within;
@@ -164,6 +168,7 @@ same_members r level buffer start inner old nodes nodes' n h kept same = record 
   own = h.own;
   are_trees = h.are_trees;
   keeps = h.keeps;
+  plain = h.plain;
   whole = h.whole;
   within = h.within;
   stand = h.stand;
@@ -175,11 +180,11 @@ same_members r level buffer start inner old nodes nodes' n h kept same = record 
 
 -- a head and its members are a value
 pub aggregate_is_value : (r : Rules) (level : ℕ) (buffer : List ℕ) (before start inner : Filled) (kind : OpenKind) (members : ℕ) (old nodes : List Node) →
-    IsHeadAt r level buffer before.end kind members start.end → start.count ≡ before.count + 1 →
+    level < 16 → IsHeadAt r level buffer before.end kind members start.end → start.count ≡ before.count + 1 →
     HasMembers r (level + 1) buffer start inner old nodes members → (size : ℕ) → size ≡ inner.count - before.count →
     length (set nodes before.count (aggregate_node (kind_form (kind_of kind)) members size)) ≡ length nodes →
     IsValueAt r level buffer before inner old (set nodes before.count (aggregate_node (kind_form (kind_of kind)) members size))
-aggregate_is_value r level buffer before start inner kind members old nodes h placed m size sized same =
+aggregate_is_value r level buffer before start inner kind members old nodes shallow h placed m size sized same =
     let agg = aggregate_node (kind_form (kind_of kind)) members size in
     let many = m.many in
     let counted = m.counted in
@@ -193,6 +198,7 @@ aggregate_is_value r level buffer before start inner kind members old nodes h pl
         subst (λ n. NodeKeeps r WithinItems level (kind_of kind) (Counted h.digits) n) (sym many) h.keeps,
         subst (λ l. HoldsFromEach (LeafKeeps r WithinItems) (NodeKeeps r WithinItems) l m.trees) up m.keeps,
       );
+      plain = (record { shallow = shallow; counted = tt }, subst (λ l. HoldsFromEach IsPlainLeaf IsPlainNode l m.trees) up m.plain);
       whole = h.whole ∙ ap (λ l. (kind_byte (kind_of kind) ∷ h.digits) ++ crlf l) m.whole ∙
           sym (aggregate_on (kind_byte (kind_of kind)) h.digits (texts m.trees) (drop inner.end buffer));
       within = m.within;
@@ -351,8 +357,10 @@ value_is_plain r buffer end count start after old new same fits room v =
 -- a value within the limit of total lacks nodes
 pub value_lacks_nodes : (r : Rules) (buffer : List ℕ) (before after : Filled) (old new : List Node) (room : ℕ) → after.end - before.end ≤ r.limits.total →
     before.count + room < after.count → IsValueAt r zero buffer before after old new → LacksNodes r (drop before.end buffer) room
+unfolding value_is_spelled
 value_lacks_nodes r buffer before after old new room fits many v =
     let (size, forward) = value_size r buffer before after old new v in
+    let spelled = value_is_spelled r buffer before after old new fits v in
     let counted = v.counted in
     let own = own_count buffer (value v.tree) v.own v.stand in
     let few = third v.tree in
@@ -360,10 +368,14 @@ value_lacks_nodes r buffer before after old new room fits many v =
     let within = v.within in
     let lacks : room < node_count (value v.tree) = omega (arith, counted, own, many) in
     record {
-      value = value v.tree;
-      size = after.end - before.end;
-      within = omega (arith, left, within, forward);
-      spelling = value_is_spelled r buffer before after old new fits v;
+      reply = record {
+        size = after.end - before.end;
+        tree = v.tree;
+        within = omega (arith, left, within, forward);
+        spells = spelled.spells;
+        keeps = spelled.keeps;
+        plain = v.plain;
+      };
       lacks = lacks;
       few = omega (arith, lacks, few, size);
     }

@@ -37,15 +37,11 @@ pub record BeginsWithPlain (rules : Rules) (bytes : List ℕ) : Type 0 where
   pub keeps : Keeps rules WithinTotal tree
   pub plain : HoldsFrom IsPlainLeaf IsPlainNode 0 tree
 
--- The bytes begin with a spelling of a value within the rules. The value has more nodes than there are. There are fewer
--- than a third of its bytes.
+-- the bytes begin with a plain reply within the rules that has more nodes than this, and those are fewer than a third of its bytes
 pub record LacksNodes (rules : Rules) (bytes : List ℕ) (room : ℕ) : Type 0 where
-  pub value : Datum
-  pub size : ℕ
-  pub within : size ≤ length bytes
-  pub spelling : IsSpelling rules value (take size bytes)
-  pub lacks : room < node_count value
-  pub few : room < size / 3
+  pub reply : BeginsWithPlain rules bytes
+  pub lacks : room < node_count (value reply.tree)
+  pub few : room < reply.size / 3
 
 -- the text begins with digits of this number and CR LF, and then has this rest
 pub record BeginsWithNumber (text : List ℕ) (n : ℕ) (rest : List ℕ) : Type 0 where
@@ -74,6 +70,7 @@ pub record IsLeafAt (rules : Rules) (buffer : List ℕ) (at end : ℕ) (node : N
   pub leaf : Leaf
   pub is_leaf : IsLeaf leaf
   pub keeps : (level : ℕ) → LeafKeeps rules WithinItems level leaf
+  pub plain : (level : ℕ) → IsPlainLeaf level leaf
   pub whole : drop at buffer ≡ leaf_text leaf ++ drop end buffer
   pub within : end ≤ length buffer
   pub one : node.size ≡ 1
@@ -117,6 +114,7 @@ pub record IsValueAt (rules : Rules) (level : ℕ) (buffer : List ℕ) (before a
   pub own : List Node
   pub is_tree : IsTree tree
   pub keeps : HoldsFrom (LeafKeeps rules WithinItems) (NodeKeeps rules WithinItems) level tree
+  pub plain : HoldsFrom IsPlainLeaf IsPlainNode level tree
   pub whole : drop before.end buffer ≡ text tree ++ drop after.end buffer
   pub within : after.end ≤ length buffer
   pub stand : AreNodesOf buffer (value tree) own

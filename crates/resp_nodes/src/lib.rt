@@ -10,4 +10,4 @@ mod node;
 mod reading;
 
 pub use node::Node;
-pub use reading::{Filled, Unread, plain};
+pub use reading::{Filled, Unread, plain, plain_end};

@@ -1,11 +1,12 @@
 //! Reads one plain reply.
 
 ghost use Rattle.std.specs.Prelude.{◌≡◌, ◌+◌, ◌-◌, ◌<◌, ◌^◌, ◌≤◌, IfNone, IfErr, IfOk, IfSome, ℕ, drop, length, set, take};
-ghost use Rattle.resp_value.specs.Data.{Kind, items_of, members_of};
+ghost use Rattle.resp_value.specs.Data.{Datum, Kind, items_of, members_of};
 ghost use Rattle.resp_value.specs.Data.{Array as DataArray};
 ghost use Rattle.resp_value.specs.Kinds.{kind_of};
 ghost use Rattle.resp_value.specs.LocalRules.{IsNoPushBelow};
 ghost use Rattle.resp_value.specs.Rules.{rules_under};
+ghost use Rattle.resp_value.specs.Spellings.{IsSpelling};
 ghost use Rattle.resp_value.specs.Trees.{kind_byte};
 ghost use Rattle.resp_value.specs.declared.version.Version.TheVariants.{Two};
 ghost use Rattle.resp_value.specs.declared.kind.OpenKind.TheVariants.{Array};
@@ -201,40 +202,33 @@ fn aggregate_at(
     Some(inner)
 }
 
-/// Reads the plain aggregate at this index, as [`plain`] does.
+/// Reads the plain reply at this index. Sets those of its nodes for which there is room.
 #[inline(always)]
-fn aggregate_reply(
+fn reply_at(
     version: Version,
     limits: &Limits,
     buffer: &[u8],
     filled: Filled,
     nodes: &mut [Node],
-) -> Result<Filled, Unread>
-    requires { HasLeaf (rules_under version limits.now) 0 buffer.now filled.end → ⊥ }
-    ensures reply { IfOk result (λ found. IsPlain (rules_under version limits.now) buffer.now
+) -> Option<Filled>
+    requires { filled.count ≤ length nodes.now }
+    ensures value { IfSome result (λ found. IsValueAt (rules_under version limits.now) 0 buffer.now
         filled found nodes.old nodes.new) }
-    ensures no_nodes { IfErr result (λ why. why ≡ NoNodes → LacksNodes
-        (rules_under version limits.now) (drop filled.end buffer.now)
-        (length nodes.new - filled.count)) }
-    ensures no_reply { IfErr result (λ why. why ≡ NoReply →
-        BeginsWithPlain (rules_under version limits.now) (drop filled.end buffer.now) → ⊥) }
+    ensures fits { IfSome result (λ found. (filled.end < found.end) ×
+        (found.end - filled.end ≤ limits.now.total)) }
+    ensures none { IfNone result (BeginsWithPlain (rules_under version limits.now)
+        (drop filled.end buffer.now) → ⊥) }
     ensures kept { take filled.count nodes.new ≡ take filled.count nodes.old }
     ensures same_room { length nodes.new ≡ length nodes.old }
 {
-    let before = Filled {
-        end: filled.end,
-        count: filled.count.min(nodes.len()),
-    };
-    let Some(found) = aggregate_at(version, limits, buffer, before, 0, nodes) else {
-        return Err(Unread::NoReply);
+    let found = match leaf_into(version, limits, buffer, filled, nodes) {
+        Some(found) => found,
+        None => aggregate_at(version, limits, buffer, filled, 0, nodes)?,
     };
     if (found.end - filled.end) as u64 > limits.total() {
-        return Err(Unread::NoReply);
+        return None;
     }
-    if found.count > nodes.len() {
-        return Err(Unread::NoNodes);
-    }
-    Ok(found)
+    Some(found)
 }
 
 /// Reads the plain reply at this index of the buffer. Fills the nodes after those that are filled.
@@ -258,7 +252,7 @@ pub fn plain(
     // The bytes up to the index are a spelling of a value, and its nodes follow those that are filled.
     ensures reply { IfOk result (λ found. IsPlain (rules_under version limits.now) buffer.now
         filled found nodes.old nodes.new) }
-    // A spelling of a value is there, and the value has more nodes than are left.
+    // A plain reply is there, and it has more nodes than are left.
     ensures no_nodes { IfErr result (λ why. why ≡ NoNodes → LacksNodes
         (rules_under version limits.now) (drop filled.end buffer.now)
         (length nodes.new - filled.count)) }
@@ -268,18 +262,31 @@ pub fn plain(
     ensures kept { take filled.count nodes.new ≡ take filled.count nodes.old }
     ensures same_room { length nodes.new ≡ length nodes.old }
 {
-    let Some(leaf) = leaf_at(version, limits, buffer, filled.end) else {
-        return aggregate_reply(version, limits, buffer, filled, nodes);
+    let before = Filled {
+        end: filled.end,
+        count: filled.count.min(nodes.len()),
     };
-    if (leaf.end - filled.end) as u64 > limits.total() {
+    let Some(found) = reply_at(version, limits, buffer, before, nodes) else {
         return Err(Unread::NoReply);
-    }
-    if filled.count >= nodes.len() {
+    };
+    if found.count > nodes.len() {
         return Err(Unread::NoNodes);
     }
-    nodes[filled.count] = leaf.node;
-    Ok(Filled {
-        end: leaf.end,
-        count: filled.count + 1,
-    })
+    Ok(found)
+}
+
+/// Returns the index after the plain reply at the beginning of some bytes, or `None` if no plain reply
+/// within the limits lies whole there. [`plain`] says which replies are plain.
+pub fn plain_end(version: Version, limits: &Limits, bytes: &[u8]) -> Option<usize>
+    // The bytes up to the index are a spelling of a value.
+    ensures reply { IfSome result (λ end. (value : Datum) ×
+        IsSpelling (rules_under version limits.now) value (take end bytes.now)) }
+    ensures within { IfSome result (λ end. (0 < end) × (end ≤ length bytes.now)) }
+    // No spelling of a plain reply is there.
+    ensures none { IfNone result
+        (BeginsWithPlain (rules_under version limits.now) bytes.now → ⊥) }
+{
+    let begun = Filled { end: 0, count: 0 };
+    let found = reply_at(version, limits, bytes, begun, &mut [])?;
+    Some(found.end)
 }

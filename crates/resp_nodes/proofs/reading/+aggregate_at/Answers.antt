@@ -75,7 +75,8 @@ returns-clause-value t c =
     (omega (arith, c.loop-test.false, c.loop.auto.counter-end)) c.loop.invariant.members in
     subst (λ l. IsValueAt r c.args.level c.args.buffer.now c.args.filled c.loop.inner c.args.nodes.now l)
     (sym (c.put.ensures ∙ ap (set c.loop.nodes c.args.filled.count) (c.aggregate.ensures ∙ ap (λ f. aggregate_node f members size) c.form.ensures)))
-    (aggregate_is_value r c.args.level c.args.buffer.now c.args.filled start c.loop.inner kind members c.args.nodes.now c.loop.nodes c.in_ok-head.ensures.found refl
+    (aggregate_is_value r c.args.level c.args.buffer.now c.args.filled start c.loop.inner kind members c.args.nodes.now c.loop.nodes
+    (omega (arith, c.if-level-ge-DEPTH.false)) c.in_ok-head.ensures.found refl
     all size c.saturating_sub-size.ensures
     (length-set c.loop.nodes c.args.filled.count (aggregate_node (kind_form (kind_of kind)) members size)))
 

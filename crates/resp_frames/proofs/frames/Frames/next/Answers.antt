@@ -8,9 +8,9 @@ returns-in-Some-clause-whole c ready front has =
     let frames = frame_rules c.args.self.now in
     let none : c.args.begun.now.held ≡ None = search rules in
     let empty : front ≡ [] = subst (λ held. MatchOption held (front ≡ []) (λ h. IsHeld frames h.value front)) none has in (
-      subst (λ f. IsFrame frames f c.args.piece.now c.in-Some.frame) (sym empty) (c.in-Some.ensures c.args.self.now.version),
+      subst (λ f. IsFrame frames f c.args.piece.now c.in-Some.frame) (sym empty) c.in-Some.ensures,
       subst (λ held. MatchOption held (◌≡◌ {A = List ℕ} [] []) (λ h. IsHeld frames h.value [])) (sym none) refl,
     )
 
 pub returns-in-Some-clause-within : goal.returns-in-Some-clause-within
-returns-in-Some-clause-within c = (c.in-Some.ensures c.args.self.now.version).within
+returns-in-Some-clause-within c = c.in-Some.ensures.within
