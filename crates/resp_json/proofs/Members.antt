@@ -19,14 +19,21 @@ next_member separator xs i x below is =
     let rest = members_json (codes ",") (data_of_list (map datum_of (drop (i + 1) xs))) in
     at_drop_more F xs i x below ∙ ap (λ y. separator ++ (json_of (datum_of y) ++ rest)) (sym is) ∙ sym (append_assoc separator (json_of (datum_of x)) rest)
 
+-- a pair, part after part
+pair_parts : (separator key value rest : List ℕ) →
+    pair_json separator key value ++ rest ≡ separator ++ ((codes "[" ++ key) ++ ((codes "," ++ value) ++ (codes "]" ++ rest)))
+pair_parts separator key value rest = simp append_assoc
+
 -- the next pair, and the others
 pub next_pair : (separator : List ℕ) (xs : List (Value × Value)) (i : ℕ) (x : Value × Value) → i < length xs → x ≡ get_or xs i x →
     pairs_json separator (data_of_list (in_turn (map pair_data (drop i xs)))) ≡
-    pair_json separator (json_of (datum_of x.0)) (json_of (datum_of x.1)) ++ pairs_json (codes ",") (data_of_list (in_turn (map pair_data (drop (i + 1) xs))))
+    separator ++ ((codes "[" ++ json_of (datum_of x.0)) ++ ((codes "," ++ json_of (datum_of x.1)) ++
+    (codes "]" ++ pairs_json (codes ",") (data_of_list (in_turn (map pair_data (drop (i + 1) xs)))))))
 next_pair separator xs i x below is =
     let F = λ (ys : List (Value × Value)). pairs_json separator (data_of_list (in_turn (map pair_data ys))) in
     let rest = pairs_json (codes ",") (data_of_list (in_turn (map pair_data (drop (i + 1) xs)))) in
-    at_drop_more F xs i x below ∙ ap (λ (y : Value × Value). pair_json separator (json_of (datum_of y.0)) (json_of (datum_of y.1)) ++ rest) (sym is)
+    at_drop_more F xs i x below ∙ ap (λ (y : Value × Value). pair_json separator (json_of (datum_of y.0)) (json_of (datum_of y.1)) ++ rest) (sym is) ∙
+    pair_parts separator (json_of (datum_of x.0)) (json_of (datum_of x.1)) rest
 
 -- pairs and an annotated value
 pairs_with : (separator : List ℕ) (pairs : List (Datum × Datum)) (x : Datum) →

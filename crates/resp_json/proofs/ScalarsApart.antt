@@ -1,5 +1,5 @@
 -- Values without members can be read back, whatever follows them that is no digit.
-use Rattle.std.proofs.Common.{◌≡◌, ℕ, zero, suc, ◌<◌, Bool, true, false, cond, ℤ, List, [], ◌∷◌, ◌++◌, codes, drop, get_or, Ok, Result, refl, sym, ap, ◌∙◌, append_assoc, arith}
+use Rattle.std.proofs.Common.{◌≡◌, ℕ, zero, suc, Bool, true, false, cond, List, [], ◌∷◌, ◌++◌, codes, drop, get_or, Ok, refl, sym, ap, ◌∙◌, append_assoc, arith}
 use Rattle.std.specs.List.{AllByRecursion}
 use Rattle.std.specs.Str.{is_utf8}
 use Rattle.base64.proofs.EngineFacts.{decode_of-encode_of}
@@ -11,7 +11,7 @@ use Rattle.resp_value.specs.Canonical.{IsScalarValue}
 use Rattle.resp_value.specs.Data.{Scalar, Null, Int, Simple, Error, Double, Bulk, BulkError, Verbatim, Big, scalar}
 use Rattle.resp_value.specs.Data as d
 use Rattle.resp_json.specs.Json.{json_string, scalar_json, text_json, text_object}
-use Rattle.resp_json.proofs.ValueKinds.{same_kind, scalar_kind}
+use Rattle.resp_json.proofs.ValueKinds.{same_kind}
 use Rattle.resp_json.proofs.Numbers.{IsEnd, digits_apart, integers_apart, minus_not_digits}
 use Rattle.resp_json.proofs.Strings.{strings_apart}
 

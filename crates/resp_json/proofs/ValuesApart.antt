@@ -1,10 +1,10 @@
 -- Values can be read back, whatever follows them that is no digit.
-use Rattle.std.proofs.Common.{◌≡◌, ◌⊎◌, inl, inr, ℕ, ◌≤◌, List, [], ◌∷◌, ◌++◌, codes, drop, get_or, refl, sym, ap, ap₂, subst, ◌∙◌, append_assoc, append-nil, arith}
+use Rattle.std.proofs.Common.{◌≡◌, ◌⊎◌, inl, inr, ℕ, List, [], ◌∷◌, ◌++◌, codes, drop, get_or, refl, sym, ap, ap₂, ◌∙◌, append_assoc, append-nil, arith}
 use Rattle.resp_value.specs.Canonical.{AreValues, IsValue}
-use Rattle.resp_value.specs.Data.{Kind, Array, Set, Map, Attr, Push, Datum, Data, scalar, aggregate, none, more}
-use Rattle.resp_json.specs.Json.{json_of, members_json, pair_json, pairs_json}
+use Rattle.resp_value.specs.Data.{Array, Set, Map, Attr, Push, Datum, Data, scalar, aggregate, none, more}
+use Rattle.resp_json.specs.Json.{json_of, members_json, pairs_json}
 use Rattle.resp_json.specs.Laws.{EqualJsonMeansEqualValues}
-use Rattle.resp_json.proofs.ValueKinds.{aggregate_kind, kinds_differ, no_bracket, same_kind}
+use Rattle.resp_json.proofs.ValueKinds.{kinds_differ, no_bracket, same_kind}
 use Rattle.resp_json.proofs.Numbers.{IsEnd}
 use Rattle.resp_json.proofs.ScalarsApart.{scalars_apart}
 

@@ -5,7 +5,7 @@ ghost use Rattle.resp_value.specs.Data.{data_of_list, in_turn};
 ghost use Rattle.resp_value.specs.Data as d;
 ghost use Rattle.resp_value.specs.Values.{datum_of, digits_text, is_negative, pair_data};
 ghost use Rattle.resp_value.specs.declared.value.Value.TheVariants as value;
-ghost use Rattle.resp_json.specs.Json.{big_front, json_line, json_of, members_json, pair_json, pairs_json, scalar_json, text_object};
+ghost use Rattle.resp_json.specs.Json.{big_front, json_line, json_of, members_json, pairs_json, scalar_json, text_object};
 ghost use Rattle.resp_print.specs.Printed.{IsScalar};
 ghost use Rattle.resp_print.specs.Written.{WritesText};
 
@@ -154,30 +154,13 @@ fn write_each_pair<W: Sink>(pairs: &[(Value, Value)], writer: &mut W) -> Result<
 {
     let mut separator: &[u8] = b"";
     for pair in pairs {
-        write_pair(separator, &pair.0, &pair.1, writer)?;
+        write_text(writer, separator)?;
+        write_member(b"[", &pair.0, writer)?;
+        write_member(b",", &pair.1, writer)?;
+        write_text(writer, b"]")?;
         separator = b",";
     }
     Ok(())
-}
-
-/// Writes a separator, and a key and its value as an array.
-#[cycle(json)]
-fn write_pair<W: Sink>(
-    separator: &[u8],
-    key: &Value,
-    value: &Value,
-    writer: &mut W,
-) -> Result<(), DeviceFault>
-    ensures { WritesText (W.written writer.old) (W.written writer.new) (W.failures writer.old)
-        (W.failures writer.new) result
-        (pair_json separator.now (json_of (datum_of key.now)) (json_of (datum_of value.now))) }
-{
-    write_text(writer, separator)?;
-    write_text(writer, b"[")?;
-    write_json(key, writer)?;
-    write_text(writer, b",")?;
-    write_json(value, writer)?;
-    write_text(writer, b"]")
 }
 
 /// Writes the JSON text of a value without members. For another value it writes nothing.
