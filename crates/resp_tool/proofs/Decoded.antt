@@ -1,5 +1,5 @@
 -- What `show --json` has read and written, from what the calls of its decoder say.
-use Rattle.std.proofs.Common.{◌≡◌, ◌⊎◌, inl, inr, ℕ, ◌<◌, List, [], ◌∷◌, ◌++◌, length, take, drop, Option, refl, sym, ap, subst, ◌∙◌, append-nil, append_assoc, take-append-drop}
+use Rattle.std.proofs.Common.{◌≡◌, ◌⊎◌, inl, inr, ℕ, ◌<◌, true, List, [], ◌∷◌, ◌++◌, length, take, drop, IfErr, IfOk, Option, Result, Ok, Err, refl, sym, ap, subst, ◌∙◌, append-nil, append_assoc, take-append-drop}
 use Rattle.resp_value.specs.Devices.{Appends}
 use Rattle.resp_value.specs.Rules.{Rules}
 use Rattle.resp_value.specs.Values.{datum_of}
@@ -13,13 +13,13 @@ use Rattle.resp_decode.specs.Decoding.{GivesValue, HasTaken, LacksMemory, Refuse
 use Rattle.resp_decode.specs.declared.decoder.Decoder.{Decoder}
 use Rattle.resp_json.specs.Json.{json_line}
 use Rattle.resp_print.proofs.WrittenLemmas.{Appends-none}
-use Rattle.resp_print.specs.Written.{AppendsPart}
+use Rattle.resp_print.specs.Written.{AppendsPart, WritesText}
 use Rattle.resp_tool.specs.Counts.{IsAny, LeavesNothing}
 use Rattle.resp_tool.specs.Decoded.{HasDecoded, stop_by, stop_of}
 use Rattle.resp_tool.specs.Takings.{IsByteFault, LeavesRefused, Takes, TakesUnfinished, WritesPart, WritesValue}
 use Rattle.resp_tool.specs.declared.rendering.Stop.{Stop}
+use Rattle.resp_tool.specs.declared.rendering.Stop.TheVariants.{Write}
 use Rattle.resp_tool.specs.declared.rendering.Taken.{Taken}
-use Rattle.std.proofs.Common.{Err, Result}
 use Rattle.resp_tool.proofs.Rendered.{spelled_one}
 use Rattle.resp_tool.proofs.Scanned.{value_uses_some}
 
@@ -121,3 +121,24 @@ decoded_fault r d front piece so_far held fault nothing (inl refuses) = by_cause
     by_cause : (c : Cause) → Takes r json_line IsAny LeavesNothing LeavesNothing (HasDecoded d) front piece so_far held held (Err (stop_by c fault))
     by_cause cause.OutOfMemory = no_part r (front ++ piece) so_far held nothing
     by_cause c = refused_byte r front piece so_far held fault nothing refuses
+
+-- the same of the error that a call returns for it
+pub decoded_stop : (r : Rules) (d : Decoder) (front piece so_far : List ℕ) (held : Option (List ℕ)) (fault : Fault) (stop : Stop) → stop ≡ stop_of fault →
+    so_far ≡ [] → RefusesByte r front piece fault ⊎ LacksMemory r front piece fault →
+    Takes r json_line IsAny LeavesNothing LeavesNothing (HasDecoded d) front piece so_far held held (Err stop)
+decoded_stop r d front piece so_far held fault stop is nothing why =
+    subst (λ z. Takes r json_line IsAny LeavesNothing LeavesNothing (HasDecoded d) front piece so_far held held (Err z)) (sym is)
+    (decoded_fault r d front piece so_far held fault nothing why)
+
+-- a value that was read, and the write of its line
+pub decoded_line : (r : Rules) (d : Decoder) (front piece so_far : List ℕ) (used : ℕ) (value : Value) (before after : Option (List ℕ)) (failures failures' : ℕ)
+    (result : Result Taken Stop) → HasNoValue front → so_far ≡ [] → GivesValue r d (front ++ take used piece) value →
+    WritesText before after failures failures' result (json_line (datum_of value)) →
+    IfOk result (λ taken. taken ≡ record { used = used; is_whole = true }) → IfErr result (λ stop. stop ≡ Write) →
+    Takes r json_line IsAny LeavesNothing LeavesNothing (HasDecoded d) front piece so_far before after result
+decoded_line r d front piece so_far used value before after failures failures' (Ok taken) none nothing gives written whole stops =
+    subst (λ z. Takes r json_line IsAny LeavesNothing LeavesNothing (HasDecoded d) front piece so_far before after (Ok z)) (sym whole)
+    (decoded_value r d front piece so_far used value before after none nothing gives written.0)
+decoded_line r d front piece so_far used value before after failures failures' (Err stop) none nothing gives written whole stops =
+    subst (λ z. Takes r json_line IsAny LeavesNothing LeavesNothing (HasDecoded d) front piece so_far before after (Err z)) (sym stops)
+    (decoded_part r d front piece so_far used value before after nothing gives written.0)
