@@ -52,8 +52,9 @@ write_each_pair-returns-in_err-write_member g t c =
     let value = codes "," ++ json_of (datum_of x.1) in
     let rest = pairs_json (codes ",") (data_of_list (in_turn (map pair_data (drop (i + 1) c.args.pairs.now)))) in
     let begun = printed_as whole _ _ _ _ _ _ (next_pair separator c.args.pairs.now i x c.loop-pair-test.true c.pair-item.is) c.loop-pair.invariant in
+    let opened = printed_more whole separator (key ++ (value ++ (codes "]" ++ rest))) _ _ _ _ _ _ begun c.in_ok-write_text.ensures in
     let r = c.from_residual-in_err-write_member.result in
-    write_failed r whole key (value ++ (codes "]" ++ rest)) _ _ _ _ _ _ (printed_more whole separator (key ++ (value ++ (codes "]" ++ rest))) _ _ _ _ _ _ begun c.in_ok-write_text.ensures) c.from_residual-in_err-write_member.ensures.0 c.in_err-write_member.ensures
+    write_failed r whole key (value ++ (codes "]" ++ rest)) _ _ _ _ _ _ opened c.from_residual-in_err-write_member.ensures.0 c.in_err-write_member.ensures
 
 pub write_each_pair-returns-in_err-write_member-2 : goal.write_each_pair-returns-in_err-write_member-2
 write_each_pair-returns-in_err-write_member-2 g t c =
@@ -65,8 +66,10 @@ write_each_pair-returns-in_err-write_member-2 g t c =
     let value = codes "," ++ json_of (datum_of x.1) in
     let rest = pairs_json (codes ",") (data_of_list (in_turn (map pair_data (drop (i + 1) c.args.pairs.now)))) in
     let begun = printed_as whole _ _ _ _ _ _ (next_pair separator c.args.pairs.now i x c.loop-pair-test.true c.pair-item.is) c.loop-pair.invariant in
+    let opened = printed_more whole separator (key ++ (value ++ (codes "]" ++ rest))) _ _ _ _ _ _ begun c.in_ok-write_text.ensures in
+    let keyed = printed_more whole key (value ++ (codes "]" ++ rest)) _ _ _ _ _ _ opened c.in_ok-write_member.ensures in
     let r = c.from_residual-in_err-write_member-2.result in
-    write_failed r whole value (codes "]" ++ rest) _ _ _ _ _ _ (printed_more whole key (value ++ (codes "]" ++ rest)) _ _ _ _ _ _ (printed_more whole separator (key ++ (value ++ (codes "]" ++ rest))) _ _ _ _ _ _ begun c.in_ok-write_text.ensures) c.in_ok-write_member.ensures) c.from_residual-in_err-write_member-2.ensures.0 c.in_err-write_member-2.ensures
+    write_failed r whole value (codes "]" ++ rest) _ _ _ _ _ _ keyed c.from_residual-in_err-write_member-2.ensures.0 c.in_err-write_member-2.ensures
 
 pub write_each_pair-returns-in_err-write_text-2 : goal.write_each_pair-returns-in_err-write_text-2
 write_each_pair-returns-in_err-write_text-2 g t c =
@@ -78,8 +81,11 @@ write_each_pair-returns-in_err-write_text-2 g t c =
     let value = codes "," ++ json_of (datum_of x.1) in
     let rest = pairs_json (codes ",") (data_of_list (in_turn (map pair_data (drop (i + 1) c.args.pairs.now)))) in
     let begun = printed_as whole _ _ _ _ _ _ (next_pair separator c.args.pairs.now i x c.loop-pair-test.true c.pair-item.is) c.loop-pair.invariant in
+    let opened = printed_more whole separator (key ++ (value ++ (codes "]" ++ rest))) _ _ _ _ _ _ begun c.in_ok-write_text.ensures in
+    let keyed = printed_more whole key (value ++ (codes "]" ++ rest)) _ _ _ _ _ _ opened c.in_ok-write_member.ensures in
+    let paired = printed_more whole value (codes "]" ++ rest) _ _ _ _ _ _ keyed c.in_ok-write_member-2.ensures in
     let r = c.from_residual-in_err-write_text-2.result in
-    write_failed r whole (codes "]") rest _ _ _ _ _ _ (printed_more whole value (codes "]" ++ rest) _ _ _ _ _ _ (printed_more whole key (value ++ (codes "]" ++ rest)) _ _ _ _ _ _ (printed_more whole separator (key ++ (value ++ (codes "]" ++ rest))) _ _ _ _ _ _ begun c.in_ok-write_text.ensures) c.in_ok-write_member.ensures) c.in_ok-write_member-2.ensures) c.from_residual-in_err-write_text-2.ensures.0 c.in_err-write_text-2.ensures
+    write_failed r whole (codes "]") rest _ _ _ _ _ _ paired c.from_residual-in_err-write_text-2.ensures.0 c.in_err-write_text-2.ensures
 
 pub write_each_pair-loop-pair-preserved : goal.write_each_pair-loop-pair-preserved
 write_each_pair-loop-pair-preserved g t c =
@@ -91,7 +97,10 @@ write_each_pair-loop-pair-preserved g t c =
     let value = codes "," ++ json_of (datum_of x.1) in
     let rest = pairs_json (codes ",") (data_of_list (in_turn (map pair_data (drop (i + 1) c.args.pairs.now)))) in
     let begun = printed_as whole _ _ _ _ _ _ (next_pair separator c.args.pairs.now i x c.loop-pair-test.true c.pair-item.is) c.loop-pair.invariant in
-    printed_more whole (codes "]") rest _ _ _ _ _ _ (printed_more whole value (codes "]" ++ rest) _ _ _ _ _ _ (printed_more whole key (value ++ (codes "]" ++ rest)) _ _ _ _ _ _ (printed_more whole separator (key ++ (value ++ (codes "]" ++ rest))) _ _ _ _ _ _ begun c.in_ok-write_text.ensures) c.in_ok-write_member.ensures) c.in_ok-write_member-2.ensures) c.in_ok-write_text-2.ensures
+    let opened = printed_more whole separator (key ++ (value ++ (codes "]" ++ rest))) _ _ _ _ _ _ begun c.in_ok-write_text.ensures in
+    let keyed = printed_more whole key (value ++ (codes "]" ++ rest)) _ _ _ _ _ _ opened c.in_ok-write_member.ensures in
+    let paired = printed_more whole value (codes "]" ++ rest) _ _ _ _ _ _ keyed c.in_ok-write_member-2.ensures in
+    printed_more whole (codes "]") rest _ _ _ _ _ _ paired c.in_ok-write_text-2.ensures
 
 pub write_member-returns-in_err-write_text : goal.write_member-returns-in_err-write_text
 write_member-returns-in_err-write_text g t c =
