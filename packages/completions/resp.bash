@@ -15,7 +15,7 @@ _resp() {
         --own | --waiting | --unsent | --patience | --report | --slower | --command | --client) return ;;
     esac
     case $command in
-    show | check | canon) options="-2 -3 --proto $limits --doubles --piece --color --utf8 --explain --no-explain -h --help" ;;
+    show | check | canon) options="-2 -3 --proto $limits --doubles --piece --color --utf8 --json --explain --no-explain -h --help" ;;
     loop) options="--explain --no-explain -h --help" ;;
     serve) options="$limits --clients --held -h --help" ;;
     tap)
@@ -24,7 +24,7 @@ _resp() {
     proxy)
         options="$limits --clients --own --waiting --held --unsent --patience --report --local-ping --no-inline --drain --also -h --help"
         ;;
-    ask) options="-3 --user --window --count --color --utf8 $limits -h --help" ;;
+    ask) options="-3 --user --window --count --color --utf8 --json $limits -h --help" ;;
     help) [ "$COMP_CWORD" -ne 2 ] || COMPREPLY=($(compgen -W "$commands" -- "$word")) ;;
     esac
     case $word in

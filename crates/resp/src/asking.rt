@@ -86,6 +86,7 @@ fn ask_over<R: Source, W: Sink, O: LiveSink, F: Sink>(
 ) -> Result<u8, AllocError> {
     let form = match asking.words.is_empty() {
         _ if asking.options.counts => Form::Counted,
+        _ if asking.options.style.json => Form::Json,
         true => Form::Numbered,
         false => Form::Alone,
     };

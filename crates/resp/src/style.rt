@@ -15,7 +15,7 @@ const NO_COLOR: &str = "NO_COLOR";
 pub struct BadColor<'a>(&'a str);
 
 /// Returns the style that the options ask for. Without `--color`, and with `--color auto`, text has
-/// colors if standard output is a terminal and `NO_COLOR` is not set.
+/// colors if standard output is a terminal and `NO_COLOR` is not set. JSON is printed as it is.
 ///
 /// # Errors
 ///
@@ -27,6 +27,9 @@ pub fn style_of<'a>(rt: &HostRuntime, options: &StyleOptions<'a>) -> Result<Styl
         Some("never") => false,
         Some(word) => return Err(BadColor(word)),
     };
+    if options.json {
+        return Ok(Style::PLAIN);
+    }
     Ok(Style {
         colors,
         utf8: options.utf8,

@@ -231,6 +231,9 @@ impl<'a, R: Source, W: Sink> Talk<'a, R, W> {
         password: Option<&str>,
         output: &mut O,
     ) -> Result<bool, Failure> {
+        if options.style.json {
+            self.telling.form = Form::Json;
+        }
         if let Some(password) = password {
             let command = auth(alloc, options.user, password)?;
             if !self.send_quietly(alloc, &command, output)? {

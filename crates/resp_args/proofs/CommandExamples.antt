@@ -80,6 +80,7 @@ alone_gives_rest : (versions : ValueParser) → (first_of (codes "proto") (given
     × (first_of (codes "file") (given_alone versions) ≡ Some (codes "-")) × HasFlag (given_alone versions) (codes "explain") false
     × HasFlag (given_alone versions) (codes "no-explain") false
     × (first_of (codes "color") (given_alone versions) ≡ None) × (first_of (codes "utf8") (given_alone versions) ≡ Some (codes "false"))
+    × (first_of (codes "json") (given_alone versions) ≡ Some (codes "false"))
 unfolding clap_on_literals
 alone_gives_rest versions = (
   refl,
@@ -87,6 +88,7 @@ alone_gives_rest versions = (
   refl,
   refl,
   (codes "4K", refl, (Kilo, (1, omega arith, refl), (codes "4", refl, (omega arith, search rules), refl, omega arith), omega arith, omega arith)),
+  refl,
   refl,
   refl,
   refl,
@@ -112,7 +114,7 @@ defaults_are_asked versions takes options are =
         file = rest.5 ∙ ap (λ (t : Text). Some t) (sym are.of_file);
         explains = rest.6 ∙ ap (λ b. Some (flag_text b)) (sym are.of_explains);
         never_explains = rest.7 ∙ ap (λ b. Some (flag_text b)) (sym are.of_never_explains);
-        styled = record { in_color = are.of_color ∙ sym rest.8; as_utf8 = are.of_utf8 ∙ sym (ap is_on rest.9) };
+        styled = record { in_color = are.of_color ∙ sym rest.8; as_utf8 = are.of_utf8 ∙ sym (ap is_on rest.9); as_json = are.of_json ∙ sym (ap is_on rest.10) };
       },
     ) in (
       show_alone_is_taken versions takes,

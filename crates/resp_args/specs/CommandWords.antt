@@ -86,6 +86,7 @@ is_on (Some text) = bytes_eq text (codes "true")
 pub record HasStyle (given : List Row) (style : StyleOptions) : Type 0 where
   pub in_color : option_map (λ text. text.now) style.color ≡ first_of (codes "color") given
   pub as_utf8 : style.utf8 ≡ is_on (first_of (codes "utf8") given)
+  pub as_json : style.json ≡ is_on (first_of (codes "json") given)
 
 pub record HasLimits (given : List Row) (limits : Bounds) : Type 0 where
   pub depth : HasNumber given (codes "depth") limits.depth

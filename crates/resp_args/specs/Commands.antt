@@ -10,7 +10,8 @@ use Rattle.resp_args.specs.declared.asked.Asked.TheVariants.{Stream, Play}
 use Rattle.resp_args.specs.declared.options.Options.{Options}
 use Rattle.resp_args.specs.declared.options.Task.{Task}
 
--- the options have these values, whatever holds the file's name, and `--no-explain`, `--color` and `--utf8` are not given
+-- the options have these values, whatever holds the file's name, and `--no-explain`, `--color`, `--utf8` and `--json` are not
+-- given
 pub record AreOptions (task : Task) (version : Version) (limits : Bounds) (piece : ℕ) (file : Text) (explains : Bool)
     (options : Options) : Type 0 where
   pub of_task : options.task ≡ task
@@ -22,6 +23,7 @@ pub record AreOptions (task : Task) (version : Version) (limits : Bounds) (piece
   pub of_never_explains : options.never_explains ≡ false
   pub of_color : option_map (λ text. text.now) options.style.color ≡ None
   pub of_utf8 : options.style.utf8 ≡ false
+  pub of_json : options.style.json ≡ false
 
 -- the words ask for a stream to be read, with these options
 abbrev pub AskForThese : List Text → (Options → Type 0) → Type 0

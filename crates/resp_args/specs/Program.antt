@@ -84,7 +84,7 @@ explained_file = flag_option (codes "explain") ∷ flag_option (codes "no-explai
 -- the options of `show`, `check` and `canon`, with these versions for `--proto`
 abbrev pub stream_options : ValueParser → List Rule
 stream_options versions = version_options versions ++ limit_options ++ flag_option (codes "doubles") ∷
-    size_option (codes "piece") (codes "4K") ∷ style_options ++ explained_file
+    size_option (codes "piece") (codes "4K") ∷ style_options ++ flag_option (codes "json") ∷ explained_file
 
 -- the options of `loop`
 abbrev pub loop_options : List Rule
@@ -143,7 +143,8 @@ command_word = record (new_rule (codes "words")) {
 -- the options of `ask` that do not limit values
 abbrev pub asking_options : List Rule
 asking_options = short_flag_option (codes "three") 51 ∷ name_option (codes "user") ∷
-    number_option (codes "window") 1 65536 (codes "1000") ∷ flag_option (codes "count") ∷ style_options
+    number_option (codes "window") 1 65536 (codes "1000") ∷ flag_option (codes "count") ∷
+    style_options ++ flag_option (codes "json") ∷ []
 
 -- the options of `ask`
 abbrev pub ask_options : List Rule

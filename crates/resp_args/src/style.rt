@@ -14,6 +14,8 @@ pub struct StyleOptions<'a> {
     pub color: Option<&'a str>,
     /// Whether printable characters are printed as they are.
     pub utf8: bool,
+    /// Whether values are printed as JSON, one a line.
+    pub json: bool,
 }
 
 /// Returns the options that say how text is printed.
@@ -23,6 +25,7 @@ pub(crate) fn style_of<'a>(matches: &ArgMatches<'a>) -> StyleOptions<'a>
     StyleOptions {
         color: text_of(matches, "color"),
         utf8: is_on(text_of(matches, "utf8")),
+        json: is_on(text_of(matches, "json")),
     }
 }
 

@@ -43,6 +43,7 @@ const SHOW: Subcommand = Subcommand {
         PIECE,
         COLOR,
         UTF8,
+        JSON,
         EXPLAIN,
         NO_EXPLAIN,
         FILE,
@@ -115,6 +116,7 @@ const ASK: Subcommand = Subcommand {
         COUNT,
         COLOR,
         UTF8,
+        JSON,
         DEPTH,
         LENGTH,
         TOTAL,
@@ -295,6 +297,13 @@ const UTF8: Parameter = Parameter {
     name: "utf8",
     form: Form::Flag,
     help: "Prints printable UTF-8 without escapes",
+};
+
+/// `--json`: whether values are printed as JSON.
+const JSON: Parameter = Parameter {
+    name: "json",
+    form: Form::Flag,
+    help: "Prints each value as a line of JSON",
 };
 
 /// `--explain`: whether an error in the input is explained.

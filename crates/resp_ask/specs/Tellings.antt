@@ -8,18 +8,20 @@ use Rattle.resp_session.specs.Heard.{is_push, replies_of}
 use Rattle.resp_session.specs.Reading.{is_refusal}
 use Rattle.resp_client.specs.declared.heard.What.{What}
 use Rattle.resp_client.specs.declared.heard.What.TheVariants.{Reply, Push, Shown, More}
+use Rattle.resp_json.specs.Json.{json_line}
 use Rattle.resp_print.specs.Shown.{lines_on}
 use Rattle.resp_print.specs.Written.{AppendsPart}
 use Rattle.resp_ask.specs.declared.error.AskError.{AskError}
 use Rattle.resp_ask.specs.declared.error.AskError.TheVariants as error
 use Rattle.resp_ask.specs.declared.telling.Form.{Form}
-use Rattle.resp_ask.specs.declared.telling.Form.TheVariants.{Alone, Numbered, Counted}
+use Rattle.resp_ask.specs.declared.telling.Form.TheVariants.{Alone, Numbered, Json, Counted}
 use Rattle.resp_ask.specs.declared.telling.Telling.{Telling}
 
 -- the text for a reply with this number
 abbrev pub numbered_text : Form → ℕ → Datum → List ℕ
 numbered_text Alone number x = lines_on 0 x
 numbered_text Numbered number x = (codes "reply " ++ decimal number ++ codes "\n") ++ lines_on 1 x
+numbered_text Json number x = json_line x
 numbered_text Counted number x = []
 
 -- the text for the reply to the client's command of this number
@@ -30,6 +32,7 @@ reply_text t number x = numbered_text t.form (number - t.before) x
 abbrev pub push_text : Form → Datum → List ℕ
 push_text Alone x = lines_on 0 x
 push_text Numbered x = lines_on 0 x
+push_text Json x = json_line x
 push_text Counted x = []
 
 -- the text for values that are received one after another; the first reply is that to the client's command of this

@@ -2,6 +2,7 @@
 
 ghost use Rattle.std.specs.Prelude.{◌≡◌, ℕ, List, Option};
 ghost use Rattle.resp_print.specs.Printed.{Prints};
+ghost use Rattle.resp_print.specs.Written.{WritesText};
 ghost use Rattle.resp_session.specs.Reading.{is_refusal};
 ghost use Rattle.resp_value.specs.Values.{datum_of};
 ghost use Rattle.resp_ask.specs.Tellings.{TellsText, counted_after, errors_of, push_text, reply_text, text_of};
@@ -9,10 +10,11 @@ ghost use Rattle.resp_ask.specs.Tellings.{TellsText, counted_after, errors_of, p
 use crate::error::AskError;
 use crate::telling::{Form, Telling};
 use resp_client::What;
+use resp_json::value::{write_json_line, write_push_json_line};
 use resp_print::print_error::PrintError;
 use resp_print::text::write_number;
 use resp_print::value::{write_push_value, write_value};
-use resp_value::device::Sink;
+use resp_value::device::{DeviceFault, Sink};
 use resp_value::value::{Members, Value};
 
 /// Returns whether a reply is an error, with or without attributes in front of it.
@@ -73,18 +75,32 @@ fn write_reply<O: Sink>(
                 Err(_) => Err(AskError::Output),
             }
         }
+        Form::Json => line_told(write_json_line(value, output)),
         Form::Counted => Ok(()),
     }
 }
 
-/// Prints a push, as `resp show` prints it.
+/// Prints a push, as `resp show` prints a value.
 fn write_push<O: Sink>(form: Form, items: &Members, output: &mut O) -> Result<(), AskError>
     ensures { TellsText (O.written output.old) (O.written output.new) (O.failures output.old)
         (O.failures output.new) result (push_text form (datum_of (Value.Push items.now))) }
 {
     match form {
         Form::Alone | Form::Numbered => told(write_push_value(items, 0, output)),
+        Form::Json => line_told(write_push_json_line(items, output)),
         Form::Counted => Ok(()),
+    }
+}
+
+/// Returns the result of writing a line as the result of asking.
+fn line_told(written: Result<(), DeviceFault>) -> Result<(), AskError>
+    ensures { (before after : Option (List ℕ)) (failures failures' : ℕ) (text : List ℕ) →
+        WritesText before after failures failures' written text →
+        TellsText before after failures failures' result text }
+{
+    match written {
+        Ok(()) => Ok(()),
+        Err(DeviceFault) => Err(AskError::Output),
     }
 }
 

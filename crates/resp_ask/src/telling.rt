@@ -7,6 +7,8 @@ pub enum Form {
     Alone,
     /// A line with the number of the reply, and its lines on level 1.
     Numbered,
+    /// A line of JSON, as `resp show --json` prints a value.
+    Json,
     /// Nothing.
     Counted,
 }

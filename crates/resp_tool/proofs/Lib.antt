@@ -18,3 +18,4 @@ pub mod SameBytes
 pub mod RunWords
 pub mod Failures
 pub mod HintLemmas
+pub mod Decoded

@@ -16,3 +16,4 @@ pub mod Valid
 pub mod CanonicalFronts
 pub mod Drafts
 pub mod Hints
+pub mod Decoded

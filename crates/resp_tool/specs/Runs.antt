@@ -1,5 +1,5 @@
 -- The result of running the program over a stream.
-use Rattle.std.specs.Prelude.{◌≡◌, ◌⊎◌, ℕ, false, codes, List, [], Option, Some, IfSome, Result, Ok, Err}
+use Rattle.std.specs.Prelude.{◌≡◌, ◌⊎◌, ℕ, Bool, false, true, codes, List, [], Option, Some, IfSome, Result, Ok, Err}
 use Rattle.resp_value.specs.Devices.{failures_after}
 use Rattle.resp_value.specs.Canonical.{canonical_text, Fits}
 use Rattle.resp_value.specs.Rules.{Rules}
@@ -8,6 +8,7 @@ use Rattle.resp_args.specs.CommandWords.{AreWrong, AskFor, AskForHelp}
 use Rattle.resp_tool.specs.Counts.{Counts, IsAny, LeavesNothing}
 use Rattle.resp_args.specs.Faults.{fault_line, status_of}
 use Rattle.resp_print.specs.Live.{Look}
+use Rattle.resp_json.specs.Json.{json_line}
 use Rattle.resp_tool.specs.Live.{EachRead, IsLive}
 use Rattle.resp_tool.specs.Scans.{IsShownDue, IsShownIn, IsShownOf}
 use Rattle.resp_print.specs.Shown.{shown_text}
@@ -19,19 +20,23 @@ use Rattle.resp_args.specs.declared.options.Task.{Task}
 use Rattle.resp_args.specs.declared.options.Task.TheVariants.{Show, Check, Canon}
 use Rattle.resp_args.specs.declared.tool_error.ToolError.{ToolError}
 
--- the text that a task has written for the bytes that were read, depending on how it ended
-abbrev pub TaskWrites : Task → Rules → List ℕ → Option (List ℕ) → Option (List ℕ) → Result (Unit {0}) ToolError → Type 0
-TaskWrites Show r bytes before after result =
+-- The text that a task has written for the bytes that were read, depending on how it ended. The flag says whether `show`
+-- writes JSON.
+abbrev pub TaskWrites : Task → Bool → Rules → List ℕ → Option (List ℕ) → Option (List ℕ) → Result (Unit {0}) ToolError → Type 0
+TaskWrites Show false r bytes before after result =
     Renders r shown_text IsAny IsShownOf (IsShownIn r) bytes before after result
-TaskWrites Check r bytes before after result = Counts r bytes before after result
-TaskWrites Canon r bytes before after result =
+TaskWrites Show true r bytes before after result =
+    Renders r json_line IsAny LeavesNothing LeavesNothing bytes before after result
+TaskWrites Check json r bytes before after result = Counts r bytes before after result
+TaskWrites Canon json r bytes before after result =
     Renders r (canonical_text r.version) (Fits r) LeavesNothing LeavesNothing bytes before after result
 
 -- before each read of a task that writes as it reads, the text due by then was sent
-abbrev pub Lives : Task → Rules → Option (List ℕ) → Option (List ℕ) → Option (List Look) → Option (List Look) → Type 0
-Lives Show r left before looks looks' = EachRead looks looks' (IsLive r shown_text IsShownDue left before)
-Lives Check r left before looks looks' = Unit {0}
-Lives Canon r left before looks looks' =
+abbrev pub Lives : Task → Bool → Rules → Option (List ℕ) → Option (List ℕ) → Option (List Look) → Option (List Look) → Type 0
+Lives Show false r left before looks looks' = EachRead looks looks' (IsLive r shown_text IsShownDue left before)
+Lives Show true r left before looks looks' = EachRead looks looks' (IsLive r json_line LeavesNothing left before)
+Lives Check json r left before looks looks' = Unit {0}
+Lives Canon json r left before looks looks' =
     EachRead looks looks' (IsLive r (canonical_text r.version) LeavesNothing left before)
 
 -- the exit status of a task with this result
@@ -45,14 +50,14 @@ TellsOutcome said said' failures failures' (Ok x) = (said' ≡ said) × (failure
 TellsOutcome said said' failures failures' (Err error) = TriesText said said' failures failures' (fault_line error)
 
 -- the task ran under these rules, ended with this status, and its error was reported
-pub record HasRun (task : Task) (rules : Rules) (left left' before after said said' : Option (List ℕ))
+pub record HasRun (task : Task) (json : Bool) (rules : Rules) (left left' before after said said' : Option (List ℕ))
     (looks looks' : Option (List Look)) (failures failures' status : ℕ) : Type 0 where
   pub bytes : List ℕ
   pub result : Result (Unit {0}) ToolError
   pub read : AreRead left left' bytes
   pub to_its_end : AtEnd result (IfSome left (λ _. left' ≡ Some []))
-  pub ran : TaskWrites task rules bytes before after result
-  pub live : Lives task rules left before looks looks'
+  pub ran : TaskWrites task json rules bytes before after result
+  pub live : Lives task json rules left before looks looks'
   pub ended : status_of_run result ≡ status
   pub told : TellsOutcome said said' failures failures' result
 

@@ -11,6 +11,7 @@ ghost use Rattle.resp_value.specs.Rules.{rules_under};
 
 use crate::canon::canon;
 use crate::check::check;
+use crate::json::show_json;
 use crate::show::show;
 use crate::stream::MOST_READS;
 use resp_args::asked::Asked;
@@ -31,7 +32,7 @@ const BAD_ARGUMENTS: u8 = 2;
 ///
 /// # Errors
 ///
-/// The errors of [`show`], [`check`] or [`canon`].
+/// The errors of [`show`], [`show_json`], [`check`] or [`canon`].
 pub fn perform<R: LiveSource<W>, W: LiveSink>(
     alloc: Global,
     options: &Options<'_>,
@@ -40,11 +41,11 @@ pub fn perform<R: LiveSource<W>, W: LiveSink>(
 ) -> Result<(), ToolError>
     requires { (1 ≤ options.now.piece) × (options.now.piece ≤ 65536) }
     ensures ran { (bytes : List ℕ) × AreRead (R.remaining reader.old) (R.remaining reader.new)
-        bytes × TaskWrites options.now.task (rules_under options.now.version options.now.limits)
+        bytes × TaskWrites options.now.task options.now.style.json (rules_under options.now.version options.now.limits)
         bytes (W.written writer.old) (W.written writer.new) result }
     ensures read_to_its_end { AtEnd result (IfSome (R.remaining reader.old) (λ _.
         R.remaining reader.new ≡ Some [])) }
-    ensures live { Lives options.now.task (rules_under options.now.version options.now.limits)
+    ensures live { Lives options.now.task options.now.style.json (rules_under options.now.version options.now.limits)
         (R.remaining reader.old) (W.written writer.old) (R.looks reader.old)
         (R.looks reader.new) }
     ensures reads { UsesReader MOST_READS result (R.calls reader.old) (R.calls reader.new)
@@ -56,6 +57,9 @@ pub fn perform<R: LiveSource<W>, W: LiveSink>(
     let limits = options.limits;
     let piece = options.piece;
     match options.task {
+        Task::Show if options.style.json => {
+            show_json(alloc, version, &limits, piece, reader, writer)
+        }
         Task::Show => show(alloc, version, &limits, piece, reader, writer),
         Task::Check => check(alloc, version, &limits, piece, reader, writer),
         Task::Canon => canon(alloc, version, &limits, piece, reader, writer),
@@ -75,7 +79,7 @@ pub fn run_options<R: LiveSource<W>, W: LiveSink, F: Sink>(
 ) -> u8
     requires { (1 ≤ options.now.piece) × (options.now.piece ≤ 65536) }
     ensures status { (result ≤ 3) × (result ≢ 2) }
-    ensures ran { HasRun options.now.task
+    ensures ran { HasRun options.now.task options.now.style.json
         (rules_under options.now.version options.now.limits) (R.remaining reader.old)
         (R.remaining reader.new) (W.written writer.old) (W.written writer.new)
         (F.written faults.old) (F.written faults.new) (R.looks reader.old) (R.looks reader.new)
@@ -117,7 +121,7 @@ pub fn command<S: AsStr, R: LiveSource<W>, W: LiveSink, F: Sink>(
     ensures at_most_three { result ≤ 3 }
     ensures does { (program : App) × IsProgram program × DoesWords program
         (map S.text words.now) (reader.new ≡ reader.old) (WritesSome (W.written writer.old)
-        (W.written writer.new) (W.failures writer.old) (W.failures writer.new)) (λ options. HasRun options.task
+        (W.written writer.new) (W.failures writer.old) (W.failures writer.new)) (λ options. HasRun options.task options.style.json
         (rules_under options.version options.limits) (R.remaining reader.old)
         (R.remaining reader.new) (W.written writer.old) (W.written writer.new)
         (F.written faults.old) (F.written faults.new) (R.looks reader.old) (R.looks reader.new)

@@ -1,7 +1,7 @@
 //! The parts of the program `resp` that read streams: they show, check and rewrite streams of RESP,
 //! the Redis wire protocol.
 //!
-//! [`show::show`], [`check::check`] and [`canon::canon`] read from a
+//! [`show::show`], [`json::show_json`], [`check::check`] and [`canon::canon`] read from a
 //! [`LiveSource`](resp_print::live::LiveSource) and write to a
 //! [`LiveSink`](resp_print::live::LiveSink). [`command_line::command`] runs a command line.
 #![tactic(auto)]
@@ -13,6 +13,7 @@ pub mod command_line;
 mod draft;
 pub mod explain;
 mod hint;
+pub mod json;
 pub mod laws;
 mod lines;
 mod printer;

@@ -1,0 +1,23 @@
+use Rattle.std.proofs.Common.{◌++◌, codes}
+use Rattle.resp_json.specs.Json.{text_json, text_object}
+use Rattle.resp_print.proofs.WrittenLemmas.{writes_next, writes_part}
+use Rattle.resp_json.proofs.value.write_verbatim.Goals as goal
+
+pub returns-in_err-write_text : goal.returns-in_err-write_text
+returns-in_err-write_text g c =
+    let format = text_object (codes ",\"format\":") c.args.format.now in
+    writes_part c.from_residual.result _ _ _ _ (codes "{\"verbatim\":") (text_json c.args.text.now ++ format) c.from_residual.ensures.0 c.in_err-write_text.ensures
+
+pub returns-in_err-write_json_text : goal.returns-in_err-write_json_text
+returns-in_err-write_json_text g c =
+    let format = text_object (codes ",\"format\":") c.args.format.now in
+    let r = c.from_residual-in_err-write_json_text.result in
+    writes_next r _ _ _ _ _ _ (codes "{\"verbatim\":") (text_json c.args.text.now ++ format) c.in_ok-write_text.ensures
+    (writes_part r _ _ _ _ (text_json c.args.text.now) format c.from_residual-in_err-write_json_text.ensures.0 c.in_err-write_json_text.ensures)
+
+pub returns : goal.returns
+returns g c =
+    let format = text_object (codes ",\"format\":") c.args.format.now in
+    let r = c.write_object.result in
+    writes_next r _ _ _ _ _ _ (codes "{\"verbatim\":") (text_json c.args.text.now ++ format) c.in_ok-write_text.ensures
+    (writes_next r _ _ _ _ _ _ (text_json c.args.text.now) format c.in_ok-write_json_text.ensures c.write_object.ensures)

@@ -1,0 +1,144 @@
+-- What `show --json` has read and written, from what the calls of its decoder say.
+use Rattle.std.proofs.Common.{◌≡◌, ◌⊎◌, inl, inr, ℕ, ◌<◌, true, List, [], ◌∷◌, ◌++◌, length, take, drop, IfErr, IfOk, Option, Result, Ok, Err, refl, sym, ap, subst, ◌∙◌, append-nil, append_assoc, take-append-drop}
+use Rattle.resp_value.specs.Devices.{Appends}
+use Rattle.resp_value.specs.Rules.{Rules}
+use Rattle.resp_value.specs.Values.{datum_of}
+use Rattle.resp_value.specs.declared.cause.Cause.{Cause}
+use Rattle.resp_value.specs.declared.cause.Cause.TheVariants as cause
+use Rattle.resp_value.specs.declared.value.Value.{Value}
+use Rattle.resp_scan.specs.Reading.{HasNoValue}
+use Rattle.resp_scan.specs.declared.event.Fault.{Fault}
+use Rattle.resp_decode.proofs.Feeding.{no_value_at_start}
+use Rattle.resp_decode.specs.Decoding.{GivesValue, HasTaken, LacksMemory, RefusesByte, TakesPiece}
+use Rattle.resp_decode.specs.declared.decoder.Decoder.{Decoder}
+use Rattle.resp_json.specs.Json.{json_line}
+use Rattle.resp_print.proofs.WrittenLemmas.{Appends-none}
+use Rattle.resp_print.specs.Written.{AppendsPart, WritesText}
+use Rattle.resp_tool.specs.Counts.{IsAny, LeavesNothing}
+use Rattle.resp_tool.specs.Decoded.{HasDecoded, stop_by, stop_of}
+use Rattle.resp_tool.specs.Takings.{IsByteFault, LeavesRefused, Takes, TakesUnfinished, WritesPart, WritesValue}
+use Rattle.resp_tool.specs.declared.rendering.Stop.{Stop}
+use Rattle.resp_tool.specs.declared.rendering.Stop.TheVariants.{Write}
+use Rattle.resp_tool.specs.declared.rendering.Taken.{Taken}
+use Rattle.resp_tool.proofs.Rendered.{spelled_one}
+use Rattle.resp_tool.proofs.Scanned.{value_uses_some}
+
+-- a decoder before the first value
+pub decoded_nothing : (d : Decoder) → HasTaken d [] → HasDecoded d [] []
+decoded_nothing d taken = record { taken = taken; no_value = no_value_at_start; nothing = refl }
+
+-- a value that was read and whose line was written
+pub decoded_value : (r : Rules) (d : Decoder) (front piece so_far : List ℕ) (used : ℕ) (value : Value) (before after : Option (List ℕ)) →
+    HasNoValue front → so_far ≡ [] → GivesValue r d (front ++ take used piece) value → Appends before after (json_line (datum_of value)) →
+    (0 < used) × WritesValue r json_line IsAny (HasDecoded d) (front ++ take used piece) so_far before after
+decoded_value r d front piece so_far used value before after none nothing gives appended = (
+  value_uses_some front piece used gives.spelling.tree none gives.spelling.spells,
+  record {
+    value = datum_of value;
+    spelling = gives.spelling;
+    written = tt;
+    more = json_line (datum_of value);
+    appended = appended;
+    whole = ap (λ z. z ++ json_line (datum_of value)) (sym nothing);
+    takes = decoded_nothing d gives.takes;
+  },
+)
+
+-- a piece at the place where a value ends
+cut : (front piece : List ℕ) (used : ℕ) → front ++ piece ≡ (front ++ take used piece) ++ drop used piece
+cut front piece used = ap (λ z. front ++ z) (sym (take-append-drop used piece)) ∙ sym (append_assoc front (take used piece) (drop used piece))
+
+-- a value that was read, and the first part of its line was written
+pub decoded_part : (r : Rules) (d : Decoder) (front piece so_far : List ℕ) (used : ℕ) (value : Value) (before after : Option (List ℕ)) →
+    so_far ≡ [] → GivesValue r d (front ++ take used piece) value → AppendsPart before after (json_line (datum_of value)) →
+    WritesPart r json_line LeavesNothing (front ++ piece) so_far before after
+decoded_part r d front piece so_far used value before after nothing gives written = record {
+  values = datum_of value ∷ [];
+  front = front ++ take used piece;
+  beyond = drop used piece;
+  split = cut front piece used;
+  spelled = spelled_one r (datum_of value) (front ++ take used piece) gives.spelling;
+  begun = [];
+  is_begun = refl;
+  more = written.part;
+  later = written.beyond;
+  parts = append-nil (json_line (datum_of value) ++ []) ∙ append-nil (json_line (datum_of value)) ∙ written.whole ∙
+      ap (λ z. z ++ (written.part ++ written.beyond)) (sym nothing);
+  appended = written.appended;
+}
+
+-- a piece that was read whole
+pub decoded_front : (r : Rules) (d : Decoder) (front piece so_far : List ℕ) (used : ℕ) (held : Option (List ℕ)) → so_far ≡ [] →
+    TakesPiece r d (front ++ piece) piece used →
+    (used ≡ length piece) × TakesUnfinished r (HasDecoded d) (front ++ piece) so_far held held
+decoded_front r d front piece so_far used held nothing takes = (
+  takes.whole_piece,
+  record {
+    no_value = takes.no_value;
+    viable = takes.viable;
+    more = [];
+    appended = Appends-none held;
+    takes = record { taken = takes.takes; no_value = takes.no_value; nothing = append-nil so_far ∙ nothing };
+  },
+)
+
+-- a byte that is refused
+refused_byte : (r : Rules) (front piece so_far : List ℕ) (held : Option (List ℕ)) (fault : Fault) → so_far ≡ [] → RefusesByte r front piece fault →
+    LeavesRefused r (IsByteFault r) LeavesNothing (front ++ piece) so_far held held fault.cause fault.at
+refused_byte r front piece so_far held fault nothing refuses = record {
+  fault = record { rule = refuses.rule; names = refuses.names; fault_of = refuses.fault_of };
+  no_spelling = refuses.no_value;
+  more = [];
+  appended = Appends-none held;
+  is_left = append-nil so_far ∙ nothing;
+}
+
+-- nothing more was written
+no_part : (r : Rules) (whole so_far : List ℕ) (held : Option (List ℕ)) → so_far ≡ [] → WritesPart r json_line LeavesNothing whole so_far held held
+no_part r whole so_far held nothing = record {
+  values = [];
+  front = [];
+  beyond = whole;
+  split = refl;
+  spelled = refl;
+  begun = [];
+  is_begun = refl;
+  more = [];
+  later = [];
+  parts = sym (append-nil so_far ∙ nothing);
+  appended = Appends-none held;
+}
+
+-- a fault of the decoder
+pub decoded_fault : (r : Rules) (d : Decoder) (front piece so_far : List ℕ) (held : Option (List ℕ)) (fault : Fault) → so_far ≡ [] →
+    RefusesByte r front piece fault ⊎ LacksMemory r front piece fault →
+    Takes r json_line IsAny LeavesNothing LeavesNothing (HasDecoded d) front piece so_far held held (Err (stop_of fault))
+decoded_fault r d front piece so_far held fault nothing (inr lacks) =
+    subst (λ c. Takes r json_line IsAny LeavesNothing LeavesNothing (HasDecoded d) front piece so_far held held (Err (stop_by c fault))) (sym lacks.names)
+    (no_part r (front ++ piece) so_far held nothing)
+decoded_fault r d front piece so_far held fault nothing (inl refuses) = by_cause fault.cause
+  where
+    by_cause : (c : Cause) → Takes r json_line IsAny LeavesNothing LeavesNothing (HasDecoded d) front piece so_far held held (Err (stop_by c fault))
+    by_cause cause.OutOfMemory = no_part r (front ++ piece) so_far held nothing
+    by_cause c = refused_byte r front piece so_far held fault nothing refuses
+
+-- the same of the error that a call returns for it
+pub decoded_stop : (r : Rules) (d : Decoder) (front piece so_far : List ℕ) (held : Option (List ℕ)) (fault : Fault) (stop : Stop) → stop ≡ stop_of fault →
+    so_far ≡ [] → RefusesByte r front piece fault ⊎ LacksMemory r front piece fault →
+    Takes r json_line IsAny LeavesNothing LeavesNothing (HasDecoded d) front piece so_far held held (Err stop)
+decoded_stop r d front piece so_far held fault stop is nothing why =
+    subst (λ z. Takes r json_line IsAny LeavesNothing LeavesNothing (HasDecoded d) front piece so_far held held (Err z)) (sym is)
+    (decoded_fault r d front piece so_far held fault nothing why)
+
+-- a value that was read, and the write of its line
+pub decoded_line : (r : Rules) (d : Decoder) (front piece so_far : List ℕ) (used : ℕ) (value : Value) (before after : Option (List ℕ)) (failures failures' : ℕ)
+    (result : Result Taken Stop) → HasNoValue front → so_far ≡ [] → GivesValue r d (front ++ take used piece) value →
+    WritesText before after failures failures' result (json_line (datum_of value)) →
+    IfOk result (λ taken. taken ≡ record { used = used; is_whole = true }) → IfErr result (λ stop. stop ≡ Write) →
+    Takes r json_line IsAny LeavesNothing LeavesNothing (HasDecoded d) front piece so_far before after result
+decoded_line r d front piece so_far used value before after failures failures' (Ok taken) none nothing gives written whole stops =
+    subst (λ z. Takes r json_line IsAny LeavesNothing LeavesNothing (HasDecoded d) front piece so_far before after (Ok z)) (sym whole)
+    (decoded_value r d front piece so_far used value before after none nothing gives written.0)
+decoded_line r d front piece so_far used value before after failures failures' (Err stop) none nothing gives written whole stops =
+    subst (λ z. Takes r json_line IsAny LeavesNothing LeavesNothing (HasDecoded d) front piece so_far before after (Err z)) (sym stops)
+    (decoded_part r d front piece so_far used value before after nothing gives written.0)
