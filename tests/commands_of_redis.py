@@ -1,8 +1,8 @@
-"""Compares resp_commands with redis-server: commands_of_redis.py FOLDER
+"""Compares resp_commands and resp_glob with redis-server: commands_of_redis.py FOLDER
 
 The script runs two servers of its own, one as a node of a cluster. It asks check_commands for each command and each
-subcommand of the table, for the places of the keys of commands that are drawn at random, and for the slots of 10,000
-keys. A command that only the server has is a warning, since a newer server has more commands. Any other difference is a
+subcommand of the table, for the places of the keys of commands that are drawn at random, for the slots of 10,000 keys,
+and for the keys that globs match, as KEYS finds them. A command that only the server has is a warning, since a newer server has more commands. Any other difference is a
 failure. The table is also made anew, and has the same bytes if the server has the version of the table.
 
 COMMAND GETKEYS refuses many of the drawn commands, for example for too few words. These are not compared, and neither
@@ -21,6 +21,9 @@ KEYS = 10_000
 # The commands that are drawn for each row of the table, and the words of which they are made.
 DRAWN = 25
 WORDS = "a b c d 0 1 2 3 4 STREAMS streams Store STOREDIST count block -1 by GET Limit".split()
+# The globs that are drawn, and the bytes of which they and the keys are made.
+GLOBS = 400
+GLOB_BYTES = "**??[[]]^--\\\\abcd"
 # The commands for which the table does not say where the keys are, and those whose words are no keys but channels.
 UNKNOWN = {"migrate"}
 CHANNELS = {"spublish", "ssubscribe", "sunsubscribe"}
@@ -62,6 +65,28 @@ def drawn(names):
         for _ in range(DRAWN):
             made.append([*name.split("|"), *(draw.choice(WORDS) for _ in range(draw.randrange(1, 9)))])
     return made
+
+
+def texts(count, most, letters, seed):
+    """Returns texts of these letters that are drawn from a seed."""
+    draw = random.Random(seed)
+    return sorted({"".join(draw.choice(letters) for _ in range(draw.randrange(1, most + 1))) for _ in range(count)})
+
+
+def compare_globs(commands, port):
+    """Prints each glob that matches other keys than KEYS of the server finds; returns the numbers compared and wrong."""
+    globs, names = texts(GLOBS, 9, GLOB_BYTES, 3), texts(25, 6, "aabbcd]-^*?[\\", 4)
+    commands.ask_all(port, [[b"SET", name.encode(), b""] for name in names])
+    replies = commands.ask_all(port, [[b"KEYS", glob.encode()] for glob in globs])
+    lines = printed([f"glob {glob} {name}".encode() for glob in globs for name in names])
+    wrong = 0
+    for index, (glob, reply) in enumerate(zip(globs, replies)):
+        ours = lines[index * len(names) : (index + 1) * len(names)]
+        found = [name for name, line in zip(names, ours) if line == "matches"]
+        if found != sorted(reply):
+            print(f"the glob {glob} matches {sorted(reply)}, not {found}")
+            wrong += 1
+    return len(globs), wrong
 
 
 def lines_of(commands, rows, inner):
@@ -125,6 +150,8 @@ def main():
         version = commands.version_of(port)
         text = commands.text_of(version, rows, inner)
         compared, wrong = compare_keys(commands, port, asked, places)
+        globs, wrong_globs = compare_globs(commands, port)
+        wrong += wrong_globs
     with open(commands.TABLE, encoding="utf-8") as file:
         table = file.read()
     if f"redis-server {version}." in table.splitlines()[0] and text != table:
@@ -137,7 +164,7 @@ def main():
             if slot != right:
                 print(f"the slot of {key!r} is {right}, not {slot}")
                 wrong += 1
-    print(f"{len(ours)} rows, the keys of {compared} commands and {KEYS} slots compared, {wrong} differences")
+    print(f"{len(ours)} rows, the keys of {compared} commands, {KEYS} slots and {globs} globs compared, {wrong} differences")
     sys.exit(wrong != 0)
 
 

@@ -19,7 +19,7 @@ _resp() {
     loop) options="--explain --no-explain -h --help" ;;
     serve) options="$limits --clients --held -h --help" ;;
     tap)
-        options="$limits --clients --time --errors --slower --command --client --stats --stats-every --exit-with-output --keep-going --show-passwords --color --utf8 -h --help"
+        options="$limits --clients --time --errors --slower --command --client --connections --stats --stats-every --exit-with-output --keep-going --show-passwords --color --utf8 -h --help"
         ;;
     proxy)
         options="$limits --clients --own --waiting --held --unsent --patience --report --local-ping --no-inline --drain --also -h --help"

@@ -41,6 +41,7 @@ complete -c resp -n '__fish_seen_subcommand_from tap' -l errors -d 'Prints only 
 complete -c resp -n '__fish_seen_subcommand_from tap' -l slower -x -d 'Prints only commands that wait longer, such as 10ms'
 complete -c resp -n '__fish_seen_subcommand_from tap' -l command -x -d 'Prints only commands with these names'
 complete -c resp -n '__fish_seen_subcommand_from tap' -l client -x -d 'Prints only the lines about this client'
+complete -c resp -n '__fish_seen_subcommand_from tap' -l connections -d 'Prints addresses and names of connections'
 complete -c resp -n '__fish_seen_subcommand_from tap' -l stats -d 'Prints a table of commands, and not the commands'
 complete -c resp -n '__fish_seen_subcommand_from tap' -l stats-every -x -d 'Prints the table every N seconds too, 1 to 86400'
 complete -c resp -n '__fish_seen_subcommand_from tap' -l exit-with-output -d 'Ends at once if the output fails'

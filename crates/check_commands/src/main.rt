@@ -3,15 +3,16 @@
 //! Each line of standard input asks for something. `entry WORD` prints the command of this name: name,
 //! class, arity, first key, last key, step, whether its keys are movable, how they are searched and
 //! from which place, which nodes get a part, and how replies are merged. `class WORD ..` prints the
-//! class of a command, `keys WORD ..` the places of its keys, and `slot KEY` the slot of the key. `all`
-//! prints each command as `entry` finds it, and `all subcommands` each subcommand as `subcommand` finds
-//! it.
+//! class of a command, `keys WORD ..` the places of its keys, and `slot KEY` the slot of the key.
+//! `glob GLOB TEXT` prints whether the glob matches the text. `all` prints each command as `entry` finds
+//! it, and `all subcommands` each subcommand as `subcommand` finds it.
 #![tactic(auto)]
 
 use anyhow::Result;
 use resp_commands::{
     COMMANDS, Command, SUBCOMMANDS, class_of, entry, key_places, row_of, slot, subcommand,
 };
+use resp_glob::matches;
 use resp_scan::whole::{self, WholeCommand};
 use resp_value::limits::Limits;
 use std::alloc::Global;
@@ -123,6 +124,19 @@ fn print_whole(rt: &HostRuntime, words: &[u8], wants_keys: bool) -> Result<()> {
     }
 }
 
+/// Prints whether the glob before the last space matches the text after it.
+fn print_match(rt: &impl Print, words: &[u8]) -> Result<()> {
+    let Some(space) = words.iter().rposition(|byte| *byte == b' ') else {
+        return Ok(());
+    };
+    if matches(&words[..space], &words[space + 1..]) {
+        println!(rt; "matches")?;
+    } else {
+        println!(rt; "differs")?;
+    }
+    Ok(())
+}
+
 /// Prints the result of one line.
 fn print_result(rt: &HostRuntime, line: &[u8]) -> Result<()> {
     if let Some(word) = line.strip_prefix(b"entry ".as_slice()) {
@@ -137,6 +151,9 @@ fn print_result(rt: &HostRuntime, line: &[u8]) -> Result<()> {
     }
     if let Some(words) = line.strip_prefix(b"keys ".as_slice()) {
         return print_whole(rt, words, true);
+    }
+    if let Some(words) = line.strip_prefix(b"glob ".as_slice()) {
+        return print_match(rt, words);
     }
     if line == b"all".as_slice() {
         for command in &COMMANDS {

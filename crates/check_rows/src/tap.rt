@@ -67,6 +67,10 @@ impl Subject for Tapping {
             "slower" => self.set_slower(given),
             "command" => self.add_name(given),
             "only" => self.set_client(given),
+            "connections" => {
+                self.filter.connections = true;
+                Ok(())
+            }
             "count" => self.begin_counting(),
             "table" => self.say_table(said),
             "client" => self.pass(Side::Client, given, cut, said),
@@ -147,7 +151,16 @@ impl Tapping {
             None => None,
         };
         let mut screen = Screen::new(self.alloc, MOST);
-        write_end(1, side, cut, stamp, &mut screen)?;
+        let name = match &self.counting {
+            Some((tap, _)) => tap.name(),
+            None => self.tap.name(),
+        };
+        let name = if self.filter.connections {
+            name.as_bytes()
+        } else {
+            b""
+        };
+        write_end(1, name, side, cut, stamp, &mut screen)?;
         said.push_str(str::from_utf8(screen.text())?)?;
         Ok(())
     }

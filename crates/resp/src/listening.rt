@@ -158,6 +158,7 @@ fn filter_of(
     let mut filter = Filter::all(alloc);
     filter.errors = options.errors;
     filter.slower = slower;
+    filter.connections = options.connections;
     if options.client > 0 {
         filter.client = Some(options.client);
     }

@@ -126,6 +126,7 @@ pub record HasFilter (given : List Row) (filter : FilterOptions) : Type 0 where
   pub slow : option_map (λ text. text.now) filter.slower ≡ first_of (codes "slower") given
   pub named : option_map (λ names. names.now) filter.names ≡ first_of (codes "command") given
   pub only : HasNumber given (codes "client") filter.client
+  pub of_connections : HasFlag given (codes "connections") filter.connections
 
 -- the options of `tap` that say that commands are counted
 pub record HasStats (given : List Row) (stats : StatsOptions) : Type 0 where

@@ -106,7 +106,7 @@ serve_options = listening_options
 -- the options of `tap` that say which commands are printed
 abbrev pub filter_options : List Rule
 filter_options = flag_option (codes "errors") ∷ name_option (codes "slower") ∷ name_option (codes "command") ∷
-    number_option (codes "client") 0 1099511627776 (codes "0") ∷ []
+    number_option (codes "client") 0 1099511627776 (codes "0") ∷ flag_option (codes "connections") ∷ []
 
 -- the options of `tap` that say that commands are counted
 abbrev pub stats_options : List Rule

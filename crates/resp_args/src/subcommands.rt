@@ -92,6 +92,7 @@ const TAP: Subcommand = Subcommand {
         SLOWER,
         COMMAND,
         CLIENT,
+        CONNECTIONS,
         STATS,
         STATS_EVERY,
         EXIT_WITH_OUTPUT,
@@ -407,6 +408,13 @@ const CLIENT: Parameter = Parameter {
         hides_default: true,
     },
     help: "Prints only the lines about client N",
+};
+
+/// `--connections`: whether `tap` prints the lines about connections, with addresses and names.
+const CONNECTIONS: Parameter = Parameter {
+    name: "connections",
+    form: Form::Flag,
+    help: "Prints when clients connect and from where, and the\nnames that they give to their connections",
 };
 
 /// `--stats`: whether `tap` counts commands instead of printing them.

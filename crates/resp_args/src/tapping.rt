@@ -64,6 +64,8 @@ pub struct FilterOptions<'a> {
     pub names: Option<&'a str>,
     /// The number of the client whose lines are printed, or 0 if those of all are.
     pub client: u64,
+    /// Whether the lines about connections are printed, with addresses and names.
+    pub connections: bool,
 }
 
 /// The options that are no address.
@@ -156,11 +158,13 @@ fn filter_of<'a>(matches: &ArgMatches<'a>) -> Option<FilterOptions<'a>>
         → HasFilter (rows_of (found_of matches.now)) filter → ⊥) }
 {
     let errors = flag_of(matches, "errors")?;
+    let connections = flag_of(matches, "connections")?;
     Some(FilterOptions {
         errors,
         slower: text_of(matches, "slower"),
         names: text_of(matches, "command"),
         client: number_of(matches, "client")?,
+        connections,
     })
 }
 

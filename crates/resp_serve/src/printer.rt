@@ -6,12 +6,12 @@ use crate::watcher::Watcher;
 use resp_counts::table_of;
 use resp_print::text::write_text;
 use resp_tap::counted::watch_counted;
-use resp_tap::end::write_end;
+use resp_tap::end::{write_end, write_named_line};
 use resp_tap::filtered::watch_filtered;
 use resp_tap::print::{write_client_line, write_line};
 use resp_tap::stamp::Stamp;
 use resp_tap::watch::Side;
-use resp_tap::{CountedTap, Filter, FilteredTap, Moment, Printing, Tap};
+use resp_tap::{CountedTap, Filter, FilteredTap, Moment, Printing};
 use resp_value::device::Sink;
 use std::alloc::Global;
 use std::rt::Clock;
@@ -134,23 +134,54 @@ impl<'a, 'f, 's, W: Sink, C: Clock> Printer<'a, 'f, 's, W, C> {
         }
     }
 
-    /// Prints which side of a client's connection has ended, and the incomplete command or reply of
-    /// that side. If only some commands are printed or all are counted, only an
-    /// end inside a command or a reply is.
-    pub(crate) fn print_end(&mut self, tap: &Tap, client: u64, side: Side) {
-        let cut = match side {
-            Side::Client => tap.incomplete_command(),
-            Side::Server => tap.incomplete_reply(),
-        };
-        let is_kept = self.stats.is_none() || cut.is_some();
-        if !is_kept || !self.filter.keeps_end(client, cut) {
+    /// Prints that a client's connection has gone, unless only some commands are printed or all are
+    /// counted.
+    pub(crate) fn print_gone(&mut self, watcher: &Watcher, client: u64) {
+        if !self.prints_connections() || !self.filter.keeps_gone(client) {
             return;
         }
+        let name = self.name_of(watcher);
         let stamp = self.stamp();
         let Some(writer) = &mut self.writer else {
             return;
         };
-        if write_end(client, side, cut, stamp, *writer).is_err() {
+        if write_named_line(client, name, b" gone", stamp, *writer).is_err() {
+            self.has_failed = true;
+        }
+    }
+
+    /// Returns whether lines about connections are printed, as far as the filter lets them through.
+    fn prints_connections(&self) -> bool {
+        self.stats.is_none() || self.filter.connections
+    }
+
+    /// Returns the name of a connection, if names are printed.
+    fn name_of<'w>(&self, watcher: &'w Watcher) -> &'w [u8] {
+        if self.filter.connections {
+            watcher.name().as_bytes()
+        } else {
+            b""
+        }
+    }
+
+    /// Prints which side of a client's connection has ended, and the incomplete command or reply of
+    /// that side. If only some commands are printed or all are counted, only an
+    /// end inside a command or a reply is.
+    pub(crate) fn print_end(&mut self, watcher: &Watcher, client: u64, side: Side) {
+        let cut = match side {
+            Side::Client => watcher.tap().incomplete_command(),
+            Side::Server => watcher.tap().incomplete_reply(),
+        };
+        let is_kept = cut.is_some() || self.prints_connections();
+        if !is_kept || !self.filter.keeps_end(client, cut) {
+            return;
+        }
+        let name = self.name_of(watcher);
+        let stamp = self.stamp();
+        let Some(writer) = &mut self.writer else {
+            return;
+        };
+        if write_end(client, name, side, cut, stamp, *writer).is_err() {
             self.has_failed = true;
         }
     }

@@ -114,6 +114,11 @@ impl Tapped {
         self.printing.client
     }
 
+    /// Returns the tap of the connection.
+    pub(crate) fn watcher(&self) -> &Watcher {
+        &self.watcher
+    }
+
     /// Returns whether the connection to the server was ever open.
     pub(crate) fn is_connected(&self) -> bool {
         self.is_connected
@@ -161,7 +166,7 @@ impl Tapped {
         }
         // The end of a side is printed if the other side has not ended before.
         if forwarded.has_ended && is_first {
-            printer.print_end(self.watcher.tap(), self.printing.client, side);
+            printer.print_end(&self.watcher, self.printing.client, side);
         }
         forwarded.progress
     }

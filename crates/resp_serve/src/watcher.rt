@@ -1,6 +1,6 @@
 //! The tap of one connection.
 
-use resp_tap::{CountedTap, FilteredTap, Tap};
+use resp_tap::{ClientName, CountedTap, FilteredTap, Tap};
 use resp_value::limits::Limits;
 use std::alloc::Global;
 
@@ -26,6 +26,14 @@ impl Watcher {
         match self {
             Watcher::Printed(tap) => tap.tap(),
             Watcher::Counted(tap) => tap.tap(),
+        }
+    }
+
+    /// Returns the name that the client has given to the connection.
+    pub(crate) fn name(&self) -> &ClientName {
+        match self {
+            Watcher::Printed(tap) => tap.name(),
+            Watcher::Counted(tap) => tap.name(),
         }
     }
 }

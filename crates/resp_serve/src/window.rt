@@ -20,7 +20,7 @@ use resp_tap::screen::Screen;
 use resp_tap::{Filter, Printing};
 use resp_value::device::Sink;
 use resp_value::limits::Limits;
-use std::alloc::Global;
+use std::alloc::{AllocError, Global};
 use std::fs::{File, Files};
 use std::io;
 use std::io::ErrorKind;
@@ -36,6 +36,9 @@ const WRITES: usize = 64;
 
 /// The time until waiting text is printed again, in milliseconds.
 const PATIENCE: u64 = 5;
+
+/// The end of the line about a client that is connected, if its address is not known.
+const CONNECTED: &[u8] = b" connected";
 
 /// The end of the line about a client for which memory is out.
 const NOT_CONNECTED: &[u8] = b" not connected";
@@ -275,9 +278,41 @@ impl View {
 
     /// Prints that a client's connection has gone, unless only some commands are printed
     /// or all are counted.
-    fn print_gone<W: Sink, C: Clock>(&mut self, client: u64, clock: &C, out: &mut W) {
-        if self.stats.is_none() && self.filter.keeps_gone(client) {
-            self.print_line(client, b" gone", clock, out);
+    fn print_gone<W: Sink, C: Clock>(&mut self, connection: &Tapped, clock: &C, out: &mut W) {
+        let client = connection.number();
+        let (timing, stats) = (&mut self.timing, self.stats.as_mut());
+        if self.terminal.may_wait() {
+            let screen = as_long(!self.is_silent, &mut self.screen);
+            Printer::new(clock, timing, stats, &self.filter, screen).print_gone(
+                connection.watcher(),
+                client,
+            );
+            return;
+        }
+        let out = as_long(!self.is_silent, out);
+        let mut printer = Printer::new(clock, timing, stats, &self.filter, out);
+        printer.print_gone(connection.watcher(), client);
+        self.has_failed = self.has_failed || printer.has_failed();
+    }
+
+    /// Prints from where a client is connected, if connections are printed.
+    fn print_connected<W: Sink, C: Clock>(
+        &mut self,
+        client: u64,
+        stream: &TcpStream,
+        clock: &C,
+        out: &mut W,
+    ) {
+        if !self.filter.keeps_connected(client) {
+            return;
+        }
+        let line = match stream.peer_addr() {
+            Ok(address) => format!(in self.alloc; " connected from {address}"),
+            Err(_) => Err(AllocError),
+        };
+        match line {
+            Ok(line) => self.print_line(client, line.as_str().as_bytes(), clock, out),
+            Err(_) => self.print_line(client, CONNECTED, clock, out),
         }
     }
 
@@ -474,6 +509,8 @@ impl<R: Net + Clock + Eprint, W: LiveSink> Service<Tapped> for Watching<'_, R, W
         tokens: Tokens,
     ) -> io::Result<Tapped> {
         let number = self.view.next_number();
+        self.view
+            .print_connected(number, &client, self.rt, self.out);
         let admitted = self.view.connect(self.rt, client, number, registry, tokens);
         match &admitted {
             Ok(_) => {
@@ -504,8 +541,7 @@ impl<R: Net + Clock + Eprint, W: LiveSink> Service<Tapped> for Watching<'_, R, W
 
     fn close(&mut self, connection: Tapped) {
         if connection.is_connected() {
-            let number = connection.number();
-            self.view.print_gone(number, self.rt, self.out);
+            self.view.print_gone(&connection, self.rt, self.out);
         }
         // Its descriptors are closed first.
         drop(connection);

@@ -7,6 +7,7 @@ use Rattle.resp_counts.specs.declared.row.Call.{Call}
 use Rattle.resp_counts.specs.declared.row.Row.{Row}
 use Rattle.resp_value.specs.Values.{datum_of}
 use Rattle.resp_session.specs.Reading.{is_refusal}
+use Rattle.resp_tap.specs.ClientNames.{named_after, naming_of}
 use Rattle.resp_tap.specs.Filters.{keeps_answer, keeps_client, keeps_words}
 use Rattle.resp_tap.specs.Lines.{asked_at}
 use Rattle.resp_tap.specs.Taps.{tap_state}
@@ -122,3 +123,4 @@ pub record CountsSeen (f : Filter) (client : ℕ) (side : Side) (now : Moment) (
   pub same_taken : KeepsTaken side old new
   pub counts : CountsAfter f client what heard (waits_in old.timed) (waits_in new.timed)
       (asked_at (tap_state old.timed.tap).line.due) old.asked.items new.asked.items rows rows'
+  pub name : naming_of new.name ≡ named_after what (naming_of old.name)

@@ -1,7 +1,6 @@
 -- The end of one side of a connection.
 use Rattle.std.specs.Prelude.{ℕ, List, [], ◌∷◌, ◌++◌, length, Option, None, Some, codes, decimal}
 use Rattle.resp_tap.specs.Stamps.{ending_text}
-use Rattle.resp_tap.specs.Texts.{client_line}
 use Rattle.resp_tap.specs.declared.end.Cut.{Cut}
 use Rattle.resp_tap.specs.declared.seen.Place.{Place}
 use Rattle.resp_tap.specs.declared.seen.Place.TheVariants as place
@@ -33,7 +32,16 @@ bytes_end bytes stamp = (codes "" ++ decimal bytes ++ codes " bytes") ++ ending_
 abbrev pub cut_end : Cut → Option Stamp → List ℕ
 cut_end cut stamp = part_words cut.place ++ bytes_end cut.bytes stamp
 
+-- the number of a client, with the name of its connection if it has one
+abbrev pub client_words : ℕ → List ℕ → List ℕ
+client_words client [] = codes "client " ++ decimal client ++ codes ""
+client_words client (byte ∷ name) = (codes "client " ++ decimal client ++ codes " (") ++ ((byte ∷ name) ++ codes ")")
+
+-- a line about a client's connection
+abbrev pub named_line : ℕ → List ℕ → List ℕ → Option Stamp → List ℕ
+named_line client name what stamp = client_words client name ++ (what ++ ending_text stamp)
+
 -- the line about the side that has ended
-abbrev pub end_text : ℕ → Side → Option Cut → Option Stamp → List ℕ
-end_text client side None stamp = client_line client (ended_words side) stamp
-end_text client side (Some cut) stamp = (codes "client " ++ decimal client ++ ended_words side) ++ cut_end cut stamp
+abbrev pub end_text : ℕ → List ℕ → Side → Option Cut → Option Stamp → List ℕ
+end_text client name side None stamp = named_line client name (ended_words side) stamp
+end_text client name side (Some cut) stamp = client_words client name ++ (ended_words side ++ cut_end cut stamp)

@@ -8,6 +8,7 @@ use Rattle.resp_tap.specs.Taps.{tap_state}
 use Rattle.resp_tap.specs.Texts.{levels_of}
 use Rattle.resp_tap.specs.Times.{HasTimes, stamp_of, waits_in}
 use Rattle.resp_tap.specs.Watches.{SeesFirst, first_error}
+use Rattle.resp_tap.specs.ClientNames.{named_after, naming_of}
 use Rattle.resp_tap.specs.declared.filter.Filter.{Filter}
 use Rattle.resp_tap.specs.declared.filtered.FilteredTap.{FilteredTap}
 use Rattle.resp_tap.specs.declared.moment.Moment.{Moment}
@@ -20,6 +21,7 @@ pub record SeesFiltered (filter : Filter) (printing : Printing) (side : Side) (n
     (piece : List ℕ) (used : ℕ) (what : Seen) : Type 0 where
   pub seen : SeesFirst side now old.timed new.timed piece used what
   pub notes : NotesAfter filter printing now what (waits_in old.timed) (waits_in new.timed) old.notes.items new.notes.items
+  pub name : naming_of new.name ≡ named_after what (naming_of old.name)
 
 -- The text of the result is printed as far as the filter lets it through and writes succeed. A reply is judged by what is
 -- kept of its command, and by the time of its command.

@@ -73,11 +73,19 @@ keeps f client is_chosen waited what = keeps_client f client && keeps_seen f is_
 abbrev pub is_selective : Filter → Bool
 is_selective f = is_by_reply f || not (has_no_name f)
 
+-- whether the line is let through that says from where this client is connected
+abbrev pub keeps_connected : Filter → ℕ → Bool
+keeps_connected f client = keeps_client f client && f.connections
+
+-- whether lines about connections are let through, although no command is cut off
+abbrev pub keeps_ends : Filter → Bool
+keeps_ends f = f.connections || not (is_selective f)
+
 -- whether the line is let through that says that this client's connection has gone
 abbrev pub keeps_gone : Filter → ℕ → Bool
-keeps_gone f client = keeps_client f client && not (is_selective f)
+keeps_gone f client = keeps_client f client && keeps_ends f
 
 -- whether the line is let through that says that a side has closed the connection, inside this command or reply if there
 -- is one
 abbrev pub keeps_end : Filter → ℕ → Option Cut → Bool
-keeps_end f client cut = keeps_client f client && (is_some cut || not (is_selective f))
+keeps_end f client cut = keeps_client f client && (is_some cut || keeps_ends f)

@@ -1,3 +1,4 @@
+pub mod ClientNames
 pub mod Kinds
 pub mod Notices
 pub mod Lines

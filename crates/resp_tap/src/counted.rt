@@ -1,6 +1,7 @@
 //! A tap whose commands are counted.
 
 ghost use Rattle.std.specs.Prelude.{◌≡◌, ◌+◌, ◌<◌, ◌≤◌, List, [], Some, length, drop, min, slice_get};
+ghost use Rattle.resp_tap.specs.ClientNames.{naming_of};
 ghost use Rattle.resp_tap.specs.Counting.{AnswersCall, AsksCall, CountsAfter, CountsSeen, IsPlaceFor, KeepsTaken, ReleasesCall, is_counted, is_error, left_of, taken_of};
 ghost use Rattle.resp_counts.specs.Names.{table_name};
 ghost use Rattle.resp_counts.specs.Rows.{MayAddRow};
@@ -9,6 +10,7 @@ ghost use Rattle.resp_tap.specs.Times.{waits_in};
 ghost use Rattle.resp_tap.specs.Watches.{KeepsOther, SeesFirst};
 ghost use Rattle.resp_tap.specs.Watching.{HasTakenRequest, HasTakenValue};
 
+use crate::client_name::ClientName;
 use crate::filter::Filter;
 use crate::line::is_refusal;
 use crate::moment::Moment;
@@ -99,6 +101,7 @@ pub struct CountedTap {
     /// The bytes read of the client's incomplete command, and of the server's incomplete value.
     pub(crate) sent: u64,
     pub(crate) received: u64,
+    pub(crate) name: ClientName,
 }
 
 impl CountedTap {
@@ -108,12 +111,14 @@ impl CountedTap {
         ensures nothing_requested { HasTakenRequest result.timed.tap [] }
         ensures nothing_answered { HasTakenValue result.timed.tap [] }
         ensures nothing_asked { result.asked.items ≡ [] }
+        ensures no_name { (naming_of result.name).name ≡ [] }
     {
         CountedTap {
             timed: TimedTap::new(alloc, limits),
             asked: VecDeque::new(alloc),
             sent: 0,
             received: 0,
+            name: ClientName::new(),
         }
     }
 
@@ -124,12 +129,20 @@ impl CountedTap {
         self.timed.tap()
     }
 
+    /// Returns the name that the client has given to the connection.
+    pub fn name(&self) -> &ClientName
+        ensures { result.now ≡ self.now.name }
+    {
+        &self.name
+    }
+
     /// Returns the number of bytes that one side has sent of a command or value, after these bytes.
     fn take_bytes(&mut self, side: Side, used: usize, seen: &Seen) -> u64
         ensures bytes { result ≡ min (taken_of side self.old + used) 18446744073709551615 }
         ensures left { taken_of side self.new ≡ left_of seen.now result }
         ensures same_taken { KeepsTaken side self.old self.new }
         ensures same_tap { self.new.timed ≡ self.old.timed }
+        ensures same_name { self.new.name ≡ self.old.name }
         ensures same_asked { self.new.asked.items ≡ self.old.asked.items }
     {
         match side {
@@ -162,6 +175,7 @@ impl CountedTap {
             (waits_in self.old.timed) at self.old.asked.items self.new.asked.items
             counts.old.rows.items counts.new.rows.items }
         ensures same_tap { self.new.timed ≡ self.old.timed }
+        ensures same_name { self.new.name ≡ self.old.name }
         ensures same_bytes { (self.new.sent ≡ self.old.sent) ×
             (self.new.received ≡ self.old.received) }
     {
@@ -180,6 +194,7 @@ impl CountedTap {
         ensures counts { ReleasesCall gone filter.now (slice_get self.old.asked.items at) heard
             counts.old.rows.items counts.new.rows.items }
         ensures same_tap { self.new.timed ≡ self.old.timed }
+        ensures same_name { self.new.name ≡ self.old.name }
         ensures same_bytes { (self.new.sent ≡ self.old.sent) ×
             (self.new.received ≡ self.old.received) }
     {
@@ -202,6 +217,7 @@ impl CountedTap {
         ensures asks { AsksCall filter.now client words.now before bytes self.old.asked.items
             self.new.asked.items counts.old.rows.items counts.new.rows.items }
         ensures same_tap { self.new.timed ≡ self.old.timed }
+        ensures same_name { self.new.name ≡ self.old.name }
         ensures same_bytes { (self.new.sent ≡ self.old.sent) ×
             (self.new.received ≡ self.old.received) }
     {
@@ -217,6 +233,7 @@ impl CountedTap {
     fn drop_first(&mut self, count: u64)
         ensures asked { self.new.asked.items ≡ drop count self.old.asked.items }
         ensures same_tap { self.new.timed ≡ self.old.timed }
+        ensures same_name { self.new.name ≡ self.old.name }
         ensures same_bytes { (self.new.sent ≡ self.old.sent) ×
             (self.new.received ≡ self.old.received) }
     {
@@ -272,6 +289,7 @@ pub fn count_some(
         waited: waited_of(now, asked, &step.seen),
     };
     tap.follow(counts, filter, client, before, at, heard, &step.seen);
+    tap.name.follow(&step.seen);
     step
 }
 

@@ -2,12 +2,12 @@
 
 ghost use Rattle.std.specs.Prelude.{◌≡◌, ◌+◌, ◌++◌, ℕ, List, codes, decimal, length, None, false, true};
 ghost use Rattle.resp_print.specs.Written.{WritesText};
-ghost use Rattle.resp_tap.specs.Ends.{bytes_end, cut_end, cut_of, end_text, ended_words, part_words};
+ghost use Rattle.resp_tap.specs.Ends.{bytes_end, client_words, cut_end, cut_of, end_text, ended_words, named_line, part_words};
 ghost use Rattle.resp_tap.specs.Taps.{tap_state};
 ghost use Rattle.resp_tap.specs.Watching.{WhereAnswered, WhereRequested, place_of_value};
 ghost use Rattle.resp_tap.specs.declared.seen.Place.TheVariants as place;
 
-use crate::print::write_client_line;
+use crate::print::write_line;
 use crate::seen::Place;
 use crate::stamp::{Stamp, write_ending};
 use crate::tap::Tap;
@@ -75,41 +75,98 @@ fn ended_words(side: Side) -> &'static [u8]
     }
 }
 
+/// Writes the number of a client, and the name of its connection if it has one.
+fn write_client<W: Sink>(client: u64, name: &[u8], writer: &mut W) -> Result<(), DeviceFault>
+    ensures { WritesText (W.written writer.old) (W.written writer.new) (W.failures writer.old)
+        (W.failures writer.new) result (client_words client name.now) }
+{
+    if name.is_empty() {
+        return write_number(writer, b"client ", client, b"");
+    }
+    write_number(writer, b"client ", client, b" (")?;
+    write_name(name, writer)
+}
+
+/// Writes a name and the parenthesis after it.
+fn write_name<W: Sink>(name: &[u8], writer: &mut W) -> Result<(), DeviceFault>
+    ensures { WritesText (W.written writer.old) (W.written writer.new) (W.failures writer.old)
+        (W.failures writer.new) result (name.now ++ codes ")") }
+{
+    write_text(writer, name)?;
+    write_text(writer, b")")
+}
+
+/// Writes a line about a client's connection with its name, such as `client 1 (worker) gone`. A
+/// connection without a name has an empty one.
+///
+/// # Errors
+///
+/// `DeviceFault` if a write fails. The first part of the line was written.
+pub fn write_named_line<W: Sink>(
+    client: u64,
+    name: &[u8],
+    what: &[u8],
+    stamp: Option<Stamp>,
+    writer: &mut W,
+) -> Result<(), DeviceFault>
+    ensures { WritesText (W.written writer.old) (W.written writer.new) (W.failures writer.old)
+        (W.failures writer.new) result (named_line client name.now what.now stamp) }
+{
+    write_client(client, name, writer)?;
+    write_line(what, stamp, writer)
+}
+
 /// Writes the line about the side of a client's connection that has ended, and the incomplete
-/// command or reply of that side, if there is one.
+/// command or reply of that side, if there is one. A connection without a name has an empty one.
 ///
 /// # Errors
 ///
 /// `DeviceFault` if a write fails. The first part of the line was written.
 pub fn write_end<W: Sink>(
     client: u64,
+    name: &[u8],
     side: Side,
     cut: Option<Cut>,
     stamp: Option<Stamp>,
     writer: &mut W,
 ) -> Result<(), DeviceFault>
     ensures { WritesText (W.written writer.old) (W.written writer.new) (W.failures writer.old)
-        (W.failures writer.new) result (end_text client side cut stamp) }
+        (W.failures writer.new) result (end_text client name.now side cut stamp) }
 {
     match cut {
-        None => write_client_line(client, ended_words(side), stamp, writer),
-        Some(cut) => write_cut_end(client, ended_words(side), cut, stamp, writer),
+        None => write_named_line(client, name, ended_words(side), stamp, writer),
+        Some(cut) => write_cut_end(client, name, ended_words(side), cut, stamp, writer),
     }
 }
 
 /// Writes the line with these words about a side that has ended inside a command or a reply.
 fn write_cut_end<W: Sink>(
     client: u64,
+    name: &[u8],
     words: &[u8],
     cut: Cut,
     stamp: Option<Stamp>,
     writer: &mut W,
 ) -> Result<(), DeviceFault>
     ensures { WritesText (W.written writer.old) (W.written writer.new) (W.failures writer.old)
-        (W.failures writer.new) result
-        ((codes "client " ++ decimal client ++ words.now) ++ cut_end cut stamp) }
+        (W.failures writer.new) result (client_words client name.now ++
+        (words.now ++ cut_end cut stamp)) }
 {
-    write_number(writer, b"client ", client, words)?;
+    write_client(client, name, writer)?;
+    write_cut_words(words, cut, stamp, writer)
+}
+
+/// Writes these words, the incomplete command or reply, and the end of the line.
+fn write_cut_words<W: Sink>(
+    words: &[u8],
+    cut: Cut,
+    stamp: Option<Stamp>,
+    writer: &mut W,
+) -> Result<(), DeviceFault>
+    ensures { WritesText (W.written writer.old) (W.written writer.new) (W.failures writer.old)
+        (W.failures writer.new) result (words.now ++ cut_end cut stamp) }
+{
+    write_text(writer, words)?;
     write_cut(cut, stamp, writer)
 }
 

@@ -2,7 +2,7 @@
 
 ghost use Rattle.std.specs.Prelude.{◌≡◌, [], None, false};
 ghost use Rattle.std.specs.List.{list_any};
-ghost use Rattle.resp_tap.specs.Filters.{has_no_name, is_by_reply, is_late, is_selective, keeps, keeps_answer, keeps_client, keeps_end, keeps_gone, keeps_loose, keeps_seen, keeps_words, name_in, same_name};
+ghost use Rattle.resp_tap.specs.Filters.{has_no_name, is_by_reply, is_late, is_selective, keeps, keeps_answer, keeps_client, keeps_connected, keeps_end, keeps_ends, keeps_gone, keeps_loose, keeps_seen, keeps_words, name_in, same_name};
 
 use crate::end::Cut;
 use crate::line::is_refusal;
@@ -35,6 +35,9 @@ pub struct Filter {
     pub names: Vec<Vec<u8>>,
     /// The client whose lines are printed, if only one client's are.
     pub client: Option<u64>,
+    /// Whether all lines about connections are printed, whatever the other parts let through, apart from
+    /// `client`.
+    pub connections: bool,
 }
 
 /// Returns whether a delay is greater than `least`, or all delays are let through.
@@ -83,12 +86,14 @@ impl Filter {
         ensures slower { result.slower ≡ None }
         ensures names { result.names.items ≡ [] }
         ensures client { result.client ≡ None }
+        ensures connections { result.connections ≡ false }
     {
         Filter {
             errors: false,
             slower: None,
             names: Vec::new(alloc),
             client: None,
+            connections: false,
         }
     }
 
@@ -166,20 +171,34 @@ impl Filter {
         self.is_by_reply() || !self.has_no_name()
     }
 
-    /// Returns whether the line is printed that says that a client's connection has gone. It is not
-    /// printed if only some commands are.
+    /// Returns whether the line is printed that says from where a client is connected.
+    pub fn keeps_connected(&self, client: u64) -> bool
+        ensures { result ≡ keeps_connected self.now client }
+    {
+        self.keeps_client(client) && self.connections
+    }
+
+    /// Returns whether lines about connections are printed, although no command is cut off.
+    fn keeps_ends(&self) -> bool
+        ensures { result ≡ keeps_ends self.now }
+    {
+        self.connections || !self.is_selective()
+    }
+
+    /// Returns whether the line is printed that says that a client's connection has gone. If only some
+    /// commands are printed, it is printed with `connections` only.
     pub fn keeps_gone(&self, client: u64) -> bool
         ensures { result ≡ keeps_gone self.now client }
     {
-        self.keeps_client(client) && !self.is_selective()
+        self.keeps_client(client) && self.keeps_ends()
     }
 
     /// Returns whether the line is printed that says that one side has closed a client's connection,
-    /// with the incomplete command or reply of that side. If only some commands are printed, only a
-    /// line with an incomplete command or reply is.
+    /// with the incomplete command or reply of that side. If only some commands are printed, a line
+    /// without an incomplete command or reply is printed with `connections` only.
     pub fn keeps_end(&self, client: u64, cut: Option<Cut>) -> bool
         ensures { result ≡ keeps_end self.now client cut }
     {
-        self.keeps_client(client) && (cut.is_some() || !self.is_selective())
+        self.keeps_client(client) && (cut.is_some() || self.keeps_ends())
     }
 }

@@ -1,6 +1,7 @@
 //! A tap whose traffic is printed through a filter.
 
 ghost use Rattle.std.specs.Prelude.{◌≡◌, ◌<◌, ◌≤◌, ◌-◌, List, [], length, drop};
+ghost use Rattle.resp_tap.specs.ClientNames.{naming_of};
 ghost use Rattle.resp_tap.specs.Filtering.{FiltersAll, PrintsFiltered, SeesFiltered};
 ghost use Rattle.resp_tap.specs.Noted.{IsAdded, NotesAfter, NotesBy};
 ghost use Rattle.resp_tap.specs.Taps.{new_tap, tap_state};
@@ -9,6 +10,7 @@ ghost use Rattle.resp_tap.specs.Watches.{KeepsOther};
 ghost use Rattle.resp_tap.specs.Watching.{HasTakenRequest, HasTakenValue};
 ghost use Rattle.resp_tap.specs.declared.seen.Seen.{Seen};
 
+use crate::client_name::ClientName;
 use crate::filter::Filter;
 use crate::moment::Moment;
 use crate::note::{Note, note_of, write_filtered};
@@ -40,6 +42,7 @@ pub struct FilteredTap {
     pub(crate) timed: TimedTap,
     /// What is kept of the commands that wait, in their order.
     pub(crate) notes: VecDeque<Note>,
+    pub(crate) name: ClientName,
 }
 
 impl FilteredTap {
@@ -49,11 +52,13 @@ impl FilteredTap {
         ensures nothing_requested { HasTakenRequest result.timed.tap [] }
         ensures nothing_answered { HasTakenValue result.timed.tap [] }
         ensures nothing_kept { result.notes.items ≡ [] }
+        ensures no_name { (naming_of result.name).name ≡ [] }
     {
         FilteredTap {
             alloc,
             timed: TimedTap::new(alloc, limits),
             notes: VecDeque::new(alloc),
+            name: ClientName::new(),
         }
     }
 
@@ -62,6 +67,13 @@ impl FilteredTap {
         ensures { result.now ≡ self.now.timed.tap }
     {
         self.timed.tap()
+    }
+
+    /// Returns the name that the client has given to the connection.
+    pub fn name(&self) -> &ClientName
+        ensures { result.now ≡ self.now.name }
+    {
+        &self.name
     }
 
     /// Adds or drops what is kept of the commands that wait, after a result before which so many
@@ -77,6 +89,7 @@ impl FilteredTap {
         ensures notes { NotesAfter filter.now printing now seen.now before (waits_in self.old.timed)
             self.old.notes.items self.new.notes.items }
         ensures same_tap { self.new.timed ≡ self.old.timed }
+        ensures same_name { self.new.name ≡ self.old.name }
     {
         let after = self.timed.tap.waiting();
         match seen {
@@ -99,6 +112,7 @@ impl FilteredTap {
         ensures notes { IsAdded filter.now printing now words.now self.old.notes.items
             self.new.notes.items }
         ensures same_tap { self.new.timed ≡ self.old.timed }
+        ensures same_name { self.new.name ≡ self.old.name }
     {
         let behind = self.notes.len();
         // Otherwise nothing is kept of a command before this one.
@@ -114,6 +128,7 @@ impl FilteredTap {
     fn drop_first(&mut self, count: u64)
         ensures notes { self.new.notes.items ≡ drop count self.old.notes.items }
         ensures same_tap { self.new.timed ≡ self.old.timed }
+        ensures same_name { self.new.name ≡ self.old.name }
     {
         let mut left = count;
         while left > 0 && !self.notes.is_empty() {
@@ -161,6 +176,7 @@ pub fn watch_filtered_some<W: Sink>(
         writer,
     );
     tap.follow(filter, printing, now, before, &step.seen);
+    tap.name.follow(&step.seen);
     Watched {
         used: step.used,
         printed,

@@ -7,6 +7,7 @@
 //! forwards the bytes of one direction.
 #![tactic(auto)]
 
+pub mod client_name;
 pub mod counted;
 pub mod end;
 pub mod filter;
@@ -29,6 +30,7 @@ pub mod timed;
 pub mod watch;
 pub mod way;
 
+pub use client_name::ClientName;
 pub use counted::CountedTap;
 pub use end::Cut;
 pub use filter::Filter;

@@ -1,4 +1,5 @@
 use Rattle.std.proofs.Common.{rules, ◌≡◌, ◌∙◌, ◌+◌, ℕ, List, refl, ap, sym, subst, min}
+use Rattle.resp_tap.specs.ClientNames.{named_after, naming_of}
 use Rattle.resp_tap.specs.Counting.{CountsAfter, KeepsTaken, taken_of}
 use Rattle.resp_tap.specs.Lines.{asked_at}
 use Rattle.resp_tap.specs.Taps.{tap_state}
@@ -32,6 +33,7 @@ returns-clause-counts c =
     let old = c.args.tap.now in
     let read = c.take_bytes.new.self in
     let new = c.follow.new.self in
+    let last : CountedTap = record new { name = c.follow-2.new.self } in
     let what = c.step-step.result.seen in
     let heard : Heard = record { bytes = c.take_bytes.result; is_error = c.is_error.result; waited = c.waited_of.result } in
     let rows = c.args.counts.now.rows.items in
@@ -47,12 +49,13 @@ returns-clause-counts c =
         of_command = c.asked-asked.ensures;
         delay = c.waited_of.ensures;
       };
-      left = same_taken c.args.side read new c.follow.ensures.same_bytes.0 c.follow.ensures.same_bytes.1 ∙ c.take_bytes.ensures.left;
-      same_taken = same_other c.args.side old read new c.follow.ensures.same_bytes.0 c.follow.ensures.same_bytes.1
+      left = same_taken c.args.side read last c.follow.ensures.same_bytes.0 c.follow.ensures.same_bytes.1 ∙ c.take_bytes.ensures.left;
+      same_taken = same_other c.args.side old read last c.follow.ensures.same_bytes.0 c.follow.ensures.same_bytes.1
           (stepped_other c.args.side old read c.step-step.new.tap c.take_bytes.ensures.same_taken);
       counts = subst (λ (t : TimedTap). CountsAfter f client what heard (waits_in old.timed) (waits_in t) at old.asked.items new.asked.items rows rows') (sym c.follow.ensures.same_tap)
           (subst (λ (l : List Asked). CountsAfter f client what heard (waits_in old.timed) (waits_in read.timed) at l new.asked.items rows rows') c.take_bytes.ensures.same_asked
           (subst (λ (n : ℕ). CountsAfter f client what heard (waits_in old.timed) (waits_in read.timed) n read.asked.items new.asked.items rows rows') c.asked_at-at.ensures
           (subst (λ (n : ℕ). CountsAfter f client what heard n (waits_in read.timed) c.asked_at-at.result read.asked.items new.asked.items rows rows') c.waiting-before.ensures
           c.follow.ensures.counts)));
+      name = c.follow-2.ensures ∙ ap (λ n. named_after what (naming_of n)) (c.follow.ensures.same_name ∙ c.take_bytes.ensures.same_name);
     }

@@ -1,14 +1,14 @@
-use Rattle.std.proofs.Common.{◌++◌, codes, decimal}
-use Rattle.resp_tap.specs.Ends.{cut_end}
+use Rattle.std.proofs.Common.{◌++◌}
 use Rattle.resp_print.proofs.WrittenLemmas.{writes_next, writes_part}
+use Rattle.resp_tap.specs.Ends.{client_words, cut_end}
 use Rattle.resp_tap.proofs.end.write_cut_end.Goals as goal
 
-pub returns-in_err-write_number : goal.returns-in_err-write_number
-returns-in_err-write_number g c =
-    writes_part c.from_residual.result _ _ _ _ (codes "client " ++ decimal c.args.client ++ c.args.words.now) (cut_end c.args.cut c.args.stamp)
-    c.from_residual.ensures.0 c.in_err-write_number.ensures
+pub returns-in_err-write_client : goal.returns-in_err-write_client
+returns-in_err-write_client g c =
+    writes_part c.from_residual.result _ _ _ _ (client_words c.args.client c.args.name.now) (c.args.words.now ++ cut_end c.args.cut c.args.stamp)
+    c.from_residual.ensures.0 c.in_err-write_client.ensures
 
 pub returns : goal.returns
 returns g c =
-    writes_next c.write_cut.result _ _ _ _ _ _ (codes "client " ++ decimal c.args.client ++ c.args.words.now) (cut_end c.args.cut c.args.stamp)
-    c.in_ok-write_number.ensures c.write_cut.ensures
+    writes_next c.write_cut_words.result _ _ _ _ _ _ (client_words c.args.client c.args.name.now) (c.args.words.now ++ cut_end c.args.cut c.args.stamp)
+    c.in_ok-write_client.ensures c.write_cut_words.ensures

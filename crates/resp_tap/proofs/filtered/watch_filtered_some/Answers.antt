@@ -4,6 +4,7 @@ use Rattle.std.specs.Slice.{IsItemAt}
 use Rattle.std.specs.Borrow.{Bor}
 use Rattle.std.proofs.lemmas.Option.{slice_get_past, slice_get_read}
 use Rattle.resp_print.specs.Printed.{Prints}
+use Rattle.resp_tap.specs.ClientNames.{named_after, naming_of}
 use Rattle.resp_tap.specs.Lines.{asked_at}
 use Rattle.resp_tap.specs.Noted.{NotesAfter, filtered_text}
 use Rattle.resp_tap.specs.Taps.{tap_state}
@@ -36,6 +37,7 @@ returns-clause-watches g c =
         notes = subst (λ (t : TimedTap). NotesAfter f p c.args.now what (waits_in old.timed) (waits_in t) old.notes.items new.notes.items) same
             (subst (λ n. NotesAfter f p c.args.now what n (waits_in c.step-step.new.tap) old.notes.items new.notes.items) c.waiting-before.ensures
             c.follow.ensures.notes);
+        name = c.follow-2.ensures ∙ ap (λ n. named_after what (naming_of n)) c.follow.ensures.same_name;
       },
       record {
         asked = c.asked-asked.result;
