@@ -15,6 +15,7 @@ Most tests have a server of their own, which reads and replies step by step. The
 - with a password AUTH is sent first, and commands only after its reply;
 - lines are commands, and with --no-inline they are not;
 - --also, --local-ping, --report and --drain do what they say, and INFO proxy;
+- --check prints what the proxy would do with the commands of a server;
 - clients wait while no descriptor is left, and the connection to the server is opened again even then.
 """
 import contextlib
@@ -758,8 +759,74 @@ def own_address_of_proxy():
         assert (ran.returncode, ran.stdout, ran.stderr) == (3, b"", why), (words, ran)
 
 
+def listed(name, *flags, subcommands=()):
+    """The entry of a command in the reply to COMMAND of Redis 7."""
+    words = b"".join(b"+%s\r\n" % flag for flag in flags)
+    return (b"*10\r\n" + bulk(name) + b":-1\r\n*%d\r\n" % len(flags) + words + b":0\r\n:0\r\n:0\r\n*0\r\n*0\r\n*0\r\n"
+            + b"*%d\r\n" % len(subcommands) + b"".join(map(listed, subcommands)))
+
+
+def checked(commands, *words, password=None):
+    """The status, the output and the errors of --check before a server with these commands, and what it was sent."""
+    peer, seen = Answering(None), []
+
+    def reply(words):
+        seen.append(words)
+        return b"+OK\r\n" if words[0] == b"AUTH" else commands
+    peer.reply = reply
+    variables = {"PATH": os.environ["PATH"], **({"RESP_PASSWORD": password} if password else {})}
+    done = subprocess.run([PROGRAM, "proxy", "--check", *words, "127.0.0.1:0", peer.address], env=variables,
+                          stdin=subprocess.DEVNULL, capture_output=True, timeout=LIMIT)
+    return done.returncode, done.stdout.replace(peer.address.encode(), b"SERVER"), done.stderr, seen
+
+
+def check_of_commands():
+    """--check prints the number of commands for each treatment and their names, and names the option for unknown ones."""
+    commands = b"*5\r\n" + b"".join([
+        listed(b"get", b"readonly"), listed(b"json.get", b"readonly"), listed(b"multi"), listed(b"ft.wait", b"blocking"),
+        listed(b"client", subcommands=[b"client|id", b"client|kill", b"client|setinfo", b"client|new"])])
+    status, printed, errors, seen = checked(commands)
+    assert (status, errors, seen) == (1, b"", [[b"COMMAND"]])
+    assert printed == b"""8 commands of SERVER
+    1 shared: sent over the connection that clients share
+    1 own: the client gets a connection of its own
+    2 proxy: the proxy replies itself
+    1 rejected: 'NAME' is not served by this proxy
+    3 unknown: unknown command 'NAME'
+
+own:
+  MULTI
+
+proxy:
+  CLIENT ID, CLIENT SETINFO
+
+rejected:
+  CLIENT KILL
+
+unknown:
+  CLIENT NEW, FT.WAIT, JSON.GET
+
+--also JSON.GET
+sends these too; name only those that have one reply and do not wait
+""", printed
+    status, printed, errors, _ = checked(commands, "--all", "--also", "json.get,other")
+    assert (status, errors) == (1, b"")
+    assert printed == (b"shared GET\nshared JSON.GET\nown MULTI\nproxy CLIENT ID\nproxy CLIENT SETINFO\n"
+                       b"rejected CLIENT KILL\nunknown CLIENT NEW\nunknown FT.WAIT\n"), printed
+    known = b"*2\r\n" + listed(b"GET") + listed(b"ping")
+    status, printed, errors, seen = checked(known, "--all", "--local-ping", password="secret")
+    assert (status, printed, errors) == (0, b"shared GET\nproxy PING\n", b"")
+    assert seen == [[b"AUTH", b"secret"], [b"COMMAND"]]
+    status, printed, errors, _ = checked(b"-NOPERM no COMMAND for you\r\n")
+    assert (status, printed) == (1, b"") and errors.endswith(b': the server replied "NOPERM no COMMAND for you"\n'), errors
+    status, printed, errors, _ = checked(b"*1\r\n:1\r\n")
+    assert (status, printed) == (1, b"") and errors.endswith(b": the reply to COMMAND is not a list of commands\n"), errors
+    status, printed, errors, _ = checked(b"?")
+    assert (status, printed) == (1, b"") and errors.startswith(b"reply 1: "), errors
+
+
 TESTS = [pipelines_cut_at_random, client_that_goes, end_of_input, server_that_closes, server_that_ends_inside_a_reply,
          reply_that_nobody_waits_for, server_that_is_not_there, patience, protocol_error, own_replies, lines,
          client_that_does_not_read, server_that_does_not_read, one_command_at_a_time, login,
          admitted_commands, ping_of_the_proxy, reports, times_of_replies, end_of_standard_input, most_of_proxy,
-         descriptors_of_proxy, busy_clients, own_address_of_proxy]
+         descriptors_of_proxy, busy_clients, own_address_of_proxy, check_of_commands]

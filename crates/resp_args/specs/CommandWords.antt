@@ -202,7 +202,8 @@ abbrev pub HasProxying : List Row → Proxying → Type 0
 HasProxying given proxying = (server_text : Text) ×
     HasProxyWords given proxying.address_text.now server_text proxying.options ×
     IsAddressText proxying.address_text.now proxying.address × IsServerText server_text proxying.server ×
-    (option_map (λ names. names.now) proxying.also ≡ first_of (codes "also") given)
+    (option_map (λ names. names.now) proxying.also ≡ first_of (codes "also") given) ×
+    (proxying.checks ≡ is_on (first_of (codes "check") given)) × (proxying.all ≡ is_on (first_of (codes "all") given))
 
 -- the options of `ask` that are neither the address nor the words
 pub record HasAskOptions (given : List Row) (options : AskOptions) : Type 0 where

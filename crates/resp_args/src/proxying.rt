@@ -11,6 +11,7 @@ use crate::options::{
     MOST_BYTES, address_of, bytes_of, flag_of, limits_of, number_of, small_number_of, text_of,
 };
 use crate::server_address::{ServerAddress, server_of};
+use crate::style::is_on;
 use clap::ArgMatches;
 use resp_value::limits::Limits;
 use std::net::SocketAddr;
@@ -27,6 +28,10 @@ pub struct Proxying<'a> {
     /// The names of the commands that are sent although the table does not have them, with a comma between
     /// two of them, if they were given.
     pub also: Option<&'a str>,
+    /// Whether the commands of the server are checked, and no client is served.
+    pub checks: bool,
+    /// Whether `--check` prints a line for each command.
+    pub all: bool,
     /// The options that are no address.
     pub options: ProxyOptions,
 }
@@ -83,6 +88,8 @@ pub(crate) fn proxying_of<'a>(matches: &ArgMatches<'a>) -> Result<Proxying<'a>, 
             address_text: words.address,
             server,
             also: text_of(matches, "also"),
+            checks: is_on(text_of(matches, "check")),
+            all: is_on(text_of(matches, "all")),
             options: words.options,
         }),
         Err(nothing) => Err(nothing),
