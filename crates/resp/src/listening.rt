@@ -332,6 +332,7 @@ fn settings_of(options: &ProxyOptions) -> ProxySettings {
         patience: Duration::from_millis(options.patience),
         report: report_of(options.report),
         drains: options.drains,
+        check_every: options.check_every,
     }
 }
 

@@ -188,6 +188,7 @@ pub record HasProxyOptions (given : List Row) (options : ProxyOptions) : Type 0 
   pub for_client : HasSize given (codes "held") 1 1099511627776 options.held
   pub for_server : HasSize given (codes "unsent") 1 1099511627776 options.unsent
   pub times : HasProxyTimes given (options.patience, options.report)
+  pub probes : HasNumberBetween given (codes "check-every") 0 1000000000 options.check_every
   pub flags : HasProxyFlags given (options.local_ping, options.drains)
   pub refuses_lines : HasFlag given (codes "no-inline") options.refuses_lines
 

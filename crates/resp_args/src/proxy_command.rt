@@ -21,6 +21,7 @@ pub(crate) const PROXY: Subcommand = Subcommand {
         UNSENT,
         PATIENCE,
         REPORT,
+        CHECK_EVERY,
         LOCAL_PING,
         NO_INLINE,
         DRAIN,
@@ -116,6 +117,18 @@ const REPORT: Parameter = Parameter {
         hides_default: false,
     },
     help: "Prints a line with numbers every N seconds,\n0 to 86400; 0 prints no line",
+};
+
+/// `--check-every`: the commands from one probe of the connection to the next.
+const CHECK_EVERY: Parameter = Parameter {
+    name: "check-every",
+    form: Form::Number {
+        least: 0,
+        most: 1_000_000_000,
+        default: "0",
+        hides_default: false,
+    },
+    help: "Checks by an ECHO after every N commands that replies\nare in step, 0 to 1000000000; 0 checks nothing",
 };
 
 /// `--local-ping`: whether PING is replied to without the server.

@@ -57,6 +57,9 @@ pub struct ProxyOptions {
     /// The seconds from one report on standard output to the next, from 0 to 86,400; with 0 there
     /// is no report.
     pub report: u64,
+    /// The commands after which the connection to the server is checked by a probe, from 0 to
+    /// 1,000,000,000; with 0 there is no probe.
+    pub check_every: u64,
     /// Whether the proxy replies to PING itself.
     pub local_ping: bool,
     /// Whether a line is rejected as a command.
@@ -145,6 +148,7 @@ fn options_of(matches: &ArgMatches<'_>) -> Option<ProxyOptions>
         unsent: bytes_of(matches, "unsent", 1, MOST_BYTES)? as usize,
         patience,
         report,
+        check_every: number_between(matches, "check-every", 0, 1_000_000_000)?,
         local_ping,
         refuses_lines,
         drains,
