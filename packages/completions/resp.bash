@@ -22,7 +22,7 @@ _resp() {
         options="$limits --clients --time --errors --slower --command --client --connections --stats --stats-every --exit-with-output --keep-going --show-passwords --color --utf8 -h --help"
         ;;
     proxy)
-        options="$limits --clients --own --waiting --held --unsent --patience --report --local-ping --no-inline --drain --also -h --help"
+        options="$limits --clients --own --waiting --held --unsent --patience --report --local-ping --no-inline --drain --also --check-every --check --all -h --help"
         ;;
     ask) options="-3 --user --window --count --color --utf8 --json $limits -h --help" ;;
     help) [ "$COMP_CWORD" -ne 2 ] || COMPREPLY=($(compgen -W "$commands" -- "$word")) ;;

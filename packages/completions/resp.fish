@@ -57,6 +57,9 @@ complete -c resp -n '__fish_seen_subcommand_from proxy' -l local-ping -d 'Replie
 complete -c resp -n '__fish_seen_subcommand_from proxy' -l no-inline -d 'Rejects commands that are lines'
 complete -c resp -n '__fish_seen_subcommand_from proxy' -l drain -d 'Ends when standard input ends'
 complete -c resp -n '__fish_seen_subcommand_from proxy' -l also -x -d 'Also sends these commands of modules'
+complete -c resp -n '__fish_seen_subcommand_from proxy' -l check-every -x -d 'Checks by an ECHO after every N commands, 0 to 1000000000'
+complete -c resp -n '__fish_seen_subcommand_from proxy' -l check -d 'Prints what the proxy would do with the commands'
+complete -c resp -n '__fish_seen_subcommand_from proxy' -l all -d 'With --check, prints a line for each command'
 
 complete -c resp -n '__fish_seen_subcommand_from ask' -s 3 -d 'Sends HELLO 3 first, and accepts doubles'
 complete -c resp -n '__fish_seen_subcommand_from ask' -l user -x -d 'Name of the user whose password is in RESP_PASSWORD'

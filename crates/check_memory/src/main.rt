@@ -66,7 +66,7 @@ fn print(rt: &impl Print, parts: &[Part]) -> Result<()> {
 }
 
 /// Runs each part, and returns their outcomes in order.
-fn parts(alloc: Global) -> [Part; 48] {
+fn parts(alloc: Global) -> [Part; 49] {
     [
         ("decode a piece", decoding::of_one_piece(alloc)),
         ("decode bytes", decoding::of_single_bytes(alloc)),
@@ -112,6 +112,7 @@ fn parts(alloc: Global) -> [Part; 48] {
         ("proxy lines", proxying::of_lines(alloc)),
         ("proxy leaving", proxying::of_leaving(alloc)),
         ("proxy server", proxying::of_server(alloc)),
+        ("proxy probe", proxying::of_probe(alloc)),
         ("world", worlds::of_run(alloc)),
         ("framed values in", framing::of_values_in(alloc)),
         ("framed commands in", framing::of_commands_in(alloc)),

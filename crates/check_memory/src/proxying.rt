@@ -3,7 +3,7 @@
 
 use crate::outcome::Outcome;
 use resp_mux::OpenError;
-use resp_proxy::{Client, ClientError, Proxy, Settings};
+use resp_proxy::{Client, ClientError, Proxy, ServerError, Settings};
 use resp_value::MemorySink;
 use std::alloc::{AllocError, Global};
 
@@ -177,5 +177,41 @@ pub(crate) fn of_server(alloc: Global) -> Outcome {
         Outcome::refused(holds)
     } else {
         Outcome::of(holds)
+    }
+}
+
+/// A probe, whose reply is expected only if the probe was queued.
+pub(crate) fn of_probe(alloc: Global) -> Outcome {
+    let Ok(mut proxy) = Proxy::new(alloc, Settings::standard()) else {
+        return Outcome::OutOfMemory;
+    };
+    let mut refused = proxy.open_prober().is_err();
+    if refused && proxy.open_prober().is_err() {
+        return Outcome::Wrong;
+    }
+    if proxy.probe(&[b'x'; 32]).is_err() {
+        refused = true;
+        if proxy.waiting() != 0 || proxy.probe(&[b'y'; 32]).is_err() {
+            return Outcome::Wrong;
+        }
+    }
+    let Ok(mut server) = MemorySink::new(alloc, 100, 100) else {
+        return Outcome::OutOfMemory;
+    };
+    let _ = proxy.send(&mut server);
+    let Some(word) = server.bytes().get(19..) else {
+        return Outcome::Wrong;
+    };
+    let taken = match proxy.from_server(b"$32\r\n") {
+        Ok(()) => proxy.from_server(word),
+        Err(error) => Err(error),
+    };
+    proxy.settle_probes();
+    match taken {
+        Ok(()) if proxy.waiting() == 0 && refused => Outcome::OutOfMemory,
+        Ok(()) if proxy.waiting() == 0 => Outcome::Whole,
+        Ok(()) | Err(ServerError::OutOfStep) => Outcome::Wrong,
+        // The reply is lost with its connection.
+        Err(_) => Outcome::refused(!refused && proxy.lose().is_ok() && proxy.waiting() == 0),
     }
 }

@@ -4,7 +4,7 @@ use crate::cut::{Cut, pieces};
 use crate::subject::Subject;
 use crate::text::{bytes, number, split};
 use anyhow::{Context, Result, bail};
-use resp_proxy::{Client, Proxy, Read, Settings};
+use resp_proxy::{Client, Proxy, Read, ServerError, Settings};
 use resp_value::{MemorySink, MemorySource};
 use std::alloc::Global;
 use std::mem;
@@ -36,6 +36,8 @@ pub(crate) struct Proxying {
     told: Vec<u64>,
     /// The number of bytes that the server still takes over this connection.
     takes: usize,
+    /// Whether the last error of the server was that of a probe.
+    is_out_of_step: bool,
 }
 
 impl Subject for Proxying {
@@ -47,6 +49,7 @@ impl Subject for Proxying {
             sent: Vec::new(alloc),
             told: Vec::new(alloc),
             takes: MOST,
+            is_out_of_step: false,
         })
     }
 
@@ -66,6 +69,8 @@ impl Subject for Proxying {
                 ..Settings::standard()
             })?,
             "own" => self.proxy.admit_own(true),
+            "prober" => self.proxy.open_prober()?,
+            "probe" => self.probe(given)?,
             "admit" => self.proxy.admit(given.as_bytes())?,
             "client" => self.hear_client(given, cut)?,
             "server" => self.hear_server(given, cut, said)?,
@@ -173,17 +178,33 @@ impl Proxying {
     fn hear_server(&mut self, given: &str, cut: Cut, said: &mut String) -> Result<()> {
         let text = bytes(self.alloc, given)?;
         for piece in pieces(self.alloc, text.as_slice(), cut)? {
-            if let Err(error) = self.proxy.from_server(piece) {
+            let taken = self.proxy.from_server(piece);
+            self.proxy.settle_probes();
+            if let Err(error) = taken {
                 writeln!(said, "server: {error}")?;
+                self.is_out_of_step = error == ServerError::OutOfStep;
                 break;
             }
         }
         self.ask_told(said)
     }
 
+    /// `probe BYTE`: the proxy sends a probe whose word is 32 times this byte.
+    fn probe(&mut self, given: &str) -> Result<()> {
+        let byte = given.as_bytes().first().context("a probe without its byte")?;
+        self.proxy.probe(&[*byte; 32])?;
+        Ok(())
+    }
+
     /// `lose`: the connection to the server is lost.
     fn lose(&mut self, said: &mut String) -> Result<()> {
-        self.proxy.lose()?;
+        if self.is_out_of_step {
+            self.proxy.lose_out_of_step()?;
+        } else {
+            self.proxy.lose()?;
+        }
+        self.proxy.settle_probes();
+        self.is_out_of_step = false;
         self.takes = MOST;
         self.ask_told(said)
     }
@@ -192,6 +213,9 @@ impl Proxying {
     fn ask_told(&mut self, said: &mut String) -> Result<()> {
         self.told.clear();
         while let Some(id) = self.proxy.next_replied() {
+            if self.proxy.is_prober(id) {
+                continue;
+            }
             let mut told = 0;
             for seat in &self.seats {
                 if seat.client.id() == id {

@@ -1,5 +1,7 @@
 //! The commands `serve`, `tap` and `proxy`, which listen on an address for clients.
 
+use crate::checking::run_check;
+use crate::failures::Failures;
 use crate::hosts::{addresses_of, name_of, refuse_server};
 use crate::style::style_of;
 use resp_args::duration::duration_of;
@@ -227,18 +229,32 @@ fn tap<W: LiveSink>(
     }
 }
 
-/// Runs the proxy between clients and the server in the words. Returns the status if that fails.
+/// Runs the proxy between clients and the server in the words, or checks the commands of the server.
+/// Returns the status when it has ended.
 pub fn run_proxy<W: LiveSink, F: Sink>(
     rt: &HostRuntime,
     proxying: &Proxying<'_>,
     writer: &mut W,
+    failures: &Failures,
     faults: &mut F,
 ) -> Result<u8, AllocError> {
     let addresses = match addresses_of(rt, rt.alloc(), &proxying.server) {
         Ok(addresses) => addresses,
         Err(error) => return refuse_server(rt.alloc(), &proxying.server, &error, faults),
     };
-    let backend = Backend::new(name_of(rt.alloc(), &proxying.server)?, addresses);
+    let name = name_of(rt.alloc(), &proxying.server)?;
+    if proxying.checks {
+        return run_check(
+            rt,
+            proxying,
+            name.as_str(),
+            addresses.as_slice(),
+            writer,
+            failures,
+            faults,
+        );
+    }
+    let backend = Backend::new(name, addresses);
     match proxy(rt, proxying, backend, writer) {
         Ok(()) => Ok(0),
         Err(error) => refuse(rt.alloc(), proxying.address_text, &error, faults),
@@ -317,6 +333,7 @@ fn settings_of(options: &ProxyOptions) -> ProxySettings {
         patience: Duration::from_millis(options.patience),
         report: report_of(options.report),
         drains: options.drains,
+        check_every: options.check_every,
     }
 }
 

@@ -4,12 +4,14 @@
 #![tactic(auto)]
 
 mod asking;
+mod checking;
 mod failures;
 mod hosts;
 mod input;
 mod lines;
 mod listening;
 mod style;
+mod survey;
 mod talk;
 
 ghost use Rattle.std.specs.Prelude.{◌≤◌};
@@ -128,7 +130,7 @@ fn run_words<W: LiveSink, F: Sink>(
         }
         Ok(Asked::Serve(serving)) => run_serve(rt, &serving, writer, faults),
         Ok(Asked::Tap(tapping)) => run_tap(rt, &tapping, writer, faults),
-        Ok(Asked::Proxy(proxying)) => run_proxy(rt, &proxying, writer, faults),
+        Ok(Asked::Proxy(proxying)) => run_proxy(rt, &proxying, writer, failures, faults),
         Ok(Asked::Ask(asking)) => {
             if !set_style(rt, &asking.options.style, writer, faults) {
                 return Ok(BAD_ARGUMENTS);

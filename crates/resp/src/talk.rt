@@ -449,7 +449,7 @@ fn command_of(alloc: Global, words: &[&str]) -> Result<Command, Failure> {
 }
 
 /// Copies words.
-fn bytes_of(alloc: Global, words: &[&str]) -> Result<Vec<Vec<u8>>, AllocError> {
+pub fn bytes_of(alloc: Global, words: &[&str]) -> Result<Vec<Vec<u8>>, AllocError> {
     let mut copies = Vec::new(alloc);
     for word in words {
         copies.push(Vec::from_slice(alloc, word.as_bytes())?)?;

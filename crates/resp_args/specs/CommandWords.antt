@@ -190,6 +190,7 @@ pub record HasProxyOptions (given : List Row) (options : ProxyOptions) : Type 0 
   pub for_client : HasSize given (codes "held") 1 1099511627776 options.held
   pub for_server : HasSize given (codes "unsent") 1 1099511627776 options.unsent
   pub times : HasProxyTimes given (options.patience, options.report)
+  pub probes : HasNumberBetween given (codes "check-every") 0 1000000000 options.check_every
   pub flags : HasProxyFlags given (options.local_ping, options.drains)
   pub refuses_lines : HasFlag given (codes "no-inline") options.refuses_lines
 
@@ -204,7 +205,8 @@ abbrev pub HasProxying : List Row → Proxying → Type 0
 HasProxying given proxying = (server_text : Text) ×
     HasProxyWords given proxying.address_text.now server_text proxying.options ×
     IsAddressText proxying.address_text.now proxying.address × IsServerText server_text proxying.server ×
-    (option_map (λ names. names.now) proxying.also ≡ first_of (codes "also") given)
+    (option_map (λ names. names.now) proxying.also ≡ first_of (codes "also") given) ×
+    (proxying.checks ≡ is_on (first_of (codes "check") given)) × (proxying.all ≡ is_on (first_of (codes "all") given))
 
 -- the options of `ask` that are neither the address nor the words
 pub record HasAskOptions (given : List Row) (options : AskOptions) : Type 0 where

@@ -128,8 +128,9 @@ proxy_options = listening_options
     size_option (codes "unsent") (codes "1M") ∷
     number_option (codes "patience") 1 3600000 (codes "5000") ∷
     number_option (codes "report") 0 86400 (codes "0") ∷
+    number_option (codes "check-every") 0 1000000000 (codes "0") ∷
     flag_option (codes "local-ping") ∷ flag_option (codes "no-inline") ∷ flag_option (codes "drain") ∷
-    name_option (codes "also") ∷
+    name_option (codes "also") ∷ flag_option (codes "check") ∷ flag_option (codes "all") ∷
     address_word (codes "listen") ∷ address_word (codes "server") ∷ [])
 
 -- the words of a command: an argument without a name, to which all words after its first one belong

@@ -21,10 +21,13 @@ pub(crate) const PROXY: Subcommand = Subcommand {
         UNSENT,
         PATIENCE,
         REPORT,
+        CHECK_EVERY,
         LOCAL_PING,
         NO_INLINE,
         DRAIN,
         ALSO,
+        CHECK,
+        ALL,
         LISTEN,
         SERVER,
     ],
@@ -35,6 +38,7 @@ pub(crate) const PROXY: Subcommand = Subcommand {
 const PROXY_HELP: &str = r"Examples:
   resp proxy 127.0.0.1:6380 127.0.0.1:6379
   resp proxy --clients 10000 --patience 1000 6380 redis.internal:6379
+  resp proxy --check 6380 redis.internal:6379
 
 Clients connect to LISTEN instead of SERVER. All of them share one connection to
 the server. A client that sends a command such as MULTI, SUBSCRIBE or HELLO 3
@@ -42,10 +46,16 @@ gets a connection of its own from this command on. If the environment has
 RESP_PASSWORD, AUTH is sent first. The program runs until it is stopped, or with
 --drain until standard input ends.
 
+With --check no client is served. The server is asked for its commands, and the
+table says what the proxy would do with each of them.
+
 Exit status:
-  0  With --drain: standard input ended, and all clients are closed
+  0  With --drain: standard input ended, and all clients are closed; with
+     --check: the proxy knows all commands of the server
+  1  With --check: the proxy does not know a command of the server, or the
+     server rejected AUTH or COMMAND
   2  Usage error
-  3  Listening or a write failed, or memory is out";
+  3  Listening, connecting or a write failed, or memory is out";
 
 /// `--own`: the most clients that have a connection of their own.
 const OWN: Parameter = Parameter {
@@ -109,6 +119,18 @@ const REPORT: Parameter = Parameter {
     help: "Prints a line with numbers every N seconds,\n0 to 86400; 0 prints no line",
 };
 
+/// `--check-every`: the commands from one probe of the connection to the next.
+const CHECK_EVERY: Parameter = Parameter {
+    name: "check-every",
+    form: Form::Number {
+        least: 0,
+        most: 1_000_000_000,
+        default: "0",
+        hides_default: false,
+    },
+    help: "Checks by an ECHO after every N commands that replies\nare in step, 0 to 1000000000; 0 checks nothing",
+};
+
 /// `--local-ping`: whether PING is replied to without the server.
 const LOCAL_PING: Parameter = Parameter {
     name: "local-ping",
@@ -135,4 +157,18 @@ const ALSO: Parameter = Parameter {
     name: "also",
     form: Form::Text { value_name: "NAME" },
     help: "Also sends these commands of modules, such as\nJSON.GET,JSON.SET; each must have one reply",
+};
+
+/// `--check`: whether the commands of the server are checked.
+const CHECK: Parameter = Parameter {
+    name: "check",
+    form: Form::Flag,
+    help: "Serves no client; prints what the proxy would do\nwith the commands of the server",
+};
+
+/// `--all`: whether `--check` prints a line for each command.
+const ALL: Parameter = Parameter {
+    name: "all",
+    form: Form::Flag,
+    help: "With --check: prints a line for each command",
 };

@@ -11,6 +11,7 @@ use crate::options::{
     MOST_BYTES, address_of, bytes_of, flag_of, limits_of, number_of, small_number_of, text_of,
 };
 use crate::server_address::{ServerAddress, server_of};
+use crate::style::is_on;
 use clap::ArgMatches;
 use resp_value::limits::Limits;
 use std::net::SocketAddr;
@@ -27,6 +28,10 @@ pub struct Proxying<'a> {
     /// The names of the commands that are sent although the table does not have them, with a comma between
     /// two of them, if they were given.
     pub also: Option<&'a str>,
+    /// Whether the commands of the server are checked, and no client is served.
+    pub checks: bool,
+    /// Whether `--check` prints a line for each command.
+    pub all: bool,
     /// The options that are no address.
     pub options: ProxyOptions,
 }
@@ -52,6 +57,9 @@ pub struct ProxyOptions {
     /// The seconds from one report on standard output to the next, from 0 to 86,400; with 0 there
     /// is no report.
     pub report: u64,
+    /// The commands after which the connection to the server is checked by a probe, from 0 to
+    /// 1,000,000,000; with 0 there is no probe.
+    pub check_every: u64,
     /// Whether the proxy replies to PING itself.
     pub local_ping: bool,
     /// Whether a line is rejected as a command.
@@ -83,6 +91,8 @@ pub(crate) fn proxying_of<'a>(matches: &ArgMatches<'a>) -> Result<Proxying<'a>, 
             address_text: words.address,
             server,
             also: text_of(matches, "also"),
+            checks: is_on(text_of(matches, "check")),
+            all: is_on(text_of(matches, "all")),
             options: words.options,
         }),
         Err(nothing) => Err(nothing),
@@ -138,6 +148,7 @@ fn options_of(matches: &ArgMatches<'_>) -> Option<ProxyOptions>
         unsent: bytes_of(matches, "unsent", 1, MOST_BYTES)? as usize,
         patience,
         report,
+        check_every: number_between(matches, "check-every", 0, 1_000_000_000)?,
         local_ping,
         refuses_lines,
         drains,

@@ -30,7 +30,7 @@ pub(crate) fn style_of<'a>(matches: &ArgMatches<'a>) -> StyleOptions<'a>
 }
 
 /// Returns whether an option without a value is given, by the text of its value.
-fn is_on(text: Option<&str>) -> bool
+pub(crate) fn is_on(text: Option<&str>) -> bool
     ensures { result ≡ is_on (option_map (λ text. text.now) text.entry) }
 {
     match text {

@@ -4,6 +4,7 @@ pub mod Takings
 pub mod Tellings
 pub mod Holdings
 pub mod Replyings
+pub mod Probings
 pub mod Failings
 pub mod Gives
 pub mod Readings

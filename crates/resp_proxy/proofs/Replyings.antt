@@ -63,7 +63,7 @@ takes-more rules bytes more b b' end p mid new t kept begun refused = record {
   refused = refused;
 }
 
-one-reply : (rules : Rules) (front piece : List ℕ) (b : Begun) (found : Option Replied) (reply : Replied) (p : Passed) (new : Multiplexed) → found ≡ Some reply →
+pub one-reply : (rules : Rules) (front piece : List ℕ) (b : Begun) (found : Option Replied) (reply : Replied) (p : Passed) (new : Multiplexed) → found ≡ Some reply →
     IfSome found (λ r. OneReply rules front piece b r.used p new) → OneReply rules front piece b reply.used p new
 one-reply rules front piece b found reply p new e one = subst (λ o. IfSome o (λ r. OneReply rules front piece b r.used p new)) e one
 
@@ -71,7 +71,7 @@ one-reply rules front piece b found reply p new e one = subst (λ o. IfSome o (�
 abbrev pub IsFor : ClientId → Multiplexed → Multiplexed → Type 0
 IsFor who old new = (waiting_clients old ≡ who ∷ waiting_clients new) × KeepsOthers (who ∷ []) old new
 
-is-for : (found : Option Replied) (reply : Replied) (old new : Multiplexed) → found ≡ Some reply → IfSome found (λ r. IsFor r.client old new) →
+pub is-for : (found : Option Replied) (reply : Replied) (old new : Multiplexed) → found ≡ Some reply → IfSome found (λ r. IsFor r.client old new) →
     IsFor reply.client old new
 is-for found reply old new e h = subst (λ o. IfSome o (λ r. IsFor r.client old new)) e h
 

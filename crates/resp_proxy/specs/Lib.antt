@@ -2,6 +2,7 @@
 pub mod Clients
 pub mod Failing
 pub mod Proxies
+pub mod Probing
 pub mod Replying
 pub mod Room
 pub mod Refusing

@@ -1,5 +1,5 @@
 -- The state of a proxy.
-use Rattle.std.specs.Prelude.{◌≡◌, ℕ, Bool, List, None, codes}
+use Rattle.std.specs.Prelude.{◌≡◌, ℕ, Bool, List, Option, None, codes}
 use Rattle.resp_frames.specs.declared.begun.Begun.{Begun}
 use Rattle.resp_frames.specs.declared.frames.Frames.{Frames}
 use Rattle.resp_frames.specs.Framing.{HasBegun, IsReady}
@@ -25,6 +25,10 @@ pub record Proxied : Type 0 where
   pub replied : List ClientId
   -- whether a client may get a connection of its own
   pub own : Bool
+  -- the client of the proxy's own that sends probes, if there is one
+  pub prober : Option ClientId
+  -- the replies to its commands, without those that were removed
+  pub expected : List ℕ
 
 abbrev pub mux_of : Proxied → Multiplexed
 mux_of p = p.mux
@@ -53,7 +57,17 @@ with_replied clients p = record {
   begun = p.begun;
   replied = clients;
   own = p.own;
+  prober = p.prober;
+  expected = p.expected;
 }
+
+-- the client of the proxy's own that sends probes, if there is one
+abbrev pub prober_of : Proxied → Option ClientId
+prober_of p = p.prober
+
+-- the replies to its commands, without those that were removed
+abbrev pub expected_of : Proxied → List ℕ
+expected_of p = p.expected
 
 -- whether a client may get a connection of its own
 abbrev pub admits_own : Proxied → Bool
@@ -69,6 +83,8 @@ with_own_admitted own p = record {
   begun = p.begun;
   replied = p.replied;
   own = own;
+  prober = p.prober;
+  expected = p.expected;
 }
 
 -- these bytes are commands and these commands are sent, and all else is as it was
@@ -81,6 +97,8 @@ with_terms terms p = record {
   begun = p.begun;
   replied = p.replied;
   own = p.own;
+  prober = p.prober;
+  expected = p.expected;
 }
 
 abbrev pub settings_of : Proxied → Settings
@@ -114,3 +132,7 @@ lost_text = codes "-ERR connection to server lost; the command may have run\r\n"
 pub record IsSound (commands replies : Frames) : Type 0 where
   pub commands_ready : IsReady commands
   pub replies_ready : IsReady replies
+
+-- the reply to each command that was begun to be sent when a reply to a probe is wrong
+abbrev pub out_of_step_text : List ℕ
+out_of_step_text = codes "-ERR connection to server out of step; the command may have run\r\n"

@@ -19,9 +19,10 @@ abbrev pub with_each_reply : List (List ℕ) → Passed → Passed
 with_each_reply [] p = p
 with_each_reply (reply ∷ replies) p = with_each_reply replies (with_reply reply p)
 
--- the bytes that came since the last reply are the cause of the error, or memory ran out
+-- the bytes that came since the last reply are the cause of the error, or memory ran out, or a reply before them is the cause
 abbrev pub RefusesReply : Rules → Passed → List ℕ → ServerError → Type 0
 RefusesReply rules p text (error.Reply e) = RejectsReply rules p text e
+RefusesReply rules p text error.OutOfStep = Unit {0}
 
 -- After this had passed, bytes of the server were these whole replies and then other bytes, and each reply went to the
 -- client of its command. The other bytes are begun. After an error they are its cause, and they are lost.

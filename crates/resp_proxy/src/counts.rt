@@ -44,6 +44,8 @@ pub enum Counted {
 /// What a proxy has counted, and how long replies took.
 #[derive(Drop)]
 pub(crate) struct Counts {
+    /// The clients of the multiplexer that are the proxy's own.
+    hidden: u64,
     rejected: u64,
     own: u64,
     commands: u64,
@@ -56,6 +58,7 @@ impl Counts {
     /// Returns the counts of a proxy that begins.
     pub(crate) fn new(alloc: Global) -> Self {
         Counts {
+            hidden: 0,
             rejected: 0,
             own: 0,
             commands: 0,
@@ -67,9 +70,10 @@ impl Counts {
 
     /// Returns the numbers, with those of the multiplexer.
     pub(crate) fn numbers(&self, mux: &Mux) -> Numbers {
+        let open = mux.open_clients() as u64;
         Numbers {
-            clients: self.own.saturating_add(mux.open_clients() as u64),
-            accepted: mux.opened_clients(),
+            clients: self.own.saturating_add(open.saturating_sub(self.hidden)),
+            accepted: mux.opened_clients().saturating_sub(self.hidden),
             rejected: self.rejected,
             own: self.own,
             commands: self.commands,
@@ -81,6 +85,11 @@ impl Counts {
     /// Returns how long replies took.
     pub(crate) fn times(&self) -> Times {
         self.latency.times()
+    }
+
+    /// Does not count a client of the multiplexer, since it is the proxy's own.
+    pub(crate) fn hide_client(&mut self) {
+        self.hidden = self.hidden.saturating_add(1);
     }
 
     /// Counts a client that gets a connection of its own.

@@ -45,4 +45,8 @@ pub enum ServerError {
     /// out.
     #[error(transparent)]
     Reply(ReplyError),
+    /// A reply to a probe is not the expected one. Call
+    /// [`Proxy::lose_out_of_step`](crate::Proxy::lose_out_of_step) in place of `lose`.
+    #[error("out of step, since a probe got another reply")]
+    OutOfStep,
 }

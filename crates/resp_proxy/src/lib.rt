@@ -16,6 +16,7 @@ mod latency;
 mod lines;
 mod local;
 mod part;
+mod probing;
 mod proxy;
 mod replies;
 mod settings;

@@ -1,12 +1,13 @@
 //! The proxy.
 
-ghost use Rattle.std.specs.Prelude.{◌≡◌, ◌↔◌, ◌⊎◌, ◌++◌, None, true, false, [], drop, length, slice_get, IfOk, IsErrOf, IsTrue, OnErr, OnOk};
+ghost use Rattle.std.specs.Prelude.{◌≡◌, ◌↔◌, ◌⊎◌, ◌++◌, ℕ, List, None, Some, true, false, [], drop, length, slice_get, take, IfOk, IfSome, IsErrOf, IsTrue, OnErr, OnOk};
 ghost use Rattle.resp_frames.specs.Framing.{HasBegun};
 ghost use Rattle.resp_mux.specs.Multiplexing.{HasAnsweredSome, HasClosed, HasNoNumberLeft, HasOpened, HasPassed, KeepsBytes, KeepsClients, KeepsPassed, WherePassed, begun_count, unsent, waiting_clients, waiting_for};
-ghost use Rattle.resp_mux.specs.Passing.{nothing_passed, with_loss};
+ghost use Rattle.resp_mux.specs.Passing.{nothing_passed, with_command, with_given, with_loss};
 ghost use Rattle.resp_proxy.specs.Clients.{Holds, client_id, is_closing, is_leaving, waits_for_room};
 ghost use Rattle.resp_proxy.specs.Room.{HasRoom};
 ghost use Rattle.resp_proxy.specs.Failing.{Fails, FailsSome};
+ghost use Rattle.resp_proxy.specs.Probing.{KeepsStep, echo_text, echoed_text};
 ghost use Rattle.resp_proxy.specs.Replying.{TakesReplies};
 ghost use Rattle.resp_proxy.specs.Taking.{TakesIn};
 ghost use Rattle.resp_proxy.specs.Terms.{with_admitted};
@@ -16,7 +17,7 @@ ghost use Rattle.resp_proxy.specs.Visiting.{GivesSome, HasNothingFor, IsDone, Ma
 ghost use Rattle.resp_value.specs.Devices.{count_after};
 ghost use Rattle.resp_value.specs.Rules.{Rules};
 ghost use Rattle.resp_proxy.specs.Leaving.{LeavesRightly};
-ghost use Rattle.resp_proxy.specs.Proxies.{HasBegunBy, HasNoClient, HasRoomFor, WhereBegunBy, WhereHeld, lost_text, admits_own, mux_of, replied_to, reply_rules_of, terms_of, server_begun, settings_of, with_own_admitted, with_replied, with_terms};
+ghost use Rattle.resp_proxy.specs.Proxies.{HasBegunBy, HasNoClient, HasRoomFor, WhereBegunBy, WhereHeld, expected_of, lost_text, out_of_step_text, prober_of, admits_own, mux_of, replied_to, reply_rules_of, terms_of, server_begun, settings_of, with_own_admitted, with_replied, with_terms};
 
 use crate::client::Client;
 use crate::counts::{Counted, Numbers};
@@ -24,13 +25,14 @@ use crate::error::{ClientError, ServerError};
 use crate::giving::{Written, give, has_no_bytes, has_no_command, send};
 use crate::intake::Intake;
 use crate::latency::Times;
+use crate::probing::{Prober, echo};
 use crate::replies::take_replies;
 use crate::settings::Settings;
 use crate::taking::{shut, take_in};
 use crate::told::note_begun;
 use bytes::BytesMut;
 use resp_frames::{Begun, Frames};
-use resp_mux::{Bounds, ClientId, Mux, OpenError};
+use resp_mux::{Bounds, ClientId, ForwardError, Mux, OpenError};
 use resp_value::device::Sink;
 use resp_value::version::Version;
 use std::alloc::{AllocError, Global};
@@ -39,6 +41,9 @@ use std::marker::Model;
 
 /// The reply to each command of which a byte was sent, when the connection to the server is lost.
 const LOST: &[u8] = b"-ERR connection to server lost; the command may have run\r\n";
+
+/// The reply to each command of which a byte was sent, when a reply to a probe is wrong.
+const OUT_OF_STEP: &[u8] = b"-ERR connection to server out of step; the command may have run\r\n";
 
 /// A proxy between many clients and one connection to a server.
 #[derive(Drop)]
@@ -54,6 +59,7 @@ pub struct Proxy {
     begun: Begun,
     /// The clients that were replied to and were not asked for yet.
     replied: VecDeque<ClientId>,
+    prober: Prober,
 }
 
 impl Model for Proxy {
@@ -71,6 +77,8 @@ impl Model for Proxy {
       begun = p.begun;
       replied = p.replied.items;
       own = p.intake.admits_own;
+      prober = p.prober.who;
+      expected = p.prober.expected.items;
     } };
 
     ghost invariant = { λ p. IsSound p.intake.frames p.replies };
@@ -105,6 +113,7 @@ impl Proxy {
             replies,
             begun: Begun::new(),
             replied: VecDeque::new(alloc),
+            prober: Prober::none(alloc),
         })
     }
 
@@ -144,6 +153,96 @@ impl Proxy {
             Ok(id) => Ok(Client::new(self.alloc, id)),
             Err(error) => Err(error),
         }
+    }
+
+    /// Opens the client of the proxy's own that sends probes. Call it once.
+    ///
+    /// # Errors
+    ///
+    /// Those of [`Proxy::open`]. Nothing changes.
+    pub fn open_prober(&mut self) -> Result<(), OpenError>
+        ensures opened { OnOk result ((who : ClientId) × (prober_of self.new ≡ Some who) ×
+            HasOpened (mux_of self.old) (mux_of self.new) who) }
+        ensures expected { OnOk result (expected_of self.new ≡ []) }
+        ensures passed { KeepsPassed (mux_of self.old) (mux_of self.new) }
+        ensures same_terms { terms_of self.new ≡ terms_of self.old }
+    {
+        match self.mux.open() {
+            Ok(who) => {
+                self.prober = Prober::none(self.alloc);
+                self.prober.who = Some(who);
+                self.intake.counts.hide_client();
+                Ok(())
+            }
+            Err(error) => Err(error),
+        }
+    }
+
+    /// Returns whether this is the client of the proxy's own that sends probes.
+    pub fn is_prober(&self, who: ClientId) -> bool {
+        self.prober.who == Some(who)
+    }
+
+    /// Queues ECHO with this word for the server, as a command of the proxy's own, behind the commands that
+    /// were queued before. Its reply has to be this word: with another reply [`Proxy::from_server`] fails.
+    ///
+    /// # Errors
+    ///
+    /// `NoClient` without [`Proxy::open_prober`], `ClientFull` if [`Settings::waiting`] probes wait, and
+    /// `OutOfMemory` if an allocation fails. Nothing changes.
+    pub fn probe(&mut self, word: &[u8; 32]) -> Result<(), ForwardError>
+        // The command is one of this client, and its reply is expected behind the others.
+        ensures probed { OnOk result (IfSome (prober_of self.old) (λ who.
+            WherePassed (mux_of self.old) (λ p.
+            HasPassed (mux_of self.new) (with_command who (echo_text word.now) p)))) }
+        ensures expected { OnOk result
+            (expected_of self.new ≡ expected_of self.old ++ echoed_text word.now) }
+        ensures unchanged { OnErr result (KeepsPassed (mux_of self.old) (mux_of self.new)) }
+        ensures same_prober { prober_of self.new ≡ prober_of self.old }
+        ensures same_clients { KeepsClients (mux_of self.old) (mux_of self.new) }
+        ensures same_terms { terms_of self.new ≡ terms_of self.old }
+    {
+        let Some(who) = self.prober.who else {
+            return Err(ForwardError::NoClient);
+        };
+        let Ok(text) = echo(self.alloc, word) else {
+            return Err(ForwardError::OutOfMemory);
+        };
+        let before = self.prober.expected.len();
+        if self.prober.expect(self.alloc, word).is_err() {
+            return Err(ForwardError::OutOfMemory);
+        }
+        match self.mux.forward(who, &text) {
+            Ok(()) => Ok(()),
+            Err(error) => {
+                self.prober.expected.truncate(before);
+                Err(error)
+            }
+        }
+    }
+
+    /// Removes the replies to probes that have come, and those that are not missing any more since the
+    /// connection was lost. Call it after each visit of the server, and after [`Proxy::lose`],
+    /// [`Proxy::lose_out_of_step`] and [`Proxy::fail`].
+    pub fn settle_probes(&mut self)
+        ensures given { IfSome (prober_of self.old) (λ who. WherePassed (mux_of self.old) (λ p.
+            IfSome (waiting_for (mux_of self.old) who) (λ text.
+            HasPassed (mux_of self.new) (with_given who text p)))) }
+        ensures expected { (gone : List ℕ) × (expected_of self.old ≡ gone ++ expected_of self.new) }
+        ensures same_prober { prober_of self.new ≡ prober_of self.old }
+        ensures same_clients { KeepsClients (mux_of self.old) (mux_of self.new) }
+        ensures same_terms { terms_of self.new ≡ terms_of self.old }
+    {
+        let Some(who) = self.prober.who else {
+            return;
+        };
+        let Some(text) = self.mux.to_client(who) else {
+            return;
+        };
+        let count = text.len();
+        self.mux.given(who, count);
+        let waiting = self.mux.waiting_of(who).unwrap_or(0);
+        self.prober.keep(waiting);
     }
 
     /// Closes a client. Nobody gets the replies that are missing. Its commands still
@@ -312,9 +411,15 @@ impl Proxy {
         ensures taken { WhereBegunBy self.old (λ front. WherePassed (mux_of self.old) (λ p.
             TakesReplies (reply_rules_of self.old) (front ++ piece.now) (server_begun self.new)
             result p (mux_of self.new))) }
+        // The replies to probes are the expected ones. At the first that is not, nothing more is given.
+        ensures step { WhereBegunBy self.old (λ front. WherePassed (mux_of self.old) (λ p.
+            KeepsStep (prober_of self.old) (expected_of self.old) result (mux_of self.old) p
+            (mux_of self.new))) }
         // Each client whose bytes are other than before is returned by `next_replied`.
         ensures told { Tells (replied_to self.old) (replied_to self.new) (mux_of self.old)
             (mux_of self.new) }
+        ensures same_prober { prober_of self.new ≡ prober_of self.old }
+        ensures same_expected { expected_of self.new ≡ expected_of self.old }
         ensures same_clients { KeepsClients (mux_of self.old) (mux_of self.new) }
         ensures same_terms { terms_of self.new ≡ terms_of self.old }
         ensures same_reply_rules { reply_rules_of self.new ≡ reply_rules_of self.old }
@@ -325,6 +430,7 @@ impl Proxy {
             &mut self.begun,
             &mut self.mux,
             &mut self.replied,
+            &self.prober,
             piece,
         );
         match taken {
@@ -357,6 +463,27 @@ impl Proxy {
         ensures same_terms { terms_of self.new ≡ terms_of self.old }
     {
         self.lose_by(LOST)
+    }
+
+    /// Does what `lose` does after [`ServerError::OutOfStep`]: the error says that the connection was out of
+    /// step.
+    ///
+    /// # Errors
+    ///
+    /// Those of [`Proxy::lose`].
+    pub fn lose_out_of_step(&mut self) -> Result<(), AllocError>
+        ensures passed { OnOk result (WherePassed (mux_of self.old) (λ p.
+            HasPassed (mux_of self.new)
+            (with_loss (begun_count (mux_of self.old)) out_of_step_text p))) }
+        ensures some_answered { OnErr result (HasAnsweredSome out_of_step_text (mux_of self.old)
+            (mux_of self.new)) }
+        ensures told { Tells (replied_to self.old) (replied_to self.new) (mux_of self.old)
+            (mux_of self.new) }
+        ensures begun { HasBegunBy self.new [] }
+        ensures same_clients { KeepsClients (mux_of self.old) (mux_of self.new) }
+        ensures same_terms { terms_of self.new ≡ terms_of self.old }
+    {
+        self.lose_by(OUT_OF_STEP)
     }
 
     /// Does what `lose` does, with this text as the reply.

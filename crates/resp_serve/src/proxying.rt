@@ -17,6 +17,7 @@ use std::fs::{File, Files};
 use std::io;
 use std::io::{ErrorKind, Read};
 use std::net::{Net, SocketAddr};
+use std::random::RandomSource;
 use std::rt::Clock;
 use std::time::Duration;
 
@@ -49,6 +50,8 @@ pub struct ProxySettings {
     pub report: Option<Duration>,
     /// Whether the proxy ends when standard input ends.
     pub drains: bool,
+    /// The commands after which the connection to the server is checked by a probe, or 0 if it is not.
+    pub check_every: u64,
 }
 
 /// A relay with the runtime, and the output to which its numbers are printed.
@@ -112,12 +115,11 @@ impl ProxyServer {
     ///
     /// The error of that wait, an error of the system if standard output can't be used, or an error of
     /// kind `OutOfMemory` if the first allocation fails.
-    pub fn run<R: Net + Clock + Eprint + Files<File = File>, I: Read + Drop, W: LiveSink>(
-        &mut self,
-        rt: &R,
-        input: I,
-        out: &mut W,
-    ) -> io::Result<()> {
+    pub fn run<
+        R: Net + Clock + Eprint + RandomSource + Files<File = File>,
+        I: Read + Drop,
+        W: LiveSink,
+    >(&mut self, rt: &R, input: I, out: &mut W) -> io::Result<()> {
         let mut events = self.connections.events()?;
         let relay = &mut self.relay;
         let report = report_of(rt, relay.alloc, relay.settings.report)?;
@@ -149,7 +151,7 @@ fn report_of<R: Net + Files<File = File>>(
     }
 }
 
-impl<R: Net + Clock + Eprint, I: Read + Drop, W: LiveSink> Service<Proxied>
+impl<R: Net + Clock + Eprint + RandomSource, I: Read + Drop, W: LiveSink> Service<Proxied>
     for Relaying<'_, R, I, W> {
     fn admit(
         &mut self,

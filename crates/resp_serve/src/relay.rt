@@ -11,11 +11,12 @@ use crate::stalled::Stalled;
 use mio::Registry;
 use mio::net::TcpStream;
 use resp_mux::ClientId;
-use resp_proxy::{Counted, Proxy};
+use resp_proxy::{Counted, Proxy, ServerError};
 use std::alloc::{AllocError, Global};
 use std::io;
 use std::io::ErrorKind;
 use std::net::Net;
+use std::random::RandomSource;
 use std::rt::Clock;
 use std::time::Duration;
 
@@ -52,6 +53,10 @@ pub(crate) struct Relay {
     named: Option<ClientId>,
     /// Whether the connection was lost, and commands that it had begun still wait for a reply.
     is_losing: bool,
+    /// Whether it was lost because a reply to a probe was wrong.
+    is_out_of_step: bool,
+    /// The commands that were queued since the last probe.
+    unprobed: u64,
     /// The reply to commands that wait while there is no connection.
     failure: Vec<u8>,
     /// The places up to this one were named since the relay began to drain, or `None` before that.
@@ -78,9 +83,13 @@ impl Relay {
         login: Vec<u8>,
         settings: ProxySettings,
     ) -> Result<Self, AllocError> {
+        let mut proxy = Proxy::new(alloc, settings.proxy)?;
+        if settings.check_every > 0 && proxy.open_prober().is_err() {
+            return Err(AllocError);
+        }
         Ok(Relay {
             alloc,
-            proxy: Proxy::new(alloc, settings.proxy)?,
+            proxy,
             settings,
             link: ServerLink::new(net, alloc, backend, login, settings.patience),
             places: Vec::new(alloc),
@@ -90,6 +99,8 @@ impl Relay {
             condemned: None,
             named: None,
             is_losing: false,
+            is_out_of_step: false,
+            unprobed: 0,
             failure: Vec::new(alloc),
             drained: None,
             client_buffer: [0; CLIENT_PIECE],
@@ -148,9 +159,9 @@ impl Relay {
     }
 
     /// Reads and writes the sockets of a client.
-    pub(crate) fn visit(
+    pub(crate) fn visit<R: Net + RandomSource>(
         &mut self,
-        net: &impl Net,
+        rt: &R,
         connection: &mut Proxied,
         registry: &Registry,
         cause: Cause,
@@ -175,13 +186,33 @@ impl Relay {
         let next = connection.visit(&mut self.proxy, &mut self.client_buffer);
         let queued = self.proxy.waiting().saturating_sub(before);
         self.proxy.count(Counted::Queued(queued, self.link.now()));
+        if self.settings.check_every > 0 {
+            self.probe(rt, queued);
+        }
         if connection.leaves(&self.proxy) {
-            return self.leave(net, connection, registry);
+            return self.leave(rt, connection, registry);
         }
         if next == Next::Wait && connection.waits_for_room() && self.is_line_full() {
             return self.stall(connection);
         }
         next
+    }
+
+    /// Queues a probe if enough commands were queued since the last one, and these. If there is no memory or no
+    /// random word for it, a later call tries again.
+    fn probe(&mut self, random: &impl RandomSource, queued: usize) {
+        self.unprobed = self.unprobed.saturating_add(queued as u64);
+        if self.unprobed < self.settings.check_every {
+            return;
+        }
+        let mut bytes = [0; 16];
+        if random.fill_bytes(&mut bytes).is_err() {
+            return;
+        }
+        if self.proxy.probe(&word_of(bytes)).is_ok() {
+            self.unprobed = 0;
+            self.proxy.count(Counted::Queued(1, self.link.now()));
+        }
     }
 
     /// Gives a client a connection of its own.
@@ -255,7 +286,18 @@ impl Relay {
         self.next
             .take()
             .or_else(|| self.named.take())
-            .or_else(|| self.proxy.next_replied())
+            .or_else(|| self.next_noted())
+    }
+
+    /// Returns the next client that was replied to, which is not the proxy's own.
+    fn next_noted(&mut self) -> Option<ClientId> {
+        for _ in 0..u64::MAX {
+            let who = self.proxy.next_replied()?;
+            if !self.proxy.is_prober(who) {
+                return Some(who);
+            }
+        }
+        None
     }
 
     /// Returns the longest time of the next wait.
@@ -387,6 +429,7 @@ impl Relay {
             }
         }
         self.is_losing = true;
+        self.is_out_of_step = loss == Loss::Server(ServerError::OutOfStep);
         self.finish_losing();
     }
 
@@ -397,7 +440,12 @@ impl Relay {
             return;
         }
         let before = self.proxy.waiting();
-        let lost = self.proxy.lose();
+        let lost = if self.is_out_of_step {
+            self.proxy.lose_out_of_step()
+        } else {
+            self.proxy.lose()
+        };
+        self.proxy.settle_probes();
         self.count_failed(before);
         match lost {
             Ok(()) => self.is_losing = false,
@@ -412,6 +460,7 @@ impl Relay {
         }
         let before = self.proxy.waiting();
         let failed = self.proxy.fail(or_not_connected(&self.failure));
+        self.proxy.settle_probes();
         self.count_failed(before);
         if failed.is_err() {
             // The commands that still wait count as begun now.
@@ -444,6 +493,25 @@ fn or_not_connected(failure: &[u8]) -> &[u8] {
         NOT_CONNECTED
     } else {
         failure
+    }
+}
+
+/// Returns the digits of these bytes.
+fn word_of(bytes: [u8; 16]) -> [u8; 32] {
+    let mut word = [0; 32];
+    for index in 0..16 {
+        word[2 * index] = digit(bytes[index] / 16);
+        word[2 * index + 1] = digit(bytes[index] % 16);
+    }
+    word
+}
+
+/// Returns the hexadecimal digit of a number.
+fn digit(number: u8) -> u8 {
+    if number < 10 {
+        number + b'0'
+    } else {
+        (number - 10) % 26 + b'a'
     }
 }
 

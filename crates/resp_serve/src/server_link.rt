@@ -490,6 +490,7 @@ fn exchange(
     let mut reader = Device::new(Input::new(reader, is_at_end));
     let mut writer = Device::new(Output::new(writer));
     let visit = proxy.visit_server(&mut reader, &mut writer, buffer);
+    proxy.settle_probes();
     let is_dry = reader.into_inner().would_wait();
     if writer.into_inner().has_failed() {
         return Err(Loss::Write);

@@ -1,0 +1,206 @@
+//! `resp proxy --check`, which asks a server for its commands and prints what the proxy would do with them.
+
+use crate::failures::{Failures, Input, Output};
+use crate::survey::{Survey, SurveyError};
+use crate::talk::{Failure, bytes_of};
+use resp_args::proxying::Proxying;
+use resp_args::words::refuse_file;
+use resp_ask::AskError;
+use resp_client::{Client, What};
+use resp_print::live::LiveSink;
+use resp_print::text::{write_quoted, write_text};
+use resp_value::command::Command;
+use resp_value::device::{Device, DeviceFault, Sink, Source, write_all};
+use resp_value::limits::Limits;
+use resp_value::value::Value;
+use std::alloc::{AllocError, Global};
+use std::env;
+use std::net::{SocketAddr, TcpStream};
+
+/// The exit status if the server has a command that the proxy does not know, or rejects AUTH or COMMAND.
+const UNKNOWN: u8 = 1;
+
+/// The most bytes of one read.
+const PIECE: usize = 16_384;
+
+/// The most reads.
+const MOST_READS: u64 = 4_000_000_000;
+
+/// The environment variable with the password of the server.
+const PASSWORD: &str = "RESP_PASSWORD";
+
+/// Why there is no table.
+#[derive(Drop)]
+enum CheckError {
+    /// The connection, the output or an allocation failed, or a reply is not valid.
+    Ask(AskError),
+    /// The reply is an error, or not a list of commands.
+    Reply(Value),
+}
+
+impl From<AskError> for CheckError {
+    fn from(error: AskError) -> Self {
+        CheckError::Ask(error)
+    }
+}
+
+impl From<AllocError> for CheckError {
+    fn from(_: AllocError) -> Self {
+        CheckError::Ask(AskError::Memory)
+    }
+}
+
+/// Prints what the proxy would do with the commands of the server at one of these addresses. Returns the
+/// exit status.
+pub fn run_check<O: LiveSink, F: Sink>(
+    rt: &HostRuntime,
+    proxying: &Proxying<'_>,
+    server: &str,
+    addresses: &[SocketAddr],
+    output: &mut O,
+    failures: &Failures,
+    faults: &mut F,
+) -> Result<u8, AllocError> {
+    let alloc = rt.alloc();
+    let stream = match TcpStream::connect(rt, addresses) {
+        Ok(stream) => stream,
+        Err(error) => {
+            let why = format!(in alloc; "{error}")?;
+            return Ok(refuse_file(server, why.as_str(), faults));
+        }
+    };
+    let mut reader = Device::new(Input::new(&stream, failures));
+    let mut writer = Device::new(Output::new(&stream, failures));
+    let password = env::var(rt, PASSWORD);
+    let password = match &password {
+        Ok(password) => Some(password.as_str()),
+        Err(_) => None,
+    };
+    let checked = check(
+        alloc,
+        proxying,
+        server,
+        password,
+        &mut reader,
+        &mut writer,
+        output,
+    );
+    match checked {
+        Ok(status) => Ok(status),
+        Err(CheckError::Reply(reply)) => {
+            let _ = write_reply(server, &reply, faults);
+            Ok(UNKNOWN)
+        }
+        Err(CheckError::Ask(error)) => {
+            let failure = Failure::Ask(error);
+            let _ = failure.write(1, faults);
+            if let Some(error) = failure.of_device() {
+                failures.write_why(alloc, &error, faults)?;
+            }
+            Ok(failure.status())
+        }
+    }
+}
+
+/// Asks the server for its commands and prints the table. Returns the exit status.
+fn check<R: Source, W: Sink, O: Sink>(
+    alloc: Global,
+    proxying: &Proxying<'_>,
+    server: &str,
+    password: Option<&str>,
+    reader: &mut R,
+    writer: &mut W,
+    output: &mut O,
+) -> Result<u8, CheckError> {
+    let mut client = Client::new(alloc, &Limits::standard());
+    if let Some(password) = password {
+        let reply = ask(alloc, &mut client, &["AUTH", password], reader, writer)?;
+        if let Value::Error(_) = reply {
+            return Err(CheckError::Reply(reply));
+        }
+    }
+    let reply = ask(alloc, &mut client, &["COMMAND"], reader, writer)?;
+    let survey = match Survey::of_reply(alloc, &reply, proxying) {
+        Ok(survey) => survey,
+        Err(SurveyError::NoList) => return Err(CheckError::Reply(reply)),
+        Err(SurveyError::Memory) => return Err(AskError::Memory.into()),
+    };
+    let printed = if proxying.all {
+        survey.print_all(output)
+    } else {
+        survey.print(server, output)
+    };
+    match printed {
+        Ok(()) if survey.has_unknown() => Ok(UNKNOWN),
+        Ok(()) => Ok(0),
+        Err(_) => Err(AskError::Output.into()),
+    }
+}
+
+/// Sends a command and returns the reply.
+fn ask<R: Source, W: Sink>(
+    alloc: Global,
+    client: &mut Client,
+    words: &[&str],
+    reader: &mut R,
+    writer: &mut W,
+) -> Result<Value, AskError> {
+    let Ok(command) = Command::new(bytes_of(alloc, words)?) else {
+        return Err(AskError::Memory);
+    };
+    if let Err(error) = client.send(&command) {
+        return Err(AskError::Refused(error));
+    }
+    if write_all(writer, client.out()).is_err() {
+        return Err(AskError::Write);
+    }
+    let length = client.out().len();
+    client.sent(length);
+    read_reply(client, reader, &mut [0; PIECE])
+}
+
+/// Reads the next reply.
+fn read_reply<R: Source>(
+    client: &mut Client,
+    reader: &mut R,
+    buffer: &mut [u8],
+) -> Result<Value, AskError> {
+    for _ in 0..MOST_READS {
+        let count = match reader.read(buffer) {
+            Ok(0) => return Err(AskError::Ended),
+            Ok(count) => count,
+            Err(_) => return Err(AskError::Read),
+        };
+        let mut rest = &buffer[..count];
+        for _ in 0..count {
+            if rest.is_empty() {
+                break;
+            }
+            let heard = match client.feed(rest) {
+                Ok(heard) => heard,
+                Err(fault) => return Err(AskError::Fault(fault)),
+            };
+            rest = &rest[heard.used..];
+            if let What::Reply { value, .. } = heard.what {
+                return Ok(value);
+            }
+        }
+    }
+    Err(AskError::TooManyTurns)
+}
+
+/// Writes that a reply is an error, or no list of commands.
+fn write_reply<F: Sink>(server: &str, reply: &Value, faults: &mut F) -> Result<(), DeviceFault> {
+    write_text(faults, server.as_bytes())?;
+    match reply {
+        Value::Error(line) => {
+            write_text(faults, b": the server replied \"")?;
+            write_quoted(faults, line.text())?;
+            write_text(faults, b"\"\n")
+        }
+        _ => write_text(
+            faults,
+            b": the reply to COMMAND is not a list of commands\n",
+        ),
+    }
+}

@@ -1,0 +1,398 @@
+//! What the proxy would do with each command of a server.
+
+use memchr::memchr;
+use resp_args::proxying::Proxying;
+use resp_commands::{Class, entry, row_of};
+use resp_print::text::{write_number, write_text};
+use resp_value::device::{DeviceFault, Sink};
+use resp_value::value::Value;
+use std::alloc::{AllocError, Global};
+
+/// The place of the name, of the flags and of the subcommands of a command in the reply to COMMAND.
+const NAME: usize = 0;
+
+const FLAGS: usize = 2;
+
+const SUBCOMMANDS: usize = 9;
+
+/// The most characters of a line of names.
+const WIDTH: usize = 78;
+
+/// What the proxy does with a command. They are printed in this order.
+#[derive(Clone, Copy, Debug, PartialEq, Eq, PartialOrd, Ord)]
+enum Treatment {
+    /// It sends the command over the connection that clients share.
+    Shared,
+    /// It gives the client a connection of its own.
+    Own,
+    /// It replies itself.
+    Itself,
+    /// It rejects the command, which is in the table.
+    Rejected,
+    /// It rejects the command, which is not in the table.
+    Unknown,
+}
+
+/// All treatments.
+const TREATMENTS: [Treatment; 5] = [
+    Treatment::Shared,
+    Treatment::Own,
+    Treatment::Itself,
+    Treatment::Rejected,
+    Treatment::Unknown,
+];
+
+impl Treatment {
+    /// Returns the word for it.
+    fn word(self) -> &'static [u8] {
+        match self {
+            Treatment::Shared => b"shared",
+            Treatment::Own => b"own",
+            Treatment::Itself => b"proxy",
+            Treatment::Rejected => b"rejected",
+            Treatment::Unknown => b"unknown",
+        }
+    }
+
+    /// Returns what the word means.
+    fn meaning(self) -> &'static [u8] {
+        match self {
+            Treatment::Shared => b"sent over the connection that clients share",
+            Treatment::Own => b"the client gets a connection of its own",
+            Treatment::Itself => b"the proxy replies itself",
+            Treatment::Rejected => b"'NAME' is not served by this proxy",
+            Treatment::Unknown => b"unknown command 'NAME'",
+        }
+    }
+}
+
+/// A command, or a subcommand with the name of its command.
+#[derive(PartialEq, Eq, PartialOrd, Ord, Drop)]
+struct Listed {
+    treatment: Treatment,
+    /// The name in upper case, with a space before the subcommand.
+    name: Vec<u8>,
+    /// Whether `--also` may name the command: the table does not have it, and the server does not say that
+    /// it may wait, subscribes or administers.
+    is_admissible: bool,
+}
+
+/// The commands of a server, sorted by what the proxy does with them and then by name.
+#[derive(Drop)]
+pub struct Survey {
+    listed: Vec<Listed>,
+}
+
+/// Why there is no survey.
+#[derive(Clone, Copy, Debug, PartialEq, Eq)]
+pub enum SurveyError {
+    /// The value is not a list of commands.
+    NoList,
+    /// An allocation failed.
+    Memory,
+}
+
+impl From<AllocError> for SurveyError {
+    fn from(_: AllocError) -> Self {
+        SurveyError::Memory
+    }
+}
+
+/// The options of the proxy that its treatment of a command depends on.
+#[derive(Clone, Copy)]
+struct Terms<'a> {
+    /// The names of `--also`, with a comma between two of them.
+    also: &'a str,
+    local_ping: bool,
+}
+
+impl Survey {
+    /// Returns the survey of a server that sent this reply to COMMAND.
+    ///
+    /// # Errors
+    ///
+    /// `NoList` if the value is not a reply to COMMAND, and `Memory` if an allocation fails.
+    pub fn of_reply(
+        alloc: Global,
+        reply: &Value,
+        proxying: &Proxying<'_>,
+    ) -> Result<Survey, SurveyError> {
+        let terms = Terms {
+            also: proxying.also.unwrap_or(""),
+            local_ping: proxying.options.local_ping,
+        };
+        let mut survey = Survey {
+            listed: Vec::new(alloc),
+        };
+        for command in members_of(reply)? {
+            survey.add(alloc, members_of(command)?, terms)?;
+        }
+        survey.listed.sort()?;
+        Ok(survey)
+    }
+
+    /// Adds a command, or its subcommands if it has some.
+    fn add(&mut self, alloc: Global, parts: &[Value], terms: Terms<'_>) -> Result<(), SurveyError> {
+        let subcommands = match parts.get(SUBCOMMANDS) {
+            Some(value) => members_of(value)?,
+            None => &[],
+        };
+        if subcommands.is_empty() {
+            return self.push(alloc, parts, terms);
+        }
+        for subcommand in subcommands {
+            self.push(alloc, members_of(subcommand)?, terms)?;
+        }
+        Ok(())
+    }
+
+    /// Adds a command or a subcommand.
+    fn push(
+        &mut self,
+        alloc: Global,
+        parts: &[Value],
+        terms: Terms<'_>,
+    ) -> Result<(), SurveyError> {
+        let full_name = text_of(parts.get(NAME).ok_or(SurveyError::NoList)?)?;
+        let (name, subcommand) = split(full_name);
+        let treatment = treatment_of(name, subcommand, terms);
+        let is_admissible = treatment == Treatment::Unknown
+            && entry(name).is_none()
+            && !is_doubtful(parts.get(FLAGS));
+        let name = printed(alloc, full_name)?;
+        let listed = Listed {
+            treatment,
+            name,
+            is_admissible,
+        };
+        match self.listed.push(listed) {
+            Ok(()) => Ok(()),
+            Err(_) => Err(SurveyError::Memory),
+        }
+    }
+
+    /// Returns whether the server has a command that the proxy does not know.
+    pub fn has_unknown(&self) -> bool {
+        self.count(Treatment::Unknown) > 0
+    }
+
+    /// Returns the number of commands with a treatment.
+    fn count(&self, treatment: Treatment) -> u64 {
+        let mut count: u64 = 0;
+        for listed in &self.listed {
+            if listed.treatment == treatment {
+                count = count.saturating_add(1);
+            }
+        }
+        count
+    }
+
+    /// Prints the number of commands for each treatment, and the names of the commands that are not sent
+    /// over the shared connection.
+    pub fn print<W: Sink>(&self, server: &str, writer: &mut W) -> Result<(), DeviceFault> {
+        write_number(writer, b"", self.listed.len() as u64, b" commands of ")?;
+        write_text(writer, server.as_bytes())?;
+        write_text(writer, b"\n")?;
+        for treatment in TREATMENTS {
+            let count = self.count(treatment);
+            if count > 0 {
+                write_right(writer, count, 5)?;
+                write_text(writer, b" ")?;
+                write_text(writer, treatment.word())?;
+                write_text(writer, b": ")?;
+                write_text(writer, treatment.meaning())?;
+                write_text(writer, b"\n")?;
+            }
+        }
+        for treatment in TREATMENTS {
+            if treatment != Treatment::Shared && self.count(treatment) > 0 {
+                self.print_names(treatment, writer)?;
+            }
+        }
+        self.print_advice(writer)
+    }
+
+    /// Prints the names of the commands with a treatment.
+    fn print_names<W: Sink>(
+        &self,
+        treatment: Treatment,
+        writer: &mut W,
+    ) -> Result<(), DeviceFault> {
+        write_text(writer, b"\n")?;
+        write_text(writer, treatment.word())?;
+        write_text(writer, b":\n")?;
+        let mut column = 0;
+        for listed in &self.listed {
+            if listed.treatment == treatment {
+                column = write_name(writer, listed.name.as_slice(), column)?;
+            }
+        }
+        write_text(writer, b"\n")
+    }
+
+    /// Prints the option that admits the unknown commands, if there are some that it may admit.
+    fn print_advice<W: Sink>(&self, writer: &mut W) -> Result<(), DeviceFault> {
+        let mut last: &[u8] = b"";
+        for listed in &self.listed {
+            let name = command_of(listed.name.as_slice());
+            if listed.is_admissible && name != last {
+                write_text(writer, if last.is_empty() { b"\n--also " } else { b"," })?;
+                write_text(writer, name)?;
+                last = name;
+            }
+        }
+        if last.is_empty() {
+            return Ok(());
+        }
+        write_text(
+            writer,
+            b"\nsends these too; name only those that have one reply and do not wait\n",
+        )
+    }
+
+    /// Prints a line for each command.
+    pub fn print_all<W: Sink>(&self, writer: &mut W) -> Result<(), DeviceFault> {
+        for listed in &self.listed {
+            write_text(writer, listed.treatment.word())?;
+            write_text(writer, b" ")?;
+            write_text(writer, listed.name.as_slice())?;
+            write_text(writer, b"\n")?;
+        }
+        Ok(())
+    }
+}
+
+/// Returns what a proxy does with a command, or with a subcommand of it.
+fn treatment_of(name: &[u8], subcommand: Option<&[u8]>, terms: Terms<'_>) -> Treatment {
+    let Some(row) = row_of(name, subcommand) else {
+        return treatment_without_row(name, subcommand, terms);
+    };
+    match row.class {
+        _ if terms.local_ping && name.eq_ignore_ascii_case(b"ping") => Treatment::Itself,
+        _ if row.may_block => Treatment::Shared,
+        Class::Shared => Treatment::Shared,
+        Class::Setting | Class::OwnConnection => Treatment::Own,
+        Class::OwnAnswer => Treatment::Itself,
+        Class::Refused => Treatment::Rejected,
+    }
+}
+
+/// Returns what a proxy does with a command that the table does not have.
+fn treatment_without_row(name: &[u8], subcommand: Option<&[u8]>, terms: Terms<'_>) -> Treatment {
+    // The proxy replies to CLIENT SETINFO, which is younger than the table.
+    let is_client = name.eq_ignore_ascii_case(b"client");
+    if is_client && subcommand.unwrap_or(b"").eq_ignore_ascii_case(b"setinfo") {
+        return Treatment::Itself;
+    }
+    if entry(name).is_none() && is_named(terms.also, name) {
+        return Treatment::Shared;
+    }
+    Treatment::Unknown
+}
+
+/// Returns whether a name is one of these, with a comma between two of them, in any case.
+fn is_named(names: &str, name: &[u8]) -> bool {
+    for other in names.split(',') {
+        if other.as_bytes().eq_ignore_ascii_case(name) {
+            return true;
+        }
+    }
+    false
+}
+
+/// Returns the members of an array or a set.
+fn members_of(value: &Value) -> Result<&[Value], SurveyError> {
+    match value {
+        Value::Array(members) | Value::Set(members) => Ok(members.list()),
+        _ => Err(SurveyError::NoList),
+    }
+}
+
+/// Returns the bytes of a string.
+fn text_of(value: &Value) -> Result<&[u8], SurveyError> {
+    match value {
+        Value::Bulk(content) => Ok(content.list()),
+        Value::Simple(line) => Ok(line.text()),
+        _ => Err(SurveyError::NoList),
+    }
+}
+
+/// Returns the name of a command and that of its subcommand, which follows `|`.
+fn split(full_name: &[u8]) -> (&[u8], Option<&[u8]>) {
+    match memchr(b'|', full_name) {
+        Some(at) => (&full_name[..at], Some(&full_name[at..][1..])),
+        None => (full_name, None),
+    }
+}
+
+/// Returns the name of a command before the space of its subcommand.
+fn command_of(name: &[u8]) -> &[u8] {
+    match memchr(b' ', name) {
+        Some(at) => &name[..at],
+        None => name,
+    }
+}
+
+/// Returns whether the flags of a command say that it may wait, subscribes or administers.
+fn is_doubtful(flags: Option<&Value>) -> bool {
+    let Some(Ok(flags)) = flags.map(members_of) else {
+        return true;
+    };
+    for flag in flags {
+        match text_of(flag) {
+            Ok(b"blocking" | b"pubsub" | b"admin") | Err(_) => return true,
+            Ok(_) => {}
+        }
+    }
+    false
+}
+
+/// Returns a name as it is printed: in upper case, with a space before the subcommand, and with `?` in place
+/// of each byte that is not a printable character.
+fn printed(alloc: Global, full_name: &[u8]) -> Result<Vec<u8>, AllocError> {
+    let mut name = Vec::new(alloc);
+    for byte in full_name {
+        let byte = match *byte {
+            b'|' => b' ',
+            b'!'..=b'~' => byte.to_ascii_uppercase(),
+            _ => b'?',
+        };
+        if name.push(byte).is_err() {
+            return Err(AllocError);
+        }
+    }
+    Ok(name)
+}
+
+/// Writes a name behind a line of so many characters, or at the beginning of the next line. Returns the
+/// number of characters of its line.
+fn write_name<W: Sink>(writer: &mut W, name: &[u8], column: usize) -> Result<usize, DeviceFault> {
+    let end = column.saturating_add(name.len()).saturating_add(2);
+    let begins_line = column == 0 || end > WIDTH;
+    let before: &[u8] = match (column, begins_line) {
+        (0, _) => b"  ",
+        (_, true) => b",\n  ",
+        (_, false) => b", ",
+    };
+    write_text(writer, before)?;
+    write_text(writer, name)?;
+    if begins_line {
+        Ok(name.len().saturating_add(2))
+    } else {
+        Ok(end)
+    }
+}
+
+/// Writes a number with spaces before it, in a column of this width.
+fn write_right<W: Sink>(writer: &mut W, number: u64, width: usize) -> Result<(), DeviceFault> {
+    let mut digits: usize = 1;
+    let mut rest = number / 10;
+    while rest > 0 {
+        digits = digits.saturating_add(1);
+        rest /= 10;
+    }
+    for _ in digits..width {
+        write_text(writer, b" ")?;
+    }
+    write_number(writer, b"", number, b"")
+}
