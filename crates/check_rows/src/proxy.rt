@@ -191,7 +191,10 @@ impl Proxying {
 
     /// `probe BYTE`: the proxy sends a probe whose word is 32 times this byte.
     fn probe(&mut self, given: &str) -> Result<()> {
-        let byte = given.as_bytes().first().context("a probe without its byte")?;
+        let byte = given
+            .as_bytes()
+            .first()
+            .context("a probe without its byte")?;
         self.proxy.probe(&[*byte; 32])?;
         Ok(())
     }
