@@ -15,6 +15,7 @@ mod in_place;
 mod lifetimes;
 mod limits;
 mod line;
+mod plain_end;
 mod refusals;
 mod replies;
 mod sent;
