@@ -2,9 +2,9 @@
 
     redis_py_suite.py SOURCE PORT
 
-SOURCE is the folder of redis-py's source, with `redis` and `tests`. A redis-server listens on PORT. Prints how many tests
-pass with each, in each protocol that the tests have an option for, and ends with status 1 if fewer pass with ours. Needs
-pytest. As a plugin of pytest (`-p redis_py_suite`) it lets each connection use our parsers.
+SOURCE is the folder of redis-py's source, with `redis` and `tests`. A redis-server listens on PORT. Prints how many
+tests pass with each, in each protocol that the tests have an option for, and ends with status 1 if fewer pass with ours.
+Needs pytest. As a plugin of pytest (`-p redis_py_suite`) it lets each connection use our parsers.
 """
 import os
 import re
@@ -36,9 +36,10 @@ def use_ours():
 def passed(source, port, flags):
     """Returns how many tests pass."""
     here = os.path.dirname(os.path.realpath(__file__))
-    words = [sys.executable, "-m", "pytest", "-q", "-p", "no:cacheprovider", f"--redis-url=redis://127.0.0.1:{port}/0", *flags]
+    words = [sys.executable, "-m", "pytest", "-q", "-p", "no:cacheprovider", *flags, "tests"]
     path = os.pathsep.join([here, source, os.environ.get("PYTHONPATH", "")])
-    run = subprocess.run([*words, "tests"], cwd=source, env={**os.environ, "PYTHONPATH": path}, capture_output=True, text=True)
+    how = {"cwd": source, "env": {**os.environ, "PYTHONPATH": path}, "capture_output": True, "text": True}
+    run = subprocess.run([*words, f"--redis-url=redis://127.0.0.1:{port}/0"], **how)
     found = PASSED.search(run.stdout)
     if not found:
         sys.exit(f"no test passed\n{run.stdout[-2000:]}{run.stderr[-2000:]}")
