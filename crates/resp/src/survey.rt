@@ -18,6 +18,9 @@ const SUBCOMMANDS: usize = 9;
 /// The most characters of a line of names.
 const WIDTH: usize = 78;
 
+/// The least numbers of two, three, four and five digits.
+const POWERS: [u64; 4] = [10, 100, 1_000, 10_000];
+
 /// What the proxy does with a command. They are printed in this order.
 #[derive(Clone, Copy, Debug, PartialEq, Eq, PartialOrd, Ord)]
 enum Treatment {
@@ -196,7 +199,7 @@ impl Survey {
         for treatment in TREATMENTS {
             let count = self.count(treatment);
             if count > 0 {
-                write_right(writer, count, 5)?;
+                write_right(writer, count)?;
                 write_text(writer, b" ")?;
                 write_text(writer, treatment.word())?;
                 write_text(writer, b": ")?;
@@ -383,16 +386,12 @@ fn write_name<W: Sink>(writer: &mut W, name: &[u8], column: usize) -> Result<usi
     }
 }
 
-/// Writes a number with spaces before it, in a column of this width.
-fn write_right<W: Sink>(writer: &mut W, number: u64, width: usize) -> Result<(), DeviceFault> {
-    let mut digits: usize = 1;
-    let mut rest = number / 10;
-    while rest > 0 {
-        digits = digits.saturating_add(1);
-        rest /= 10;
-    }
-    for _ in digits..width {
-        write_text(writer, b" ")?;
+/// Writes a number of at most five digits with spaces before it, in a column of five.
+fn write_right<W: Sink>(writer: &mut W, number: u64) -> Result<(), DeviceFault> {
+    for power in POWERS {
+        if number < power {
+            write_text(writer, b" ")?;
+        }
     }
     write_number(writer, b"", number, b"")
 }
