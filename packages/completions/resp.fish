@@ -26,6 +26,7 @@ complete -c resp -n '__fish_seen_subcommand_from show check canon loop' -l no-ex
 set -l styled '__fish_seen_subcommand_from show check canon tap ask'
 complete -c resp -n $styled -l color -x -a 'auto always never' -d 'Prints in color'
 complete -c resp -n $styled -l utf8 -d 'Prints printable UTF-8 without escapes'
+complete -c resp -n '__fish_seen_subcommand_from show check canon ask' -l json -d 'Prints each value as a line of JSON'
 
 set -l limited '__fish_seen_subcommand_from show check canon serve tap proxy ask'
 complete -c resp -n $limited -l depth -x -d 'Maximum nesting of aggregates, 4 to 128'
