@@ -144,46 +144,42 @@ fn replies_before_the_end(rt: HostRuntime) {
     check(&rt, b"+a\r\n:1x", &one, b"a", 4, End::Refused(fault));
 }
 
+/// Two replies, the first of one node and the second of three, each with two bytes of texts.
+const TWO_REPLIES: &[u8] = b"+ab\r\n*2\r\n:1\r\n+cd\r\n";
+
+/// Reads the two replies with room for so many nodes and bytes of texts, and compares the numbers of nodes, of
+/// bytes of texts and of bytes used, and the end.
+fn check_room(rt: &impl Abort, nodes: usize, texts: usize, wanted: (usize, usize, usize, End)) {
+    let mut room = [Node::default(); 4];
+    let mut bytes = [0; 4];
+    let reading = read(
+        Version::Two,
+        &Limits::standard(),
+        TWO_REPLIES,
+        &mut room[..nodes],
+        &mut bytes[..texts],
+    );
+    check_equal(
+        rt,
+        (reading.nodes, reading.texts, reading.used, reading.end),
+        wanted,
+    );
+}
+
 #[test]
 fn a_reply_that_has_no_room_is_not_read(rt: HostRuntime) {
-    let limits = Limits::standard();
-    let buffer = b"+ab\r\n*2\r\n:1\r\n+cd\r\n";
     for room in 0..=4 {
-        let mut nodes = [Node::default(); 4];
-        let mut texts = [0; 4];
-        let reading = read(
-            Version::Two,
-            &limits,
-            buffer,
-            &mut nodes[..room],
-            &mut texts,
-        );
-        let wanted = match room {
+        let by_nodes = match room {
             0 => (0, 0, 0, End::NoNodes),
             1..=3 => (1, 2, 5, End::NoNodes),
             _ => (4, 4, 18, End::Incomplete),
         };
-        check_equal(
-            &rt,
-            (reading.nodes, reading.texts, reading.used, reading.end),
-            wanted,
-        );
-        let reading = read(
-            Version::Two,
-            &limits,
-            buffer,
-            &mut nodes,
-            &mut texts[..room],
-        );
-        let wanted = match room {
+        check_room(&rt, room, 4, by_nodes);
+        let by_texts = match room {
             0 | 1 => (0, 0, 0, End::NoTexts),
             2 | 3 => (1, 2, 5, End::NoTexts),
             _ => (4, 4, 18, End::Incomplete),
         };
-        check_equal(
-            &rt,
-            (reading.nodes, reading.texts, reading.used, reading.end),
-            wanted,
-        );
+        check_room(&rt, 4, room, by_texts);
     }
 }
