@@ -5,6 +5,7 @@ tests/over_tcp runs them. The functions below test that
 
 - `ask`, `tap` and `proxy` connect to a server by the name of its host, and by an address of IPv6;
 - a name without an address is named on standard error, with the reason;
+- they connect to a server by the path of a Unix socket, and `proxy` opens connections of clients' own to it;
 - the addresses of a name are tried in turn, which needs the right to mount a file of names over /etc/hosts;
 - `show`, `ask` and `tap` print in color on a terminal, and nowhere else unless asked;
 - `tap` prints printable characters with --utf8, to a terminal, a pipe and a file.
@@ -17,6 +18,7 @@ import socket
 import subprocess
 import sys
 import tempfile
+import threading
 
 sys.dont_write_bytecode = True
 from tcp_programs import LIMIT, PING, PONG, PROGRAM, ask, command, connect, hear_end, running, until
@@ -66,6 +68,58 @@ def addresses_of_ipv6():
                     ask(client, PING, PONG)
         finally:
             serve.kill()
+
+
+@contextlib.contextmanager
+def on_a_path(path, port):
+    """Forwards the connections to a Unix socket to this port."""
+    with socket.socket(socket.AF_UNIX) as listener:
+        listener.bind(path)
+        listener.listen()
+        threading.Thread(target=forward_all, args=(listener, port), daemon=True).start()
+        yield
+        listener.shutdown(socket.SHUT_RDWR)
+
+
+def forward_all(listener, port):
+    with contextlib.suppress(OSError):
+        while True:
+            near, far = listener.accept()[0], socket.create_connection(("127.0.0.1", port))
+            for one, other in ((near, far), (far, near)):
+                threading.Thread(target=forward, args=(one, other), daemon=True).start()
+
+
+def forward(one, other):
+    with contextlib.suppress(OSError):
+        while piece := one.recv(65_536):
+            other.sendall(piece)
+        other.shutdown(socket.SHUT_WR)
+
+
+def unix_sockets():
+    """A server is found by the path of its Unix socket, also for connections of a client's own."""
+    set_command, ok = command(b"SET", b"a", b"x" * 100_000), b"+OK\r\n"
+    hello, multi, unknown = command(b"HELLO", b"3"), command(b"MULTI"), b"-ERR unknown command\r\n"
+    with tempfile.TemporaryDirectory() as folder, running("serve", "127.0.0.1:0") as serve:
+        path = f"{folder}/redis.sock"
+        with running("tap", "127.0.0.1:0", path) as tap, running("proxy", "127.0.0.1:0", path) as proxy:
+            missing = b"No such file or directory (os error 2)\n"
+            assert run("ask", path, "PING") == (b"", b"open failed: " + path.encode() + b": " + missing, 3)
+            with connect(tap.port) as client, contextlib.suppress(ConnectionError):
+                assert hear_end(client) == b""
+            until(lambda: b"client 1: cannot connect to " + path.encode() + b": " + missing in tap.printed(), "no reason is printed")
+            until(lambda: b"cannot connect to server: " + missing in proxy.printed(), "no reason is printed")
+            with on_a_path(path, serve.port):
+                assert run("ask", path, "PING") == (b'simple "PONG" 4\n', b"", 0)
+                until(lambda: b"server connected\n" in proxy.printed(), "the proxy isn't connected")
+                for port in (tap.port, proxy.port):
+                    with connect(port) as client:
+                        ask(client, PING, PONG)
+                        ask(client, set_command, ok)
+                        client.sendall(hello)
+                        assert client.recv(65_536).startswith(b"%7\r\n"), "no reply of version 3"
+                        ask(client, multi, unknown)
+                        ask(client, PING, PONG)
 
 
 def names_without_an_address():
@@ -200,7 +254,7 @@ def tap_in_style():
         os.close(descriptor)
 
 
-TESTS = [names_of_hosts, addresses_of_ipv6, names_without_an_address, addresses_in_turn, colors_on_a_terminal, tap_in_style]
+TESTS = [names_of_hosts, addresses_of_ipv6, unix_sockets, names_without_an_address, addresses_in_turn, colors_on_a_terminal, tap_in_style]
 
 if __name__ == "__main__":
     if sys.argv[-1] == "in turn":

@@ -22,15 +22,22 @@ from tcp_programs import LIMIT, PING, PONG, PROGRAM, Peer, ask, command, connect
 
 MULTI = command(b"MULTI")
 NEED_OWN = [MULTI, command(b"BLPOP", b"list", b"0"), command(b"SUBSCRIBE", b"news"), command(b"WATCH", b"key"),
-            command(b"MONITOR"), command(b"HELLO", b"3"), command(b"SELECT", b"1"), command(b"AUTH", b"anna", b"secret"),
-            command(b"XREAD", b"BLOCK", b"0", b"STREAMS", b"s", b"$"), command(b"client", b"TRACKING", b"on"),
-            command(b"RESET")]
+            command(b"MONITOR"), command(b"XREAD", b"BLOCK", b"0", b"STREAMS", b"s", b"$"),
+            command(b"client", b"TRACKING", b"on")]
+# With --lines 1 these do too.
+SETTINGS = [command(b"HELLO", b"3"), command(b"SELECT", b"1"), command(b"AUTH", b"anna", b"secret"), command(b"RESET"),
+            command(b"HELLO", b"4")]
 
 
 def own_connection():
     """The commands before go over the shared connection, and the connection is opened after their replies."""
-    with proxied() as (proxy, peer, server), connect(proxy.port) as other:
-        for first in NEED_OWN:
+    for words, firsts in (((), NEED_OWN), (("--lines", "1"), NEED_OWN + SETTINGS)):
+        own_connection_of(words, firsts)
+
+
+def own_connection_of(words, firsts):
+    with proxied(*words) as (proxy, peer, server), connect(proxy.port) as other:
+        for first in firsts:
             is_slow = first == MULTI
             with connect(proxy.port) as client:
                 after = get(b"own") + command(b"EXEC")

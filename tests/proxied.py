@@ -6,8 +6,8 @@ Without options it takes 20 seconds. Before a release: --clients 1000 --seconds 
 
 Each client has a name. Its keys, its values and its ECHOs name it. It sends pipelines of random commands, cut at random,
 and compares each reply with its command. Some clients close in the middle of a reply and come back. Some get a connection
-to the server of their own, in the middle of a pipeline: by a transaction, a subscription, a blocking command or another
-database. A reply is wrong if it names another client, if it does not fit its command, or if it is missing. After the
+to the server of their own, in the middle of a pipeline: by a transaction, a subscription or a blocking command. Some move to
+another version, database or user, in the middle of a pipeline too, and try wrong passwords and databases. A reply is wrong if it names another client, if it does not fit its command, or if it is missing. After the
 server was lost a command may get one of the two errors of the proxy, and a client with a connection of its own may be
 closed. The expected replies come from the commands alone:
 
@@ -16,6 +16,8 @@ closed. The expected replies come from the commands alone:
 - SET and MSET are answered by OK, INCR, APPEND, STRLEN and DEL by an integer, and LRANGE by values of the list;
 - GET after SET is answered by the value of the SET, unless an error or a start of the server lies between;
 - the commands of a transaction are answered by QUEUED, and EXEC by their replies;
+- HELLO, SELECT, AUTH and RESET are answered as Redis does. After them null is that of the client's version, ACL WHOAMI is
+  answered by its user, and a key has its value in its database;
 - SUBSCRIBE and UNSUBSCRIBE are answered by the channel, which names the client, and BLPOP of no list by null.
 """
 import argparse
@@ -45,7 +47,7 @@ def is_between(text):
 
 
 async def read_value(reader):
-    """Reads a value of version 2: bytes, None, an int, a list, or an error as an instance of Wrong."""
+    """Reads a value: bytes, an int, a list, or a pair of a line, an error, null or a map and its text, version or members."""
     line = await reader.readuntil(b"\r\n")
     kind, rest = line[:1], line[1:-2]
     if kind == b"+":
@@ -55,9 +57,20 @@ async def read_value(reader):
     if kind == b":":
         return int(rest)
     if kind == b"$":
-        return None if rest == b"-1" else (await reader.readexactly(int(rest) + 2))[:-2]
-    assert kind == b"*", line[:100]
+        return ("null", 2) if rest == b"-1" else (await reader.readexactly(int(rest) + 2))[:-2]
+    if kind == b"_":
+        return ("null", 3)
+    if kind == b"%":
+        return ("map", [await read_value(reader) for _ in range(2 * int(rest))])
+    assert kind in b"*>", line[:100]
     return [await read_value(reader) for _ in range(int(rest))]
+
+
+def is_hello(reply, version):
+    """Whether this is a reply to HELLO in this version, with its seven pairs."""
+    members = reply if isinstance(reply, list) else reply[1] if reply[0] == "map" else []
+    pairs = dict(zip(map(bytes, members[:-1:2]), members[1::2]))
+    return isinstance(reply, tuple) == (version == 3) and pairs.get(b"proto") == version and isinstance(pairs.get(b"id"), int)
 
 
 def texts_of(value):
@@ -65,7 +78,7 @@ def texts_of(value):
     if isinstance(value, list):
         return [text for member in value for text in texts_of(member)]
     if isinstance(value, tuple):
-        return [value[1]]
+        return [value[1]] if isinstance(value[1], bytes) else texts_of(value[1])
     return [value] if isinstance(value, bytes) else []
 
 
@@ -83,6 +96,8 @@ class Client:
         self.connection += 1
         # Whether a command was sent that needs a connection to the server of the client's own.
         self.is_own = False
+        # The setting, as the replies so far say.
+        self.version, self.user = 2, b"default"
         # The values that were sent for each key; and the one that a key has, as long as it is known.
         self.sent = {self.key(number): set() for number in range(6)}
         self.known = {}
@@ -98,7 +113,8 @@ class Client:
     def draw(self):
         """Returns a command, and the function that says whether a reply to it is right."""
         key = self.key(self.source.randrange(6))
-        kind = self.source.choice(("echo", "echo", "get", "get", "set", "set", "mget", "mset", "incr", "push", "range", "wrong"))
+        kind = self.source.choice(("echo", "echo", "get", "get", "set", "set", "mget", "mset", "incr", "push", "range", "wrong",
+                                   "whoami", "nothing"))
         return getattr(self, kind)(key)
 
     def echo(self, _):
@@ -130,7 +146,7 @@ class Client:
     def has(self, key, value):
         if key in self.known:
             return value == self.known[key]
-        return value is None or value in self.sent[key]
+        return value == ("null", self.version) or isinstance(value, bytes) and value in self.sent[key]
 
     def get(self, key):
         return command(b"GET", key), lambda reply: self.has(key, reply)
@@ -154,11 +170,51 @@ class Client:
         return command(b"INCRBY", self.name + b" count", self.name), lambda reply: (
             reply == ("error", b"ERR value is not an integer or out of range"))
 
+    def whoami(self, _):
+        return command(b"ACL", b"WHOAMI"), lambda reply: reply == self.user
+
+    def nothing(self, _):
+        return command(b"GET", self.name + b" nothing"), lambda reply: reply == ("null", self.version)
+
+    def draw_setting(self):
+        """Returns a command that moves the client to another setting, or that the server refuses, and the function for its
+        reply."""
+        self.counts["moves"] += 1
+        user = self.source.choice((b"anna", b"bea"))
+        kind = self.source.choice(("select", "select", "hello", "hello", "auth", "both", "reset", "range", "guess"))
+        if kind == "range":
+            return command(b"SELECT", b"99"), lambda reply: reply == ("error", b"ERR DB index is out of range")
+        if kind == "guess":
+            refused = b"WRONGPASS invalid username-password pair or user is disabled."
+            return command(b"AUTH", user, b"guess"), lambda reply: reply == ("error", refused)
+        changed = {}
+        if kind == "hello":
+            changed = {"version": self.source.choice((2, 3))}
+            text, is_right = command(b"HELLO", b"%d" % changed["version"]), lambda reply: is_hello(reply, changed["version"])
+        elif kind == "both":
+            changed = {"version": 3, "user": user}
+            text, is_right = command(b"HELLO", b"3", b"AUTH", user, user * 2), lambda reply: is_hello(reply, 3)
+        elif kind == "auth":
+            changed = {"user": user}
+            text, is_right = command(b"AUTH", user, user * 2), lambda reply: reply == ("line", b"OK")
+        elif kind == "select":
+            text, is_right = command(b"SELECT", b"%d" % self.source.randrange(3)), lambda reply: reply == ("line", b"OK")
+        else:
+            changed = {"version": 2, "user": b"default"}
+            text, is_right = command(b"RESET"), lambda reply: reply == ("line", b"RESET")
+
+        def fits(reply):
+            self.known = {}
+            self.version, self.user = changed.get("version", self.version), changed.get("user", self.user)
+            return is_right(reply)
+
+        return text, fits
+
     def draw_own(self):
         """Returns the commands, each with the function for its reply, of something that needs a connection of its own."""
         self.counts["own"] += not self.is_own
         self.is_own = True
-        return getattr(self, self.source.choice(("transaction", "subscription", "blocking", "database")))()
+        return getattr(self, self.source.choice(("transaction", "subscription", "blocking")))()
 
     def transaction(self):
         key, text = self.key(self.source.randrange(6)), self.value()
@@ -177,18 +233,12 @@ class Client:
     def subscription(self):
         channel = self.name + b" channel"
         return [(command(b"SUBSCRIBE", channel), lambda reply: reply == [b"subscribe", channel, 1]),
-                (command(b"PING"), lambda reply: reply == [b"pong", b""]),
+                (command(b"PING"), lambda reply: reply == ([b"pong", b""] if self.version == 2 else ("line", b"PONG"))),
                 (command(b"UNSUBSCRIBE", channel), lambda reply: reply == [b"unsubscribe", channel, 0])]
 
     def blocking(self):
-        return [(command(b"BLPOP", self.name + b" nothing", b"0.01"), lambda reply: reply == [])]
-
-    def database(self):
-        def fits(reply):
-            self.known = {}
-            return reply == ("line", b"OK")
-
-        return [(command(b"SELECT", b"%d" % self.source.randrange(1, 4)), fits)]
+        return [(command(b"BLPOP", self.name + b" nothing", b"0.01"),
+                 lambda reply: reply == ([] if self.version == 2 else ("null", 3)))]
 
     async def run(self, port, until, starts):
         """Sends pipelines until that time."""
@@ -210,6 +260,9 @@ class Client:
         """Sends pipelines over one connection, until that time or until it closes in the middle of a reply."""
         while time.monotonic() < until:
             asked = [self.draw() for _ in range(self.source.choice((1, 1, 3, 10, 50)))]
+            if self.source.random() < 0.3:
+                at = self.source.randrange(len(asked) + 1)
+                asked[at:at] = [self.draw_setting()]
             if self.source.random() < (0.5 if self.is_own else 0.05):
                 at = self.source.randrange(len(asked) + 1)
                 asked[at:at] = self.draw_own()
@@ -272,7 +325,7 @@ class Servers:
         self.redis = None
         self.start()
         self.log = open(f"{self.work.name}/proxy", "wb+")
-        words = [resp, "proxy", "127.0.0.1:0", f"127.0.0.1:{self.port}", "--clients", "5000"]
+        words = [resp, "proxy", "127.0.0.1:0", f"127.0.0.1:{self.port}", "--clients", "5000", "--lines", "32"]
         self.proxy = subprocess.Popen(words, stdin=subprocess.DEVNULL, stdout=self.log, stderr=self.log)
         while b"\n" not in self.printed():
             assert self.proxy.poll() is None, self.printed()
@@ -284,7 +337,8 @@ class Servers:
             return file.read()
 
     def start(self):
-        words = ["redis-server", "--bind", "127.0.0.1", "--port", str(self.port), "--save", "", "--appendonly", "no"]
+        words = ["redis-server", "--bind", "127.0.0.1", "--port", str(self.port), "--save", "", "--appendonly", "no",
+                 *(word for name in ("anna", "bea") for word in ("--user", name, "on", f">{name * 2}", "~*", "&*", "+@all"))]
         self.redis = subprocess.Popen(words, cwd=self.work.name, stdin=subprocess.DEVNULL, stdout=subprocess.DEVNULL)
 
     def kill(self):
@@ -317,7 +371,7 @@ async def kill_and_start(servers, source, until, starts):
 async def play(resp, seed, count, seconds):
     """Runs the clients by this seed, and returns what they counted."""
     source = random.Random(seed)
-    counts = {"replies": 0, "errors": 0, "gone": 0, "own": 0, "closed": 0}
+    counts = {"replies": 0, "errors": 0, "gone": 0, "own": 0, "closed": 0, "moves": 0}
     starts = [0]
     servers = Servers(resp)
     try:

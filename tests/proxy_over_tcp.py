@@ -577,7 +577,7 @@ def ping_of_the_proxy():
         ask(client, PING, PONG)
         ask(client, command(b"PING", b"word"), bulk(b"word"))
         counted = {"clients": 1, "clients_accepted": 1, "clients_rejected": 0, "clients_own": 0, "commands": 0,
-                   "commands_waiting": 0, "commands_failed": 0, "bytes_unsent": 0, "server_connections": 0,
+                   "commands_waiting": 0, "commands_failed": 0, "bytes_unsent": 0, "server_connections": 0, "server_lines": 1,
                    "reply_us_p50": 0, "reply_us_p99": 0, "reply_us_max": 0}
         lines = "".join(f"{name}:{number}\r\n" for name, number in counted.items())
         ask(client, command(b"INFO", b"proxy"), bulk(b"# Proxy\r\n" + lines.encode()))
@@ -592,11 +592,11 @@ def reports():
         hear(server, PING + PING)
         server.sendall(PONG)
         hear(client, PONG)
-        wanted = b"\nclients 1 accepted 1 rejected 0 own 0 commands 2 waiting 1 failed 0 unsent 0 connections 1 p50 "
+        wanted = b"\nclients 1 accepted 1 rejected 0 own 0 commands 2 waiting 1 failed 0 unsent 0 connections 1 lines 1 p50 "
         until(lambda: wanted in proxy.printed(), "no line has the numbers")
         server.close()
         hear(client, LOST)
-        wanted = b"\nclients 1 accepted 1 rejected 0 own 0 commands 2 waiting 0 failed 1 unsent 0 connections 2 p50 "
+        wanted = b"\nclients 1 accepted 1 rejected 0 own 0 commands 2 waiting 0 failed 1 unsent 0 connections 2 lines 1 p50 "
         until(lambda: wanted in proxy.printed(), "no line has the numbers after the loss")
         before = proxy.printed().count(b"\nclients ")
         time.sleep(2.5)
@@ -896,17 +896,21 @@ def checked(commands, *words, password=None):
 
 def check_of_commands():
     """--check prints the number of commands for each treatment and their names, and names the option for unknown ones."""
-    commands = b"*5\r\n" + b"".join([
-        listed(b"get", b"readonly"), listed(b"json.get", b"readonly"), listed(b"multi"), listed(b"ft.wait", b"blocking"),
+    commands = b"*6\r\n" + b"".join([
+        listed(b"get", b"readonly"), listed(b"select"), listed(b"json.get", b"readonly"), listed(b"multi"), listed(b"ft.wait", b"blocking"),
         listed(b"client", subcommands=[b"client|id", b"client|kill", b"client|setinfo", b"client|new"])])
     status, printed, errors, seen = checked(commands)
     assert (status, errors, seen) == (1, b"", [[b"COMMAND"]])
-    assert printed == b"""8 commands of SERVER
+    assert printed == b"""9 commands of SERVER
     1 shared: sent over the connection that clients share
+    1 setting: the client moves to the connection of its version, database and user
     1 own: the client gets a connection of its own
     2 proxy: the proxy replies itself
     1 rejected: 'NAME' is not served by this proxy
     3 unknown: unknown command 'NAME'
+
+setting:
+  SELECT
 
 own:
   MULTI
@@ -925,8 +929,10 @@ sends these too; name only those that have one reply and do not wait
 """, printed
     status, printed, errors, _ = checked(commands, "--all", "--also", "json.get,other")
     assert (status, errors) == (1, b"")
-    assert printed == (b"shared GET\nshared JSON.GET\nown MULTI\nproxy CLIENT ID\nproxy CLIENT SETINFO\n"
+    assert printed == (b"shared GET\nshared JSON.GET\nsetting SELECT\nown MULTI\nproxy CLIENT ID\nproxy CLIENT SETINFO\n"
                        b"rejected CLIENT KILL\nunknown CLIENT NEW\nunknown FT.WAIT\n"), printed
+    status, printed, errors, _ = checked(b"*1\r\n" + listed(b"SELECT"), "--all", "--lines", "1")
+    assert (status, printed, errors) == (0, b"own SELECT\n", b"")
     known = b"*2\r\n" + listed(b"GET") + listed(b"ping")
     status, printed, errors, seen = checked(known, "--all", "--local-ping", password="secret")
     assert (status, printed, errors) == (0, b"shared GET\nproxy PING\n", b"")

@@ -143,11 +143,16 @@ talk(tap, command("ECHO", "first of none") + command("CLIENT", "REPLY", "OFF") +
 number = client_of('"ECHO" "first of none"')
 waits_for(f'client {number} reply 4\n  simple "RESET" 5\nclient {number} reply 5\n  bulk "paired" 6\n')
 
-# An inline command is forwarded, and the tap prints its reply as a value.
-assert talk(tap, b"PING\r\n", b"\r\n") == b"+PONG\r\n"
-waits_for("refused Syntax at byte 0 of command 1\n")
-number = re.findall(r"client (\d+) refused Syntax at byte 0 of command 1\n", printed())[-1]
-waits_for(f'client {number} value\n  simple "PONG" 4\n')
+# A command may be a line, and an empty line is no command, as for the server.
+assert talk(tap, b"\r\nECHO 'of a line'\r\n" + command("ECHO", "of an array"), b"an array\r\n").endswith(b"of an array\r\n")
+number = client_of('"ECHO" "of a line"')
+waits_for(f'client {number} reply 1\n  bulk "of a line" 9\nclient {number} reply 2\n  bulk "of an array" 11\n')
+
+# After a line with a wrong quote the tap prints the server's error as a value.
+assert talk(tap, b"ECHO 'a\r\n", b"\r\n").startswith(b"-ERR Protocol error")
+waits_for("refused Syntax at byte 5 of command 1\n")
+number = re.findall(r"client (\d+) refused Syntax at byte 5 of command 1\n", printed())[-1]
+waits_for(f'client {number} value\n  error "ERR Protocol error')
 
 # A reply of 16 MiB, in many pieces, is forwarded unchanged.
 cli(server, "SETRANGE", "large", str((1 << 24) - 1), "x")

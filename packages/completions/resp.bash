@@ -9,22 +9,23 @@ _resp() {
         return
     fi
     case $before in
+    --replay) compopt -o filenames && COMPREPLY=($(compgen -f -- "$word")) && return ;;
     --proto) COMPREPLY=($(compgen -W "2 3" -- "$word")) && return ;;
     --color) COMPREPLY=($(compgen -W "auto always never" -- "$word")) && return ;;
     --depth | --length | --total | --items | --piece | --clients | --held | --user | --window | \
-        --own | --waiting | --unsent | --patience | --report | --slower | --command | --client) return ;;
+        --own | --lines | --waiting | --unsent | --patience | --report | --slower | --command | --key | --client | --port) return ;;
     esac
     case $command in
     show | check | canon) options="-2 -3 --proto $limits --doubles --piece --color --utf8 --json --explain --no-explain -h --help" ;;
     loop) options="--explain --no-explain -h --help" ;;
     serve) options="$limits --clients --held -h --help" ;;
     tap)
-        options="$limits --clients --time --errors --slower --command --client --connections --stats --stats-every --exit-with-output --keep-going --show-passwords --color --utf8 -h --help"
+        options="$limits --clients --time --errors --slower --command --key --client --connections --stats --stats-every --exit-with-output --keep-going --no-inline --show-passwords --replay --port --color --utf8 -h --help"
         ;;
     proxy)
-        options="$limits --clients --own --waiting --held --unsent --patience --report --local-ping --no-inline --drain --also --check-every --check --all -h --help"
+        options="$limits --clients --own --lines --waiting --held --unsent --patience --report --local-ping --no-inline --drain --also --check-every --check --all -h --help"
         ;;
-    ask) options="-3 --user --window --count --color --utf8 --json $limits -h --help" ;;
+    ask) options="-3 --user --window --raw --count --color --utf8 --json $limits -h --help" ;;
     help) [ "$COMP_CWORD" -ne 2 ] || COMPREPLY=($(compgen -W "$commands" -- "$word")) ;;
     esac
     case $word in

@@ -21,6 +21,14 @@ async function work(number) {
     assert.deepStrictEqual({ ...(await client.hGetAll(`hash:${number}`)) }, { a: "1", b: "2" });
     await assert.rejects(client.sendCommand(["CONFIG", "GET", "save"]), /'CONFIG'/);
     assert.strictEqual(await client.echo(`${number}`), `${number}`);
+    // Clients in another database, and of a user, share a connection too.
+    const other = createClient({ socket: { host: "127.0.0.1", port }, database: 4 + (number % 2), username: "bea", password: "secret" });
+    await other.connect();
+    assert.strictEqual(await other.set(`node:${number}`, "elsewhere"), "OK");
+    assert.strictEqual(await other.get(`node:${number}`), "elsewhere");
+    assert.strictEqual(await other.sendCommand(["ACL", "WHOAMI"]), "bea");
+    assert.strictEqual(await client.get(`node:${number}`), null);
+    await other.quit();
     // From here on the client has a connection of its own.
     await client.del([`counted:${number}`, `waiting:${number}`]);
     assert.deepStrictEqual(await client.multi().incr(`counted:${number}`).incr(`counted:${number}`).exec(), [1, 2]);

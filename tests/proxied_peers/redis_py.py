@@ -62,7 +62,7 @@ else:
     raise AssertionError("CONFIG was answered")
 assert client.ping() is True
 
-# Transactions, watched keys, subscriptions, blocking commands and another database: over connections of clients' own.
+# Transactions, watched keys, subscriptions and blocking commands: over connections of clients' own.
 port = int(sys.argv[1])
 own = redis.Redis(port=port)
 own.set("counted", 1)
@@ -96,6 +96,24 @@ while client.info("clients")["blocked_clients"] == 0:
 assert client.rpush("blocking list", "value") == 1
 waiting.join()
 assert popped == [(b"blocking list", b"value")], popped
-third = redis.Redis(port=port, db=3)
-assert third.set("in database 3", "value") is True
-assert third.get("in database 3") == b"value" and client.get("in database 3") is None
+
+# Other databases and users: clients in the same setting share a connection, and none gets another's own.
+before = client.info("proxy")["clients_own"]
+others = [(redis.Redis(port=port, db=db, username=user, password=user and "secret"), db, user)
+          for db in (0, 3, 5) for user in (None, "bea") for _ in range(4)]
+for number, (other, db, user) in enumerate(others):
+    assert other.set(f"database {db}", number) is True
+    assert other.execute_command("ACL", "WHOAMI") == (user or "default").encode()
+    assert other.get(f"database {db}") == b"%d" % number
+    assert all(there.get(f"database {db}") in (None, b"%d" % number) for there, _, _ in others)
+for other, db, _ in others:
+    assert other.exists("database 0", "database 3", "database 5") == 1 and other.exists(f"database {db}") == 1
+with_own = client.info("proxy")["clients_own"]
+assert with_own == before, (before, with_own)
+for arguments in ({"password": "guess", "username": "bea"}, {"db": 99}):
+    try:
+        redis.Redis(port=port, **arguments).ping()
+    except (redis.AuthenticationError, redis.ResponseError):
+        pass
+    else:
+        raise AssertionError(f"{arguments} were accepted")

@@ -9,7 +9,7 @@ use resp_tap::watch::Side;
 use resp_tap::way::{Visited, Way};
 use resp_tap::{CountedTap, Filter, FilteredTap, Moment, Printing};
 use resp_value::{Limits, MemorySink, MemorySource};
-use std::alloc::Global;
+use std::alloc::{AllocError, Global};
 
 /// A piece of which the writer accepts four bytes at a time.
 pub(crate) fn of_way(alloc: Global) -> Outcome {
@@ -66,38 +66,18 @@ pub(crate) fn of_filtered_tap(alloc: Global) -> Outcome {
 
 /// A command that is counted with its reply, and the table of it.
 pub(crate) fn of_counted_tap(alloc: Global) -> Outcome {
-    let filter = Filter::all(alloc);
-    let printing = Printing {
-        client: 1,
-        shows_passwords: false,
-    };
-    let now = Moment {
-        of_day: 0,
-        steady: 0,
-    };
     let mut tap = CountedTap::new(alloc, &Limits::standard());
-    let (Ok(mut counts), Ok(mut text)) = (Counts::new(alloc), MemorySink::new(alloc, 4_096, 4_096))
-    else {
+    let Ok(mut counts) = Counts::new(alloc) else {
         return Outcome::OutOfMemory;
     };
     for (side, piece) in [
         (Side::Client, b"*1\r\n$1\r\na\r\n".as_slice()),
         (Side::Server, b"-E\r\n".as_slice()),
     ] {
-        let out = &mut text;
-        if watch_counted(
-            &mut tap,
-            &mut counts,
-            &filter,
-            printing,
-            side,
-            piece,
-            now,
-            out,
-        )
-        .is_err()
-        {
-            return Outcome::Wrong;
+        match count_piece(alloc, &mut tap, &mut counts, side, piece) {
+            Ok(true) => {}
+            Ok(false) => return Outcome::Wrong,
+            Err(AllocError) => return Outcome::OutOfMemory,
         }
     }
     if table_of(alloc, &counts).is_err() {
@@ -107,4 +87,26 @@ pub(crate) fn of_counted_tap(alloc: Global) -> Outcome {
         [_, row] if row.calls() == 1 => Outcome::of(row.errors() == 1 && row.sent() == 11),
         _ => Outcome::OutOfMemory,
     }
+}
+
+/// Passes a piece of client 1 to the tap, and counts it. Returns whether its lines were written.
+fn count_piece(
+    alloc: Global,
+    tap: &mut CountedTap,
+    counts: &mut Counts,
+    side: Side,
+    piece: &[u8],
+) -> Result<bool, AllocError> {
+    let filter = Filter::all(alloc);
+    let printing = Printing {
+        client: 1,
+        shows_passwords: false,
+    };
+    let now = Moment {
+        of_day: 0,
+        steady: 0,
+    };
+    let mut text = MemorySink::new(alloc, 4_096, 4_096)?;
+    let watched = watch_counted(tap, counts, &filter, printing, side, piece, now, &mut text);
+    Ok(watched.is_ok())
 }

@@ -6,6 +6,7 @@
 #![tactic(auto)]
 
 mod asking;
+mod capturing;
 mod decoding;
 mod encoding;
 mod engines;
@@ -66,7 +67,7 @@ fn print(rt: &impl Print, parts: &[Part]) -> Result<()> {
 }
 
 /// Runs each part, and returns their outcomes in order.
-fn parts(alloc: Global) -> [Part; 49] {
+fn parts(alloc: Global) -> [Part; 53] {
     [
         ("decode a piece", decoding::of_one_piece(alloc)),
         ("decode bytes", decoding::of_single_bytes(alloc)),
@@ -107,10 +108,14 @@ fn parts(alloc: Global) -> [Part; 49] {
         ("way", forwarding::of_way(alloc)),
         ("filtered tap", forwarding::of_filtered_tap(alloc)),
         ("counted tap", forwarding::of_counted_tap(alloc)),
+        ("stream of a capture", capturing::of_stream(alloc)),
+        ("capture", capturing::of_capture(alloc)),
         ("proxy open", proxying::of_open(alloc)),
         ("proxy client", proxying::of_client(alloc)),
         ("proxy lines", proxying::of_lines(alloc)),
         ("proxy leaving", proxying::of_leaving(alloc)),
+        ("proxy moving", proxying::of_moving(alloc)),
+        ("setting", proxying::of_setting(alloc)),
         ("proxy server", proxying::of_server(alloc)),
         ("proxy probe", proxying::of_probe(alloc)),
         ("world", worlds::of_run(alloc)),

@@ -3,11 +3,17 @@
 
 use crate::outcome::Outcome;
 use resp_mux::OpenError;
-use resp_proxy::{Client, ClientError, Proxy, ServerError, Settings};
+use resp_proxy::{Client, ClientError, Proxy, ServerError, Setting, Settings, next_wish};
 use resp_value::MemorySink;
 use std::alloc::{AllocError, Global};
 
 const PING: &[u8] = b"*1\r\n$4\r\nPING\r\n";
+
+/// SELECT, and a command behind it.
+const MOVES: &[u8] = b"*2\r\n$6\r\nSELECT\r\n$1\r\n7\r\n*1\r\n$4\r\nPING\r\n";
+
+/// The number of bytes of SELECT.
+const SELECT: usize = 23;
 
 /// Returns a proxy with two clients.
 fn two_clients(alloc: Global) -> Result<(Proxy, Client, Client), AllocError> {
@@ -88,8 +94,8 @@ fn of_pieces(alloc: Global, pieces: [&[u8]; 4]) -> Outcome {
     Outcome::of(proxy.waiting() == 1 && !first.is_closing())
 }
 
-/// A client whose second command needs a connection of its own, in three pieces. It gets this connection after
-/// the reply to the first one.
+/// A client whose second command needs a connection of its own, in three pieces. It gets this
+/// connection after the reply to the first one.
 pub(crate) fn of_leaving(alloc: Global) -> Outcome {
     let Ok((mut proxy, mut first, mut second)) = two_clients(alloc) else {
         return Outcome::OutOfMemory;
@@ -112,25 +118,76 @@ pub(crate) fn of_leaving(alloc: Global) -> Outcome {
     if proxy.may_leave(&first) || !first.is_leaving() {
         return Outcome::Wrong;
     }
-    let Ok(mut server) = MemorySink::new(alloc, 100, 100) else {
-        return Outcome::OutOfMemory;
-    };
-    let _ = proxy.send(&mut server);
-    if proxy.from_server(b"+PONG\r\n").is_err() {
+    if pong(alloc, &mut proxy, &first).is_err() {
         return Outcome::OutOfMemory;
     }
-    let Ok(mut writer) = MemorySink::new(alloc, 100, 100) else {
-        return Outcome::OutOfMemory;
-    };
-    let _ = proxy.give(&first, &mut writer);
     if !proxy.may_leave(&first) {
         return Outcome::Wrong;
     }
-    let held = proxy.leave(first);
-    Outcome::of(
-        held.as_slice() == b"*1\r\n$5\r\nMULTI\r\n*1\r\n$4\r\nEXEC\r\n".as_slice()
-            && proxy.numbers().own == 1,
-    )
+    let Ok(departed) = proxy.leave(first) else {
+        return Outcome::Wrong;
+    };
+    Outcome::of(departed.rest() == b"*1\r\n$5\r\nMULTI\r\n*1\r\n$4\r\nEXEC\r\n".as_slice())
+}
+
+/// A client moves to another proxy, and gets the reply to its command and the name that it had.
+/// Without memory it is lost, and the other client of that proxy goes on.
+pub(crate) fn of_moving(alloc: Global) -> Outcome {
+    let Ok((mut proxy, mut first, _)) = two_clients(alloc) else {
+        return Outcome::OutOfMemory;
+    };
+    let Ok((mut other, closed, mut second)) = two_clients(alloc) else {
+        return Outcome::OutOfMemory;
+    };
+    proxy.admit_own(true);
+    if proxy.from_client(&mut first, MOVES).is_err() {
+        return Outcome::OutOfMemory;
+    }
+    let Ok(mut departed) = proxy.leave(first) else {
+        return Outcome::Wrong;
+    };
+    departed.skip(SELECT.min(departed.rest().len()));
+    match other.enter(departed, b"+OK\r\n") {
+        Ok(client) => Outcome::of(client.id() != second.id() && other.numbers().clients == 3),
+        Err(OpenError::OutOfMemory) => {
+            other.close(closed);
+            let taken = other.from_client(&mut second, PING);
+            Outcome::refused(taken.is_ok() && other.numbers().clients == 1)
+        }
+        Err(_) => Outcome::Wrong,
+    }
+}
+
+/// The setting after SELECT, and its commands for a new connection.
+pub(crate) fn of_setting(alloc: Global) -> Outcome {
+    match commands_of_setting(alloc) {
+        Ok(commands) => Outcome::of(commands.as_slice() == &MOVES[..SELECT]),
+        Err(AllocError) => Outcome::OutOfMemory,
+    }
+}
+
+fn commands_of_setting(alloc: Global) -> Result<Vec<u8>, AllocError> {
+    let first = Setting::first(alloc)?;
+    let mut commands = Vec::new(alloc);
+    if let Some(asking) = next_wish(MOVES, &Settings::standard().limits) {
+        if let Some(setting) = first.after(alloc, asking.wish)? {
+            let copy = setting.copy(alloc)?;
+            let _ = copy.commands(b"", &mut commands)?;
+        }
+    }
+    Ok(commands)
+}
+
+/// Sends the commands that wait, of which the first is PING, and gives the client the reply to it.
+fn pong(alloc: Global, proxy: &mut Proxy, client: &Client) -> Result<(), AllocError> {
+    let mut server = MemorySink::new(alloc, 100, 100)?;
+    let _ = proxy.send(&mut server);
+    if proxy.from_server(b"+PONG\r\n").is_err() {
+        return Err(AllocError);
+    }
+    let mut writer = MemorySink::new(alloc, 100, 100)?;
+    let _ = proxy.give(client, &mut writer);
+    Ok(())
 }
 
 /// Returns whether each of these clients was replied to if bytes wait for it.

@@ -4,7 +4,8 @@ use crate::cut::{Cut, pieces};
 use crate::subject::Subject;
 use crate::text::{bytes, number, split};
 use anyhow::{Context, Result, bail};
-use resp_proxy::{Client, Proxy, Read, ServerError, Settings};
+use resp_proxy::{Client, Departed, Proxy, Read, ServerError, Settings};
+use resp_value::version::Version;
 use resp_value::{MemorySink, MemorySource};
 use std::alloc::Global;
 use std::mem;
@@ -24,12 +25,21 @@ struct Seat {
     closing: Option<Read>,
 }
 
+/// A client that has left its proxy, and the bytes that it has sent and that were not read.
+#[derive(Drop)]
+struct Gone {
+    number: u64,
+    departed: Departed,
+    pending: Vec<u8>,
+}
+
 /// A proxy, its open clients, and the bytes that the server has got in a row.
 #[derive(Drop)]
 pub(crate) struct Proxying {
     alloc: Global,
     proxy: Proxy,
     seats: Vec<Seat>,
+    gone: Vec<Gone>,
     sent: Vec<u8>,
     /// The numbers of the clients that were replied to by the last row of the server, in order. A
     /// client that was closed has number 0.
@@ -46,6 +56,7 @@ impl Subject for Proxying {
             alloc,
             proxy: Proxy::new(alloc, Settings::standard())?,
             seats: Vec::new(alloc),
+            gone: Vec::new(alloc),
             sent: Vec::new(alloc),
             told: Vec::new(alloc),
             takes: MOST,
@@ -68,6 +79,12 @@ impl Subject for Proxying {
                 lines: false,
                 ..Settings::standard()
             })?,
+            "three" => self.begin(Settings {
+                version: Version::Three,
+                answers_settings: false,
+                ..Settings::standard()
+            })?,
+            "enter" => self.enter(given)?,
             "own" => self.proxy.admit_own(true),
             "prober" => self.proxy.open_prober()?,
             "probe" => self.probe(given)?,
@@ -212,7 +229,8 @@ impl Proxying {
         self.ask_told(said)
     }
 
-    /// Asks which clients were replied to, and gives them their bytes. No bytes wait for the others.
+    /// Asks which clients were replied to, and gives them their bytes. No bytes wait for the
+    /// others.
     fn ask_told(&mut self, said: &mut String) -> Result<()> {
         self.told.clear();
         while let Some(id) = self.proxy.next_replied() {
@@ -286,8 +304,8 @@ impl Proxying {
         Ok(())
     }
 
-    /// Prints what the server and the clients got, which clients are closing, and which get a connection of
-    /// their own, with the bytes that are sent over it first.
+    /// Prints what the server and the clients got, which clients are closing, and which get a
+    /// connection of their own, with the bytes that are sent over it first.
     fn tell(&mut self, said: &mut String) -> Result<()> {
         if !self.sent.is_empty() {
             writeln!(said, "server {}", self.sent.escape_ascii())?;
@@ -322,10 +340,50 @@ impl Proxying {
                 pending,
                 ..
             } = self.seats.remove(place);
-            let mut first = self.proxy.leave(client);
+            let Ok(departed) = self.proxy.leave(client) else {
+                bail!("a client may leave and may not");
+            };
+            let mut first = departed.rest().to_vec(self.alloc)?;
             first.extend_from_slice(pending.as_slice())?;
             writeln!(said, "own {number} {}", first.as_slice().escape_ascii())?;
+            self.gone.push(Gone {
+                number,
+                departed,
+                pending,
+            })?;
         }
+        Ok(())
+    }
+
+    /// `enter NUMBER COUNT TEXT`: a client that has left a proxy enters this one. It is owed the
+    /// text first, and the first bytes that it left with are dropped, as many as COUNT says.
+    fn enter(&mut self, given: &str) -> Result<()> {
+        let (who, rest) = split(given);
+        let (count, reply) = split(rest);
+        let who = number(who)?;
+        let mut place = 0;
+        while place < self.gone.len() && self.gone[place].number != who {
+            place += 1;
+        }
+        if place == self.gone.len() {
+            bail!("the client has not left");
+        }
+        let Gone {
+            number: _,
+            mut departed,
+            pending,
+        } = self.gone.remove(place);
+        let count = (number(count)? as usize).min(departed.rest().len());
+        departed.skip(count);
+        let reply = bytes(self.alloc, reply)?;
+        let client = self.proxy.enter(departed, reply.as_slice())?;
+        self.seats.push(Seat {
+            number: who,
+            client,
+            got: Vec::new(self.alloc),
+            pending,
+            closing: None,
+        })?;
         Ok(())
     }
 }

@@ -66,11 +66,13 @@ impl Subject for Tapping {
             }
             "slower" => self.set_slower(given),
             "command" => self.add_name(given),
+            "key" => self.set_key(given),
             "only" => self.set_client(given),
             "connections" => {
                 self.filter.connections = true;
                 Ok(())
             }
+            "arrays" => self.read_arrays(),
             "count" => self.begin_counting(),
             "table" => self.say_table(said),
             "client" => self.pass(Side::Client, given, cut, said),
@@ -115,9 +117,22 @@ impl Tapping {
         Ok(())
     }
 
+    /// `key GLOB` prints only commands with a key that this glob matches.
+    fn set_key(&mut self, glob: &str) -> Result<()> {
+        self.filter.key = Some(Vec::from_slice(self.alloc, glob.as_bytes())?);
+        Ok(())
+    }
+
     /// `only NUMBER` prints only the lines about the client with this number.
     fn set_client(&mut self, number: &str) -> Result<()> {
         self.filter.client = Some(number.parse()?);
+        Ok(())
+    }
+
+    /// `arrays` taps a new connection, of which no line is a command.
+    fn read_arrays(&mut self) -> Result<()> {
+        let limits = Limits::standard().with_doubles(true);
+        self.tap = FilteredTap::new(self.alloc, &limits).with_lines(false);
         Ok(())
     }
 
@@ -141,11 +156,12 @@ impl Tapping {
 
     /// `end client` and `end server` print what the tap shows when this side has ended.
     fn end(&mut self, side: &str, said: &mut String) -> Result<()> {
-        let (side, cut) = match side {
-            "client" => (Side::Client, self.tap.tap().incomplete_command()),
-            "server" => (Side::Server, self.tap.tap().incomplete_reply()),
+        let side = match side {
+            "client" => Side::Client,
+            "server" => Side::Server,
             _ => bail!("a side is the client or the server"),
         };
+        let cut = self.tap.cut(side);
         let stamp = match self.now {
             Some(now) => Some(Stamp::new(now)),
             None => None,

@@ -2,16 +2,15 @@
 
 use crate::failures::{Failures, Input, Output};
 use crate::hosts::{addresses_of, refuse_server};
-use crate::lines::Lines;
-use crate::talk::{Failure, Talk};
+use crate::server_stream::ServerStream;
 use resp_args::asking::Asking;
+use resp_args::tool_error::ToolError;
 use resp_args::words::refuse_file;
-use resp_ask::Form;
+use resp_ask::{Failure, Form, Greeting, Lines, RawCommands, Talk};
 use resp_print::live::LiveSink;
 use resp_print::text::{write_number, write_text};
 use resp_value::device::{Device, DeviceFault, Sink, Source};
-use std::alloc::AllocError;
-use std::net::TcpStream;
+use std::alloc::{AllocError, Global};
 use std::time::Instant;
 use std::{env, io};
 
@@ -46,14 +45,13 @@ pub fn run_ask<O: LiveSink, F: Sink>(
         Ok(addresses) => addresses,
         Err(error) => return refuse_server(alloc, &asking.server, &error, faults),
     };
-    let stream = match TcpStream::connect(rt, addresses.as_slice()) {
+    let stream = match ServerStream::connect(rt, addresses.as_slice()) {
         Ok(stream) => stream,
         Err(error) => {
             let why = format!(in alloc; "{error}")?;
             return Ok(refuse_file(asking.server_text, why.as_str(), faults));
         }
     };
-    let _ = stream.set_nodelay(true);
     let mut reader = Device::new(Input::new(&stream, failures));
     let mut writer = Device::new(Output::new(&stream, failures));
     let password = match &password {
@@ -96,12 +94,26 @@ fn ask_over<R: Source, W: Sink, O: LiveSink, F: Sink>(
         Ok(()) => Ok(ERROR),
         Err(failure) => {
             let _ = failure.write(talk.next_reply(), faults);
-            if let Some(error) = failure.of_device() {
-                failures.write_why(rt.alloc(), &error, faults)?;
-            }
+            write_why(rt.alloc(), &failure, failures, faults)?;
             Ok(failure.status())
         }
     }
+}
+
+/// Writes why a device failed, if one did.
+pub fn write_why<F: Sink>(
+    alloc: Global,
+    failure: &Failure,
+    failures: &Failures,
+    faults: &mut F,
+) -> Result<(), AllocError> {
+    if failure.is_of_read() {
+        return failures.write_why(alloc, &ToolError::Read, faults);
+    }
+    if failure.is_of_write() {
+        return failures.write_why(alloc, &ToolError::Write, faults);
+    }
+    Ok(())
 }
 
 /// Sends AUTH and HELLO, and the commands if they were accepted.
@@ -114,7 +126,17 @@ fn ask_with<R: Source, W: Sink, O: LiveSink>(
     failures: &Failures,
     output: &mut O,
 ) -> Result<(), Failure> {
-    if !talk.greet(rt.alloc(), &asking.options, password, output)? {
+    let greeting = Greeting {
+        user: asking.options.user,
+        password,
+        is_three: asking.options.is_three,
+        form: if asking.options.style.json {
+            Form::Json
+        } else {
+            Form::Alone
+        },
+    };
+    if !talk.greet(rt.alloc(), &greeting, output)? {
         return Ok(());
     }
     talk.begin(form);
@@ -167,7 +189,11 @@ fn send_commands<R: Source, W: Sink, O: LiveSink>(
     }
     let mut input = Device::new(Input::new(rt.stdin(), failures));
     let window = asking.options.window as u64;
-    talk.send_lines(alloc, &mut input, &mut Lines::new(alloc), window, output)
+    if asking.options.raw {
+        let mut commands = RawCommands::new(alloc, &asking.options.limits)?;
+        return talk.send_input(alloc, &mut commands, &mut input, window, output);
+    }
+    talk.send_input(alloc, &mut Lines::new(alloc), &mut input, window, output)
 }
 
 /// Writes the line of `--count`.

@@ -1,21 +1,23 @@
 //! `resp proxy --check`, which asks a server for its commands and prints what the proxy would do with them.
 
+use crate::asking::write_why;
 use crate::failures::{Failures, Input, Output};
+use crate::server_stream::ServerStream;
 use crate::survey::{Survey, SurveyError};
-use crate::talk::{Failure, bytes_of};
 use resp_args::proxying::Proxying;
 use resp_args::words::refuse_file;
-use resp_ask::AskError;
+use resp_ask::talk::bytes_of;
+use resp_ask::{AskError, Failure};
 use resp_client::{Client, What};
 use resp_print::live::LiveSink;
 use resp_print::text::{write_quoted, write_text};
+use resp_serve::Address;
 use resp_value::command::Command;
 use resp_value::device::{Device, DeviceFault, Sink, Source, write_all};
 use resp_value::limits::Limits;
 use resp_value::value::Value;
 use std::alloc::{AllocError, Global};
 use std::env;
-use std::net::{SocketAddr, TcpStream};
 
 /// The exit status if the server has a command that the proxy does not know, or rejects AUTH or COMMAND.
 const UNKNOWN: u8 = 1;
@@ -56,13 +58,13 @@ pub fn run_check<O: LiveSink, F: Sink>(
     rt: &HostRuntime,
     proxying: &Proxying<'_>,
     server: &str,
-    addresses: &[SocketAddr],
+    addresses: &[Address],
     output: &mut O,
     failures: &Failures,
     faults: &mut F,
 ) -> Result<u8, AllocError> {
     let alloc = rt.alloc();
-    let stream = match TcpStream::connect(rt, addresses) {
+    let stream = match ServerStream::connect(rt, addresses) {
         Ok(stream) => stream,
         Err(error) => {
             let why = format!(in alloc; "{error}")?;
@@ -94,9 +96,7 @@ pub fn run_check<O: LiveSink, F: Sink>(
         Err(CheckError::Ask(error)) => {
             let failure = Failure::Ask(error);
             let _ = failure.write(1, faults);
-            if let Some(error) = failure.of_device() {
-                failures.write_why(alloc, &error, faults)?;
-            }
+            write_why(alloc, &failure, failures, faults)?;
             Ok(failure.status())
         }
     }

@@ -2,10 +2,11 @@
 
 use resp_args::server_address::ServerAddress;
 use resp_args::words::refuse_host;
+use resp_serve::Address;
 use resp_value::device::Sink;
 use std::alloc::{AllocError, Global};
 use std::io;
-use std::net::{Net, SocketAddr, ToSocketAddrs};
+use std::net::{Net, ToSocketAddrs};
 
 /// Returns the addresses of a server. The system looks up a name, and may wait for other machines.
 ///
@@ -16,14 +17,17 @@ pub fn addresses_of(
     net: &impl Net,
     alloc: Global,
     server: &ServerAddress<'_>,
-) -> io::Result<Vec<SocketAddr>> {
+) -> io::Result<Vec<Address>> {
     let mut addresses = Vec::new(alloc);
     match *server {
-        ServerAddress::Socket(address) => addresses.push(address)?,
+        ServerAddress::Socket(address) => addresses.push(Address::Socket(address))?,
         ServerAddress::Named { host, port } => {
             for address in (host, port).to_socket_addrs(net)? {
-                addresses.push(address)?;
+                addresses.push(Address::Socket(address))?;
             }
+        }
+        ServerAddress::Path(path) => {
+            addresses.push(Address::Path(String::from_str(alloc, path)?))?;
         }
     }
     Ok(addresses)
@@ -34,6 +38,7 @@ pub fn name_of(alloc: Global, server: &ServerAddress<'_>) -> Result<String, Allo
     match server {
         ServerAddress::Socket(address) => format!(in alloc; "{address}"),
         ServerAddress::Named { host, port } => format!(in alloc; "{host}:{port}"),
+        ServerAddress::Path(path) => format!(in alloc; "{path}"),
     }
 }
 
@@ -48,6 +53,7 @@ pub fn refuse_server<F: Sink>(
     let host = match server {
         ServerAddress::Socket(address) => format!(in alloc; "{address}")?,
         ServerAddress::Named { host, .. } => format!(in alloc; "{host}")?,
+        ServerAddress::Path(path) => format!(in alloc; "{path}")?,
     };
     Ok(refuse_host(host.as_str(), why.as_str(), faults))
 }

@@ -3,12 +3,14 @@
 use crate::checking::run_check;
 use crate::failures::Failures;
 use crate::hosts::{addresses_of, name_of, refuse_server};
+use crate::replaying::run_replay;
 use crate::style::style_of;
 use resp_args::duration::duration_of;
 use resp_args::proxying::{ProxyOptions, Proxying};
 use resp_args::serving::Serving;
 use resp_args::tapping::{FilterOptions, StatsOptions, Tapping};
 use resp_args::tool_error::ToolError;
+use resp_args::traffic::{Route, Traffic};
 use resp_args::words::{refuse_file, stop};
 use resp_paint::{Painted, Style};
 use resp_print::live::LiveSink;
@@ -100,6 +102,7 @@ pub fn run_tap<W: LiveSink, F: Sink>(
     rt: &HostRuntime,
     tapping: &Tapping<'_>,
     writer: &mut Painted<W>,
+    failures: &Failures,
     faults: &mut F,
 ) -> Result<u8, AllocError> {
     let style = match style_of(rt, &tapping.style) {
@@ -113,15 +116,34 @@ pub fn run_tap<W: LiveSink, F: Sink>(
         let _ = write_bad_duration(tapping.filter.slower.unwrap_or(""), faults);
         return Ok(BAD_ARGUMENTS);
     };
-    let addresses = match addresses_of(rt, rt.alloc(), &tapping.server) {
+    match &tapping.traffic {
+        Traffic::Live(route) => run_window(rt, tapping, route, slower, style, writer, faults),
+        Traffic::Captured(captured) => {
+            writer.set_style(style);
+            run_replay(rt, tapping, captured, slower, writer, failures, faults)
+        }
+    }
+}
+
+/// Runs the tap between clients and a server. Returns the status when it has ended.
+fn run_window<W: LiveSink, F: Sink>(
+    rt: &HostRuntime,
+    tapping: &Tapping<'_>,
+    route: &Route<'_>,
+    slower: Option<u64>,
+    style: Style,
+    writer: &mut Painted<W>,
+    faults: &mut F,
+) -> Result<u8, AllocError> {
+    let addresses = match addresses_of(rt, rt.alloc(), &route.server) {
         Ok(addresses) => addresses,
-        Err(error) => return refuse_server(rt.alloc(), &tapping.server, &error, faults),
+        Err(error) => return refuse_server(rt.alloc(), &route.server, &error, faults),
     };
-    let backend = Backend::new(name_of(rt.alloc(), &tapping.server)?, addresses);
-    match tap(rt, tapping, backend, slower, style, writer) {
+    let backend = Backend::new(name_of(rt.alloc(), &route.server)?, addresses);
+    match tap(rt, tapping, route, backend, slower, style, writer) {
         // It ends this way only after a write has failed, which was reported then.
         Ok(()) => Ok(DEVICE_FAILED),
-        Err(error) => refuse(rt.alloc(), tapping.address_text, &error, faults),
+        Err(error) => refuse(rt.alloc(), route.address_text, &error, faults),
     }
 }
 
@@ -152,7 +174,7 @@ fn write_bad_duration<F: Sink>(text: &str, faults: &mut F) -> Result<(), DeviceF
 }
 
 /// Returns the filter that the options ask for.
-fn filter_of(
+pub fn filter_of(
     alloc: Global,
     options: &FilterOptions<'_>,
     slower: Option<u64>,
@@ -164,6 +186,9 @@ fn filter_of(
     if options.client > 0 {
         filter.client = Some(options.client);
     }
+    if let Some(glob) = options.key {
+        filter.key = Some(Vec::from_slice(alloc, glob.as_bytes())?);
+    }
     for name in options.names.unwrap_or("").split(',') {
         if !name.is_empty() {
             filter.names.push(Vec::from_slice(alloc, name.as_bytes())?)?;
@@ -173,7 +198,7 @@ fn filter_of(
 }
 
 /// Returns when tables are printed, if commands are counted.
-fn tables_of(stats: StatsOptions) -> Option<Tables> {
+pub fn tables_of(stats: StatsOptions) -> Option<Tables> {
     if stats.every > 0 {
         return Some(Tables::Every(Duration::from_secs(stats.every)));
     }
@@ -200,6 +225,7 @@ fn after_failure(tapping: &Tapping<'_>) -> AfterFailure {
 fn tap<W: LiveSink>(
     rt: &HostRuntime,
     tapping: &Tapping<'_>,
+    route: &Route<'_>,
     backend: Backend,
     slower: Option<u64>,
     style: Style,
@@ -214,11 +240,12 @@ fn tap<W: LiveSink>(
         most: tapping.clients,
         tells_time: tapping.tells_time || slower.is_some(),
         after_failure: after_failure(tapping),
+        reads_lines: !tapping.refuses_lines,
         shows_passwords: tapping.shows_passwords,
         tables: tables_of(tapping.stats),
         style,
     };
-    let mut window = Window::listen(rt, alloc, tapping.address, backend, settings, filter)?;
+    let mut window = Window::listen(rt, alloc, route.address, backend, settings, filter)?;
     if !window.may_wait() {
         writer.set_style(style);
     }
@@ -327,9 +354,11 @@ fn settings_of(options: &ProxyOptions) -> ProxySettings {
             unsent: options.unsent,
             local_ping: options.local_ping,
             lines: !options.refuses_lines,
+            ..resp_proxy::Settings::standard()
         },
         most: options.clients,
         own: options.own,
+        lines: options.lines,
         patience: Duration::from_millis(options.patience),
         report: report_of(options.report),
         drains: options.drains,

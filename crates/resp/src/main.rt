@@ -8,11 +8,11 @@ mod checking;
 mod failures;
 mod hosts;
 mod input;
-mod lines;
 mod listening;
+mod replaying;
+mod server_stream;
 mod style;
 mod survey;
-mod talk;
 
 ghost use Rattle.std.specs.Prelude.{◌≤◌};
 
@@ -129,7 +129,7 @@ fn run_words<W: LiveSink, F: Sink>(
             run_script(rt, file, writer, failures, faults)
         }
         Ok(Asked::Serve(serving)) => run_serve(rt, &serving, writer, faults),
-        Ok(Asked::Tap(tapping)) => run_tap(rt, &tapping, writer, faults),
+        Ok(Asked::Tap(tapping)) => run_tap(rt, &tapping, writer, failures, faults),
         Ok(Asked::Proxy(proxying)) => run_proxy(rt, &proxying, writer, failures, faults),
         Ok(Asked::Ask(asking)) => {
             if !set_style(rt, &asking.options.style, writer, faults) {

@@ -26,6 +26,8 @@ const POWERS: [u64; 4] = [10, 100, 1_000, 10_000];
 enum Treatment {
     /// It sends the command over the connection that clients share.
     Shared,
+    /// It moves the client to the connection of its setting.
+    Setting,
     /// It gives the client a connection of its own.
     Own,
     /// It replies itself.
@@ -37,8 +39,9 @@ enum Treatment {
 }
 
 /// All treatments.
-const TREATMENTS: [Treatment; 5] = [
+const TREATMENTS: [Treatment; 6] = [
     Treatment::Shared,
+    Treatment::Setting,
     Treatment::Own,
     Treatment::Itself,
     Treatment::Rejected,
@@ -50,6 +53,7 @@ impl Treatment {
     fn word(self) -> &'static [u8] {
         match self {
             Treatment::Shared => b"shared",
+            Treatment::Setting => b"setting",
             Treatment::Own => b"own",
             Treatment::Itself => b"proxy",
             Treatment::Rejected => b"rejected",
@@ -61,6 +65,8 @@ impl Treatment {
     fn meaning(self) -> &'static [u8] {
         match self {
             Treatment::Shared => b"sent over the connection that clients share",
+            Treatment::Setting =>
+                b"the client moves to the connection of its version, database and user",
             Treatment::Own => b"the client gets a connection of its own",
             Treatment::Itself => b"the proxy replies itself",
             Treatment::Rejected => b"'NAME' is not served by this proxy",
@@ -107,6 +113,8 @@ struct Terms<'a> {
     /// The names of `--also`, with a comma between two of them.
     also: &'a str,
     local_ping: bool,
+    /// Whether clients in another setting than the first share a connection.
+    has_settings: bool,
 }
 
 impl Survey {
@@ -123,6 +131,7 @@ impl Survey {
         let terms = Terms {
             also: proxying.also.unwrap_or(""),
             local_ping: proxying.options.local_ping,
+            has_settings: proxying.options.lines > 1,
         };
         let mut survey = Survey {
             listed: Vec::new(alloc),
@@ -180,14 +189,9 @@ impl Survey {
     }
 
     /// Returns the number of commands with a treatment.
-    fn count(&self, treatment: Treatment) -> u64 {
-        let mut count: u64 = 0;
-        for listed in &self.listed {
-            if listed.treatment == treatment {
-                count = count.saturating_add(1);
-            }
-        }
-        count
+    fn count(&self, treatment: Treatment) -> usize {
+        let has_it = |listed: &&Listed| listed.treatment == treatment;
+        self.listed.iter().filter(has_it).count()
     }
 
     /// Prints the number of commands for each treatment, and the names of the commands that are not sent
@@ -199,7 +203,7 @@ impl Survey {
         for treatment in TREATMENTS {
             let count = self.count(treatment);
             if count > 0 {
-                write_right(writer, count)?;
+                write_right(writer, count as u64)?;
                 write_text(writer, b" ")?;
                 write_text(writer, treatment.word())?;
                 write_text(writer, b": ")?;
@@ -274,6 +278,7 @@ fn treatment_of(name: &[u8], subcommand: Option<&[u8]>, terms: Terms<'_>) -> Tre
         _ if terms.local_ping && name.eq_ignore_ascii_case(b"ping") => Treatment::Itself,
         _ if row.may_block => Treatment::Shared,
         Class::Shared => Treatment::Shared,
+        Class::Setting if terms.has_settings => Treatment::Setting,
         Class::Setting | Class::OwnConnection => Treatment::Own,
         Class::OwnAnswer => Treatment::Itself,
         Class::Refused => Treatment::Rejected,
@@ -295,12 +300,9 @@ fn treatment_without_row(name: &[u8], subcommand: Option<&[u8]>, terms: Terms<'_
 
 /// Returns whether a name is one of these, with a comma between two of them, in any case.
 fn is_named(names: &str, name: &[u8]) -> bool {
-    for other in names.split(',') {
-        if other.as_bytes().eq_ignore_ascii_case(name) {
-            return true;
-        }
-    }
-    false
+    names
+        .split(',')
+        .any(|other| other.as_bytes().eq_ignore_ascii_case(name))
 }
 
 /// Returns the members of an array or a set.

@@ -10,7 +10,7 @@ use Rattle.clap.specs.declared.parser.matches.ArgMatches.{ArgMatches}
 use Rattle.clap.specs.declared.parser.matches.Found.{Found}
 use Rattle.clap.proofs.OnLiterals.{clap_on_literals}
 use Rattle.clap.proofs.WalkLemmas.{one_text-rows}
-use Rattle.resp_args.specs.CommandWords.{AnswersSort, AnswersStatus, AskFor, Enters, IsOfSort, FindsWords, HasAsking, HasFlag, HasNumber, HasProxying, HasReading, HasServing, HasTapping, IsAsked, flag_text, task_word}
+use Rattle.resp_args.specs.CommandWords.{AnswersSort, AnswersStatus, AskFor, Enters, IsOfSort, FindsWords, HasAsking, HasFlag, HasNumber, HasProxying, HasReading, HasRoute, HasServing, HasTapping, IsAsked, flag_text, task_word}
 use Rattle.resp_args.specs.Addresses.{HasPort, IsAddressText, IsLocalPort}
 use Rattle.resp_args.specs.Hosts.{IsServerText}
 use Rattle.resp_args.specs.declared.server_address.ServerAddress.{ServerAddress}
@@ -32,6 +32,7 @@ use Rattle.resp_args.specs.declared.options.Task.TheVariants.{Show, Check, Canon
 use Rattle.resp_args.specs.declared.proxying.Proxying.{Proxying}
 use Rattle.resp_args.specs.declared.serving.Serving.{Serving}
 use Rattle.resp_args.specs.declared.tapping.Tapping.{Tapping}
+use Rattle.resp_args.specs.declared.traffic.Route.{Route}
 
 none≢some : {X : Type 0} (x : X) → Some x ≡ None → ⊥
 none≢some x e = cc
@@ -128,19 +129,15 @@ no_serving given text is none serving has =
     let same = same_text text serving.address_text.now (first_of (codes "address") given) is has.0.text in
     none serving.address (subst (λ z. IsAddressText z serving.address) (sym same) has.1)
 
-pub no_listener : (given : List Row) (text : Text) → first_of (codes "listen") given ≡ Some text →
-    ((address : SocketAddr) → IsAddressText text address → ⊥) → (tapping : Tapping) → HasTapping given tapping → ⊥
-no_listener given text is none tapping has =
-    let (server, words, listen, to) = has in
-    let same = same_text text tapping.address_text.now (first_of (codes "listen") given) is words.listen_text in
-    none tapping.address (subst (λ z. IsAddressText z tapping.address) (sym same) listen)
-
-pub no_server : (given : List Row) (text : Text) → first_of (codes "server") given ≡ Some text →
-    ((server : ServerAddress) → IsServerText text server → ⊥) → (tapping : Tapping) → HasTapping given tapping → ⊥
-no_server given text is none tapping has =
-    let (server, words, listen, to) = has in
-    let same = same_text text server (first_of (codes "server") given) is words.server_text in
-    none tapping.server (subst (λ z. IsServerText z tapping.server) (sym same) to)
+pub no_route : (given : List Row) (text text' : Text) → first_of (codes "listen") given ≡ Some text →
+    first_of (codes "server") given ≡ Some text' →
+    ((here : SocketAddr) (there : ServerAddress) → IsAddressText text here → IsServerText text' there → ⊥) →
+    (route : Route) → HasRoute given route → ⊥
+no_route given text text' is is' none route has =
+    let same = same_text text route.address_text.now (first_of (codes "listen") given) is has.listen_text in
+    let same' = same_text text' has.server_text (first_of (codes "server") given) is' has.server_is in
+    none route.address route.server (subst (λ z. IsAddressText z route.address) (sym same) has.listen)
+    (subst (λ z. IsServerText z route.server) (sym same') has.to)
 
 pub no_proxy_addresses : (given : List Row) (text text' : Text) → first_of (codes "listen") given ≡ Some text →
     first_of (codes "server") given ≡ Some text' →

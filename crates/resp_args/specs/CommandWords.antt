@@ -1,6 +1,6 @@
 -- The meaning of the words of a command line.
 use Rattle.std.specs.Prelude.{◌≡◌, ◌≢◌, ◌⊎◌, ◌≤◌, ◌<◌, ◌^◌, ℕ, Bool, false, true, not, if◌then◌else◌, codes}
-use Rattle.std.specs.Prelude.{List, [], ◌∷◌, ◌++◌, map, option_map, unwrap_or, Option, Some, None, Result, Ok, Err}
+use Rattle.std.specs.Prelude.{List, [], map, option_map, unwrap_or, Option, Some, None, Result, Ok, Err}
 use Rattle.std.specs.Str.{bytes_eq}
 use Rattle.std.specs.Str.Parse.{IsNumeral, digits_value, without_leading_plus}
 use Rattle.clap.specs.Words.{App, HasKind, IsAmong, Row, Text, all_of, fault_of, first_of, one_of, subcommand_of}
@@ -30,6 +30,10 @@ use Rattle.resp_args.specs.declared.tapping.FilterOptions.{FilterOptions}
 use Rattle.resp_args.specs.declared.tapping.StatsOptions.{StatsOptions}
 use Rattle.resp_args.specs.declared.tapping.TapOptions.{TapOptions}
 use Rattle.resp_args.specs.declared.tapping.Tapping.{Tapping}
+use Rattle.resp_args.specs.declared.traffic.Captured.{Captured}
+use Rattle.resp_args.specs.declared.traffic.Route.{Route}
+use Rattle.resp_args.specs.declared.traffic.Traffic.{Traffic}
+use Rattle.resp_args.specs.declared.traffic.Traffic.TheVariants as traffic
 
 -- ---- one option, by the texts that the words or the defaults give for the options of a subcommand
 
@@ -125,6 +129,7 @@ pub record HasFilter (given : List Row) (filter : FilterOptions) : Type 0 where
   pub of_errors : HasFlag given (codes "errors") filter.errors
   pub slow : option_map (λ text. text.now) filter.slower ≡ first_of (codes "slower") given
   pub named : option_map (λ names. names.now) filter.names ≡ first_of (codes "command") given
+  pub keyed : option_map (λ glob. glob.now) filter.key ≡ first_of (codes "key") given
   pub only : HasNumber given (codes "client") filter.client
   pub of_connections : HasFlag given (codes "connections") filter.connections
 
@@ -141,16 +146,11 @@ pub record HasTapOptions (given : List Row) (options : TapOptions) : Type 0 wher
   pub tells : HasFlag given (codes "time") options.tells_time
   pub exits : HasFlag given (codes "exit-with-output") options.exits_with_output
   pub keeps : HasFlag given (codes "keep-going") options.keeps_going
+  pub reads_no_lines : HasFlag given (codes "no-inline") options.refuses_lines
   pub shows : HasFlag given (codes "show-passwords") options.shows_passwords
   pub filters : HasFilter given options.filter
   pub tables : HasStats given options.stats
   pub styled : HasStyle given options.style
-
--- the options of `tap`, with the texts of its addresses
-pub record HasTapWords (given : List Row) (address server : Text) (options : TapOptions) : Type 0 where
-  pub has : HasTapOptions given options
-  pub listen_text : first_of (codes "listen") given ≡ Some address
-  pub server_text : first_of (codes "server") given ≡ Some server
 
 abbrev pub tap_options_of : Tapping → TapOptions
 tap_options_of tapping = record {
@@ -159,17 +159,36 @@ tap_options_of tapping = record {
   tells_time = tapping.tells_time;
   exits_with_output = tapping.exits_with_output;
   keeps_going = tapping.keeps_going;
+  refuses_lines = tapping.refuses_lines;
   shows_passwords = tapping.shows_passwords;
   style = tapping.style;
   filter = tapping.filter;
   stats = tapping.stats;
 }
 
--- the options of `tap`, with its addresses
+-- the addresses of `tap`
+pub record HasRoute (given : List Row) (route : Route) : Type 0 where
+  pub live : first_of (codes "replay") given ≡ None
+  pub listen_text : first_of (codes "listen") given ≡ Some route.address_text.now
+  pub server_text : Text
+  pub server_is : first_of (codes "server") given ≡ Some server_text
+  pub listen : IsAddressText route.address_text.now route.address
+  pub to : IsServerText server_text route.server
+
+-- the capture of `tap`: no address is given too
+pub record HasCaptured (given : List Row) (captured : Captured) : Type 0 where
+  pub from : first_of (codes "replay") given ≡ Some captured.file.now
+  pub no_listener : first_of (codes "listen") given ≡ None
+  pub at_port : HasNumberBetween given (codes "port") 0 65535 captured.port
+
+-- where the traffic of `tap` comes from
+abbrev pub HasTraffic : List Row → Traffic → Type 0
+HasTraffic given (traffic.Live route) = HasRoute given route
+HasTraffic given (traffic.Captured captured) = HasCaptured given captured
+
+-- the options of `tap`
 abbrev pub HasTapping : List Row → Tapping → Type 0
-HasTapping given tapping = (server_text : Text) ×
-    HasTapWords given tapping.address_text.now server_text (tap_options_of tapping) ×
-    IsAddressText tapping.address_text.now tapping.address × IsServerText server_text tapping.server
+HasTapping given tapping = HasTraffic given tapping.traffic × HasTapOptions given (tap_options_of tapping)
 
 -- `--patience` in milliseconds and `--report` in seconds, within an hour and a day
 abbrev pub HasProxyTimes : List Row → ℕ × ℕ → Type 0
@@ -191,6 +210,7 @@ pub record HasProxyOptions (given : List Row) (options : ProxyOptions) : Type 0 
   pub for_server : HasSize given (codes "unsent") 1 1099511627776 options.unsent
   pub times : HasProxyTimes given (options.patience, options.report)
   pub probes : HasNumberBetween given (codes "check-every") 0 1000000000 options.check_every
+  pub shared : HasNumberBetween given (codes "lines") 1 256 options.lines
   pub flags : HasProxyFlags given (options.local_ping, options.drains)
   pub refuses_lines : HasFlag given (codes "no-inline") options.refuses_lines
 
@@ -213,6 +233,7 @@ pub record HasAskOptions (given : List Row) (options : AskOptions) : Type 0 wher
   pub three : HasFlag given (codes "three") options.is_three
   pub named : option_map (λ name. name.now) options.user ≡ first_of (codes "user") given
   pub in_flight : HasSmallNumber given (codes "window") options.window
+  pub raw : HasFlag given (codes "raw") options.raw
   pub counted : HasFlag given (codes "count") options.counts
   pub styled : HasStyle given options.style
   pub in_limits : HasLimits given options.limits

@@ -1,10 +1,10 @@
 -- The address of a server in words, which may have the name of a host.
-use Rattle.std.specs.Prelude.{◌≡◌, ◌≤◌, ◌<◌, ◌++◌, ◌⊎◌, ℕ, All, List, codes}
+use Rattle.std.specs.Prelude.{◌≡◌, ◌≤◌, ◌<◌, ◌++◌, ◌⊎◌, ℕ, All, List, codes, take}
 use Rattle.std.specs.Net.Grammar.{IsSocketText}
 use Rattle.std.specs.declared.net.socket_addr.SocketAddr.{SocketAddr}
 use Rattle.resp_args.specs.Addresses.{HasPort, IsAddressText}
 use Rattle.resp_args.specs.declared.server_address.ServerAddress.{ServerAddress}
-use Rattle.resp_args.specs.declared.server_address.ServerAddress.TheVariants.{Socket, Named}
+use Rattle.resp_args.specs.declared.server_address.ServerAddress.TheVariants.{Socket, Named, Path}
 
 abbrev IsBetween : ℕ → ℕ → ℕ → Type 0
 IsBetween least most byte = (least ≤ byte) × (byte ≤ most)
@@ -25,8 +25,13 @@ abbrev pub IsHostText : List ℕ → List ℕ → ℕ → Type 0
 IsHostText text host port = IsHost host ×
     ((text ≡ host) × (port ≡ 6379) ⊎ HasPort (host ++ codes ":") text port)
 
--- the text is an address that a listener may have, or else the name of a host with its port
+-- the text begins with `/` or `./`
+abbrev pub IsPath : List ℕ → Type 0
+IsPath text = (take 1 text ≡ codes "/") ⊎ (take 2 text ≡ codes "./")
+
+-- the text is a path, or an address that a listener may have, or else the name of a host with its port
 abbrev pub IsServerText : List ℕ → ServerAddress → Type 0
 IsServerText text (Socket address) = IsAddressText text address
+IsServerText text (Path path) = (path.now ≡ text) × IsPath text
 IsServerText text (Named host port) =
     ((address : SocketAddr) → IsAddressText text address → ⊥) × IsHostText text host.now port

@@ -106,23 +106,32 @@ serve_options = listening_options
 -- the options of `tap` that say which commands are printed
 abbrev pub filter_options : List Rule
 filter_options = flag_option (codes "errors") ∷ name_option (codes "slower") ∷ name_option (codes "command") ∷
-    number_option (codes "client") 0 1099511627776 (codes "0") ∷ flag_option (codes "connections") ∷ []
+    name_option (codes "key") ∷ number_option (codes "client") 0 1099511627776 (codes "0") ∷ flag_option (codes "connections") ∷ []
 
 -- the options of `tap` that say that commands are counted
 abbrev pub stats_options : List Rule
 stats_options = flag_option (codes "stats") ∷ number_option (codes "stats-every") 0 86400 (codes "0") ∷ []
 
+-- an argument without a name that may be missing
+abbrev pub optional_word : Text → Rule
+optional_word name = record (new_rule name) { value_names = 1 }
+
+-- the options of `tap` that say where the traffic comes from
+abbrev pub traffic_options : List Rule
+traffic_options = name_option (codes "replay") ∷ number_option (codes "port") 0 65535 (codes "0") ∷ []
+
 -- the options of `tap`
 abbrev pub tap_options : List Rule
 tap_options = listening_options
     (flag_option (codes "time") ∷ filter_options ++ stats_options ++
-    flag_option (codes "exit-with-output") ∷ flag_option (codes "keep-going") ∷ flag_option (codes "show-passwords") ∷
-    style_options ++ address_word (codes "listen") ∷ address_word (codes "server") ∷ [])
+    flag_option (codes "exit-with-output") ∷ flag_option (codes "keep-going") ∷ flag_option (codes "no-inline") ∷
+    flag_option (codes "show-passwords") ∷ traffic_options ++ style_options ++ optional_word (codes "listen") ∷ optional_word (codes "server") ∷ [])
 
 -- the options of `proxy`
 abbrev pub proxy_options : List Rule
 proxy_options = listening_options
     (number_option (codes "own") 0 65536 (codes "1000") ∷
+    number_option (codes "lines") 1 256 (codes "16") ∷
     number_option (codes "waiting") 1 1048576 (codes "1024") ∷
     size_option (codes "held") (codes "1M") ∷
     size_option (codes "unsent") (codes "1M") ∷
@@ -144,7 +153,7 @@ command_word = record (new_rule (codes "words")) {
 -- the options of `ask` that do not limit values
 abbrev pub asking_options : List Rule
 asking_options = short_flag_option (codes "three") 51 ∷ name_option (codes "user") ∷
-    number_option (codes "window") 1 65536 (codes "1000") ∷ flag_option (codes "count") ∷
+    number_option (codes "window") 1 65536 (codes "1000") ∷ flag_option (codes "raw") ∷ flag_option (codes "count") ∷
     style_options ++ flag_option (codes "json") ∷ []
 
 -- the options of `ask`

@@ -2,7 +2,7 @@
 use Rattle.std.specs.Prelude.{List, [], ◌∷◌, map}
 use Rattle.clap.specs.Words.{App, Rule, Text, new_app, new_rule, with_subcommand}
 use Rattle.clap.specs.declared.builder.value_parser.ValueParser.TheVariants as vp
-use Rattle.resp_args.specs.Program.{address_word, command_word, flag_option, name_option, numbers_between, short_flag_option, size_option, value_option, with_options}
+use Rattle.resp_args.specs.Program.{address_word, command_word, flag_option, name_option, numbers_between, optional_word, short_flag_option, size_option, value_option, with_options}
 use Rattle.resp_args.specs.declared.parameter.Form.{Form}
 use Rattle.resp_args.specs.declared.parameter.Form.TheVariants as form
 use Rattle.resp_args.specs.declared.parameter.Parameter.{Parameter}
@@ -17,6 +17,7 @@ rule_by name (form.Size default) = size_option name default.now
 rule_by name (form.Choice shown values default) = value_option name (vp.Names values) default.now
 rule_by name (form.Text shown) = name_option name
 rule_by name (form.Required shown) = address_word name
+rule_by name (form.Word shown) = optional_word name
 rule_by name (form.Optional shown default) = record (new_rule name) { value_names = 1; defaults = default.now ∷ [] }
 rule_by name (form.Rest shown) = record command_word { id = name }
 

@@ -19,6 +19,14 @@ use std::num::IntErrorKind;
 /// The line for words that ask for something that is not done here.
 pub(crate) const OTHER_WORDS: &[u8] = b"error: these words ask for nothing here\n";
 
+/// The lines for a capture and an address.
+const BOTH: &[u8] = b"error: the argument '--replay <FILE>' cannot be used with '<LISTEN>'\n\n\
+    Usage: resp tap --replay <FILE>\n\nFor more information, try '--help'.\n";
+
+/// The end of the lines about missing addresses.
+const NEEDS_ADDRESSES: &[u8] = b"  <SERVER>\n\nUsage: resp tap [OPTIONS] <LISTEN> <SERVER>\n       \
+    resp tap [OPTIONS] --replay <FILE>\n\nFor more information, try '--help'.\n";
+
 /// What a command line asks for.
 #[derive(Debug, Drop)]
 pub enum Asked<'a> {
@@ -65,6 +73,12 @@ pub(crate) enum NothingAsked<'a> {
         least: u64,
         most: u64,
     },
+    /// An address of `tap` is missing: that of the server if `listens` is true, and otherwise both.
+    NoAddress {
+        listens: bool,
+    },
+    /// Both a capture and an address are given to `tap`.
+    BothFileAndAddress,
     /// An allocation failed.
     Memory,
 }
@@ -77,6 +91,8 @@ impl NothingAsked<'_> {
             Self::Memory => write_text(faults, b"out of memory\n"),
             Self::BadAddress { text, name } => write_bad_address(text, name, faults),
             Self::BadServer { text } => write_bad_server(text, faults),
+            Self::NoAddress { listens } => write_no_address(listens, faults),
+            Self::BothFileAndAddress => write_text(faults, BOTH),
             Self::BadSize {
                 text,
                 name,
@@ -100,13 +116,25 @@ fn write_bad_address<F: Sink>(text: &str, name: &str, faults: &mut F) -> Result<
     write_text(faults, b"For more information, try '--help'.\n")
 }
 
+/// Writes which addresses of `tap` are missing.
+fn write_no_address<F: Sink>(listens: bool, faults: &mut F) -> Result<(), DeviceFault> {
+    write_text(
+        faults,
+        b"error: the following required arguments were not provided:\n",
+    )?;
+    if !listens {
+        write_text(faults, b"  <LISTEN>\n")?;
+    }
+    write_text(faults, NEEDS_ADDRESSES)
+}
+
 /// Writes what is wrong with the address given for the argument `SERVER`.
 fn write_bad_server<F: Sink>(text: &str, faults: &mut F) -> Result<(), DeviceFault> {
     write_text(faults, b"error: invalid value '")?;
     write_text(faults, text.as_bytes())?;
     write_text(
         faults,
-        b"' for '<SERVER>': expected the name or the IP address of a host and a port, such as redis.internal:6379, 127.0.0.1:6379 or [::1]:6379, a host alone, or a port of this machine, such as 6379\n\n",
+        b"' for '<SERVER>': expected the name or the IP address of a host and a port, such as redis.internal:6379, 127.0.0.1:6379 or [::1]:6379, a host alone, a port of this machine, such as 6379, or the path of a Unix socket, such as /run/redis/redis.sock\n\n",
     )?;
     write_text(faults, b"For more information, try '--help'.\n")
 }

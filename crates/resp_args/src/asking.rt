@@ -34,6 +34,8 @@ pub struct AskOptions<'a> {
     pub user: Option<&'a str>,
     /// The most commands that wait for a reply, from 1 to 65,536.
     pub window: usize,
+    /// Whether the commands of standard input are RESP, and not lines.
+    pub raw: bool,
     /// Whether replies are counted and not printed.
     pub counts: bool,
     /// How text is printed.
@@ -95,6 +97,7 @@ fn options_of<'a>(matches: &ArgMatches<'a>) -> Option<AskOptions<'a>>
         is_three,
         user: text_of(matches, "user"),
         window: small_number_of(matches, "window")?,
+        raw: flag_of(matches, "raw")?,
         counts: flag_of(matches, "count")?,
         style: style_of(matches),
         limits: limits_of(matches)?.with_doubles(is_three),

@@ -20,5 +20,6 @@ pub mod style;
 mod subcommands;
 pub mod tapping;
 pub mod tool_error;
+pub mod traffic;
 mod units;
 pub mod words;

@@ -48,6 +48,10 @@ pub(crate) enum Form {
     Required {
         value_name: &'static str,
     },
+    /// An argument that may be missing.
+    Word {
+        value_name: &'static str,
+    },
     /// An argument with a default.
     Optional {
         value_name: &'static str,
@@ -92,6 +96,7 @@ impl Parameter {
                 .default_value(default),
             Form::Text { value_name } => arg.long(self.name).value_name(value_name),
             Form::Required { value_name } => arg.value_name(value_name).required(true),
+            Form::Word { value_name } => arg.value_name(value_name),
             Form::Optional {
                 value_name,
                 default,

@@ -16,6 +16,7 @@ pub(crate) const PROXY: Subcommand = Subcommand {
         NO_STREAMED,
         CLIENTS,
         OWN,
+        LINES,
         WAITING,
         HELD,
         UNSENT,
@@ -40,11 +41,12 @@ const PROXY_HELP: &str = r"Examples:
   resp proxy --clients 10000 --patience 1000 6380 redis.internal:6379
   resp proxy --check 6380 redis.internal:6379
 
-Clients connect to LISTEN instead of SERVER. All of them share one connection to
-the server. A client that sends a command such as MULTI, SUBSCRIBE or HELLO 3
-gets a connection of its own from this command on. If the environment has
-RESP_PASSWORD, AUTH is sent first. The program runs until it is stopped, or with
---drain until standard input ends.
+Clients connect to LISTEN instead of SERVER. They share one connection to the
+server for each version, database and user that HELLO, SELECT and AUTH ask for.
+A client that sends a command such as MULTI or SUBSCRIBE gets a connection of
+its own from this command on. If the environment has RESP_PASSWORD, AUTH is sent
+first. The program runs until it is stopped, or with --drain until standard
+input ends.
 
 With --check no client is served. The server is asked for its commands, and the
 table says what the proxy would do with each of them.
@@ -67,6 +69,18 @@ const OWN: Parameter = Parameter {
         hides_default: false,
     },
     help: "Maximum clients with a connection of their own,\n0 to 65536",
+};
+
+/// `--lines`: the most connections to the server that clients share.
+const LINES: Parameter = Parameter {
+    name: "lines",
+    form: Form::Number {
+        least: 1,
+        most: 256,
+        default: "16",
+        hides_default: false,
+    },
+    help: "Maximum connections that clients share, one for\neach version, database and user, 1 to 256",
 };
 
 /// `--waiting`: the most commands of one client that wait for replies.

@@ -45,6 +45,8 @@ pub struct ProxyOptions {
     pub clients: usize,
     /// The most clients at once that have a connection of their own, from 0 to 65,536.
     pub own: usize,
+    /// The most connections to the server that clients share, from 1 to 256.
+    pub lines: usize,
     /// The most commands of one client that wait for replies, from 1 to 1,048,576.
     pub waiting: u32,
     /// The most bytes that wait to be written to a client when its next command is taken.
@@ -100,7 +102,7 @@ pub(crate) fn proxying_of<'a>(matches: &ArgMatches<'a>) -> Result<Proxying<'a>, 
 }
 
 /// Returns the address to listen on and that of the server.
-fn addresses_of<'a>(
+pub(crate) fn addresses_of<'a>(
     listen: &'a str,
     server: &'a str,
 ) -> Result<(SocketAddr, ServerAddress<'a>), NothingAsked<'a>>
@@ -149,6 +151,7 @@ fn options_of(matches: &ArgMatches<'_>) -> Option<ProxyOptions>
         patience,
         report,
         check_every: number_between(matches, "check-every", 0, 1_000_000_000)?,
+        lines: number_between(matches, "lines", 1, 256)? as usize,
         local_ping,
         refuses_lines,
         drains,
@@ -177,7 +180,12 @@ fn flags_of(matches: &ArgMatches<'_>) -> Option<(bool, bool)>
 }
 
 /// Returns the number of an option; `None` if it is outside this range.
-fn number_between(matches: &ArgMatches<'_>, name: &str, least: u64, most: u64) -> Option<u64>
+pub(crate) fn number_between(
+    matches: &ArgMatches<'_>,
+    name: &str,
+    least: u64,
+    most: u64,
+) -> Option<u64>
     ensures some { IfSome result
         (HasNumberBetween (rows_of (found_of matches.now)) name.now least most) }
     ensures none { IfNone result ((number : ℕ)

@@ -1,7 +1,7 @@
 //! The address of a server in the words of a command line.
 
 ghost use Rattle.std.specs.Prelude.{◌↔◌, ℕ, All, List, IfNone, IfOk, IfSome, IsTrue, OnErr};
-ghost use Rattle.resp_args.specs.Hosts.{IsDigitByte, IsHost, IsHostText, IsHostByte, IsServerText};
+ghost use Rattle.resp_args.specs.Hosts.{IsDigitByte, IsHost, IsHostText, IsHostByte, IsPath, IsServerText};
 
 use crate::asked::NothingAsked;
 use crate::options::{address_of, port_after};
@@ -22,14 +22,19 @@ pub enum ServerAddress<'a> {
         /// The port, which is 6379 if none was given.
         port: u16,
     },
+    /// The path of a Unix socket.
+    Path(&'a str),
 }
 
 /// Returns the address of a server in a text, which was given for the argument `SERVER`. A text that
-/// is the address of a listener is that address.
+/// begins with `/` or `./` is a path. A text that is the address of a listener is that address.
 pub(crate) fn server_of<'a>(text: &'a str) -> Result<ServerAddress<'a>, NothingAsked<'a>>
     ensures ok { IfOk result (IsServerText text.now) }
     ensures err { OnErr result ((server : ServerAddress) → IsServerText text.now server → ⊥) }
 {
+    if is_path(text) {
+        return Ok(ServerAddress::Path(text));
+    }
     if let Ok(address) = address_of(text, "SERVER") {
         return Ok(ServerAddress::Socket(address));
     }
@@ -37,6 +42,13 @@ pub(crate) fn server_of<'a>(text: &'a str) -> Result<ServerAddress<'a>, NothingA
         Some((host, port)) => Ok(ServerAddress::Named { host, port }),
         None => Err(NothingAsked::BadServer { text }),
     }
+}
+
+/// Returns whether a text is the path of a Unix socket.
+fn is_path(text: &str) -> bool
+    ensures { IsTrue result ↔ IsPath text.now }
+{
+    matches!(text.as_bytes(), [b'/', ..] | [b'.', b'/', ..])
 }
 
 /// Returns the name of a host and the port in a text.

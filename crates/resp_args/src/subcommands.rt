@@ -91,17 +91,21 @@ const TAP: Subcommand = Subcommand {
         ERRORS,
         SLOWER,
         COMMAND,
+        KEY,
         CLIENT,
         CONNECTIONS,
         STATS,
         STATS_EVERY,
         EXIT_WITH_OUTPUT,
         KEEP_GOING,
+        READS_NO_LINES,
         SHOW_PASSWORDS,
+        REPLAY,
+        PORT,
         COLOR,
         UTF8,
-        LISTEN,
-        SERVER,
+        TAP_LISTEN,
+        TAP_SERVER,
     ],
     after_help: TAP_HELP,
 };
@@ -114,6 +118,7 @@ const ASK: Subcommand = Subcommand {
         HELLO_THREE,
         USER,
         WINDOW,
+        RAW,
         COUNT,
         COLOR,
         UTF8,
@@ -171,14 +176,16 @@ const TAP_HELP: &str = r"Examples:
   resp tap --time 127.0.0.1:6380 127.0.0.1:6379 >traffic.txt
   resp tap --slower 10ms --command get,mget 6380 redis.internal:6379
   resp tap --stats-every 10 6380 6379
+  resp tap --replay traffic.pcap --errors
 
 Clients connect to LISTEN instead of SERVER. All commands and replies are
-printed, or those that pass all of --errors, --slower, --command and --client.
-In a command, (redacted) is printed in place of a password. The program runs
-until it is stopped. If a write fails, it prints nothing more, accepts no
-client, and ends when the last connection closes.
+printed, or those that pass all of --errors, --slower, --command, --key and
+--client. In a command, (redacted) is printed in place of a password. The
+program runs until it is stopped. If a write fails, it prints nothing more,
+accepts no client, and ends when the last connection closes.
 
 Exit status:
+  1  The file of --replay is no capture, or is cut off
   2  Usage error
   3  Listening or a write failed, or memory is out";
 
@@ -190,7 +197,8 @@ const ASK_HELP: &str = r#"Examples:
   resp ask --count 6379 <commands.txt
 
 Without WORD, commands are read from standard input, one a line. Words are
-separated by spaces and may be quoted, as in redis-cli. If the environment has
+separated by spaces and may be quoted, as in redis-cli. With --raw, each
+command is an array of bulk strings, as clients send it. If the environment has
 RESP_PASSWORD, AUTH is sent first, with the name of --user if it is given.
 
 Exit status:
@@ -398,6 +406,13 @@ const COMMAND: Parameter = Parameter {
     help: "Prints only commands with these names, with a\ncomma between two of them",
 };
 
+/// `--key`: the glob that one of the keys of a command matches that `tap` prints.
+const KEY: Parameter = Parameter {
+    name: "key",
+    form: Form::Text { value_name: "GLOB" },
+    help: "Prints only commands with a key that this glob\nmatches, such as 'user:*'",
+};
+
 /// `--client`: the client of `tap` whose lines are printed, or 0 for all.
 const CLIENT: Parameter = Parameter {
     name: "client",
@@ -450,6 +465,13 @@ const KEEP_GOING: Parameter = Parameter {
     help: "Accepts clients after the output has failed",
 };
 
+/// `--no-inline`: whether the client's bytes are arrays only.
+const READS_NO_LINES: Parameter = Parameter {
+    name: "no-inline",
+    form: Form::Flag,
+    help: "Reads no commands that are lines, such as PING",
+};
+
 /// `--show-passwords`: whether passwords are printed.
 const SHOW_PASSWORDS: Parameter = Parameter {
     name: "show-passwords",
@@ -457,7 +479,44 @@ const SHOW_PASSWORDS: Parameter = Parameter {
     help: "Prints the passwords in commands",
 };
 
-/// The address that `tap` and `proxy` listen on.
+/// `--replay`: the capture that `tap` reads.
+const REPLAY: Parameter = Parameter {
+    name: "replay",
+    form: Form::Text { value_name: "FILE" },
+    help: "Reads the traffic in a capture (pcap, pcapng) in\nplace of LISTEN and SERVER; - is standard input",
+};
+
+/// `--port`: the port of the server in a capture.
+const PORT: Parameter = Parameter {
+    name: "port",
+    form: Form::Number {
+        least: 0,
+        most: 65_535,
+        default: "0",
+        hides_default: true,
+    },
+    help: "Port of the server in the capture, for connections\nof which it has no beginning",
+};
+
+/// The address that `tap` listens on.
+const TAP_LISTEN: Parameter = Parameter {
+    name: "listen",
+    form: Form::Word {
+        value_name: "LISTEN",
+    },
+    help: "Address to listen on, such as 127.0.0.1:6380",
+};
+
+/// The address of the server of `tap`.
+const TAP_SERVER: Parameter = Parameter {
+    name: "server",
+    form: Form::Word {
+        value_name: "SERVER",
+    },
+    help: "Address of the server: HOST, HOST:PORT, PORT or PATH",
+};
+
+/// The address that `proxy` listens on.
 pub(crate) const LISTEN: Parameter = Parameter {
     name: "listen",
     form: Form::Required {
@@ -472,7 +531,7 @@ pub(crate) const SERVER: Parameter = Parameter {
     form: Form::Required {
         value_name: "SERVER",
     },
-    help: "Address of the server: HOST, HOST:PORT or PORT",
+    help: "Address of the server: HOST, HOST:PORT, PORT or PATH",
 };
 
 /// `-3` of `ask`: whether HELLO 3 is sent first.
@@ -499,6 +558,13 @@ const WINDOW: Parameter = Parameter {
         hides_default: false,
     },
     help: "Maximum commands that wait for a reply,\n1 to 65536",
+};
+
+/// `--raw`: whether the commands of standard input are RESP.
+const RAW: Parameter = Parameter {
+    name: "raw",
+    form: Form::Flag,
+    help: "Reads commands from standard input as RESP, and not\nas lines",
 };
 
 /// `--count`: whether only numbers are printed.

@@ -1,26 +1,21 @@
 //! The options of `resp tap`.
 
-ghost use Rattle.std.specs.Prelude.{ℕ, List, IfNone, IfOk, IfSome, OnErr};
+ghost use Rattle.std.specs.Prelude.{IfNone, IfOk, IfSome, OnErr};
 ghost use Rattle.clap.specs.Words.{found_of, rows_of};
-ghost use Rattle.resp_args.specs.CommandWords.{HasFilter, HasStats, HasTapOptions, HasTapWords, HasTapping};
+ghost use Rattle.resp_args.specs.CommandWords.{HasFilter, HasStats, HasTapOptions, HasTapping};
 
 use crate::asked::{NothingAsked, wrong_options};
-use crate::options::{address_of, flag_of, limits_of, number_of, small_number_of, text_of};
-use crate::server_address::{ServerAddress, server_of};
+use crate::options::{flag_of, limits_of, number_of, small_number_of, text_of};
 use crate::style::{StyleOptions, style_of};
+use crate::traffic::{Traffic, traffic_of};
 use clap::ArgMatches;
 use resp_value::limits::Limits;
-use std::net::SocketAddr;
 
 /// The options of `resp tap`.
 #[derive(Clone, Copy, Debug)]
 pub struct Tapping<'a> {
-    /// The address to listen on.
-    pub address: SocketAddr,
-    /// The address as it was given.
-    pub address_text: &'a str,
-    /// The address of the server.
-    pub server: ServerAddress<'a>,
+    /// Where the traffic comes from.
+    pub traffic: Traffic<'a>,
     /// The limits, which allow doubles.
     pub limits: Limits,
     /// The most clients at once, from 1 to 65,536.
@@ -31,6 +26,8 @@ pub struct Tapping<'a> {
     pub exits_with_output: bool,
     /// Whether clients are accepted after its output has failed.
     pub keeps_going: bool,
+    /// Whether the client's bytes are arrays only, and a line is an error.
+    pub refuses_lines: bool,
     /// Whether passwords in commands are printed.
     pub shows_passwords: bool,
     /// How text is printed.
@@ -62,6 +59,9 @@ pub struct FilterOptions<'a> {
     /// The names of the commands that are printed, with a comma between two of them, if they were
     /// given.
     pub names: Option<&'a str>,
+    /// The glob that one of the keys of a command matches, if only commands with such a key are
+    /// printed.
+    pub key: Option<&'a str>,
     /// The number of the client whose lines are printed, or 0 if those of all are.
     pub client: u64,
     /// Whether the lines about connections are printed, with addresses and names.
@@ -76,18 +76,11 @@ struct TapOptions<'a> {
     tells_time: bool,
     exits_with_output: bool,
     keeps_going: bool,
+    refuses_lines: bool,
     shows_passwords: bool,
     style: StyleOptions<'a>,
     filter: FilterOptions<'a>,
     stats: StatsOptions,
-}
-
-/// The options before the addresses are parsed.
-#[derive(Clone, Copy)]
-struct Words<'a> {
-    address: &'a str,
-    server: &'a str,
-    options: TapOptions<'a>,
 }
 
 /// Returns the options of `tap`, or why there are none.
@@ -96,40 +89,25 @@ pub(crate) fn tapping_of<'a>(matches: &ArgMatches<'a>) -> Result<Tapping<'a>, No
     ensures err { OnErr result ((tapping : Tapping)
         → HasTapping (rows_of (found_of matches.now)) tapping → ⊥) }
 {
-    let Some(words) = words_of(matches) else {
+    let Some(options) = options_of(matches) else {
         return Err(wrong_options(matches));
     };
-    Ok(Tapping {
-        address: address_of(words.address, "LISTEN")?,
-        address_text: words.address,
-        server: server_of(words.server)?,
-        limits: words.options.limits,
-        clients: words.options.clients,
-        tells_time: words.options.tells_time,
-        exits_with_output: words.options.exits_with_output,
-        keeps_going: words.options.keeps_going,
-        shows_passwords: words.options.shows_passwords,
-        style: words.options.style,
-        filter: words.options.filter,
-        stats: words.options.stats,
-    })
-}
-
-/// Returns the options before the addresses are parsed; `None` if a number is outside its range.
-fn words_of<'a>(matches: &ArgMatches<'a>) -> Option<Words<'a>>
-    ensures some { IfSome result (λ words. HasTapWords (rows_of (found_of matches.now))
-        words.address.now words.server.now words.options) }
-    ensures none { IfNone result ((address server : List ℕ) (options : TapOptions)
-        → HasTapWords (rows_of (found_of matches.now)) address server options → ⊥) }
-{
-    let Some(options) = options_of(matches) else {
-        return None;
-    };
-    Some(Words {
-        address: text_of(matches, "listen")?,
-        server: text_of(matches, "server")?,
-        options,
-    })
+    match traffic_of(matches) {
+        Ok(traffic) => Ok(Tapping {
+            traffic,
+            limits: options.limits,
+            clients: options.clients,
+            tells_time: options.tells_time,
+            exits_with_output: options.exits_with_output,
+            keeps_going: options.keeps_going,
+            refuses_lines: options.refuses_lines,
+            shows_passwords: options.shows_passwords,
+            style: options.style,
+            filter: options.filter,
+            stats: options.stats,
+        }),
+        Err(nothing) => Err(nothing),
+    }
 }
 
 /// Returns the options that are no address; `None` if a number is outside its range.
@@ -144,6 +122,7 @@ fn options_of<'a>(matches: &ArgMatches<'a>) -> Option<TapOptions<'a>>
         tells_time: flag_of(matches, "time")?,
         exits_with_output: flag_of(matches, "exit-with-output")?,
         keeps_going: flag_of(matches, "keep-going")?,
+        refuses_lines: flag_of(matches, "no-inline")?,
         shows_passwords: flag_of(matches, "show-passwords")?,
         style: style_of(matches),
         filter: filter_of(matches)?,
@@ -163,6 +142,7 @@ fn filter_of<'a>(matches: &ArgMatches<'a>) -> Option<FilterOptions<'a>>
         errors,
         slower: text_of(matches, "slower"),
         names: text_of(matches, "command"),
+        key: text_of(matches, "key"),
         client: number_of(matches, "client")?,
         connections,
     })

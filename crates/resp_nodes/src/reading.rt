@@ -202,6 +202,42 @@ fn aggregate_at(
     Some(inner)
 }
 
+/// Reads the plain aggregate at this index, as [`plain`] does.
+#[inline(always)]
+fn aggregate_reply(
+    version: Version,
+    limits: &Limits,
+    buffer: &[u8],
+    filled: Filled,
+    nodes: &mut [Node],
+) -> Result<Filled, Unread>
+    requires { HasLeaf (rules_under version limits.now) 0 buffer.now filled.end → ⊥ }
+    ensures reply { IfOk result (λ found. IsPlain (rules_under version limits.now) buffer.now
+        filled found nodes.old nodes.new) }
+    ensures no_nodes { IfErr result (λ why. why ≡ NoNodes → LacksNodes
+        (rules_under version limits.now) (drop filled.end buffer.now)
+        (length nodes.new - filled.count)) }
+    ensures no_reply { IfErr result (λ why. why ≡ NoReply →
+        BeginsWithPlain (rules_under version limits.now) (drop filled.end buffer.now) → ⊥) }
+    ensures kept { take filled.count nodes.new ≡ take filled.count nodes.old }
+    ensures same_room { length nodes.new ≡ length nodes.old }
+{
+    let before = Filled {
+        end: filled.end,
+        count: filled.count.min(nodes.len()),
+    };
+    let Some(found) = aggregate_at(version, limits, buffer, before, 0, nodes) else {
+        return Err(Unread::NoReply);
+    };
+    if (found.end - filled.end) as u64 > limits.total() {
+        return Err(Unread::NoReply);
+    }
+    if found.count > nodes.len() {
+        return Err(Unread::NoNodes);
+    }
+    Ok(found)
+}
+
 /// Reads the plain reply at this index. Sets those of its nodes for which there is room.
 #[inline(always)]
 fn reply_at(
@@ -262,17 +298,20 @@ pub fn plain(
     ensures kept { take filled.count nodes.new ≡ take filled.count nodes.old }
     ensures same_room { length nodes.new ≡ length nodes.old }
 {
-    let before = Filled {
-        end: filled.end,
-        count: filled.count.min(nodes.len()),
+    let Some(leaf) = leaf_at(version, limits, buffer, filled.end) else {
+        return aggregate_reply(version, limits, buffer, filled, nodes);
     };
-    let Some(found) = reply_at(version, limits, buffer, before, nodes) else {
+    if (leaf.end - filled.end) as u64 > limits.total() {
         return Err(Unread::NoReply);
-    };
-    if found.count > nodes.len() {
+    }
+    if filled.count >= nodes.len() {
         return Err(Unread::NoNodes);
     }
-    Ok(found)
+    nodes[filled.count] = leaf.node;
+    Ok(Filled {
+        end: leaf.end,
+        count: filled.count + 1,
+    })
 }
 
 /// Returns the index after the plain reply at the beginning of some bytes, or `None` if no plain reply

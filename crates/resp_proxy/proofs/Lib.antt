@@ -11,3 +11,4 @@ pub mod Readings
 pub mod Others
 pub mod Leavings
 pub mod Refusals
+pub mod Moves

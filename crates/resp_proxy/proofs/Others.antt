@@ -62,6 +62,12 @@ others-keep who other old new p q same clients before after =
     same-out (client_in old.slots other) (client_in new.slots other) (p.given other) (q.given other) p.asked q.asked other same.given same.due
     (clients.are_open other) (before.stands.served other) (after.stands.served other)
 
+-- an answer of the proxy's own to one client leaves each other client the bytes that it had
+pub own-others : (who other : ClientId) (answer : List ℕ) (old new : Multiplexed) (p : Passed) → is_same other who ≡ false → KeepsClients old new →
+    HasPassed old p → HasPassed new (with_one who (Answers answer) p) → waiting_for new other ≡ waiting_for old other
+own-others who other answer old new p differs clients before after =
+    others-keep who other old new p (with_one who (Answers answer) p) (one-other who other (Answers answer) p differs) clients before after
+
 -- a visit leaves each other client the bytes that it had
 pub visit-others : (terms : Terms) (who who' : ClientId) (left left' out out' : Option (List ℕ)) (held : List ℕ) (c : Handle) (result : Read)
     (old between new : Multiplexed) (p : Passed) → who' ≡ who → ReadsClient terms who left left' held c result old between → GivesSome out out' who' between new → KeepsClients old new →

@@ -4,12 +4,12 @@ use Rattle.std.proofs.Math.Seq.{take-length}
 use Rattle.std.specs.List.{starts_with}
 use Rattle.resp_frames.specs.declared.begun.Begun.{Begun}
 use Rattle.resp_frames.specs.declared.frames.Frames.{Frames}
-use Rattle.resp_frames.specs.Framing.{HasBegun, IsReady, WhereBegun, frame_rules}
+use Rattle.resp_frames.specs.Framing.{HasBegun, WhereBegun, frame_rules}
 use Rattle.resp_join.specs.declared.replies.Replied.{Replied}
 use Rattle.resp_mux.proofs.Among.{none_of}
 use Rattle.resp_mux.specs.declared.client_id.ClientId.{ClientId}
-use Rattle.resp_mux.specs.Multiplexing.{HasPassed, KeepsBytes, KeepsOthers, Multiplexed, WherePassed, waiting_for}
-use Rattle.resp_mux.specs.Passing.{Passed, with_given, with_reply}
+use Rattle.resp_mux.specs.Multiplexing.{HasPassed, KeepsBytes, KeepsOthers, Multiplexed, WherePassed}
+use Rattle.resp_mux.specs.Passing.{Passed, with_given}
 use Rattle.resp_proxy.proofs.Replyings.{OneReply, one-reply}
 use Rattle.resp_proxy.proofs.Takings.{rest-of}
 use Rattle.resp_proxy.specs.Probing.{AreInStep, FallsOutOfStep, IsAnother}

@@ -10,6 +10,8 @@ pub mod Taking
 pub mod Telling
 pub mod Visiting
 pub mod Leaving
+pub mod Moving
+pub mod Wishes
 pub mod Terms
 pub mod Unfinished
 -- The internal contracts of the parts, which no public contract names.

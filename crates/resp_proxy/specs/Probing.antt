@@ -1,5 +1,5 @@
 -- Probes of the connection to the server: commands of the proxy's own, whose replies are known.
-use Rattle.std.specs.Prelude.{◌≡◌, ◌⊎◌, ℕ, ◌==◌, true, false, List, [], ◌∷◌, ◌++◌, Option, IfSome, Result, Ok, Err, codes}
+use Rattle.std.specs.Prelude.{◌≡◌, ◌⊎◌, ℕ, ◌==◌, true, false, List, ◌++◌, Option, IfSome, Result, Ok, Err, codes}
 use Rattle.std.specs.List.{starts_with}
 use Rattle.resp_mux.specs.declared.client_id.ClientId.{ClientId}
 use Rattle.resp_mux.specs.Multiplexing.{HasPassed, Multiplexed, waiting_for}

@@ -4,7 +4,7 @@ use Rattle.resp_frames.specs.declared.begun.Begun.{Begun}
 use Rattle.resp_mux.specs.declared.client_id.ClientId.{ClientId}
 use Rattle.resp_mux.specs.Multiplexing.{HasPassed, Multiplexed, WherePassed, unsent, waiting_count, waiting_for}
 use Rattle.resp_mux.specs.Passing.{due_to, is_same, with_given, with_sent}
-use Rattle.resp_proxy.specs.Clients.{client_id, is_closing, is_leaving}
+use Rattle.resp_proxy.specs.Clients.{client_id, is_closing}
 use Rattle.resp_proxy.specs.declared.client.Client.{Client}
 use Rattle.resp_proxy.specs.declared.error.ClientError.{ClientError}
 use Rattle.resp_proxy.specs.declared.error.ClientError.TheVariants as error
@@ -45,12 +45,6 @@ pub record IsDone (m : Multiplexed) (c : Client) : Type 0 where
   pub closing : is_closing c ≡ true
   pub bytes : HasNothingFor m (client_id c)
   pub commands : HasNoCommand m (client_id c)
-
--- the client is leaving, no command of it waits, and no bytes wait for it
-pub record MayLeave (m : Multiplexed) (c : Client) : Type 0 where
-  pub leaving : is_leaving c ≡ true
-  pub no_bytes : HasNothingFor m (client_id c)
-  pub no_command : HasNoCommand m (client_id c)
 
 -- Bytes were written, and the client was given them. It was owed them.
 pub record GivesSome (out out' : Option (List ℕ)) (who : ClientId) (old new : Multiplexed) : Type 0 where

@@ -7,11 +7,14 @@ ghost use Rattle.resp_proxy.specs.Reasons.{FitsAnswer};
 ghost use Rattle.resp_proxy.specs.Refusing.{SameLetters};
 
 use crate::error::ClientError;
+use crate::hello::hello_text;
+use crate::identity::Identity;
+use crate::settings::Settings;
 use resp_commands::{Class, entry};
 use resp_frames::{CommandFrame, Frames};
-use resp_mux::ClientId;
 use resp_scan::whole;
 use resp_value::limits::Limits;
+use resp_value::version::Version;
 use std::alloc::{AllocError, Global};
 
 /// The most bytes of a command's name in an error.
@@ -27,19 +30,22 @@ struct Asked<'a> {
     second: &'a [u8],
 }
 
-/// Returns whether a command needs a connection of the client's own, and the proxy does not reply to it.
+/// Returns whether a command needs a connection of the client's own, or in another setting, and the
+/// proxy does not reply to it. `answers_settings` says whether it replies if the setting stays the
+/// same.
 #[inline(always)]
-pub(crate) fn needs_own(frames: &Frames, command: &CommandFrame) -> bool
+pub(crate) fn needs_own(frames: &Frames, answers_settings: bool, command: &CommandFrame) -> bool
     ensures { IsTrue result → IsForOwn command.now.words.class }
 {
     match command.words.class {
         Some(Class::OwnConnection) => true,
-        Some(Class::Setting) => !keeps_settings(&frames.limits(), command),
+        Some(Class::Setting) => !(answers_settings && keeps_settings(&frames.limits(), command)),
         _ => false,
     }
 }
 
-/// Returns whether a command leaves the client in version 2 and in database 0: HELLO, HELLO 2 and SELECT 0.
+/// Returns whether a command leaves the client in version 2 and in database 0: HELLO, HELLO 2 and
+/// SELECT 0.
 fn keeps_settings(limits: &Limits, command: &CommandFrame) -> bool {
     let Some(words) = whole::command(command.frame.text(), limits) else {
         return false;
@@ -64,13 +70,12 @@ pub(crate) enum Answer {
     Http,
 }
 
-/// Returns what the proxy does with a command that is not sent to the server. `label` is the name that
-/// the client has given itself.
+/// Returns what the proxy does with a command that is not sent to the server.
 pub(crate) fn own_answer(
     alloc: Global,
     limits: &Limits,
-    who: ClientId,
-    label: &mut Vec<u8>,
+    settings: &Settings,
+    identity: &mut Identity,
     command: &CommandFrame,
 ) -> Result<Answer, AllocError>
     ensures { IfOk result (FitsAnswer limits.now (text_of command.now.frame)) }
@@ -91,7 +96,7 @@ pub(crate) fn own_answer(
     if is(asked.name, b"POST") || is(asked.name, b"HOST:") {
         return Ok(Answer::Http);
     }
-    let text = answer_to(alloc, who, label, asked, command.words.class)?;
+    let text = answer_to(alloc, settings, identity, asked, command.words.class)?;
     Ok(Answer::Reply(text))
 }
 
@@ -105,18 +110,22 @@ fn is(word: &[u8], wanted: &[u8]) -> bool
 /// Returns the reply to a command other than QUIT.
 fn answer_to(
     alloc: Global,
-    who: ClientId,
-    label: &mut Vec<u8>,
+    settings: &Settings,
+    identity: &mut Identity,
     asked: Asked<'_>,
     class: Option<Class>,
 ) -> Result<Vec<u8>, AllocError> {
     if is(asked.name, b"CLIENT") && is_own(asked.first) {
-        return answer_to_client(alloc, who, label, asked);
+        return answer_to_client(alloc, settings.version, identity, asked);
     }
-    if is(asked.name, b"HELLO") {
-        return answer_to_hello(alloc, who, asked);
+    if settings.answers_settings && is(asked.name, b"HELLO") {
+        return answer_to_hello(alloc, identity.number, asked);
     }
-    if is(asked.name, b"SELECT") && asked.count == 1 && asked.first == b"0".as_slice() {
+    if settings.answers_settings
+        && is(asked.name, b"SELECT")
+        && asked.count == 1
+        && asked.first == b"0".as_slice()
+    {
         return ok(alloc);
     }
     if class == Some(Class::OwnAnswer) {
@@ -138,18 +147,18 @@ fn is_own(subcommand: &[u8]) -> bool {
 /// is asked.
 fn answer_to_client(
     alloc: Global,
-    who: ClientId,
-    label: &mut Vec<u8>,
+    version: Version,
+    identity: &mut Identity,
     asked: Asked<'_>,
 ) -> Result<Vec<u8>, AllocError> {
     if is(asked.first, b"ID") && asked.count == 1 {
-        return Ok(format!(in alloc; ":{}\r\n", who.number)?.into_bytes());
+        return Ok(format!(in alloc; ":{}\r\n", identity.number)?.into_bytes());
     }
     if is(asked.first, b"GETNAME") && asked.count == 1 {
-        return name_of(alloc, label);
+        return name_of(alloc, version, &identity.name);
     }
     if is(asked.first, b"SETNAME") && asked.count == 2 {
-        return set_name(alloc, label, asked.second);
+        return set_name(alloc, &mut identity.name, asked.second);
     }
     if is(asked.first, b"SETINFO") && asked.count == 3 {
         return ok(alloc);
@@ -161,33 +170,44 @@ fn answer_to_client(
 }
 
 /// Returns the reply with the client's name, or with null if it has no name.
-fn name_of(alloc: Global, label: &[u8]) -> Result<Vec<u8>, AllocError> {
-    if label.is_empty() {
-        return b"$-1\r\n".to_vec(alloc);
+fn name_of(alloc: Global, version: Version, name: &[u8]) -> Result<Vec<u8>, AllocError> {
+    if name.is_empty() {
+        return match version {
+            Version::Two => b"$-1\r\n".to_vec(alloc),
+            Version::Three => b"_\r\n".to_vec(alloc),
+        };
     }
-    let mut text = format!(in alloc; "${}\r\n", label.len())?.into_bytes();
-    text.extend_from_slice(label)?;
+    let mut text = format!(in alloc; "${}\r\n", name.len())?.into_bytes();
+    text.extend_from_slice(name)?;
     text.extend_from_slice(b"\r\n")?;
     Ok(text)
 }
 
 /// Gives the client a name, if each of its bytes is printable and no space.
-fn set_name(alloc: Global, label: &mut Vec<u8>, name: &[u8]) -> Result<Vec<u8>, AllocError> {
-    for byte in name {
-        if *byte < b'!' || *byte > b'~' {
-            return b"-ERR Client names cannot contain spaces, newlines or special characters.\r\n".to_vec(
-                alloc,
-            );
-        }
+fn set_name(alloc: Global, kept: &mut Vec<u8>, name: &[u8]) -> Result<Vec<u8>, AllocError> {
+    if !is_name(name) {
+        return b"-ERR Client names cannot contain spaces, newlines or special characters.\r\n".to_vec(
+            alloc,
+        );
     }
     let answer = ok(alloc)?;
     let copy = name.to_vec(alloc)?;
-    *label = copy;
+    *kept = copy;
     Ok(answer)
 }
 
+/// Returns whether each byte of a name of a client is printable and no space.
+pub(crate) fn is_name(name: &[u8]) -> bool {
+    for byte in name {
+        if *byte < b'!' || *byte > b'~' {
+            return false;
+        }
+    }
+    true
+}
+
 /// Returns the reply to HELLO: the client stays in version 2.
-fn answer_to_hello(alloc: Global, who: ClientId, asked: Asked<'_>) -> Result<Vec<u8>, AllocError> {
+fn answer_to_hello(alloc: Global, number: u64, asked: Asked<'_>) -> Result<Vec<u8>, AllocError> {
     if asked.count > 1 {
         return b"-ERR 'HELLO' with options needs a connection of its own, and no more are allowed\r\n".to_vec(
             alloc,
@@ -198,16 +218,7 @@ fn answer_to_hello(alloc: Global, who: ClientId, asked: Asked<'_>) -> Result<Vec
             alloc,
         );
     }
-    let mut text =
-        b"*14\r\n$6\r\nserver\r\n$5\r\nredis\r\n$7\r\nversion\r\n$6\r\n7.0.15\r\n$5\r\nproto\r\n:2\r\n".to_vec(
-            alloc,
-        )?;
-    let id = format!(in alloc; "$2\r\nid\r\n:{}\r\n", who.number)?;
-    text.extend_from_slice(id.as_bytes())?;
-    text.extend_from_slice(
-        b"$4\r\nmode\r\n$10\r\nstandalone\r\n$4\r\nrole\r\n$6\r\nmaster\r\n$7\r\nmodules\r\n*0\r\n",
-    )?;
-    Ok(text)
+    hello_text(alloc, number)
 }
 
 /// Returns the reply to EXEC, DISCARD and UNWATCH outside of a transaction.
@@ -234,13 +245,23 @@ fn refusal(alloc: Global, asked: Asked<'_>, class: Option<Class>) -> Result<Vec<
             format!(in alloc; "-ERR unknown subcommand '{word}' of '{name}'\r\n")?
         }
         None => format!(in alloc; "-ERR unknown command '{name}'\r\n")?,
-        Some(Class::Setting | Class::OwnConnection) => {
-            format!(in alloc;
-                "-ERR '{name}' needs a connection of its own, and no more are allowed\r\n"
-            )?
-        }
+        Some(Class::Setting | Class::OwnConnection) => return no_more(alloc, asked.name),
         Some(_) => format!(in alloc; "-ERR '{name}' is not served by this proxy\r\n")?,
     };
+    Ok(text.into_bytes())
+}
+
+/// Returns the error for a command of this name that needs a connection of the client's own, if no
+/// more clients may get one.
+///
+/// # Errors
+///
+/// `AllocError` if an allocation fails.
+pub fn no_more(alloc: Global, name: &[u8]) -> Result<Vec<u8>, AllocError> {
+    let name = name[..name.len().min(SHOWN)].escape_ascii();
+    let text = format!(in alloc;
+        "-ERR '{name}' needs a connection of its own, and no more are allowed\r\n"
+    )?;
     Ok(text.into_bytes())
 }
 

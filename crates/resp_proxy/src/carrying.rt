@@ -13,6 +13,7 @@ ghost use Rattle.resp_proxy.specs.Taking.{Carries};
 
 use crate::answer::{Answer, own_answer};
 use crate::error::ClientError;
+use crate::identity::Identity;
 use crate::intake::Intake;
 use crate::local::local_answer;
 use crate::settings::Settings;
@@ -28,7 +29,7 @@ pub(crate) fn carry_out(
     alloc: Global,
     settings: &Settings,
     intake: &Intake,
-    label: &mut Vec<u8>,
+    identity: &mut Identity,
     mux: &mut Mux,
     who: ClientId,
     command: &CommandFrame,
@@ -54,7 +55,7 @@ pub(crate) fn carry_out(
     if command.words.class.is_none() && intake.admits(command) {
         return forward(mux, who, command.frame.text());
     }
-    match own_answer(alloc, &intake.frames.limits(), who, label, command) {
+    match own_answer(alloc, &intake.frames.limits(), settings, identity, command) {
         Ok(Answer::Reply(answer)) => own(mux, who, &answer),
         Ok(Answer::Quit) => Err(ClientError::Quit),
         Ok(Answer::Http) => Err(ClientError::Http),

@@ -4,6 +4,7 @@ ghost use Rattle.std.specs.Prelude.{◌≡◌, false, []};
 ghost use Rattle.resp_proxy.specs.Clients.{Holds, client_id, is_closing, is_leaving};
 ghost use Rattle.resp_proxy.specs.Terms.{Terms};
 
+use crate::identity::Identity;
 use crate::unfinished::Unfinished;
 use bytes::BytesMut;
 use resp_mux::ClientId;
@@ -22,8 +23,7 @@ pub struct Client {
     pub(crate) is_closing: bool,
     /// Whether the next command, with which `rest` begins, needs a connection of the client's own.
     pub(crate) is_leaving: bool,
-    /// The name that the client has given itself.
-    pub(crate) label: Vec<u8>,
+    pub(crate) identity: Identity,
 }
 
 impl Client {
@@ -40,7 +40,10 @@ impl Client {
             rest: BytesMut::new(alloc),
             is_closing: false,
             is_leaving: false,
-            label: Vec::new(alloc),
+            identity: Identity {
+                number: id.number,
+                name: Vec::new(alloc),
+            },
         }
     }
 

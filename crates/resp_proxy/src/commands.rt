@@ -12,6 +12,7 @@ ghost use Rattle.resp_proxy.specs.Unfinished.{WhereUnfinished, terms_of};
 
 use crate::carrying::carry_out;
 use crate::error::ClientError;
+use crate::identity::Identity;
 use crate::intake::Intake;
 use crate::lines::take_line;
 use crate::part::{Part, part_of};
@@ -42,7 +43,7 @@ pub(crate) fn take_commands(
     settings: &Settings,
     intake: &mut Intake,
     unfinished: &mut Unfinished,
-    label: &mut Vec<u8>,
+    identity: &mut Identity,
     mux: &mut Mux,
     who: ClientId,
     piece: &[u8],
@@ -69,7 +70,7 @@ pub(crate) fn take_commands(
             settings,
             intake,
             unfinished,
-            label,
+            identity,
             mux,
             who,
             &piece[used..],
@@ -109,7 +110,7 @@ fn take_one(
     settings: &Settings,
     intake: &mut Intake,
     unfinished: &mut Unfinished,
-    label: &mut Vec<u8>,
+    identity: &mut Identity,
     mux: &mut Mux,
     who: ClientId,
     piece: &[u8],
@@ -134,7 +135,7 @@ fn take_one(
             settings,
             intake,
             &mut unfinished.line,
-            label,
+            identity,
             mux,
             who,
             piece,
@@ -148,7 +149,7 @@ fn take_one(
             settings,
             intake,
             &mut unfinished.begun,
-            label,
+            identity,
             mux,
             who,
             piece,
@@ -163,7 +164,7 @@ fn take_array(
     settings: &Settings,
     intake: &mut Intake,
     begun: &mut Begun,
-    label: &mut Vec<u8>,
+    identity: &mut Identity,
     mux: &mut Mux,
     who: ClientId,
     piece: &[u8],
@@ -198,7 +199,7 @@ fn take_array(
             Err(AllocError) => Err(ClientError::OutOfMemory),
         };
     }
-    match carry_out(alloc, settings, intake, label, mux, who, &command) {
+    match carry_out(alloc, settings, intake, identity, mux, who, &command) {
         Ok(()) => Ok(Part::Whole(used)),
         Err(error) => Err(error),
     }

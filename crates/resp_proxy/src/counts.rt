@@ -20,8 +20,48 @@ pub struct Numbers {
     pub commands: u64,
     /// The commands whose reply was an error of a lost connection or of a missing one.
     pub failed: u64,
-    /// The connections to the server that were opened for all clients.
+    /// The connections to the server that were opened for clients to share.
     pub connections: u64,
+    /// The commands that wait for a reply.
+    pub waiting: u64,
+    /// The bytes that wait for the server.
+    pub unsent: u64,
+    /// The settings that have a connection which clients share.
+    pub lines: u64,
+}
+
+impl Numbers {
+    /// Returns the sums of these numbers and others.
+    pub fn plus(self, other: Numbers) -> Numbers {
+        Numbers {
+            clients: self.clients.saturating_add(other.clients),
+            accepted: self.accepted.saturating_add(other.accepted),
+            rejected: self.rejected.saturating_add(other.rejected),
+            own: self.own.saturating_add(other.own),
+            commands: self.commands.saturating_add(other.commands),
+            failed: self.failed.saturating_add(other.failed),
+            connections: self.connections.saturating_add(other.connections),
+            waiting: self.waiting.saturating_add(other.waiting),
+            unsent: self.unsent.saturating_add(other.unsent),
+            lines: self.lines.saturating_add(other.lines),
+        }
+    }
+
+    /// Returns these numbers without others that were added to them.
+    pub fn minus(self, other: Numbers) -> Numbers {
+        Numbers {
+            clients: self.clients.saturating_sub(other.clients),
+            accepted: self.accepted.saturating_sub(other.accepted),
+            rejected: self.rejected.saturating_sub(other.rejected),
+            own: self.own.saturating_sub(other.own),
+            commands: self.commands.saturating_sub(other.commands),
+            failed: self.failed.saturating_sub(other.failed),
+            connections: self.connections.saturating_sub(other.connections),
+            waiting: self.waiting.saturating_sub(other.waiting),
+            unsent: self.unsent.saturating_sub(other.unsent),
+            lines: self.lines.saturating_sub(other.lines),
+        }
+    }
 }
 
 /// Something that a proxy counts.
@@ -29,7 +69,12 @@ pub struct Numbers {
 pub enum Counted {
     /// A client was rejected.
     Rejected,
-    /// A client that [`Proxy::leave`](crate::Proxy::leave) has closed was closed for good.
+    /// A client that was opened by [`Proxy::enter`](crate::Proxy::enter) is open. It was accepted
+    /// before.
+    Entered,
+    /// A client that [`Proxy::leave`](crate::Proxy::leave) has closed is not shared any more.
+    OwnOpened,
+    /// Such a client was closed for good, or was opened by [`Proxy::enter`](crate::Proxy::enter).
     OwnClosed,
     /// So many commands were queued at this time.
     Queued(usize, Duration),
@@ -46,12 +91,17 @@ pub enum Counted {
 pub(crate) struct Counts {
     /// The clients of the multiplexer that are the proxy's own.
     hidden: u64,
+    /// The clients that have come from another proxy, or have come back.
+    entered: u64,
     rejected: u64,
     own: u64,
     commands: u64,
     failed: u64,
     connections: u64,
     latency: Latency,
+    /// The numbers of the other proxies of the program, and the times of all.
+    others: Numbers,
+    times: Option<Times>,
 }
 
 impl Counts {
@@ -59,12 +109,15 @@ impl Counts {
     pub(crate) fn new(alloc: Global) -> Self {
         Counts {
             hidden: 0,
+            entered: 0,
             rejected: 0,
             own: 0,
             commands: 0,
             failed: 0,
             connections: 0,
             latency: Latency::new(alloc),
+            others: Numbers::default(),
+            times: None,
         }
     }
 
@@ -73,18 +126,44 @@ impl Counts {
         let open = mux.open_clients() as u64;
         Numbers {
             clients: self.own.saturating_add(open.saturating_sub(self.hidden)),
-            accepted: mux.opened_clients().saturating_sub(self.hidden),
+            accepted: mux
+                .opened_clients()
+                .saturating_sub(self.hidden)
+                .saturating_sub(self.entered),
             rejected: self.rejected,
             own: self.own,
             commands: self.commands,
             failed: self.failed,
             connections: self.connections,
+            waiting: mux.waiting() as u64,
+            unsent: mux.to_server().len() as u64,
+            lines: 1,
         }
     }
 
-    /// Returns how long replies took.
+    /// Returns the numbers of all proxies of the program.
+    pub(crate) fn all(&self, mux: &Mux) -> Numbers {
+        self.numbers(mux).plus(self.others)
+    }
+
+    /// Returns how long replies took, over all proxies of the program.
     pub(crate) fn times(&self) -> Times {
-        self.latency.times()
+        match self.times {
+            Some(times) => times,
+            None => self.latency.times(),
+        }
+    }
+
+    /// Sets the numbers of the other proxies of the program, and the times of all if they are not
+    /// counted here.
+    pub(crate) fn set_others(&mut self, others: Numbers, times: Option<Times>) {
+        self.others = others;
+        self.times = times;
+    }
+
+    /// Counts the times of another proxy here, and no longer there.
+    pub(crate) fn take_times(&mut self, other: &mut Counts) {
+        self.latency.take_times(&mut other.latency);
     }
 
     /// Does not count a client of the multiplexer, since it is the proxy's own.
@@ -92,15 +171,12 @@ impl Counts {
         self.hidden = self.hidden.saturating_add(1);
     }
 
-    /// Counts a client that gets a connection of its own.
-    pub(crate) fn give_own(&mut self) {
-        self.own = self.own.saturating_add(1);
-    }
-
     /// Counts.
     pub(crate) fn add(&mut self, counted: Counted) {
         match counted {
             Counted::Rejected => self.rejected = self.rejected.saturating_add(1),
+            Counted::Entered => self.entered = self.entered.saturating_add(1),
+            Counted::OwnOpened => self.own = self.own.saturating_add(1),
             Counted::OwnClosed => self.own = self.own.saturating_sub(1),
             Counted::Connected => self.connections = self.connections.saturating_add(1),
             Counted::Queued(count, now) => {

@@ -3,6 +3,7 @@
 ghost use Rattle.std.specs.Prelude.{◌≡◌, ◌↔◌, ◌⊎◌, [], IsTrue};
 ghost use Rattle.resp_mux.specs.Multiplexing.{KeepsBytes, KeepsClients, unsent};
 ghost use Rattle.resp_proxy.specs.Visiting.{GivesSome, HasNoCommand, HasNothingFor, SendsSome};
+ghost use Rattle.resp_proxy.specs.Moving.{HasAll};
 ghost use Rattle.resp_value.specs.Devices.{count_after};
 
 use resp_mux::{ClientId, Mux};
@@ -88,6 +89,16 @@ pub(crate) fn has_no_bytes(mux: &Mux, who: ClientId) -> bool
     match mux.to_client(who) {
         Some(text) => text.is_empty(),
         None => true,
+    }
+}
+
+/// Returns whether a client is open, no command of it waits, and no bytes wait for it.
+pub(crate) fn has_all(mux: &Mux, who: ClientId) -> bool
+    ensures { IsTrue result ↔ HasAll mux.now who }
+{
+    match (mux.to_client(who), mux.waiting_of(who)) {
+        (Some(text), Some(count)) => text.is_empty() && count == 0,
+        _ => false,
     }
 }
 

@@ -30,13 +30,15 @@ pub(crate) struct Intake {
     pub(crate) admitted: Vec<Vec<u8>>,
     /// Whether a client may get a connection of its own.
     pub(crate) admits_own: bool,
+    /// Whether the proxy itself replies to HELLO and SELECT if they change nothing.
+    pub(crate) answers_settings: bool,
     /// What the proxy has counted.
     pub(crate) counts: Counts,
 }
 
 impl Intake {
-    /// Returns the intake of a proxy with these settings, which admits no command that the table does
-    /// not have.
+    /// Returns the intake of a proxy with these settings, which admits no command that the table
+    /// does not have.
     pub(crate) fn new(alloc: Global, settings: &Settings) -> Result<Intake, AllocError>
         ensures ready { IfOk result (λ intake. IsReady intake.frames) }
         ensures terms { IfOk result (λ intake. terms_of intake ≡ terms_by settings.now) }
@@ -46,6 +48,7 @@ impl Intake {
             lines: settings.lines,
             admitted: Vec::new(alloc),
             admits_own: false,
+            answers_settings: settings.answers_settings,
             counts: Counts::new(alloc),
         })
     }
@@ -79,12 +82,13 @@ impl Intake {
         self.lines && unfinished.begun.is_empty() && begins_line(piece)
     }
 
-    /// Returns whether a command needs a connection of the client's own, and the client may get one.
+    /// Returns whether a command needs a connection of the client's own, and the client may get
+    /// one.
     pub(crate) fn sets_aside(&self, command: &CommandFrame) -> bool
         ensures admitted { IsTrue result → self.now.admits_own ≡ true }
         ensures needed { IsTrue result → IsForOwn command.now.words.class }
     {
-        self.admits_own && needs_own(&self.frames, command)
+        self.admits_own && needs_own(&self.frames, self.answers_settings, command)
     }
 
     /// Returns whether a command that the table does not have is sent: it is one of the admitted

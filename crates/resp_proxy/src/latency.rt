@@ -16,8 +16,8 @@ struct Run {
     since: Duration,
 }
 
-/// How long the replies of the last one to two minutes took, from the time at which the proxy read the command
-/// to the time at which it read the reply.
+/// How long the replies of the last one to two minutes took, from the time at which the proxy read
+/// the command to the time at which it read the reply.
 #[derive(Drop)]
 pub(crate) struct Latency {
     /// The commands that wait for a reply, and those that were queued last.
@@ -57,7 +57,8 @@ impl Latency {
         }
     }
 
-    /// Notes that commands were queued at this time. Without memory they count as queued with those before.
+    /// Notes that commands were queued at this time. Without memory they count as queued with those
+    /// before.
     pub(crate) fn queue(&mut self, count: usize, now: Duration) {
         if self.last.count > 0 && self.last.since != now && self.runs.push_back(self.last).is_ok() {
             self.last.count = 0;
@@ -104,6 +105,14 @@ impl Latency {
             let _ = self.runs.pop_front();
         }
         taken
+    }
+
+    /// Counts the times of another proxy as those of this minute, and no longer there.
+    pub(crate) fn take_times(&mut self, other: &mut Latency) {
+        let taken = mem::replace(&mut other.recent, Histogram::new());
+        self.recent.append(&taken);
+        let taken = mem::replace(&mut other.older, Histogram::new());
+        self.older.append(&taken);
     }
 
     /// Drops the times of the minute before if this minute is over.

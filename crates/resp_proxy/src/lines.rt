@@ -10,6 +10,7 @@ ghost use Rattle.resp_value.specs.Words.{texts_of};
 
 use crate::carrying::carry_out;
 use crate::error::ClientError;
+use crate::identity::Identity;
 use crate::intake::Intake;
 use crate::settings::Settings;
 use bytes::BytesMut;
@@ -31,7 +32,7 @@ pub(crate) fn take_line(
     settings: &Settings,
     intake: &Intake,
     line: &mut Vec<u8>,
-    label: &mut Vec<u8>,
+    identity: &mut Identity,
     mux: &mut Mux,
     who: ClientId,
     piece: &[u8],
@@ -56,7 +57,15 @@ pub(crate) fn take_line(
     if let Err(error) = hold(line, &piece[..end]) {
         return Err(error);
     }
-    if let Err(error) = carry_out_line(alloc, settings, intake, label, mux, who, line.as_slice()) {
+    if let Err(error) = carry_out_line(
+        alloc,
+        settings,
+        intake,
+        identity,
+        mux,
+        who,
+        line.as_slice(),
+    ) {
         return Err(error);
     }
     *line = Vec::new(alloc);
@@ -84,7 +93,7 @@ fn carry_out_line(
     alloc: Global,
     settings: &Settings,
     intake: &Intake,
-    label: &mut Vec<u8>,
+    identity: &mut Identity,
     mux: &mut Mux,
     who: ClientId,
     line: &[u8],
@@ -104,7 +113,15 @@ fn carry_out_line(
     if words.is_empty() {
         return Ok(());
     }
-    carry_out_words(alloc, settings, intake, label, mux, who, words.as_slice())
+    carry_out_words(
+        alloc,
+        settings,
+        intake,
+        identity,
+        mux,
+        who,
+        words.as_slice(),
+    )
 }
 
 /// Carries out the command of these words.
@@ -112,7 +129,7 @@ fn carry_out_words(
     alloc: Global,
     settings: &Settings,
     intake: &Intake,
-    label: &mut Vec<u8>,
+    identity: &mut Identity,
     mux: &mut Mux,
     who: ClientId,
     words: &[Vec<u8>],
@@ -134,7 +151,7 @@ fn carry_out_words(
         Err(_) => return Err(ClientError::OverLimits),
     }
     match command_of_piece(text.as_slice(), &limits) {
-        Some(command) => carry_out(alloc, settings, intake, label, mux, who, &command),
+        Some(command) => carry_out(alloc, settings, intake, identity, mux, who, &command),
         None => Err(ClientError::OverLimits),
     }
 }

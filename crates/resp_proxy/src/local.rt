@@ -64,7 +64,6 @@ fn info(
 
 /// Returns the text of the section `proxy`.
 fn section_of(alloc: Global, counts: &Counts, mux: &Mux) -> Result<String, AllocError> {
-    let (waiting, unsent) = (mux.waiting(), mux.to_server().len());
     let Numbers {
         clients,
         accepted,
@@ -73,14 +72,17 @@ fn section_of(alloc: Global, counts: &Counts, mux: &Mux) -> Result<String, Alloc
         commands,
         failed,
         connections,
-    } = counts.numbers(mux);
+        waiting,
+        unsent,
+        lines,
+    } = counts.all(mux);
     let Times {
         median,
         percentile_99,
         most,
     } = counts.times();
     format!(in alloc;
-        "# Proxy\r\nclients:{clients}\r\nclients_accepted:{accepted}\r\nclients_rejected:{rejected}\r\nclients_own:{own}\r\ncommands:{commands}\r\ncommands_waiting:{waiting}\r\ncommands_failed:{failed}\r\nbytes_unsent:{unsent}\r\nserver_connections:{connections}\r\nreply_us_p50:{median}\r\nreply_us_p99:{percentile_99}\r\nreply_us_max:{most}\r\n"
+        "# Proxy\r\nclients:{clients}\r\nclients_accepted:{accepted}\r\nclients_rejected:{rejected}\r\nclients_own:{own}\r\ncommands:{commands}\r\ncommands_waiting:{waiting}\r\ncommands_failed:{failed}\r\nbytes_unsent:{unsent}\r\nserver_connections:{connections}\r\nserver_lines:{lines}\r\nreply_us_p50:{median}\r\nreply_us_p99:{percentile_99}\r\nreply_us_max:{most}\r\n"
     )
 }
 

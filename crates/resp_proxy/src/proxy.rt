@@ -13,9 +13,9 @@ ghost use Rattle.resp_proxy.specs.Taking.{TakesIn};
 ghost use Rattle.resp_proxy.specs.Terms.{with_admitted};
 ghost use Rattle.resp_proxy.specs.Unfinished.{terms_by};
 ghost use Rattle.resp_proxy.specs.Telling.{Tells};
-ghost use Rattle.resp_proxy.specs.Visiting.{GivesSome, HasNothingFor, IsDone, MayLeave, SendsSome};
+ghost use Rattle.resp_proxy.specs.Visiting.{GivesSome, HasNothingFor, IsDone, SendsSome};
 ghost use Rattle.resp_value.specs.Devices.{count_after};
-ghost use Rattle.resp_value.specs.Rules.{Rules};
+ghost use Rattle.resp_value.specs.Rules.{Rules, rules_under};
 ghost use Rattle.resp_proxy.specs.Leaving.{LeavesRightly};
 ghost use Rattle.resp_proxy.specs.Proxies.{HasBegunBy, HasNoClient, HasRoomFor, WhereBegunBy, WhereHeld, expected_of, lost_text, out_of_step_text, prober_of, admits_own, mux_of, replied_to, reply_rules_of, terms_of, server_begun, settings_of, with_own_admitted, with_replied, with_terms};
 
@@ -34,7 +34,6 @@ use bytes::BytesMut;
 use resp_frames::{Begun, Frames};
 use resp_mux::{Bounds, ClientId, ForwardError, Mux, OpenError};
 use resp_value::device::Sink;
-use resp_value::version::Version;
 use std::alloc::{AllocError, Global};
 use std::collections::VecDeque;
 use std::marker::Model;
@@ -48,11 +47,11 @@ const OUT_OF_STEP: &[u8] = b"-ERR connection to server out of step; the command 
 /// A proxy between many clients and one connection to a server.
 #[derive(Drop)]
 pub struct Proxy {
-    alloc: Global,
+    pub(crate) alloc: Global,
     settings: Settings,
-    mux: Mux,
+    pub(crate) mux: Mux,
     /// The commands of all clients.
-    intake: Intake,
+    pub(crate) intake: Intake,
     /// Finds the replies of the server.
     replies: Frames,
     /// The reply that the server has begun.
@@ -96,11 +95,13 @@ impl Proxy {
         ensures begun { IfOk result (λ proxy. HasBegunBy proxy []) }
         ensures nobody { IfOk result (λ proxy. replied_to proxy ≡ []) }
         ensures settings { IfOk result (λ proxy. settings_of proxy ≡ settings) }
+        ensures reply_rules { IfOk result (λ proxy.
+            reply_rules_of proxy ≡ rules_under settings.version settings.limits) }
         // Whether lines are commands is a setting, and no command is admitted.
         ensures terms { IfOk result (λ proxy. terms_of proxy ≡ terms_by settings) }
     {
         let intake = Intake::new(alloc, &settings)?;
-        let replies = Frames::new(alloc, Version::Two, &settings.limits)?;
+        let replies = Frames::new(alloc, settings.version, &settings.limits)?;
         let bounds = Bounds {
             waiting: settings.waiting,
             unsent: usize::MAX,
@@ -348,31 +349,6 @@ impl Proxy {
         self.intake.admits_own = is_admitted;
     }
 
-    /// Returns whether a client is leaving, no command of it waits, and all its replies were written. Call
-    /// [`Proxy::leave`] then.
-    pub fn may_leave(&self, client: &Client) -> bool
-        ensures { IsTrue result ↔ MayLeave (mux_of self.now) client.now }
-    {
-        client.is_leaving
-            && has_no_bytes(&self.mux, client.id)
-            && has_no_command(&self.mux, client.id)
-    }
-
-    /// Closes a client that is leaving, and counts it as one that has a connection of its own. Returns the
-    /// bytes that it holds. They begin with the command that needs this connection.
-    pub fn leave(&mut self, client: Client) -> BytesMut
-        ensures bytes { result.items ≡ waits_for_room client }
-        ensures closed { HasClosed (mux_of self.old) (mux_of self.new) (client_id client) }
-        ensures passed { KeepsPassed (mux_of self.old) (mux_of self.new) }
-        ensures same_terms { terms_of self.new ≡ terms_of self.old }
-        ensures same_replied { replied_to self.new ≡ replied_to self.old }
-    {
-        self.mux.close(client.id);
-        self.intake.counts.give_own();
-        let Client { rest, .. } = client;
-        rest
-    }
-
     /// Counts. `INFO proxy` prints the numbers.
     pub fn count(&mut self, counted: Counted)
         ensures same_state { self.new ≡ self.old }
@@ -383,6 +359,27 @@ impl Proxy {
     /// Returns what was counted.
     pub fn numbers(&self) -> Numbers {
         self.intake.counts.numbers(&self.mux)
+    }
+
+    /// Returns what was counted here and in the other proxies of the program.
+    pub fn all_numbers(&self) -> Numbers {
+        self.intake.counts.all(&self.mux)
+    }
+
+    /// Sets the numbers of the other proxies of the program, which `INFO proxy` adds, and the times that it
+    /// prints if those of this proxy are counted elsewhere.
+    pub fn set_others(&mut self, others: Numbers, times: Option<Times>)
+        ensures same_state { self.new ≡ self.old }
+    {
+        self.intake.counts.set_others(others, times);
+    }
+
+    /// Counts how long replies of another proxy took here, and no longer there.
+    pub fn take_times(&mut self, other: &mut Proxy)
+        ensures same_state { self.new ≡ self.old }
+        ensures other_state { other.new ≡ other.old }
+    {
+        self.intake.counts.take_times(&mut other.intake.counts);
     }
 
     /// Returns how long the replies of the last one to two minutes took, as it was counted.

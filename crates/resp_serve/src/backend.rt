@@ -2,17 +2,41 @@
 
 use crate::own_address::check_server;
 use crate::spare::Spare;
-use mio::net::TcpStream;
+use crate::stream::Stream;
+use std::alloc::{AllocError, Global};
 use std::io;
 use std::io::ErrorKind;
 use std::net::{Net, SocketAddr};
+
+/// An address of a server.
+#[derive(Debug, Drop)]
+pub enum Address {
+    /// An IP address and a port.
+    Socket(SocketAddr),
+    /// The path of a Unix socket.
+    Path(String),
+}
+
+impl Address {
+    /// Returns a copy.
+    ///
+    /// # Errors
+    ///
+    /// `AllocError` if an allocation fails.
+    fn copy(&self) -> Result<Address, AllocError> {
+        match self {
+            Address::Socket(address) => Ok(Address::Socket(*address)),
+            Address::Path(path) => Ok(Address::Path(path.clone()?)),
+        }
+    }
+}
 
 /// A server with its addresses, which are tried in turn until one of them accepts a connection. The
 /// next connection is tried at that address first.
 #[derive(Drop)]
 pub struct Backend {
     name: String,
-    addresses: Vec<SocketAddr>,
+    addresses: Vec<Address>,
     /// The index of the address that is tried first.
     first: usize,
 }
@@ -29,12 +53,29 @@ pub(crate) struct Attempt {
 impl Backend {
     /// Returns a server with these addresses, which are tried in this order. The name is used in
     /// lines about connections that can't be opened.
-    pub fn new(name: String, addresses: Vec<SocketAddr>) -> Self {
+    pub fn new(name: String, addresses: Vec<Address>) -> Self {
         Backend {
             name,
             addresses,
             first: 0,
         }
+    }
+
+    /// Returns a copy.
+    ///
+    /// # Errors
+    ///
+    /// `AllocError` if an allocation fails.
+    pub(crate) fn copy(&self, alloc: Global) -> Result<Self, AllocError> {
+        let mut addresses = Vec::new(alloc);
+        for address in &self.addresses {
+            addresses.push(address.copy()?)?;
+        }
+        Ok(Backend {
+            name: self.name.clone()?,
+            addresses,
+            first: self.first,
+        })
     }
 
     /// Returns the name of the server.
@@ -54,7 +95,9 @@ impl Backend {
     ) -> io::Result<()> {
         let listening = listening?;
         for address in &self.addresses {
-            check_server(net, *address, listening)?;
+            if let Address::Socket(address) = address {
+                check_server(net, *address, listening)?;
+            }
         }
         Ok(())
     }
@@ -85,9 +128,9 @@ impl Backend {
     /// # Errors
     ///
     /// An error of kind `AddrNotAvailable` if the server has no address.
-    pub(crate) fn address(&self, attempt: Attempt) -> io::Result<SocketAddr> {
+    pub(crate) fn address(&self, attempt: Attempt) -> io::Result<&Address> {
         match self.addresses.get(attempt.index) {
-            Some(address) => Ok(*address),
+            Some(address) => Ok(address),
             None => Err(ErrorKind::AddrNotAvailable.into()),
         }
     }
@@ -103,7 +146,7 @@ impl Backend {
         spare: &mut Spare,
         net: &impl Net,
         attempt: Attempt,
-    ) -> io::Result<(TcpStream, Attempt)> {
+    ) -> io::Result<(Stream, Attempt)> {
         let mut attempt = attempt;
         for _ in 0..self.addresses.len() {
             match spare.connect(net, self.address(attempt)?) {

@@ -5,7 +5,7 @@ ghost use Rattle.resp_server.specs.Hubs.{seat_at};
 
 use crate::non_blocking::{Input, Output};
 use crate::service::Next;
-use mio::net::TcpStream;
+use crate::stream::Stream;
 use resp_server::Hub;
 use resp_value::device::Device;
 use resp_wire::ServeError;
@@ -75,7 +75,7 @@ impl Rest {
 #[derive(Drop)]
 pub(crate) struct Connection {
     /// The socket, which is non-blocking.
-    stream: TcpStream,
+    stream: Stream,
     /// The id of its session in the hub.
     pub(crate) id: u64,
     rest: Rest,
@@ -83,7 +83,7 @@ pub(crate) struct Connection {
 
 impl Connection {
     /// Returns a connection of which nothing was read.
-    pub(crate) fn new(alloc: Global, stream: TcpStream, id: u64) -> Self {
+    pub(crate) fn new(alloc: Global, stream: Stream, id: u64) -> Self {
         Connection {
             stream,
             id,
@@ -171,7 +171,7 @@ pub fn answer<R: Read + Drop, W: Write + Drop, S: BuildHasher>(
 }
 
 /// Sends a line to a client that is not served, and closes the connection.
-pub(crate) fn refuse(stream: &TcpStream, line: &[u8]) {
+pub(crate) fn refuse(stream: &Stream, line: &[u8]) {
     let mut writer = stream;
     let _ = writer.write(line);
     close(stream);
@@ -179,7 +179,7 @@ pub(crate) fn refuse(stream: &TcpStream, line: &[u8]) {
 
 /// Shuts down the sending direction, and then reads bytes that were received but not read: a socket
 /// that is closed with unread bytes discards the bytes that it sent.
-pub(crate) fn close(stream: &TcpStream) {
+pub(crate) fn close(stream: &Stream) {
     let _ = stream.shutdown(Shutdown::Write);
     let mut reader = stream;
     let mut unread = [0; 4_096];

@@ -5,8 +5,9 @@ ghost use Rattle.resp_serve.specs.Placing.{ArePlaced, KeepsOthers, NoneAppears};
 ghost use Rattle.resp_serve.specs.Waits.{IsNoWait};
 
 use crate::connection::refuse;
-use crate::service::{Cause, INPUT, Next, OWN_SOCKET, Service, Tokens};
-use mio::net::{TcpListener, TcpStream};
+use crate::service::{Cause, INPUT, Next, OWN_SOCKET, Service, Tokens, number_of};
+use crate::stream::Stream;
+use mio::net::TcpListener;
 use mio::{Events, Interest, Poll, Registry, Token};
 use resp_schedule::{Backlog, OpenError, Schedule, State, Wait};
 use std::alloc::{AllocError, Global};
@@ -145,11 +146,17 @@ impl<C: Drop> Loop<C> {
         for event in events.iter() {
             match event.token() {
                 Token(LISTENER) => self.schedule.set_backlog(Backlog::Waiting),
-                OWN_SOCKET => service.ready(event.is_read_closed()),
+                OWN_SOCKET => service.ready(0, event.is_read_closed()),
                 INPUT => service.input_ready(event.is_read_closed()),
                 Token(token) => {
                     let is_at_end = event.is_read_closed();
-                    self.visit_idle(service, (token - 1) / 2, Cause::Ready { is_at_end });
+                    match number_of(token) {
+                        Some(number) => service.ready(number, is_at_end),
+                        None => {
+                            let place = (token - 1) / 2;
+                            self.visit_idle(service, place, Cause::Ready { is_at_end });
+                        }
+                    }
                 }
             }
         }
@@ -255,7 +262,7 @@ impl<C: Drop> Loop<C> {
     }
 
     /// Admits an accepted client to a place, or rejects it if the maximum is reached.
-    fn admit<T: Service<C>>(&mut self, service: &mut T, client: TcpStream) {
+    fn admit<T: Service<C>>(&mut self, service: &mut T, client: Stream) {
         match self.open() {
             Ok(place) => self.fill(service, client, place),
             Err(OpenError::Full) => {
@@ -282,7 +289,7 @@ impl<C: Drop> Loop<C> {
 
     /// Puts the connection of an accepted client into an open place. Without memory, or if a socket
     /// fails, the client and the place are closed.
-    fn fill<T: Service<C>>(&mut self, service: &mut T, client: TcpStream, place: usize)
+    fn fill<T: Service<C>>(&mut self, service: &mut T, client: Stream, place: usize)
         requires idle { state_of self.old.schedule place ≡ State.Idle }
         requires vacant { slice_get self.old.connections.items place ≡ Some None }
         ensures others { KeepsOthers self.old.connections.items self.new.connections.items place }
@@ -305,12 +312,12 @@ impl<C: Drop> Loop<C> {
 /// # Errors
 ///
 /// Whether connections may wait, if none is accepted.
-fn accept(listener: &Option<TcpListener>) -> Result<TcpStream, Backlog> {
+fn accept(listener: &Option<TcpListener>) -> Result<Stream, Backlog> {
     let Some(listener) = listener else {
         return Err(Backlog::Empty);
     };
     match listener.accept() {
-        Ok((client, _)) => Ok(client),
+        Ok((client, _)) => Ok(Stream::Tcp(client)),
         Err(error) if error.kind() == ErrorKind::WouldBlock => Err(Backlog::Empty),
         Err(_) => Err(Backlog::Failing),
     }

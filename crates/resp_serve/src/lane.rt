@@ -4,7 +4,7 @@ ghost use Rattle.std.specs.Prelude.{◌<◌, length};
 
 use crate::non_blocking::{Input, Output};
 use crate::service::Next;
-use mio::net::TcpStream;
+use crate::stream::Stream;
 use resp_tap::way::{Visited, Way};
 use resp_value::device::Device;
 use std::alloc::Global;
@@ -60,7 +60,7 @@ impl Lane {
     }
 
     /// Ends the lane. The receiving side is told that no more bytes come.
-    pub(crate) fn end(&mut self, to: &TcpStream) {
+    pub(crate) fn end(&mut self, to: &Stream) {
         if !self.has_ended {
             self.has_ended = true;
             let _ = to.shutdown(Shutdown::Write);
@@ -71,8 +71,8 @@ impl Lane {
     /// the input may have ended.
     pub(crate) fn visit(
         &mut self,
-        from: &TcpStream,
-        to: &TcpStream,
+        from: &Stream,
+        to: &Stream,
         is_at_end: bool,
         buffer: &mut [u8],
     ) -> Forwarded

@@ -14,20 +14,28 @@
 //! next, when it accepts connections, and when it waits.
 #![tactic(auto)]
 
+mod arrival;
 mod backend;
+mod channel;
 mod connection;
+mod entry;
 mod event_loop;
 mod input_end;
 mod lane;
-mod login;
+mod moving;
 mod non_blocking;
 mod own;
 mod own_address;
+mod packet_clock;
+mod plan;
 mod printer;
 mod proxied;
 mod proxying;
 mod register;
 mod relay;
+mod replay;
+mod replay_view;
+mod replayed;
 mod report;
 mod retry;
 mod server;
@@ -36,15 +44,17 @@ mod service;
 mod spare;
 mod stalled;
 mod stats;
+mod stream;
 mod tapped;
 mod terminal;
 mod timing;
 mod watcher;
 mod window;
 
-pub use backend::Backend;
+pub use backend::{Address, Backend};
 pub use connection::{PIECE, Rest, Room, answer};
 pub use proxying::{ProxyServer, ProxySettings};
+pub use replay::{Replay, ReplayError, ReplaySettings};
 pub use server::Server;
 pub use service::Next;
 pub use stats::Tables;

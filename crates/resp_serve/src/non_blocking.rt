@@ -1,6 +1,6 @@
 //! A non-blocking socket as a reader and a writer that keep the reason of a failure.
 
-use mio::net::TcpStream;
+use crate::stream::Stream;
 use std::io;
 use std::io::{ErrorKind, Read, Write};
 
@@ -9,7 +9,7 @@ use std::io::{ErrorKind, Read, Write};
 /// # Errors
 ///
 /// The error of the system if the connection can't be opened.
-pub(crate) fn is_open(server: &TcpStream) -> io::Result<bool> {
+pub(crate) fn is_open(server: &Stream) -> io::Result<bool> {
     if let Some(error) = server.take_error()? {
         return Err(error);
     }

@@ -168,10 +168,7 @@ impl<'a, 'f, 's, W: Sink, C: Clock> Printer<'a, 'f, 's, W, C> {
     /// that side. If only some commands are printed or all are counted, only an
     /// end inside a command or a reply is.
     pub(crate) fn print_end(&mut self, watcher: &Watcher, client: u64, side: Side) {
-        let cut = match side {
-            Side::Client => watcher.tap().incomplete_command(),
-            Side::Server => watcher.tap().incomplete_reply(),
-        };
+        let cut = watcher.cut(side);
         let is_kept = cut.is_some() || self.prints_connections();
         if !is_kept || !self.filter.keeps_end(client, cut) {
             return;

@@ -2,24 +2,24 @@
 
 ghost use Rattle.std.specs.Prelude.{◌<◌, length};
 
-use crate::backend::Backend;
+use crate::arrival::Arrival;
 use crate::lane::{Progress, after_write};
 use crate::non_blocking::{Input, Output};
 use crate::own::Own;
+use crate::plan::Plan;
 use crate::service::{Cause, Next, Tokens};
-use mio::Registry;
-use mio::net::TcpStream;
+use crate::stream::Stream;
+use mio::Token;
 use resp_mux::ClientId;
-use resp_proxy::{Client, Proxy, Read, Written};
+use resp_proxy::{Client, Departed, Proxy, Read, Written};
 use resp_value::device::Device;
-use std::alloc::Global;
-use std::net::Net;
+use std::time::Duration;
 use std::{io, mem};
 
 /// The socket of a client, and the client. They were made together, and never part.
 #[derive(Drop)]
 pub(crate) struct Proxied {
-    stream: TcpStream,
+    stream: Stream,
     tokens: Tokens,
     link: Link,
     /// Whether a read may return bytes.
@@ -31,12 +31,26 @@ pub(crate) struct Proxied {
 /// How the commands of a client reach the server.
 #[derive(Drop)]
 pub(crate) enum Link {
-    /// Over the connection that clients share.
-    Shared(Client),
+    /// Over the connection that clients in the setting of this number share.
+    Shared(usize, Client),
+    /// Not yet: a connection in another setting is opened.
+    Moving(Move),
     /// Over a connection of the client's own.
     Own(Own),
     /// Not any more: the connection is closed at the end of its visit.
     Closed,
+}
+
+/// A client that waits for a connection in another setting.
+#[derive(Drop)]
+pub(crate) struct Move {
+    pub(crate) departed: Departed,
+    pub(crate) plan: Plan,
+    /// The number of the setting that it has left.
+    pub(crate) from: usize,
+    pub(crate) arrival: Arrival,
+    /// The time at which the connection was begun.
+    pub(crate) since: Duration,
 }
 
 /// The result of a read and a write.
@@ -50,20 +64,20 @@ struct Exchanged {
 
 impl Proxied {
     /// Returns the connection of a client that has sent nothing.
-    pub(crate) fn new(stream: TcpStream, tokens: Tokens, client: Client) -> Self {
+    pub(crate) fn new(stream: Stream, tokens: Tokens, client: Client) -> Self {
         Proxied {
             stream,
             tokens,
-            link: Link::Shared(client),
+            link: Link::Shared(0, client),
             may_read: false,
             is_at_end: false,
         }
     }
 
-    /// Returns the id of the client, while it shares a connection.
-    pub(crate) fn id(&self) -> Option<ClientId> {
+    /// Returns the number of the setting and the id of the client, while it shares a connection.
+    pub(crate) fn seat(&self) -> Option<(usize, ClientId)> {
         match &self.link {
-            Link::Shared(client) => Some(client.id()),
+            Link::Shared(number, client) => Some((*number, client.id())),
             _ => None,
         }
     }
@@ -76,39 +90,45 @@ impl Proxied {
         }
     }
 
-    /// Reads nothing more from the client.
+    /// Reads nothing more from a client that shares a connection.
     pub(crate) fn shut(&mut self, proxy: &mut Proxy) {
         match &mut self.link {
-            Link::Shared(client) if !client.is_closing() => proxy.shut(client),
-            Link::Own(own) => own.shut(),
+            Link::Shared(_, client) if !client.is_closing() => proxy.shut(client),
             _ => {}
+        }
+    }
+
+    /// Reads nothing more from a client with a connection of its own.
+    pub(crate) fn shut_own(&mut self) {
+        if let Link::Own(own) = &mut self.link {
+            own.shut();
         }
     }
 
     /// Returns whether bytes are to be read from the client as soon as there is room.
     pub(crate) fn waits_for_room(&self) -> bool {
         match &self.link {
-            Link::Shared(client) => self.may_read && may_take(client),
+            Link::Shared(_, client) => self.may_read && may_take(client),
             _ => false,
         }
     }
 
-    /// Returns whether the client shares a connection, and is to get its own one now: its next command needs
-    /// it, and all replies to the commands before were written.
+    /// Returns whether the client shares a connection, and is to get another one now: its next
+    /// command needs it, and all replies to the commands before were written.
     pub(crate) fn leaves(&self, proxy: &Proxy) -> bool {
         match &self.link {
-            Link::Shared(client) => proxy.may_leave(client),
+            Link::Shared(_, client) => proxy.may_leave(client),
             _ => false,
         }
     }
 
-    /// Reads bytes of the client if there may be some, and writes bytes that wait for it, with at most
-    /// one read and one write.
+    /// Reads bytes of the client if there may be some, and writes bytes that wait for it, with at
+    /// most one read and one write.
     pub(crate) fn visit(&mut self, proxy: &mut Proxy, buffer: &mut [u8]) -> Next
         requires { 0 < length buffer.old }
     {
         let waits = self.waits_for_room();
-        let Link::Shared(client) = &mut self.link else {
+        let Link::Shared(_, client) = &mut self.link else {
             return Next::Wait;
         };
         let written = if waits {
@@ -133,27 +153,50 @@ impl Proxied {
         next(proxy, client, self.may_read, written)
     }
 
-    /// Gives the client a connection of its own.
-    ///
-    /// # Errors
-    ///
-    /// The error of the system. The client is closed.
-    pub(crate) fn leave(
-        &mut self,
-        proxy: &mut Proxy,
-        net: &impl Net,
-        alloc: Global,
-        backend: &Backend,
-        registry: &Registry,
-    ) -> io::Result<()> {
+    /// Closes the client in this proxy, which it shares, if it may leave. Returns what it keeps.
+    pub(crate) fn leave(&mut self, proxy: &mut Proxy) -> Option<Departed> {
         let link = mem::replace(&mut self.link, Link::Closed);
-        let Link::Shared(client) = link else {
-            return Ok(());
+        let Link::Shared(number, client) = link else {
+            self.link = link;
+            return None;
         };
-        let first = proxy.leave(client);
-        let own = Own::connect(net, alloc, backend, registry, self.tokens, first)?;
+        match proxy.leave(client) {
+            Ok(departed) => Some(departed),
+            Err(client) => {
+                self.link = Link::Shared(number, client);
+                None
+            }
+        }
+    }
+
+    /// Lets the client share the connection of the setting of this number.
+    pub(crate) fn enter(&mut self, number: usize, client: Client) {
+        self.link = Link::Shared(number, client);
+        // The client may hold bytes that are taken before anything is read.
+        self.may_read = true;
+    }
+
+    /// Lets the client wait for a connection in another setting.
+    pub(crate) fn wait(&mut self, moving: Move) {
+        self.link = Link::Moving(moving);
+    }
+
+    /// Returns what the client waits for, if it waits for a connection in another setting. Put it
+    /// back, or enter a setting.
+    pub(crate) fn take_move(&mut self) -> Option<Move> {
+        let link = mem::replace(&mut self.link, Link::Closed);
+        match link {
+            Link::Moving(moving) => Some(moving),
+            link => {
+                self.link = link;
+                None
+            }
+        }
+    }
+
+    /// Gives the client a connection of its own.
+    pub(crate) fn give_own(&mut self, own: Own) {
         self.link = Link::Own(own);
-        Ok(())
     }
 
     /// Forwards bytes over the connection of the client's own. Returns `None` if it has none.
@@ -161,22 +204,22 @@ impl Proxied {
     /// # Errors
     ///
     /// Why that connection was not opened.
-    pub(crate) fn forward(
-        &mut self,
-        login: &[u8],
-        is_at_end: bool,
-        buffer: &mut [u8],
-    ) -> io::Result<Option<Next>>
+    pub(crate) fn forward(&mut self, is_at_end: bool, buffer: &mut [u8]) -> io::Result<Option<Next>>
         requires { 0 < length buffer.old }
     {
         match &mut self.link {
-            Link::Shared(_) => Ok(None),
+            Link::Shared(..) | Link::Moving(_) => Ok(None),
             Link::Own(own) => {
-                let next = own.visit(&self.stream, login, is_at_end, buffer)?;
+                let next = own.visit(&self.stream, is_at_end, buffer)?;
                 Ok(Some(next))
             }
             Link::Closed => Ok(Some(Next::Close)),
         }
+    }
+
+    /// Returns the token of the socket of the client's own connection to the server.
+    pub(crate) fn server_token(&self) -> Token {
+        self.tokens.server
     }
 
     /// Returns the place of the connection.
@@ -185,14 +228,19 @@ impl Proxied {
     }
 
     /// Returns the socket.
-    pub(crate) fn stream(&self) -> &TcpStream {
+    pub(crate) fn stream(&self) -> &Stream {
         &self.stream
     }
 
-    /// Closes the connection, and returns the socket and the link.
-    pub(crate) fn into_parts(self) -> (TcpStream, Link) {
-        let Proxied { stream, link, .. } = self;
-        (stream, link)
+    /// Returns the link, and has none from now on.
+    pub(crate) fn take_link(&mut self) -> Link {
+        mem::replace(&mut self.link, Link::Closed)
+    }
+
+    /// Returns the socket.
+    pub(crate) fn into_stream(self) -> Stream {
+        let Proxied { stream, .. } = self;
+        stream
     }
 }
 
@@ -215,7 +263,7 @@ fn next(proxy: &Proxy, client: &Client, may_read: bool, written: Progress) -> Ne
 }
 
 /// Writes bytes that wait for a client.
-fn give(proxy: &mut Proxy, client: &Client, stream: &TcpStream) -> Progress {
+fn give(proxy: &mut Proxy, client: &Client, stream: &Stream) -> Progress {
     let mut writer = Device::new(Output::new(stream));
     let written = proxy.give(client, &mut writer);
     progress(written, &writer.into_inner())
@@ -225,8 +273,8 @@ fn give(proxy: &mut Proxy, client: &Client, stream: &TcpStream) -> Progress {
 fn exchange(
     proxy: &mut Proxy,
     client: &mut Client,
-    reader: &TcpStream,
-    writer: &TcpStream,
+    reader: &Stream,
+    writer: &Stream,
     is_at_end: bool,
     buffer: &mut [u8],
 ) -> Exchanged

@@ -9,8 +9,8 @@ use crate::register::register;
 use crate::relay::Relay;
 use crate::report::Report;
 use crate::service::{Cause, Next, Service, Tokens};
+use crate::stream::Stream;
 use mio::Registry;
-use mio::net::TcpStream;
 use resp_print::live::LiveSink;
 use std::alloc::{AllocError, Global};
 use std::fs::{File, Files};
@@ -21,13 +21,14 @@ use std::random::RandomSource;
 use std::rt::Clock;
 use std::time::Duration;
 
-/// Shares one connection to a server among many clients. The contracts of [`resp_proxy::Proxy`] state
-/// which bytes go where: each client gets the replies to its own commands, in order, and nothing else.
+/// Shares one connection to a server among many clients. The contracts of [`resp_proxy::Proxy`]
+/// state which bytes go where: each client gets the replies to its own commands, in order, and
+/// nothing else.
 ///
-/// A client is not read while as many of its commands wait for replies, or as many bytes wait for it, as
-/// the settings allow, nor while too many bytes wait for the server. Clients with much to do are visited
-/// in turns. If the connection to the server is lost, each command of which a byte was sent gets an
-/// error, and the others wait for the next connection. No command is sent twice.
+/// A client is not read while as many of its commands wait for replies, or as many bytes wait for
+/// it, as the settings allow, nor while too many bytes wait for the server. Clients with much to do
+/// are visited in turns. If the connection to the server is lost, each command of which a byte was
+/// sent gets an error, and the others wait for the next connection. No command is sent twice.
 #[derive(Drop)]
 pub struct ProxyServer {
     connections: Loop<Proxied>,
@@ -43,6 +44,8 @@ pub struct ProxySettings {
     pub most: usize,
     /// The most clients at once that have a connection of their own.
     pub own: usize,
+    /// The most connections to the server that clients share, one for each setting, from 1 to 256.
+    pub lines: usize,
     /// The time without a reply after which the connection to the server is given up, if a command
     /// waits. A connection that is not open after this time is given up too.
     pub patience: Duration,
@@ -50,7 +53,8 @@ pub struct ProxySettings {
     pub report: Option<Duration>,
     /// Whether the proxy ends when standard input ends.
     pub drains: bool,
-    /// The commands after which the connection to the server is checked by a probe, or 0 if it is not.
+    /// The commands after which the connection to the server is checked by a probe, or 0 if it is
+    /// not.
     pub check_every: u64,
 }
 
@@ -70,9 +74,9 @@ impl ProxyServer {
     ///
     /// # Errors
     ///
-    /// The error of the system if the address can't be opened, an error of kind `InvalidInput` if an
-    /// address of the server is the address to listen on, or an error of kind `OutOfMemory` if an
-    /// allocation fails.
+    /// The error of the system if the address can't be opened, an error of kind `InvalidInput` if
+    /// an address of the server is the address to listen on, or an error of kind `OutOfMemory` if
+    /// an allocation fails.
     pub fn listen<R: Net>(
         rt: &R,
         alloc: Global,
@@ -107,14 +111,14 @@ impl ProxyServer {
         self.connections.address()
     }
 
-    /// Serves all clients until waiting for them fails, or until `input`, which is standard input, has ended
-    /// and the last client was closed, if the settings ask for that. Prints on standard error when the server is
-    /// connected and lost.
+    /// Serves all clients until waiting for them fails, or until `input`, which is standard input,
+    /// has ended and the last client was closed, if the settings ask for that. Prints on standard
+    /// error when the server is connected and lost.
     ///
     /// # Errors
     ///
-    /// The error of that wait, an error of the system if standard output can't be used, or an error of
-    /// kind `OutOfMemory` if the first allocation fails.
+    /// The error of that wait, an error of the system if standard output can't be used, or an error
+    /// of kind `OutOfMemory` if the first allocation fails.
     pub fn run<
         R: Net + Clock + Eprint + RandomSource + Files<File = File>,
         I: Read + Drop,
@@ -155,7 +159,7 @@ impl<R: Net + Clock + Eprint + RandomSource, I: Read + Drop, W: LiveSink> Servic
     for Relaying<'_, R, I, W> {
     fn admit(
         &mut self,
-        client: TcpStream,
+        client: Stream,
         registry: &Registry,
         tokens: Tokens,
     ) -> io::Result<Proxied> {
@@ -173,9 +177,7 @@ impl<R: Net + Clock + Eprint + RandomSource, I: Read + Drop, W: LiveSink> Servic
     }
 
     fn visit(&mut self, connection: &mut Proxied, registry: &Registry, cause: Cause) -> Next {
-        let next = self.relay.visit(self.rt, connection, registry, cause);
-        self.relay.send_eagerly(self.rt);
-        next
+        self.relay.visit(self.rt, connection, registry, cause)
     }
 
     fn close(&mut self, connection: Proxied) {
@@ -203,7 +205,7 @@ impl<R: Net + Clock + Eprint + RandomSource, I: Read + Drop, W: LiveSink> Servic
         }
         self.relay.work(self.rt, registry);
         if let Some(report) = &mut self.report {
-            report.go_on(self.relay.now(), self.relay.proxy(), self.out);
+            report.go_on(self.relay.now(), self.relay.numbers(), self.out);
         }
         Ok(())
     }
@@ -216,8 +218,8 @@ impl<R: Net + Clock + Eprint + RandomSource, I: Read + Drop, W: LiveSink> Servic
         }
     }
 
-    fn ready(&mut self, is_at_end: bool) {
-        self.relay.ready(self.rt, is_at_end);
+    fn ready(&mut self, number: usize, is_at_end: bool) {
+        self.relay.ready(self.rt, number, is_at_end);
     }
 
     fn next_due(&mut self) -> Option<usize> {

@@ -1,6 +1,6 @@
 //! Sockets of connections in the registry of the loop.
 
-use mio::net::TcpStream;
+use crate::stream::Stream;
 use mio::{Interest, Registry, Token};
 use std::io;
 
@@ -9,11 +9,7 @@ use std::io;
 /// # Errors
 ///
 /// The error of the system.
-pub(crate) fn register(
-    stream: &mut TcpStream,
-    registry: &Registry,
-    token: Token,
-) -> io::Result<()> {
-    stream.set_nodelay(true)?;
+pub(crate) fn register(stream: &mut Stream, registry: &Registry, token: Token) -> io::Result<()> {
+    stream.send_at_once()?;
     registry.register(stream, token, Interest::READABLE | Interest::WRITABLE)
 }

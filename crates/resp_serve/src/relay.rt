@@ -1,18 +1,19 @@
 //! The proxy with its connections: what it does with a client, and with the server.
 
 use crate::backend::Backend;
+use crate::channel::{Channel, NOT_CONNECTED};
 use crate::connection::refuse;
 use crate::lane::PIECE;
 use crate::proxied::{Link, Proxied};
 use crate::proxying::ProxySettings;
-use crate::server_link::{Loss, ServerLink};
+use crate::server_link::ServerLink;
 use crate::service::{Cause, Next, Tokens};
-use crate::stalled::Stalled;
+use crate::spare::Spare;
+use crate::stream::Stream;
 use mio::Registry;
-use mio::net::TcpStream;
-use resp_mux::ClientId;
-use resp_proxy::{Counted, Proxy, ServerError};
+use resp_proxy::{Client, Counted, Numbers, Setting, Times};
 use std::alloc::{AllocError, Global};
+use std::collections::VecDeque;
 use std::io;
 use std::io::ErrorKind;
 use std::net::Net;
@@ -26,39 +27,30 @@ const CLIENT_PIECE: usize = PIECE;
 /// The most bytes of one read of the server.
 const SERVER_PIECE: usize = 65_536;
 
-/// If so many bytes wait for the server, they are written before the next client is visited.
-const EAGER: usize = 16_384;
+/// The time between two sums of how long replies took, in milliseconds.
+const SUMMED: u64 = 100;
 
-/// The reply to the commands that wait while there is no connection, if the reason does not fit into
-/// memory.
-const NOT_CONNECTED: &[u8] = b"-ERR cannot connect to server\r\n";
-
-/// The proxy, the connection to the server, and the places of the clients' connections.
+/// The proxies of all settings, their connections to the server, and the clients that move between
+/// them.
 #[derive(Drop)]
 pub(crate) struct Relay {
     pub(crate) alloc: Global,
-    proxy: Proxy,
     pub(crate) settings: ProxySettings,
-    link: ServerLink,
-    /// The place of the connection of each client that shares one, by the place of the client's id.
-    places: Vec<usize>,
+    /// The settings that clients are in. In the first one every client begins.
+    pub(crate) channels: Vec<Channel>,
+    /// The commands that each of them admits although the table does not have them.
+    pub(crate) also: Vec<Vec<u8>>,
+    /// The numbers of settings that are not in use any more.
+    pub(crate) gone: Numbers,
+    /// The clients that wait for a connection in another setting, and for each the time at which it
+    /// is given up and its place. Those that wait no more may be among them.
+    pub(crate) moving: u64,
+    pub(crate) moves: VecDeque<(Duration, usize)>,
+    /// The time of the next sum of how long replies took.
+    summed: Duration,
+    times: Times,
     /// The places of all connections are less than this number.
     end: usize,
-    stalled: Stalled,
-    /// The next client that got a reply which was not written.
-    next: Option<ClientId>,
-    /// A client that is closed at its next visit, because memory is out.
-    condemned: Option<ClientId>,
-    /// That client, until its place was named.
-    named: Option<ClientId>,
-    /// Whether the connection was lost, and commands that it had begun still wait for a reply.
-    is_losing: bool,
-    /// Whether it was lost because a reply to a probe was wrong.
-    is_out_of_step: bool,
-    /// The commands that were queued since the last probe.
-    unprobed: u64,
-    /// The reply to commands that wait while there is no connection.
-    failure: Vec<u8>,
     /// The places up to this one were named since the relay began to drain, or `None` before that.
     drained: Option<usize>,
     client_buffer: [u8; CLIENT_PIECE],
@@ -66,9 +58,16 @@ pub(crate) struct Relay {
 }
 
 impl Relay {
-    /// Admits a command of this name, as [`Proxy::admit`] does.
+    /// Admits a command of this name, as [`resp_proxy::Proxy::admit`] does.
     pub(crate) fn admit(&mut self, name: &[u8]) -> Result<(), AllocError> {
-        self.proxy.admit(name)
+        let copy = name.to_vec(self.alloc)?;
+        if self.also.push(copy).is_err() {
+            return Err(AllocError);
+        }
+        for channel in &mut self.channels {
+            channel.proxy.admit(name)?;
+        }
+        Ok(())
     }
 
     /// Returns a relay without clients, before the first attempt to connect to the server.
@@ -83,25 +82,25 @@ impl Relay {
         login: Vec<u8>,
         settings: ProxySettings,
     ) -> Result<Self, AllocError> {
-        let mut proxy = Proxy::new(alloc, settings.proxy)?;
-        if settings.check_every > 0 && proxy.open_prober().is_err() {
+        let setting = Setting::first(alloc)?;
+        let spare = Spare::new(net);
+        let link = ServerLink::new(alloc, backend, 0, setting, login, settings.patience, spare);
+        let first = Channel::new(alloc, link, String::new(alloc), &settings)?;
+        let mut channels = Vec::new(alloc);
+        if channels.push(first).is_err() {
             return Err(AllocError);
         }
         Ok(Relay {
             alloc,
-            proxy,
             settings,
-            link: ServerLink::new(net, alloc, backend, login, settings.patience),
-            places: Vec::new(alloc),
+            channels,
+            also: Vec::new(alloc),
+            gone: Numbers::default(),
+            moving: 0,
+            moves: VecDeque::new(alloc),
+            summed: Duration::from_millis(0),
+            times: Times::default(),
             end: 0,
-            stalled: Stalled::new(alloc),
-            next: None,
-            condemned: None,
-            named: None,
-            is_losing: false,
-            is_out_of_step: false,
-            unprobed: 0,
-            failure: Vec::new(alloc),
             drained: None,
             client_buffer: [0; CLIENT_PIECE],
             server_buffer: [0; SERVER_PIECE],
@@ -113,30 +112,50 @@ impl Relay {
     /// # Errors
     ///
     /// An error of kind `OutOfMemory`. The socket is closed.
-    pub(crate) fn open(&mut self, stream: TcpStream, tokens: Tokens) -> io::Result<Proxied> {
-        let Ok(client) = self.proxy.open() else {
+    pub(crate) fn open(&mut self, stream: Stream, tokens: Tokens) -> io::Result<Proxied> {
+        let Some(first) = self.channels.first_mut() else {
             return Err(ErrorKind::OutOfMemory.into());
         };
-        if set_at(&mut self.places, client.id().place, tokens.place).is_err() {
-            self.proxy.close(client);
+        let Some(client) = first.open(tokens.place) else {
             return Err(ErrorKind::OutOfMemory.into());
-        }
+        };
         self.end = self.end.max(tokens.place.saturating_add(1));
         Ok(Proxied::new(stream, tokens, client))
     }
 
     /// Closes the client of a connection, and returns the socket.
-    pub(crate) fn close(&mut self, connection: Proxied) -> TcpStream {
-        let (stream, link) = connection.into_parts();
-        match link {
-            Link::Shared(client) => self.proxy.close(client),
-            Link::Own(_) | Link::Closed => self.proxy.count(Counted::OwnClosed),
-        }
-        stream
+    pub(crate) fn close(&mut self, connection: Proxied) -> Stream {
+        let mut connection = connection;
+        self.end(connection.take_link());
+        connection.into_stream()
     }
 
-    /// Begins to end: nothing more is read from clients, and each is closed when its commands have their
-    /// replies.
+    /// Closes a client by its link.
+    fn end(&mut self, link: Link) {
+        match link {
+            Link::Shared(number, client) => self.close_shared(number, client),
+            Link::Moving(moving) => self.end_move(moving.from),
+            Link::Own(_own) => self.count(Counted::OwnClosed),
+            Link::Closed => {}
+        }
+    }
+
+    /// Closes a client that shares the connection of the setting of this number.
+    fn close_shared(&mut self, number: usize, client: Client) {
+        if let Some(channel) = self.channels.get_mut(number) {
+            channel.close(client);
+        }
+    }
+
+    /// Counts in the first setting.
+    pub(crate) fn count(&mut self, counted: Counted) {
+        if let Some(first) = self.channels.first_mut() {
+            first.proxy.count(counted);
+        }
+    }
+
+    /// Begins to end: nothing more is read from clients, and each is closed when its commands have
+    /// their replies.
     pub(crate) fn drain(&mut self) {
         if self.drained.is_none() {
             self.drained = Some(0);
@@ -150,82 +169,100 @@ impl Relay {
 
     /// Returns the current time.
     pub(crate) fn now(&self) -> Duration {
-        self.link.now()
+        match self.channels.first() {
+            Some(first) => first.link.now(),
+            None => Duration::from_millis(0),
+        }
     }
 
-    /// Returns the proxy.
-    pub(crate) fn proxy(&self) -> &Proxy {
-        &self.proxy
+    /// Returns the numbers of all settings, and how long replies took.
+    pub(crate) fn numbers(&self) -> (Numbers, Times) {
+        match self.channels.first() {
+            Some(first) => (first.proxy.all_numbers(), first.proxy.times()),
+            None => (Numbers::default(), Times::default()),
+        }
     }
 
     /// Reads and writes the sockets of a client.
-    pub(crate) fn visit<R: Net + RandomSource>(
+    pub(crate) fn visit<R: Net + Eprint + RandomSource>(
         &mut self,
         rt: &R,
         connection: &mut Proxied,
         registry: &Registry,
         cause: Cause,
     ) -> Next {
-        if self.condemned.is_some() && self.condemned == connection.id() {
-            self.condemned = None;
-            return Next::Close;
-        }
         connection.note(cause);
         if self.is_draining() {
-            connection.shut(&mut self.proxy);
+            connection.shut_own();
         }
-        let (login, is_at_end) = (self.link.login(), cause.is_at_end());
-        match connection.forward(login, is_at_end, &mut self.client_buffer) {
+        match connection.forward(cause.is_at_end(), &mut self.client_buffer) {
             Ok(Some(next)) => return next,
             Ok(None) => {}
             Err(error) => return self.give_up(connection, &error),
         }
-        let own = self.proxy.numbers().own;
-        self.proxy.admit_own(own < self.settings.own as u64);
-        let before = self.proxy.waiting();
-        let next = connection.visit(&mut self.proxy, &mut self.client_buffer);
-        let queued = self.proxy.waiting().saturating_sub(before);
-        self.proxy.count(Counted::Queued(queued, self.link.now()));
-        if self.settings.check_every > 0 {
-            self.probe(rt, queued);
+        if connection.seat().is_some() {
+            return self.visit_shared(rt, connection, registry);
         }
-        if connection.leaves(&self.proxy) {
-            return self.leave(rt, connection, registry);
+        match connection.take_move() {
+            Some(moving) => self.go_on_moving(rt, connection, registry, moving),
+            None => Next::Close,
         }
-        if next == Next::Wait && connection.waits_for_room() && self.is_line_full() {
-            return self.stall(connection);
+    }
+
+    /// Reads and writes the socket of a client that shares a connection.
+    fn visit_shared<R: Net + Eprint + RandomSource>(
+        &mut self,
+        rt: &R,
+        connection: &mut Proxied,
+        registry: &Registry,
+    ) -> Next {
+        let Some((number, who)) = connection.seat() else {
+            return Next::Close;
+        };
+        let (is_draining, may_leave) = (self.is_draining(), self.may_leave());
+        let Some(channel) = self.channels.get_mut(number) else {
+            return Next::Close;
+        };
+        if channel.is_condemned(who) {
+            return Next::Close;
+        }
+        if is_draining {
+            connection.shut(&mut channel.proxy);
+        }
+        channel.proxy.admit_own(may_leave);
+        let before = channel.proxy.waiting();
+        let next = connection.visit(&mut channel.proxy, &mut self.client_buffer);
+        let queued = channel.proxy.waiting().saturating_sub(before);
+        channel.note_queued(rt, queued, self.settings.check_every);
+        channel.send_eagerly(rt);
+        if connection.leaves(&channel.proxy) {
+            return self.leave(rt, connection, registry, number);
+        }
+        let is_full = channel.is_full(self.settings.proxy.unsent);
+        if next == Next::Wait && connection.waits_for_room() && is_full {
+            return match channel.stall(connection.place()) {
+                Ok(()) => Next::Wait,
+                Err(AllocError) => Next::Close,
+            };
         }
         next
     }
 
-    /// Queues a probe if enough commands were queued since the last one, and these. If there is no memory or no
-    /// random word for it, a later call tries again.
-    fn probe(&mut self, random: &impl RandomSource, queued: usize) {
-        self.unprobed = self.unprobed.saturating_add(queued as u64);
-        if self.unprobed < self.settings.check_every {
-            return;
-        }
-        let mut bytes = [0; 16];
-        if random.fill_bytes(&mut bytes).is_err() {
-            return;
-        }
-        if self.proxy.probe(&word_of(bytes)).is_ok() {
-            self.unprobed = 0;
-            self.proxy.count(Counted::Queued(1, self.link.now()));
-        }
+    /// Returns whether a client may get another connection.
+    fn may_leave(&self) -> bool {
+        self.settings.lines > 1 || self.may_give_own()
     }
 
-    /// Gives a client a connection of its own.
-    fn leave(&mut self, net: &impl Net, connection: &mut Proxied, registry: &Registry) -> Next {
-        let backend = self.link.backend();
-        match connection.leave(&mut self.proxy, net, self.alloc, backend, registry) {
-            Ok(()) => Next::Wait,
-            Err(error) => self.give_up(connection, &error),
+    /// Returns whether a client may get a connection of its own.
+    pub(crate) fn may_give_own(&self) -> bool {
+        match self.channels.first() {
+            Some(first) => first.proxy.numbers().own < self.settings.own as u64,
+            None => false,
         }
     }
 
     /// Tells a client that it gets no connection of its own, and why.
-    fn give_up(&self, connection: &Proxied, error: &io::Error) -> Next {
+    pub(crate) fn give_up(&self, connection: &Proxied, error: &io::Error) -> Next {
         let reply = format!(in self.alloc; "-ERR cannot connect to server: {error}\r\n");
         match &reply {
             Ok(reply) => refuse(connection.stream(), reply.as_str().as_bytes()),
@@ -234,36 +271,35 @@ impl Relay {
         Next::Close
     }
 
-    /// Visits a connection again when fewer bytes wait for the server.
-    fn stall(&mut self, connection: &Proxied) -> Next {
-        match self.stalled.add(connection.place()) {
-            Ok(()) => Next::Wait,
-            Err(AllocError) => Next::Close,
-        }
-    }
-
-    /// Returns whether more bytes wait for the server than a client's command may wait behind.
-    fn is_line_full(&self) -> bool {
-        self.proxy.unsent() > self.settings.proxy.unsent
-    }
-
-    /// Returns the place of the connection of a client.
-    fn place_of(&self, who: ClientId) -> Option<usize> {
-        self.places.get(who.place).copied()
-    }
-
     /// Returns the place of the next connection whose client got a reply or room.
     pub(crate) fn next_due(&mut self) -> Option<usize> {
-        if let Some(who) = self.next_replied() {
-            return self.place_of(who);
+        for channel in &mut self.channels {
+            if let Some(place) = channel.next_replied_place() {
+                return Some(place);
+            }
+        }
+        if let Some(place) = self.next_late() {
+            return Some(place);
         }
         if let Some(place) = self.next_to_drain() {
             return Some(place);
         }
-        if self.is_line_full() {
+        for channel in &mut self.channels {
+            if let Some(place) = channel.next_stalled_place(self.settings.proxy.unsent) {
+                return Some(place);
+            }
+        }
+        None
+    }
+
+    /// Returns the place of the next client that has waited too long for a connection.
+    fn next_late(&mut self) -> Option<usize> {
+        let (until, place) = *self.moves.front()?;
+        if until > self.now() {
             return None;
         }
-        self.stalled.next()
+        let _ = self.moves.pop_front();
+        Some(place)
     }
 
     /// Returns whether a place was not named since the relay began to drain.
@@ -281,246 +317,102 @@ impl Relay {
         Some(place)
     }
 
-    /// Returns the next client that got a reply which was not written.
-    fn next_replied(&mut self) -> Option<ClientId> {
-        self.next
-            .take()
-            .or_else(|| self.named.take())
-            .or_else(|| self.next_noted())
-    }
-
-    /// Returns the next client that was replied to, which is not the proxy's own.
-    fn next_noted(&mut self) -> Option<ClientId> {
-        for _ in 0..u64::MAX {
-            let who = self.proxy.next_replied()?;
-            if !self.proxy.is_prober(who) {
-                return Some(who);
-            }
-        }
-        None
-    }
-
     /// Returns the longest time of the next wait.
     pub(crate) fn patience(&self) -> Option<Duration> {
-        let has_stalled = !self.stalled.is_empty() && !self.is_line_full();
-        if self.next.is_some() || has_stalled || self.is_losing || self.has_to_drain() {
+        if self.has_to_drain() {
             return Some(Duration::from_millis(0));
         }
-        self.link.patience(self.proxy.waiting() > 0)
+        let mut shortest = match self.moves.front() {
+            Some((until, _)) => Some(until.saturating_sub(self.now())),
+            None => None,
+        };
+        for channel in &self.channels {
+            if channel.has_work(self.settings.proxy.unsent) {
+                return Some(Duration::from_millis(0));
+            }
+            shortest = shorter(shortest, channel.patience());
+        }
+        shortest
     }
 
-    /// Reads and writes the socket of the server after it became ready.
-    pub(crate) fn ready<R: Net + Clock + Eprint>(&mut self, rt: &R, is_at_end: bool) {
+    /// Reads and writes the socket of the server with this number after it became ready.
+    pub(crate) fn ready<R: Net + Clock + Eprint>(
+        &mut self,
+        rt: &R,
+        number: usize,
+        is_at_end: bool,
+    ) {
         self.look_at_clock(rt);
-        self.link.note_ready(is_at_end);
-        self.exchange(rt);
+        if let Some(channel) = self.channels.get_mut(number) {
+            channel.link.note_ready(is_at_end);
+            channel.exchange(rt, &mut self.server_buffer);
+        }
     }
 
     /// Notes the current time, if the clock can be read.
     fn look_at_clock(&mut self, clock: &impl Clock) {
         if let Ok(now) = clock.monotonic() {
-            self.link.set_now(now);
-        }
-    }
-
-    /// Writes commands if many bytes wait for the server.
-    pub(crate) fn send_eagerly<R: Net + Eprint>(&mut self, rt: &R) {
-        if self.proxy.unsent() >= EAGER {
-            if let Err(loss) = self.link.send(&mut self.proxy) {
-                self.lose(rt, loss);
+            for channel in &mut self.channels {
+                channel.link.set_now(now);
             }
         }
     }
 
-    /// Writes the commands that wait for the server, reads replies, and connects to the server if there
-    /// is no connection.
+    /// Writes the commands that wait for the server, reads replies, and connects to the server
+    /// where there is no connection.
     pub(crate) fn work<R: Net + Clock + Eprint>(&mut self, rt: &R, registry: &Registry) {
         self.look_at_clock(rt);
-        self.finish_connecting(rt);
-        self.exchange(rt);
-        if let Err(loss) = self.link.judge(self.proxy.waiting() > 0) {
-            self.lose(rt, loss);
+        for channel in &mut self.channels {
+            channel.work(rt, registry, &mut self.server_buffer);
         }
-        self.finish_losing();
-        self.connect(rt, registry);
-        if self.link.is_down() {
-            self.fail();
-        }
-        self.next = self.next_replied();
+        self.share_numbers();
     }
 
-    /// Reads replies of the server, and writes commands to it.
-    fn exchange<R: Net + Eprint>(&mut self, rt: &R) {
-        let before = self.proxy.waiting();
-        let exchanged = self.link.exchange(&mut self.proxy, &mut self.server_buffer);
-        let replied = before.saturating_sub(self.proxy.waiting());
-        if replied > 0 {
-            self.proxy.count(Counted::Replied(replied, self.link.now()));
+    /// Tells each setting the numbers of the others.
+    fn share_numbers(&mut self) {
+        let mut all = self.gone;
+        all.clients = all.clients.saturating_add(self.moving);
+        for channel in &self.channels {
+            all = all.plus(channel.numbers());
         }
-        if let Err(loss) = exchanged {
-            self.lose(rt, loss);
+        if self.summed <= self.now() && self.settings.lines > 1 {
+            self.summed = self.now().saturating_add(Duration::from_millis(SUMMED));
+            self.times = times_of(&mut self.channels);
         }
-    }
-
-    /// Begins to connect to the server if there is no connection and the pause is over.
-    fn connect<R: Net + Eprint>(&mut self, rt: &R, registry: &Registry) {
-        if self.is_losing {
-            return;
+        let times = self.times;
+        for channel in &mut self.channels {
+            let others = all.minus(channel.numbers());
+            channel.set_others(others, times);
         }
-        if let Err(error) = self.link.connect(rt, registry) {
-            self.tell_failure(rt, &error);
-        }
-    }
-
-    /// Notes whether the connection that was begun is open.
-    fn finish_connecting(&mut self, log: &impl Eprint) {
-        match self.link.finish_connecting() {
-            Ok(false) => {}
-            Ok(true) => {
-                self.failure = Vec::new(self.alloc);
-                self.proxy.count(Counted::Connected);
-                let _ = log.eprintln("server connected");
-            }
-            Err(error) => self.tell_failure(log, &error),
-        }
-    }
-
-    /// Prints why no connection to the server was opened, if that was not the reason before.
-    fn tell_failure(&mut self, log: &impl Eprint, error: &io::Error) {
-        let reply = format!(in self.alloc; "-ERR cannot connect to server: {error}\r\n");
-        if self.has_failure(reply) {
-            return;
-        }
-        match format!(in self.alloc; "cannot connect to server: {error}") {
-            Ok(line) => {
-                let _ = log.eprintln(line.as_str());
-            }
-            Err(_) => {
-                let _ = log.eprintln("cannot connect to server");
-            }
-        }
-    }
-
-    /// Sets the reply to the commands that wait while there is no connection, and returns whether it was
-    /// this one before. Without memory the reply has no reason.
-    fn has_failure(&mut self, reply: Result<String, AllocError>) -> bool {
-        let reply = match reply {
-            Ok(reply) => reply.into_bytes(),
-            Err(_) => Vec::new(self.alloc),
-        };
-        let is_same = reply.as_slice() == self.failure.as_slice();
-        self.failure = reply;
-        is_same
-    }
-
-    /// Prints that the connection to the server was lost, and replies to the commands that it had
-    /// begun.
-    fn lose<R: Net + Eprint>(&mut self, rt: &R, loss: Loss) {
-        // Otherwise a client that waits gets the descriptor of the lost connection.
-        self.link.keep_spare(rt);
-        let reply = format!(in self.alloc; "-ERR cannot connect to server: {loss}\r\n");
-        let _ = self.has_failure(reply);
-        match format!(in self.alloc; "server lost: {loss}") {
-            Ok(line) => {
-                let _ = rt.eprintln(line.as_str());
-            }
-            Err(_) => {
-                let _ = rt.eprintln("server lost");
-            }
-        }
-        self.is_losing = true;
-        self.is_out_of_step = loss == Loss::Server(ServerError::OutOfStep);
-        self.finish_losing();
-    }
-
-    /// Replies to the commands that a lost connection had begun. Without memory the client of the first
-    /// command is closed, and the next call goes on.
-    fn finish_losing(&mut self) {
-        if !self.is_losing {
-            return;
-        }
-        let before = self.proxy.waiting();
-        let lost = if self.is_out_of_step {
-            self.proxy.lose_out_of_step()
-        } else {
-            self.proxy.lose()
-        };
-        self.proxy.settle_probes();
-        self.count_failed(before);
-        match lost {
-            Ok(()) => self.is_losing = false,
-            Err(AllocError) => self.condemn(),
-        }
-    }
-
-    /// Replies to all commands that wait, since there is no connection.
-    fn fail(&mut self) {
-        if self.is_losing || self.proxy.waiting() == 0 {
-            return;
-        }
-        let before = self.proxy.waiting();
-        let failed = self.proxy.fail(or_not_connected(&self.failure));
-        self.proxy.settle_probes();
-        self.count_failed(before);
-        if failed.is_err() {
-            // The commands that still wait count as begun now.
-            self.is_losing = true;
-            self.condemn();
-        }
-    }
-
-    /// Counts the commands by which the number of commands that wait has fallen, since they failed.
-    fn count_failed(&mut self, before: usize) {
-        let failed = before.saturating_sub(self.proxy.waiting());
-        self.proxy.count(Counted::Failed(failed));
     }
 
     /// Counts a client that was rejected.
     pub(crate) fn reject(&mut self) {
-        self.proxy.count(Counted::Rejected);
-    }
-
-    /// Closes the client of the first command at its next visit, which is soon.
-    fn condemn(&mut self) {
-        self.condemned = self.proxy.next_client();
-        self.named = self.condemned;
+        self.count(Counted::Rejected);
     }
 }
 
-/// Returns the reply to commands that wait while there is no connection.
-fn or_not_connected(failure: &[u8]) -> &[u8] {
-    if failure.is_empty() {
-        NOT_CONNECTED
-    } else {
-        failure
+/// Counts the times of all settings in the first one, and returns them.
+fn times_of(channels: &mut [Channel]) -> Times {
+    match channels.split_first_mut() {
+        Some((first, others)) => sum_times(first, others),
+        None => Times::default(),
     }
 }
 
-/// Returns the digits of these bytes.
-fn word_of(bytes: [u8; 16]) -> [u8; 32] {
-    let mut word = [0; 32];
-    for index in 0..16 {
-        word[2 * index] = digit(bytes[index] / 16);
-        word[2 * index + 1] = digit(bytes[index] % 16);
+/// Counts the times of other settings in this one, and returns the times of all.
+fn sum_times(first: &mut Channel, others: &mut [Channel]) -> Times {
+    for channel in others {
+        first.proxy.take_times(&mut channel.proxy);
     }
-    word
+    first.proxy.times()
 }
 
-/// Returns the hexadecimal digit of a number.
-fn digit(number: u8) -> u8 {
-    if number < 10 {
-        number + b'0'
-    } else {
-        (number - 10) % 26 + b'a'
+/// Returns the shorter of two times, if there are some.
+fn shorter(one: Option<Duration>, other: Option<Duration>) -> Option<Duration> {
+    match (one, other) {
+        (Some(one), Some(other)) => Some(one.min(other)),
+        (Some(time), None) | (None, Some(time)) => Some(time),
+        (None, None) => None,
     }
-}
-
-/// Sets the value at an index, after making the list long enough.
-fn set_at(list: &mut Vec<usize>, index: usize, value: usize) -> Result<(), AllocError> {
-    let length = index.checked_add(1).ok_or(AllocError)?;
-    if list.len() < length {
-        list.resize(length, 0)?;
-    }
-    list[index] = value;
-    Ok(())
 }

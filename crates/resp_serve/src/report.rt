@@ -2,7 +2,7 @@
 
 use crate::terminal::Terminal;
 use resp_print::live::LiveSink;
-use resp_proxy::{Numbers, Proxy, Times};
+use resp_proxy::{Numbers, Times};
 use std::alloc::{AllocError, Global};
 use std::fs::{File, Files};
 use std::io;
@@ -49,13 +49,18 @@ impl Report {
     }
 
     /// Prints a line if it is time for one.
-    pub(crate) fn go_on<W: LiveSink>(&mut self, now: Duration, proxy: &Proxy, out: &mut W) {
+    pub(crate) fn go_on<W: LiveSink>(
+        &mut self,
+        now: Duration,
+        numbers: (Numbers, Times),
+        out: &mut W,
+    ) {
         if now < self.next {
             return;
         }
         self.next = now.saturating_add(self.every);
         if self.rest.is_empty() {
-            match line_of(self.alloc, proxy) {
+            match line_of(self.alloc, numbers) {
                 Ok(line) => self.rest = line,
                 Err(AllocError) => return,
             }
@@ -68,8 +73,8 @@ impl Report {
 }
 
 /// Returns the line with the numbers of a proxy.
-fn line_of(alloc: Global, proxy: &Proxy) -> Result<Vec<u8>, AllocError> {
-    let (waiting, unsent) = (proxy.waiting(), proxy.unsent());
+fn line_of(alloc: Global, numbers: (Numbers, Times)) -> Result<Vec<u8>, AllocError> {
+    let (numbers, times) = numbers;
     let Numbers {
         clients,
         accepted,
@@ -78,14 +83,17 @@ fn line_of(alloc: Global, proxy: &Proxy) -> Result<Vec<u8>, AllocError> {
         commands,
         failed,
         connections,
-    } = proxy.numbers();
+        waiting,
+        unsent,
+        lines,
+    } = numbers;
     let Times {
         median,
         percentile_99,
         most,
-    } = proxy.times();
+    } = times;
     let line = format!(in alloc;
-        "clients {clients} accepted {accepted} rejected {rejected} own {own} commands {commands} waiting {waiting} failed {failed} unsent {unsent} connections {connections} p50 {median} p99 {percentile_99} max {most}\n"
+        "clients {clients} accepted {accepted} rejected {rejected} own {own} commands {commands} waiting {waiting} failed {failed} unsent {unsent} connections {connections} lines {lines} p50 {median} p99 {percentile_99} max {most}\n"
     )?;
     Ok(line.into_bytes())
 }

@@ -4,8 +4,8 @@ use crate::connection::{Connection, Room};
 use crate::event_loop::Loop;
 use crate::register::register;
 use crate::service::{Cause, Next, Service, Tokens};
+use crate::stream::Stream;
 use mio::Registry;
-use mio::net::TcpStream;
 use resp_server::Hub;
 use resp_value::limits::Limits;
 use std::alloc::Global;
@@ -83,7 +83,7 @@ impl<S: BuildHasher + Drop> Server<S> {
 impl<S: BuildHasher + Drop> Service<Connection> for Replies<S> {
     fn admit(
         &mut self,
-        client: TcpStream,
+        client: Stream,
         registry: &Registry,
         tokens: Tokens,
     ) -> io::Result<Connection> {

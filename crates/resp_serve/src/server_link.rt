@@ -3,17 +3,17 @@
 ghost use Rattle.std.specs.Prelude.{◌<◌, length};
 
 use crate::backend::{Attempt, Backend};
-use crate::login::{Login, Progress};
+use crate::entry::{Entry, Progress};
 use crate::non_blocking::{Input, Output, is_open};
 use crate::register::register;
 use crate::retry::next_pause;
-use crate::service::OWN_SOCKET;
+use crate::service::token_of;
 use crate::spare::Spare;
-use mio::Registry;
-use mio::net::TcpStream;
-use resp_proxy::{Proxy, ServerError, Written};
+use crate::stream::Stream;
+use mio::{Interest, Registry, Token};
+use resp_proxy::{Proxy, ServerError, Setting, Written};
 use resp_value::device::Device;
-use std::alloc::Global;
+use std::alloc::{AllocError, Global};
 use std::io::ErrorKind;
 use std::net::Net;
 use std::time::Duration;
@@ -25,6 +25,9 @@ const TURNS: usize = 16;
 
 /// Why no connection was opened, if the server rejected AUTH.
 pub(crate) const REJECTED: &str = "the server rejected AUTH";
+
+/// Why no connection was opened, if the server rejected a command of another setting.
+pub(crate) const REFUSED: &str = "the server rejected AUTH, HELLO or SELECT";
 
 /// Why no connection was opened, if the server closed it during the login.
 pub(crate) const CLOSED: &str = "closed during AUTH";
@@ -58,14 +61,14 @@ enum State {
     },
     /// A connection was begun at this time.
     Opening {
-        stream: TcpStream,
+        stream: Stream,
         since: Duration,
     },
     /// The proxy logs in over the connection that was begun at this time.
     Greeting {
-        stream: TcpStream,
+        stream: Stream,
         since: Duration,
-        login: Login,
+        entry: Entry,
     },
     /// The connection is open.
     Open(Line),
@@ -87,13 +90,13 @@ enum Stage {
 /// An open connection to the server.
 #[derive(Drop)]
 struct Line {
-    stream: TcpStream,
+    stream: Stream,
     /// Whether a read may return bytes.
     may_read: bool,
     /// Whether the input may have ended.
     is_at_end: bool,
-    /// Whether a reply has come over this connection, and whether one has come since the last look at
-    /// the time.
+    /// Whether a reply has come over this connection, and whether one has come since the last look
+    /// at the time.
     has_replied: bool,
     replied: bool,
     /// Whether a command waited at the last look at the time.
@@ -109,8 +112,14 @@ pub(crate) struct ServerLink {
     backend: Backend,
     /// The attempt to connect that is made, or is made next.
     attempt: Attempt,
-    /// The command that logs in to the server, or no byte.
+    /// The number of the socket.
+    number: usize,
+    /// The setting of the connection.
+    setting: Setting,
+    /// The command AUTH of the proxy's own user, or no byte.
     login: Vec<u8>,
+    /// The reply of the server to HELLO, or no byte.
+    hello: Vec<u8>,
     patience: Duration,
     spare: Spare,
     state: State,
@@ -121,23 +130,28 @@ pub(crate) struct ServerLink {
 }
 
 impl ServerLink {
-    /// Returns a link to a server, before the first attempt to connect to it. `login` is the command that
-    /// logs in to the server, or empty.
+    /// Returns a link to a server, before the first attempt to connect to it. `login` is the
+    /// command AUTH of the proxy's own user, or empty, and `number` is that of the socket.
     pub(crate) fn new(
-        net: &impl Net,
         alloc: Global,
         backend: Backend,
+        number: usize,
+        setting: Setting,
         login: Vec<u8>,
         patience: Duration,
+        spare: Spare,
     ) -> Self {
         let attempt = backend.first();
         ServerLink {
             alloc,
             backend,
             attempt,
+            number,
+            setting,
             login,
+            hello: Vec::new(alloc),
             patience,
-            spare: Spare::new(net),
+            spare,
             state: State::Down {
                 until: Duration::from_millis(0),
             },
@@ -146,12 +160,68 @@ impl ServerLink {
         }
     }
 
+    /// Returns the setting of the connection.
+    pub(crate) fn setting(&self) -> &Setting {
+        &self.setting
+    }
+
+    /// Sets the setting with which the next connection is opened. It differs by its password at
+    /// most.
+    pub(crate) fn set_setting(&mut self, setting: Setting) {
+        self.setting = setting;
+    }
+
+    /// Returns the reply of the server to HELLO, or no byte.
+    pub(crate) fn hello(&self) -> &[u8] {
+        &self.hello
+    }
+
+    /// Returns whether the connection is open.
+    pub(crate) fn is_open(&self) -> bool {
+        matches!(self.state, State::Open(_))
+    }
+
+    /// Uses a connection that another opened in this setting, if none is open. `hello` is the reply
+    /// to HELLO over it.
+    ///
+    /// # Errors
+    ///
+    /// The error of the system. The connection is closed.
+    pub(crate) fn adopt(
+        &mut self,
+        stream: Stream,
+        hello: Vec<u8>,
+        registry: &Registry,
+    ) -> io::Result<()> {
+        let mut stream = stream;
+        let interests = Interest::READABLE | Interest::WRITABLE;
+        registry.reregister(&mut stream, token_of(self.number), interests)?;
+        self.hello = hello;
+        self.state = State::Open(Line::new(stream, self.now));
+        Ok(())
+    }
+
+    /// Closes the connection, and opens none again before [`ServerLink::connect`].
+    pub(crate) fn close(&mut self) {
+        self.pause = 0;
+        self.state = State::Down { until: self.now };
+    }
+
+    /// Returns the entry of a new connection into the setting.
+    ///
+    /// # Errors
+    ///
+    /// `AllocError` if an allocation fails.
+    pub(crate) fn entry(&self) -> Result<Entry, AllocError> {
+        Entry::new(self.alloc, &self.setting, &self.login)
+    }
+
     /// Returns the server.
     pub(crate) fn backend(&self) -> &Backend {
         &self.backend
     }
 
-    /// Returns the command that logs in to the server, or no byte.
+    /// Returns the command AUTH of the proxy's own user, or no byte.
     pub(crate) fn login(&self) -> &[u8] {
         &self.login
     }
@@ -176,8 +246,8 @@ impl ServerLink {
         matches!(self.state, State::Down { .. })
     }
 
-    /// Returns the time until the link has work to do although its socket is not ready. `waits` says
-    /// whether a command waits for a reply.
+    /// Returns the time until the link has work to do although its socket is not ready. `waits`
+    /// says whether a command waits for a reply.
     pub(crate) fn patience(&self, waits: bool) -> Option<Duration> {
         let until = match &self.state {
             State::Down { until } => *until,
@@ -210,7 +280,15 @@ impl ServerLink {
         if until > self.now {
             return Ok(());
         }
-        match open(&mut self.spare, net, &self.backend, self.attempt, registry) {
+        let token = token_of(self.number);
+        match open(
+            &mut self.spare,
+            net,
+            &self.backend,
+            self.attempt,
+            registry,
+            token,
+        ) {
             Ok((stream, attempt)) => {
                 self.attempt = attempt;
                 let since = self.now;
@@ -224,23 +302,19 @@ impl ServerLink {
         }
     }
 
-    /// Goes on to open the connection that was begun, and to log in over it. Returns whether it is open
-    /// since this call.
+    /// Goes on to open the connection that was begun, and to log in over it. Returns whether it is
+    /// open since this call.
     ///
     /// # Errors
     ///
-    /// The error of the system, an error of kind `TimedOut`, or an error of kind `PermissionDenied` if the
-    /// server rejected the login. The next attempt is made after a pause.
+    /// The error of the system, an error of kind `TimedOut`, or an error of kind `PermissionDenied`
+    /// if the server rejected the login. The next attempt is made after a pause.
     pub(crate) fn finish_connecting(&mut self) -> io::Result<bool> {
         let stage = self.stage();
         match stage {
             Ok(Stage::Closed | Stage::Waits) => Ok(false),
-            Ok(Stage::Connected) if self.login.is_empty() => {
-                self.start();
-                Ok(true)
-            }
             Ok(Stage::Connected) => {
-                self.greet();
+                self.greet()?;
                 self.finish_login()
             }
             Ok(Stage::LogsIn) => self.finish_login(),
@@ -296,10 +370,10 @@ impl ServerLink {
 
     /// Goes on to log in. Returns whether the connection is open since this call.
     fn finish_login(&mut self) -> io::Result<bool> {
-        let State::Greeting { stream, login, .. } = &mut self.state else {
+        let State::Greeting { stream, entry, .. } = &mut self.state else {
             return Ok(false);
         };
-        match login.go_on(stream, &self.login) {
+        match entry.go_on(stream) {
             Progress::Waits => Ok(false),
             Progress::Accepted => {
                 self.start();
@@ -307,7 +381,8 @@ impl ServerLink {
             }
             Progress::Rejected => {
                 self.pause();
-                Err(io::Error::new(ErrorKind::PermissionDenied, REJECTED))
+                let why = if self.number == 0 { REJECTED } else { REFUSED };
+                Err(io::Error::new(ErrorKind::PermissionDenied, why))
             }
             Progress::Failed => {
                 self.pause();
@@ -317,33 +392,43 @@ impl ServerLink {
     }
 
     /// Begins to log in over the connection that was begun.
-    fn greet(&mut self) {
+    ///
+    /// # Errors
+    ///
+    /// An error of kind `OutOfMemory` if an allocation fails. The next attempt is made after a
+    /// pause.
+    fn greet(&mut self) -> io::Result<()> {
+        let Ok(entry) = self.entry() else {
+            self.pause();
+            return Err(ErrorKind::OutOfMemory.into());
+        };
         let until = self.now;
         let state = mem::replace(&mut self.state, State::Down { until });
         if let State::Opening { stream, since } = state {
             self.state = State::Greeting {
                 stream,
                 since,
-                login: Login::new(self.alloc),
+                entry,
             };
         }
+        Ok(())
     }
 
     /// Makes the connection that was begun an open one.
     fn start(&mut self) {
         let until = self.now;
         let state = mem::replace(&mut self.state, State::Down { until });
-        match state {
-            State::Opening { stream, .. } | State::Greeting { stream, .. } => {
-                self.backend.prefer(self.attempt);
-                self.state = State::Open(Line::new(stream, self.now));
+        if let State::Greeting { stream, entry, .. } = state {
+            self.backend.prefer(self.attempt);
+            if let Ok(hello) = entry.hello().to_vec(self.alloc) {
+                self.hello = hello;
             }
-            _ => {}
+            self.state = State::Open(Line::new(stream, self.now));
         }
     }
 
-    /// Closes the connection. The next attempt is made after a pause, or at once if a reply came over
-    /// this connection. It begins with the address that was connected last.
+    /// Closes the connection. The next attempt is made after a pause, or at once if a reply came
+    /// over this connection. It begins with the address that was connected last.
     fn pause(&mut self) {
         self.attempt = self.backend.first();
         let has_replied = matches!(&self.state, State::Open(line) if line.has_replied);
@@ -374,8 +459,8 @@ impl ServerLink {
         exchanged
     }
 
-    /// Gives the connection up if commands wait and no reply has come for too long. `waits` says whether
-    /// a command waits for a reply.
+    /// Gives the connection up if commands wait and no reply has come for too long. `waits` says
+    /// whether a command waits for a reply.
     ///
     /// # Errors
     ///
@@ -411,7 +496,7 @@ impl ServerLink {
 
 impl Line {
     /// Returns a connection over which no command was sent.
-    fn new(stream: TcpStream, now: Duration) -> Self {
+    fn new(stream: Stream, now: Duration) -> Self {
         Line {
             stream,
             may_read: true,
@@ -476,12 +561,12 @@ impl Line {
     }
 }
 
-/// Reads bytes of the server from the reader, and writes bytes that wait for it to the writer. Returns
-/// whether another read may return bytes.
+/// Reads bytes of the server from the reader, and writes bytes that wait for it to the writer.
+/// Returns whether another read may return bytes.
 fn exchange(
     proxy: &mut Proxy,
-    reader: &TcpStream,
-    writer: &TcpStream,
+    reader: &Stream,
+    writer: &Stream,
     is_at_end: bool,
     buffer: &mut [u8],
 ) -> Result<bool, Loss>
@@ -510,8 +595,9 @@ fn open(
     backend: &Backend,
     attempt: Attempt,
     registry: &Registry,
-) -> io::Result<(TcpStream, Attempt)> {
+    token: Token,
+) -> io::Result<(Stream, Attempt)> {
     let (mut stream, attempt) = backend.connect(spare, net, attempt)?;
-    register(&mut stream, registry, OWN_SOCKET)?;
+    register(&mut stream, registry, token)?;
     Ok((stream, attempt))
 }

@@ -1,6 +1,6 @@
 //! Services: how connections of a loop are made, visited and closed.
 
-use mio::net::TcpStream;
+use crate::stream::Stream;
 use mio::{Registry, Token};
 use std::io;
 use std::time::Duration;
@@ -10,6 +10,28 @@ pub(crate) const OWN_SOCKET: Token = Token(usize::MAX);
 
 /// The token of standard input.
 pub(crate) const INPUT: Token = Token(usize::MAX - 1);
+
+/// The most sockets of a service beside its first.
+pub(crate) const FURTHER: usize = 255;
+
+/// Returns the token of a socket of a service, by its number. That of number 0 is [`OWN_SOCKET`].
+pub(crate) fn token_of(number: usize) -> Token {
+    if number == 0 {
+        OWN_SOCKET
+    } else {
+        Token((usize::MAX - 1).saturating_sub(number))
+    }
+}
+
+/// Returns the number of a socket of a service beside its first, by its token.
+pub(crate) fn number_of(token: usize) -> Option<usize> {
+    let number = (usize::MAX - 1).saturating_sub(token);
+    if number == 0 || number > FURTHER {
+        None
+    } else {
+        Some(number)
+    }
+}
 
 /// When a connection is visited next.
 #[derive(Clone, Copy, Debug, PartialEq, Eq)]
@@ -34,8 +56,8 @@ pub(crate) enum Cause {
 }
 
 impl Cause {
-    /// Returns whether an input may have ended. The event that reports the end may have passed before
-    /// a queued visit.
+    /// Returns whether an input may have ended. The event that reports the end may have passed
+    /// before a queued visit.
     pub(crate) fn is_at_end(self) -> bool {
         match self {
             Cause::Ready { is_at_end } => is_at_end,
@@ -61,7 +83,7 @@ pub(crate) trait Service<C> {
     /// # Errors
     ///
     /// An error of the system, or of kind `OutOfMemory`. The client's socket is closed.
-    fn admit(&mut self, client: TcpStream, registry: &Registry, tokens: Tokens) -> io::Result<C>;
+    fn admit(&mut self, client: Stream, registry: &Registry, tokens: Tokens) -> io::Result<C>;
 
     /// Notes that an accepted client was closed at once, because an allocation failed.
     fn lose(&mut self);
@@ -69,8 +91,8 @@ pub(crate) trait Service<C> {
     /// Notes that an accepted client was closed at once, because the most connections are open.
     fn reject(&mut self);
 
-    /// Reads and writes the sockets of a connection, and says when to do so again. A further socket of
-    /// the connection is registered in the registry.
+    /// Reads and writes the sockets of a connection, and says when to do so again. A further socket
+    /// of the connection is registered in the registry.
     fn visit(&mut self, connection: &mut C, registry: &Registry, cause: Cause) -> Next;
 
     /// Closes a connection.
@@ -85,16 +107,16 @@ pub(crate) trait Service<C> {
     fn patience(&self) -> Option<Duration>;
 
     /// Does that work, after connections were visited. A socket of the service itself is registered
-    /// under [`OWN_SOCKET`].
+    /// under a token of [`token_of`].
     ///
     /// # Errors
     ///
     /// An error that ends the loop.
     fn work(&mut self, registry: &Registry) -> io::Result<()>;
 
-    /// Notes that the socket of the service itself is ready. `is_at_end` says whether its input may have
-    /// ended.
-    fn ready(&mut self, _is_at_end: bool) {}
+    /// Notes that the socket of the service itself with this number is ready. `is_at_end` says
+    /// whether its input may have ended.
+    fn ready(&mut self, _number: usize, _is_at_end: bool) {}
 
     /// Notes that standard input is ready. `is_at_end` says whether it has ended.
     fn input_ready(&mut self, _is_at_end: bool) {}

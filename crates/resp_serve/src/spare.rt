@@ -1,9 +1,10 @@
 //! A descriptor that is kept for a connection to the server.
 
+use crate::backend::Address;
+use crate::stream::Stream;
 use mio::Poll;
-use mio::net::TcpStream;
 use std::io;
-use std::net::{Net, SocketAddr};
+use std::net::Net;
 
 /// A descriptor that is closed if no other is left for a connection to the server.
 #[derive(Drop)]
@@ -19,19 +20,24 @@ impl Spare {
         }
     }
 
+    /// Returns no descriptor.
+    pub(crate) fn none() -> Self {
+        Spare { poll: None }
+    }
+
     /// Begins to connect to a server. If that fails, it is tried once more after the spare descriptor
     /// is closed.
     ///
     /// # Errors
     ///
     /// The error of the system.
-    pub(crate) fn connect(&mut self, net: &impl Net, server: SocketAddr) -> io::Result<TcpStream> {
-        let connected = TcpStream::connect(net, server);
+    pub(crate) fn connect(&mut self, net: &impl Net, server: &Address) -> io::Result<Stream> {
+        let connected = Stream::connect(net, server);
         if connected.is_ok() || self.poll.is_none() {
             return connected;
         }
         self.poll = None;
-        let connected = TcpStream::connect(net, server);
+        let connected = Stream::connect(net, server);
         self.keep(net);
         connected
     }

@@ -8,9 +8,9 @@ use crate::non_blocking::is_open;
 use crate::printer::Printer;
 use crate::register::register;
 use crate::service::{Next, Tokens};
+use crate::stream::Stream;
 use crate::watcher::Watcher;
 use mio::Registry;
-use mio::net::TcpStream;
 use resp_tap::Printing;
 use resp_tap::watch::Side;
 use resp_value::device::Sink;
@@ -32,8 +32,8 @@ pub(crate) enum Opening {
 /// The sockets of a connection.
 #[derive(Drop)]
 pub(crate) struct Sockets {
-    pub(crate) client: TcpStream,
-    pub(crate) server: TcpStream,
+    pub(crate) client: Stream,
+    pub(crate) server: Stream,
     /// The tokens under which they are registered.
     pub(crate) tokens: Tokens,
     /// The attempt to connect to the server that the second one belongs to.
@@ -98,7 +98,7 @@ impl Tapped {
     /// The error of the system if it can't be registered.
     pub(crate) fn set_server(
         &mut self,
-        server: TcpStream,
+        server: Stream,
         attempt: Attempt,
         registry: &Registry,
     ) -> io::Result<()> {

@@ -1,6 +1,8 @@
 //! The tap of one connection.
 
-use resp_tap::{ClientName, CountedTap, FilteredTap, Tap};
+use crate::window::Settings;
+use resp_tap::watch::Side;
+use resp_tap::{ClientName, CountedTap, Cut, FilteredTap};
 use resp_value::limits::Limits;
 use std::alloc::Global;
 
@@ -12,20 +14,23 @@ pub(crate) enum Watcher {
 }
 
 impl Watcher {
-    /// Returns the tap of a new connection. It allocates nothing.
-    pub(crate) fn new(alloc: Global, limits: &Limits, is_counted: bool) -> Self {
+    /// Returns the tap of a new connection. `reads_lines` says whether a line of a client is a command. It
+    /// allocates nothing.
+    pub(crate) fn new(alloc: Global, limits: &Limits, reads_lines: bool, is_counted: bool) -> Self {
         if is_counted {
-            Watcher::Counted(CountedTap::new(alloc, limits))
+            let tap = CountedTap::new(alloc, limits);
+            Watcher::Counted(tap.with_lines(reads_lines))
         } else {
-            Watcher::Printed(FilteredTap::new(alloc, limits))
+            let tap = FilteredTap::new(alloc, limits);
+            Watcher::Printed(tap.with_lines(reads_lines))
         }
     }
 
-    /// Returns the tap.
-    pub(crate) fn tap(&self) -> &Tap {
+    /// Returns the command or reply of which this side has sent a part.
+    pub(crate) fn cut(&self, side: Side) -> Option<Cut> {
         match self {
-            Watcher::Printed(tap) => tap.tap(),
-            Watcher::Counted(tap) => tap.tap(),
+            Watcher::Printed(tap) => tap.cut(side),
+            Watcher::Counted(tap) => tap.cut(side),
         }
     }
 

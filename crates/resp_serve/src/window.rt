@@ -8,12 +8,12 @@ use crate::register::register;
 use crate::service::{Cause, Next, Service, Tokens};
 use crate::spare::Spare;
 use crate::stats::{Stats, Tables};
+use crate::stream::Stream;
 use crate::tapped::{Opening, Sockets, Tapped};
 use crate::terminal::Terminal;
 use crate::timing::Timing;
 use crate::watcher::Watcher;
 use mio::Registry;
-use mio::net::TcpStream;
 use resp_paint::{Painted, Style};
 use resp_print::live::LiveSink;
 use resp_tap::screen::Screen;
@@ -89,6 +89,8 @@ pub struct Settings {
     pub tells_time: bool,
     /// What happens after a write to standard output has failed.
     pub after_failure: AfterFailure,
+    /// Whether a line of a client is a command.
+    pub reads_lines: bool,
     /// Whether passwords and other secret words of commands are printed.
     pub shows_passwords: bool,
     /// When the counts of commands are printed, if commands are counted and not printed.
@@ -299,7 +301,7 @@ impl View {
     fn print_connected<W: Sink, C: Clock>(
         &mut self,
         client: u64,
-        stream: &TcpStream,
+        stream: &Stream,
         clock: &C,
         out: &mut W,
     ) {
@@ -307,8 +309,8 @@ impl View {
             return;
         }
         let line = match stream.peer_addr() {
-            Ok(address) => format!(in self.alloc; " connected from {address}"),
-            Err(_) => Err(AllocError),
+            Ok(Some(address)) => format!(in self.alloc; " connected from {address}"),
+            Ok(None) | Err(_) => Err(AllocError),
         };
         match line {
             Ok(line) => self.print_line(client, line.as_str().as_bytes(), clock, out),
@@ -471,7 +473,7 @@ impl View {
     fn connect(
         &mut self,
         net: &impl Net,
-        client: TcpStream,
+        client: Stream,
         number: u64,
         registry: &Registry,
         tokens: Tokens,
@@ -491,7 +493,12 @@ impl View {
             tokens,
             attempt,
         };
-        let watcher = Watcher::new(self.alloc, &self.settings.limits, self.stats.is_some());
+        let watcher = Watcher::new(
+            self.alloc,
+            &self.settings.limits,
+            self.settings.reads_lines,
+            self.stats.is_some(),
+        );
         Ok(Tapped::new(self.alloc, sockets, watcher, printing))
     }
 }
@@ -502,12 +509,7 @@ fn as_long<W>(is_used: bool, writer: &mut W) -> Option<&mut W> {
 }
 
 impl<R: Net + Clock + Eprint, W: LiveSink> Service<Tapped> for Watching<'_, R, W> {
-    fn admit(
-        &mut self,
-        client: TcpStream,
-        registry: &Registry,
-        tokens: Tokens,
-    ) -> io::Result<Tapped> {
+    fn admit(&mut self, client: Stream, registry: &Registry, tokens: Tokens) -> io::Result<Tapped> {
         let number = self.view.next_number();
         self.view
             .print_connected(number, &client, self.rt, self.out);

@@ -7,3 +7,5 @@ pub mod Streams
 pub mod Counting
 pub mod Fronts
 pub mod PieceLemmas
+pub mod KeyPlaces
+pub mod LineReading

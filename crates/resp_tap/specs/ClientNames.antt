@@ -1,5 +1,5 @@
 -- The name that a client has given to its connection.
-use Rattle.std.specs.Prelude.{ℕ, ◌+◌, Bool, true, false, ◌&&◌, ◌==◌, List, [], ◌∷◌, length, map, take, nat_le, nat_lt, slice_index_or, Option, None, Some, if◌then◌else◌, codes}
+use Rattle.std.specs.Prelude.{ℕ, ◌+◌, Bool, false, ◌&&◌, ◌==◌, List, [], ◌∷◌, length, map, take, nat_le, nat_lt, slice_index_or, Option, None, Some, if◌then◌else◌, codes}
 use Rattle.resp_value.specs.Values.{datum_of}
 use Rattle.resp_session.specs.Operations.{is_name}
 use Rattle.resp_session.specs.Reading.{is_refusal}

@@ -8,7 +8,7 @@ use Rattle.resp_counts.specs.declared.row.Row.{Row}
 use Rattle.resp_value.specs.Values.{datum_of}
 use Rattle.resp_session.specs.Reading.{is_refusal}
 use Rattle.resp_tap.specs.ClientNames.{named_after, naming_of}
-use Rattle.resp_tap.specs.Filters.{keeps_answer, keeps_client, keeps_words}
+use Rattle.resp_tap.specs.Filters.{DropsWords, KeepsWords, keeps_answer, keeps_client}
 use Rattle.resp_tap.specs.Lines.{asked_at}
 use Rattle.resp_tap.specs.Taps.{tap_state}
 use Rattle.resp_tap.specs.Times.{HasTimes, waited_of, waits_in}
@@ -31,14 +31,17 @@ IsPlaceFor true name rows None = ⊥
 IsPlaceFor false name rows place = place ≡ None
 
 -- whether a command of this client with these words is counted
-abbrev pub is_counted : Filter → ℕ → List (List ℕ) → Bool
-is_counted f client words = keeps_client f client && keeps_words f words
+abbrev pub IsCounted : Filter → ℕ → List (List ℕ) → Bool → Type 0
+IsCounted f client words counted = MatchBool counted ((keeps_client f client ≡ true) × KeepsWords f words)
+    ((keeps_client f client ≡ false) ⊎ DropsWords f words)
 
 -- the command is kept behind the others, with the place of its row and its bytes
 pub record KeepsCall (f : Filter) (client : ℕ) (words : List (List ℕ)) (bytes : ℕ) (old new : List Asked) (rows' : List Row) :
     Type 0 where
   pub place : Option ℕ
-  pub is_place : IsPlaceFor (is_counted f client words) (table_name words) rows' place
+  pub counted : Bool
+  pub is_counted : IsCounted f client words counted
+  pub is_place : IsPlaceFor counted (table_name words) rows' place
   pub kept : new ≡ old ++ record { place = place; bytes = bytes } ∷ []
 
 -- A command of this many bytes waits behind this many others. It is kept if each of the others is kept and memory is

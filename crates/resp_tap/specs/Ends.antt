@@ -1,10 +1,13 @@
 -- The end of one side of a connection.
-use Rattle.std.specs.Prelude.{ℕ, List, [], ◌∷◌, ◌++◌, length, Option, None, Some, codes, decimal}
+use Rattle.std.specs.Prelude.{◌≡◌, ◌<◌, ◌+◌, true, false, ℕ, List, [], ◌∷◌, ◌++◌, length, Option, None, Some, codes, decimal}
 use Rattle.resp_tap.specs.Stamps.{ending_text}
+use Rattle.resp_tap.specs.Taps.{tap_state}
+use Rattle.resp_tap.specs.Watching.{WhereAnswered, WhereRequested, place_of_value}
 use Rattle.resp_tap.specs.declared.end.Cut.{Cut}
 use Rattle.resp_tap.specs.declared.seen.Place.{Place}
 use Rattle.resp_tap.specs.declared.seen.Place.TheVariants as place
 use Rattle.resp_tap.specs.declared.stamp.Stamp.{Stamp}
+use Rattle.resp_tap.specs.declared.tap.Tap.{Tap}
 use Rattle.resp_tap.specs.declared.watch.Side.{Side}
 use Rattle.resp_tap.specs.declared.watch.Side.TheVariants.{Client, Server}
 
@@ -12,6 +15,24 @@ use Rattle.resp_tap.specs.declared.watch.Side.TheVariants.{Client, Server}
 abbrev pub cut_of : Place → List ℕ → Option Cut
 cut_of where' [] = None
 cut_of where' (byte ∷ bytes) = Some (record { place = where'; bytes = length (byte ∷ bytes) })
+
+-- The incomplete command of the client: that of these bytes of a line, or that of an array.
+pub record CutsCommand (held : List ℕ) (t : Tap) (cut : Option Cut) : Type 0 where
+  pub line : (tap_state t).reads_commands ≡ true → 0 < length held →
+      cut ≡ cut_of (place.Command ((tap_state t).commands + 1)) held
+  pub array : (tap_state t).reads_commands ≡ true → held ≡ [] →
+      WhereRequested t (λ front. cut ≡ cut_of (place.Command ((tap_state t).commands + 1)) front)
+  pub unread : (tap_state t).reads_commands ≡ false → cut ≡ None
+
+-- the incomplete reply or value of the server
+pub record CutsReply (t : Tap) (cut : Option Cut) : Type 0 where
+  pub read : (tap_state t).reads_replies ≡ true → WhereAnswered t (λ front. cut ≡ cut_of (place_of_value (tap_state t)) front)
+  pub unread : (tap_state t).reads_replies ≡ false → cut ≡ None
+
+-- what is incomplete of this side, if the client has sent these bytes of a line
+abbrev pub CutsOff : Side → List ℕ → Tap → Option Cut → Type 0
+CutsOff Client held t cut = CutsCommand held t cut
+CutsOff Server held t cut = CutsReply t cut
 
 -- the words about the side that has ended
 abbrev pub ended_words : Side → List ℕ

@@ -1,38 +1,47 @@
 -- The results that a filtered tap reports and prints for the pieces of either side.
-use Rattle.std.specs.Prelude.{◌≡◌, ℕ, List, [], ◌∷◌, drop, slice_get, Option, Result, Ok}
+use Rattle.std.specs.Prelude.{◌≡◌, ℕ, Bool, List, [], ◌∷◌, drop, slice_get, Option, Result, Ok}
 use Rattle.resp_print.specs.Printed.{Prints}
 use Rattle.resp_print.specs.declared.print_error.PrintError.{PrintError}
 use Rattle.resp_tap.specs.Lines.{asked_at}
-use Rattle.resp_tap.specs.Noted.{NotesAfter, filtered_text}
+use Rattle.resp_tap.specs.Noted.{IsChosen, NotesAfter, filtered_text}
 use Rattle.resp_tap.specs.Taps.{tap_state}
 use Rattle.resp_tap.specs.Texts.{levels_of}
 use Rattle.resp_tap.specs.Times.{HasTimes, stamp_of, waits_in}
-use Rattle.resp_tap.specs.Watches.{SeesFirst, first_error}
+use Rattle.resp_tap.specs.Lined.{SeesLined}
+use Rattle.resp_tap.specs.Watches.{first_error}
 use Rattle.resp_tap.specs.ClientNames.{named_after, naming_of}
 use Rattle.resp_tap.specs.declared.filter.Filter.{Filter}
 use Rattle.resp_tap.specs.declared.filtered.FilteredTap.{FilteredTap}
 use Rattle.resp_tap.specs.declared.moment.Moment.{Moment}
+use Rattle.resp_tap.specs.declared.note.Note.{Note}
 use Rattle.resp_tap.specs.declared.print.Printing.{Printing}
 use Rattle.resp_tap.specs.declared.seen.Seen.{Seen}
 use Rattle.resp_tap.specs.declared.watch.Side.{Side}
 
--- The first result in a piece: it is reported as without a filter. What is kept of the commands that wait follows them.
+-- what is kept of the command that the next reply belongs to
+abbrev pub note_of : FilteredTap → Option Note
+note_of t = slice_get t.notes.items (asked_at (tap_state t.timed.tap).line.due)
+
+-- The first result in a piece: it is reported as without a filter, and that of a line too. Its command is let through by
+-- its words or is not. What is kept of the commands that wait follows them.
 pub record SeesFiltered (filter : Filter) (printing : Printing) (side : Side) (now : Option Moment) (old new : FilteredTap)
-    (piece : List ℕ) (used : ℕ) (what : Seen) : Type 0 where
-  pub seen : SeesFirst side now old.timed new.timed piece used what
-  pub notes : NotesAfter filter printing now what (waits_in old.timed) (waits_in new.timed) old.notes.items new.notes.items
+    (piece : List ℕ) (used : ℕ) (what : Seen) (is_line is_chosen : Bool) : Type 0 where
+  pub seen : SeesLined now side old.lines new.lines old.timed new.timed piece used what is_line
+  pub chosen : IsChosen filter (note_of old) what is_chosen
+  pub notes : NotesAfter filter printing now is_line is_chosen what (waits_in old.timed) (waits_in new.timed) old.notes.items
+      new.notes.items
   pub name : naming_of new.name ≡ named_after what (naming_of old.name)
 
 -- The text of the result is printed as far as the filter lets it through and writes succeed. A reply is judged by what is
 -- kept of its command, and by the time of its command.
 pub record PrintsFiltered (filter : Filter) (printing : Printing) (now : Option Moment) (old : FilteredTap) (what : Seen)
-    (before after : Option (List ℕ)) (failures failures' : ℕ) (printed : Result (Unit {0}) PrintError) : Type 0 where
+    (is_line is_chosen : Bool) (before after : Option (List ℕ)) (failures failures' : ℕ)
+    (printed : Result (Unit {0}) PrintError) : Type 0 where
   pub asked : Option ℕ
   pub of_command : (times : List ℕ) → HasTimes old.timed times →
       asked ≡ slice_get times (asked_at (tap_state old.timed.tap).line.due)
   pub text : Prints before after failures failures' printed
-      (filtered_text filter printing (slice_get old.notes.items (asked_at (tap_state old.timed.tap).line.due))
-      (stamp_of now asked what) what) (levels_of what)
+      (filtered_text filter printing is_line is_chosen (note_of old) (stamp_of now asked what) what) (levels_of what)
 
 -- These are all results in a piece, in order. Each result is printed before the next one is read. The first error of
 -- printing is told.
@@ -41,9 +50,9 @@ abbrev pub FiltersAll : Filter → Printing → Side → Option Moment → List 
 FiltersAll filter printing side now [] old new piece before after failures failures' told =
     (piece ≡ []) × (new ≡ old) × (after ≡ before) × (failures' ≡ failures) × (told ≡ Ok tt)
 FiltersAll filter printing side now (what ∷ more) old new piece before after failures failures' told =
-    (next : FilteredTap) × (used : ℕ) × (written : Option (List ℕ)) × (failed : ℕ) ×
+    (next : FilteredTap) × (used : ℕ) × (is_line : Bool) × (is_chosen : Bool) × (written : Option (List ℕ)) × (failed : ℕ) ×
     (printed : Result (Unit {0}) PrintError) × (later : Result (Unit {0}) PrintError) ×
-    SeesFiltered filter printing side now old next piece used what ×
-    PrintsFiltered filter printing now old what before written failures failed printed ×
+    SeesFiltered filter printing side now old next piece used what is_line is_chosen ×
+    PrintsFiltered filter printing now old what is_line is_chosen before written failures failed printed ×
     (told ≡ first_error printed later) ×
     FiltersAll filter printing side now more next new (drop used piece) written after failed failures' later

@@ -1,10 +1,12 @@
 -- Which commands, replies and other results a filter lets through.
-use Rattle.std.specs.Prelude.{ℕ, Bool, true, false, not, ◌&&◌, ◌||◌, ◌==◌, List, [], ◌∷◌, map, nat_lt, vec_len, Option, None, Some, is_some}
+use Rattle.std.specs.Prelude.{◌≡◌, ◌⊎◌, ⊤, ℕ, Bool, true, false, not, ◌&&◌, ◌||◌, ◌==◌, List, map, nat_lt, vec_len, Option, None, Some, is_some, MatchOption}
+use Rattle.std.specs.Bool.{MatchBool}
 use Rattle.std.specs.Char.{to_ascii_lowercase}
 use Rattle.std.specs.List.{list_any}
 use Rattle.std.specs.Str.{bytes_eq}
 use Rattle.resp_value.specs.Values.{datum_of}
 use Rattle.resp_session.specs.Reading.{is_refusal}
+use Rattle.resp_tap.specs.Keyed.{IsKeyed, IsUnkeyed, name_in}
 use Rattle.resp_tap.specs.declared.end.Cut.{Cut}
 use Rattle.resp_tap.specs.declared.filter.Filter.{Filter}
 use Rattle.resp_tap.specs.declared.seen.Seen.{Seen}
@@ -18,14 +20,25 @@ same_name name other = bytes_eq (map to_ascii_lowercase name) (map to_ascii_lowe
 abbrev pub has_no_name : Filter → Bool
 has_no_name f = vec_len f.names == 0
 
--- the name of a command with these words
-abbrev pub name_in : List (List ℕ) → List ℕ
-name_in [] = []
-name_in (name ∷ arguments) = name
-
 -- whether commands with these words are let through, by their name
-abbrev pub keeps_words : Filter → List (List ℕ) → Bool
-keeps_words f words = has_no_name f || list_any (λ name. same_name (name_in words) name.items) f.names.items
+abbrev pub keeps_name : Filter → List (List ℕ) → Bool
+keeps_name f words = has_no_name f || list_any (λ name. same_name (name_in words) name.items) f.names.items
+
+-- whether commands of all names and all keys are let through
+abbrev pub keeps_all : Filter → Bool
+keeps_all f = has_no_name f && not (is_some f.key)
+
+-- A command with these words is let through: by its name, and because the glob matches one of its keys if there is one.
+abbrev pub KeepsWords : Filter → List (List ℕ) → Type 0
+KeepsWords f words = (keeps_name f words ≡ true) × MatchOption f.key ⊤ (λ glob. IsKeyed glob.items words)
+
+-- it is not let through: by its name, or because the glob matches none of its keys
+abbrev pub DropsWords : Filter → List (List ℕ) → Type 0
+DropsWords f words = (keeps_name f words ≡ false) ⊎ MatchOption f.key ⊥ (λ glob. IsUnkeyed glob.items words)
+
+-- whether a command with these words is let through
+abbrev pub Chooses : Filter → List (List ℕ) → Bool → Type 0
+Chooses f words is_chosen = MatchBool is_chosen (KeepsWords f words) (DropsWords f words)
 
 -- whether the lines about this client are let through
 abbrev pub keeps_number : Option ℕ → ℕ → Bool
@@ -51,14 +64,14 @@ is_by_reply f = f.errors || is_some f.slower
 
 -- whether an error, or a value that is no error, is let through if it belongs to no command
 abbrev pub keeps_loose : Filter → Bool → Bool
-keeps_loose f is_error = has_no_name f && keeps_answer f is_error None
+keeps_loose f is_error = keeps_all f && keeps_answer f is_error None
 
--- Whether a result is let through: what the client sent, or what the server sent. `is_chosen` says whether the command of
--- a reply is let through by its name, and `waited` how long it waited.
+-- Whether a result is let through: what the client sent, or what the server sent. `is_chosen` says whether the command,
+-- or that of a reply, is let through by its words, and `waited` how long it waited.
 abbrev pub keeps_seen : Filter → Bool → Option ℕ → Seen → Bool
 keeps_seen f is_chosen waited seen.Nothing = false
 keeps_seen f is_chosen waited seen.Passed = false
-keeps_seen f is_chosen waited (seen.Command number words) = not (is_by_reply f) && keeps_words f words
+keeps_seen f is_chosen waited (seen.Command number words) = not (is_by_reply f) && is_chosen
 keeps_seen f is_chosen waited (seen.Reply number x) = is_chosen && keeps_answer f (is_refusal (datum_of x)) waited
 keeps_seen f is_chosen waited (seen.Push items) = keeps_loose f false
 keeps_seen f is_chosen waited (seen.Value x) = keeps_loose f (is_refusal (datum_of x))
@@ -71,7 +84,7 @@ keeps f client is_chosen waited what = keeps_client f client && keeps_seen f is_
 
 -- whether only some commands are let through
 abbrev pub is_selective : Filter → Bool
-is_selective f = is_by_reply f || not (has_no_name f)
+is_selective f = is_by_reply f || not (keeps_all f)
 
 -- whether the line is let through that says from where this client is connected
 abbrev pub keeps_connected : Filter → ℕ → Bool

@@ -16,6 +16,9 @@ pub mod Times
 pub mod Screens
 pub mod Watches
 pub mod Ends
+pub mod Lined
+-- Which words of a command are keys, and which commands are let through.
+pub mod Keyed
 pub mod Filters
 pub mod Noted
 pub mod Filtering

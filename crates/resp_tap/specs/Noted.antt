@@ -1,8 +1,8 @@
 -- What is kept of the commands that wait while a filter is used, and what is printed through it.
 use Rattle.std.specs.Prelude.{◌≡◌, ℕ, ◌-◌, ◌≤◌, Bool, true, false, ◌&&◌, List, [], ◌∷◌, ◌++◌, length, drop, take, nat_lt, Option, None, Some, option_map, ◌⊎◌, if◌then◌else◌, codes}
-use Rattle.resp_tap.specs.Filters.{has_no_name, is_by_reply, is_selective, keeps, keeps_words}
+use Rattle.resp_tap.specs.Filters.{Chooses, is_by_reply, is_selective, keeps, keeps_all}
 use Rattle.resp_tap.specs.Secrets.{printed_words}
-use Rattle.resp_tap.specs.Texts.{numbered_line, seen_text, words_text}
+use Rattle.resp_tap.specs.Texts.{heading, numbered_line, shown_text, words_text}
 use Rattle.resp_tap.specs.declared.filter.Filter.{Filter}
 use Rattle.resp_tap.specs.declared.moment.Moment.{Moment}
 use Rattle.resp_tap.specs.declared.note.Note.{Note}
@@ -18,7 +18,7 @@ use Rattle.resp_tap.specs.declared.stamp.Stamp.{Stamp}
 abbrev pub room_behind : ℕ → ℕ
 room_behind behind = if nat_lt behind 1024 then 1024 else 0
 
--- The same of a command that is let through by its name or is not. Words are kept only if the reply decides whether the
+-- The same of a command that is let through by its words or is not. Words are kept only if the reply decides whether the
 -- command is printed.
 abbrev pub room_for : Filter → Bool → ℕ → ℕ
 room_for f is_chosen behind = if is_by_reply f && is_chosen then room_behind behind else 0
@@ -27,30 +27,34 @@ room_for f is_chosen behind = if is_by_reply f && is_chosen then room_behind beh
 abbrev pub shown_words : Printing → List (List ℕ) → List ℕ
 shown_words p words = words_text (printed_words p.shows_passwords words)
 
--- this is kept of a command that arrived at this moment, if so many bytes are kept of its words
-pub record IsNote (f : Filter) (p : Printing) (now : Option Moment) (words : List (List ℕ)) (room : ℕ) (note : Note) :
+-- This is kept of a command that arrived at this moment, as a line or as an array, and is let through by its words or is
+-- not, if so many bytes are kept of them.
+pub record IsNote (p : Printing) (now : Option Moment) (is_line is_chosen : Bool) (words : List (List ℕ)) (room : ℕ) (note : Note) :
     Type 0 where
   pub time : note.of_day ≡ option_map (λ (moment : Moment). moment.of_day) now
-  pub chosen : note.is_chosen ≡ keeps_words f words
+  pub line : note.is_line ≡ is_line
+  pub chosen : note.is_chosen ≡ is_chosen
   pub first_bytes : note.text.items ≡ take room (shown_words p words)
   pub whole : note.is_whole ≡ true → length (shown_words p words) ≤ room
   pub part : note.is_whole ≡ false → room ≤ length (shown_words p words)
 
 -- the next command that waits was added; or memory for it was out, or nothing is kept of a command before it
-abbrev pub IsAdded : Filter → Printing → Option Moment → List (List ℕ) → List Note → List Note → Type 0
-IsAdded f p now words old new = (new ≡ old) ⊎
-    ((note : Note) × IsNote f p now words (room_for f (keeps_words f words) (length old)) note × (new ≡ old ++ note ∷ []))
+abbrev pub IsAdded : Filter → Printing → Option Moment → Bool → Bool → List (List ℕ) → List Note → List Note → Type 0
+IsAdded f p now is_line is_chosen words old new = (new ≡ old) ⊎
+    ((note : Note) × IsNote p now is_line is_chosen words (room_for f is_chosen (length old)) note × (new ≡ old ++ note ∷ []))
 
 -- after a result, by which one more command waits or this many wait no more
-abbrev pub NotesBy : Bool → Filter → Printing → Option Moment → Seen → ℕ → List Note → List Note → Type 0
-NotesBy true f p now (seen.Command number words) gone old new = IsAdded f p now words old new
-NotesBy more f p now what gone old new = new ≡ drop gone old
+abbrev pub NotesBy : Bool → Filter → Printing → Option Moment → Bool → Bool → Seen → ℕ → List Note → List Note → Type 0
+NotesBy true f p now is_line is_chosen (seen.Command number words) gone old new =
+    IsAdded f p now is_line is_chosen words old new
+NotesBy more f p now is_line is_chosen what gone old new = new ≡ drop gone old
 
 -- What is kept after a result, if this many commands waited before it and after it: that of a new command is added, and
 -- that of commands that wait no more is dropped.
-abbrev pub NotesAfter : Filter → Printing → Option Moment → Seen → ℕ → ℕ → List Note → List Note → Type 0
-NotesAfter f p now what before after old new =
-    NotesBy (nat_lt before after && is_selective f) f p now what (before - after) old new
+abbrev pub NotesAfter : Filter → Printing → Option Moment → Bool → Bool → Seen → ℕ → ℕ → List Note → List Note →
+    Type 0
+NotesAfter f p now is_line is_chosen what before after old new =
+    NotesBy (nat_lt before after && is_selective f) f p now is_line is_chosen what (before - after) old new
 
 -- ---- what is printed
 
@@ -70,25 +74,31 @@ stamp_on (Some of_day) = Some (record { of_day = of_day; waited = None })
 abbrev pub deferred_text : ℕ → ℕ → Option Note → List ℕ
 deferred_text client number None = numbered_line client (codes " command ") number None ++ kept_line false []
 deferred_text client number (Some note) =
-    numbered_line client (codes " command ") number (stamp_on note.of_day) ++ kept_line note.is_whole note.text.items
+    heading note.is_line client number (stamp_on note.of_day) ++ kept_line note.is_whole note.text.items
 
 -- the lines before a result: those of its command, if the reply has decided
 abbrev pub before_text : Filter → ℕ → Option Note → Seen → List ℕ
 before_text f client note (seen.Reply number x) = if is_by_reply f then deferred_text client number note else []
 before_text f client _ what = []
 
--- whether the command of a reply is let through by its name
+-- whether the command of a reply is let through by its words
 abbrev pub chosen_by : Filter → Option Note → Bool
-chosen_by f None = has_no_name f
+chosen_by f None = keeps_all f
 chosen_by f (Some note) = note.is_chosen
+
+-- Whether the command of a result is let through by its words: the words that were sent, or what is kept of them for the
+-- reply.
+abbrev pub IsChosen : Filter → Option Note → Seen → Bool → Type 0
+IsChosen f kept (seen.Command number words) is_chosen = Chooses f words is_chosen
+IsChosen f kept what is_chosen = is_chosen ≡ chosen_by f kept
 
 abbrev pub waited_in : Option Stamp → Option ℕ
 waited_in None = None
 waited_in (Some stamp) = stamp.waited
 
 -- The lines of a result through a filter. `note` is what is kept of the command that the next reply belongs to.
-abbrev pub filtered_text : Filter → Printing → Option Note → Option Stamp → Seen → List ℕ
-filtered_text f p note stamp what =
-    if keeps f p.client (chosen_by f note) (waited_in stamp) what
-    then before_text f p.client note what ++ seen_text p stamp what
+abbrev pub filtered_text : Filter → Printing → Bool → Bool → Option Note → Option Stamp → Seen → List ℕ
+filtered_text f p is_line is_chosen note stamp what =
+    if keeps f p.client is_chosen (waited_in stamp) what
+    then before_text f p.client note what ++ shown_text is_line p stamp what
     else []

@@ -1,5 +1,5 @@
 -- The lines that are printed.
-use Rattle.std.specs.Prelude.{ℕ, ◌+◌, List, [], ◌++◌, Option, codes, decimal}
+use Rattle.std.specs.Prelude.{ℕ, ◌+◌, Bool, List, [], ◌++◌, Option, codes, decimal, if◌then◌else◌}
 use Rattle.std.specs.List.{flat_map}
 use Rattle.resp_value.specs.Causes.{name_of}
 use Rattle.resp_value.specs.Data.{Datum, depth}
@@ -43,6 +43,19 @@ client_line client what stamp = (codes "client " ++ decimal client ++ what) ++ e
 abbrev pub command_text : ℕ → ℕ → Option Stamp → List (List ℕ) → List ℕ
 command_text client number stamp words = numbered_line client (codes " command ") number stamp ++ words_line words
 
+-- the number of a command that came as a line, and the end of the line
+abbrev pub inline_end : ℕ → Option Stamp → List ℕ
+inline_end number stamp = (codes "" ++ decimal number ++ codes " inline") ++ ending_text stamp
+
+-- the first line of a command that came as a line
+abbrev pub inline_line : ℕ → ℕ → Option Stamp → List ℕ
+inline_line client number stamp = (codes "client " ++ decimal client ++ codes " command ") ++ inline_end number stamp
+
+-- the first line of a command, which came as a line or as an array
+abbrev pub heading : Bool → ℕ → ℕ → Option Stamp → List ℕ
+heading is_line client number stamp =
+    if is_line then inline_line client number stamp else numbered_line client (codes " command ") number stamp
+
 -- the lines of the reply to it
 abbrev pub reply_text : ℕ → ℕ → Option Stamp → Datum → List ℕ
 reply_text client number stamp x = numbered_line client (codes " reply ") number stamp ++ lines_on 1 x
@@ -83,6 +96,16 @@ seen_text p stamp (Push items) = push_text p.client stamp (datum_of (value.Push 
 seen_text p stamp (Value x) = value_text p.client stamp (datum_of x)
 seen_text p stamp (NotCommand number) = refusal_text p.client (codes "NotCommand") 0 (place.Command number) stamp
 seen_text p stamp (Refused cause at where') = refusal_text p.client (name_of cause) at where' stamp
+
+-- the lines of a result of a line
+abbrev pub line_text : Printing → Option Stamp → Seen → List ℕ
+line_text p stamp (Command number words) =
+    inline_line p.client number stamp ++ words_line (printed_words p.shows_passwords words)
+line_text p stamp what = seen_text p stamp what
+
+-- the lines of a result, which is that of a line or is not
+abbrev pub shown_text : Bool → Printing → Option Stamp → Seen → List ℕ
+shown_text is_line p stamp what = if is_line then line_text p stamp what else seen_text p stamp what
 
 -- the number of levels of these lines
 abbrev pub levels_of : Seen → ℕ

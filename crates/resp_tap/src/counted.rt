@@ -1,24 +1,28 @@
 //! A tap whose commands are counted.
 
-ghost use Rattle.std.specs.Prelude.{◌≡◌, ◌+◌, ◌<◌, ◌≤◌, List, [], Some, length, drop, min, slice_get};
+ghost use Rattle.std.specs.Prelude.{◌≡◌, ◌+◌, ◌<◌, ◌≤◌, Bool, List, [], Some, length, drop, min, slice_get, true};
 ghost use Rattle.resp_tap.specs.ClientNames.{naming_of};
-ghost use Rattle.resp_tap.specs.Counting.{AnswersCall, AsksCall, CountsAfter, CountsSeen, IsPlaceFor, KeepsTaken, ReleasesCall, is_counted, is_error, left_of, taken_of};
+ghost use Rattle.resp_tap.specs.Ends.{CutsOff};
+ghost use Rattle.resp_tap.specs.Counting.{AnswersCall, AsksCall, CountsAfter, CountsSeen, IsCounted, IsPlaceFor, KeepsTaken, ReleasesCall, is_error, left_of, taken_of};
 ghost use Rattle.resp_counts.specs.Names.{table_name};
 ghost use Rattle.resp_counts.specs.Rows.{MayAddRow};
 ghost use Rattle.resp_tap.specs.Taps.{new_tap, tap_state};
 ghost use Rattle.resp_tap.specs.Times.{waits_in};
-ghost use Rattle.resp_tap.specs.Watches.{KeepsOther, SeesFirst};
+ghost use Rattle.resp_tap.specs.Lined.{SeesLined};
+ghost use Rattle.resp_tap.specs.Watches.{KeepsOther};
 ghost use Rattle.resp_tap.specs.Watching.{HasTakenRequest, HasTakenValue};
 
 use crate::client_name::ClientName;
+use crate::end::Cut;
 use crate::filter::Filter;
 use crate::line::is_refusal;
+use crate::lines::{Lines, step_or_line};
 use crate::moment::Moment;
 use crate::print::{Printing, write_seen};
 use crate::seen::{Seen, Step};
 use crate::tap::Tap;
 use crate::timed::TimedTap;
-use crate::watch::{Side, first_error, stamp_of, step, waited_of};
+use crate::watch::{Side, first_error, stamp_of, waited_of};
 use resp_counts::{Call, Counts, name_of};
 use resp_print::print_error::PrintError;
 use resp_session::words::Words;
@@ -96,6 +100,8 @@ fn answer(counts: &mut Counts, filter: &Filter, asked: Option<Asked>, heard: Hea
 #[derive(Drop)]
 pub struct CountedTap {
     pub(crate) timed: TimedTap,
+    /// The lines among the bytes of the client.
+    pub(crate) lines: Lines,
     /// The commands that wait, in their order.
     pub(crate) asked: VecDeque<Asked>,
     /// The bytes read of the client's incomplete command, and of the server's incomplete value.
@@ -105,16 +111,20 @@ pub struct CountedTap {
 }
 
 impl CountedTap {
-    /// Returns a tap of a new connection, which is read within these limits. It allocates nothing.
+    /// Returns a tap of a new connection, which is read within these limits. A line of the client is
+    /// a command too. It allocates nothing.
     pub fn new(alloc: Global, limits: &Limits) -> CountedTap
         ensures nothing_passed { tap_state result.timed.tap ≡ new_tap limits.now }
         ensures nothing_requested { HasTakenRequest result.timed.tap [] }
         ensures nothing_answered { HasTakenValue result.timed.tap [] }
+        ensures reads_lines { result.lines.are_read ≡ true }
+        ensures nothing_held { result.lines.held.items ≡ [] }
         ensures nothing_asked { result.asked.items ≡ [] }
         ensures no_name { (naming_of result.name).name ≡ [] }
     {
         CountedTap {
             timed: TimedTap::new(alloc, limits),
+            lines: Lines::new(alloc, true),
             asked: VecDeque::new(alloc),
             sent: 0,
             received: 0,
@@ -127,6 +137,24 @@ impl CountedTap {
         ensures { result.now ≡ self.now.timed.tap }
     {
         self.timed.tap()
+    }
+
+    /// Returns the tap of a new connection, whose lines are commands or are not. Without lines a byte
+    /// that begins no array is an error.
+    pub fn with_lines(mut self, are_read: bool) -> CountedTap
+        ensures lines { result.lines ≡ record self.lines { are_read = are_read } }
+        ensures same { result ≡ record self { lines = result.lines } }
+    {
+        self.lines.are_read = are_read;
+        self
+    }
+
+    /// Returns the command, reply or value of which this side has sent a part, if its bytes are still
+    /// read.
+    pub fn cut(&self, side: Side) -> Option<Cut>
+        ensures { CutsOff side self.now.lines.held.items self.now.timed.tap result }
+    {
+        self.timed.tap.cut(side, self.lines.held.as_slice())
     }
 
     /// Returns the name that the client has given to the connection.
@@ -142,6 +170,7 @@ impl CountedTap {
         ensures left { taken_of side self.new ≡ left_of seen.now result }
         ensures same_taken { KeepsTaken side self.old self.new }
         ensures same_tap { self.new.timed ≡ self.old.timed }
+        ensures same_lines { self.new.lines ≡ self.old.lines }
         ensures same_name { self.new.name ≡ self.old.name }
         ensures same_asked { self.new.asked.items ≡ self.old.asked.items }
     {
@@ -175,6 +204,7 @@ impl CountedTap {
             (waits_in self.old.timed) at self.old.asked.items self.new.asked.items
             counts.old.rows.items counts.new.rows.items }
         ensures same_tap { self.new.timed ≡ self.old.timed }
+        ensures same_lines { self.new.lines ≡ self.old.lines }
         ensures same_name { self.new.name ≡ self.old.name }
         ensures same_bytes { (self.new.sent ≡ self.old.sent) ×
             (self.new.received ≡ self.old.received) }
@@ -194,6 +224,7 @@ impl CountedTap {
         ensures counts { ReleasesCall gone filter.now (slice_get self.old.asked.items at) heard
             counts.old.rows.items counts.new.rows.items }
         ensures same_tap { self.new.timed ≡ self.old.timed }
+        ensures same_lines { self.new.lines ≡ self.old.lines }
         ensures same_name { self.new.name ≡ self.old.name }
         ensures same_bytes { (self.new.sent ≡ self.old.sent) ×
             (self.new.received ≡ self.old.received) }
@@ -217,6 +248,7 @@ impl CountedTap {
         ensures asks { AsksCall filter.now client words.now before bytes self.old.asked.items
             self.new.asked.items counts.old.rows.items counts.new.rows.items }
         ensures same_tap { self.new.timed ≡ self.old.timed }
+        ensures same_lines { self.new.lines ≡ self.old.lines }
         ensures same_name { self.new.name ≡ self.old.name }
         ensures same_bytes { (self.new.sent ≡ self.old.sent) ×
             (self.new.received ≡ self.old.received) }
@@ -225,7 +257,8 @@ impl CountedTap {
         if self.asked.len() as u64 != before {
             return;
         }
-        let place = place_for(counts, filter, client, words);
+        let counted = is_counted(filter, client, words);
+        let place = place_for(counts, counted, words);
         let _ = self.asked.push_back(Asked { place, bytes });
     }
 
@@ -233,6 +266,7 @@ impl CountedTap {
     fn drop_first(&mut self, count: u64)
         ensures asked { self.new.asked.items ≡ drop count self.old.asked.items }
         ensures same_tap { self.new.timed ≡ self.old.timed }
+        ensures same_lines { self.new.lines ≡ self.old.lines }
         ensures same_name { self.new.name ≡ self.old.name }
         ensures same_bytes { (self.new.sent ≡ self.old.sent) ×
             (self.new.received ≡ self.old.received) }
@@ -245,16 +279,23 @@ impl CountedTap {
     }
 }
 
-/// Returns the place of the row of a command, if the command is counted.
-fn place_for(counts: &mut Counts, filter: &Filter, client: u64, words: &Words) -> Option<usize>
-    ensures rows { MayAddRow (table_name words.now) counts.old.rows.items counts.new.rows.items }
-    ensures place { IsPlaceFor (is_counted filter.now client words.now) (table_name words.now)
-        counts.new.rows.items result }
+/// Returns whether a command of this client is counted, if the filter lets its reply through.
+fn is_counted(filter: &Filter, client: u64, words: &Words) -> bool
+    ensures { IsCounted filter.now client words.now result }
 {
-    if !filter.keeps_client(client) || !filter.keeps_words(words) {
-        return None;
+    filter.keeps_client(client) && filter.keeps_words(words)
+}
+
+/// Returns the place of the row of a command, if the command is counted.
+fn place_for(counts: &mut Counts, counted: bool, words: &Words) -> Option<usize>
+    ensures rows { MayAddRow (table_name words.now) counts.old.rows.items counts.new.rows.items }
+    ensures place { IsPlaceFor counted (table_name words.now) counts.new.rows.items result }
+{
+    if counted {
+        Some(counts.place_of(name_of(words)))
+    } else {
+        None
     }
-    Some(counts.place_of(name_of(words)))
 }
 
 /// Reads bytes that one side sent, until there is a result or the piece ends. Counts a command when
@@ -271,8 +312,8 @@ pub fn count_some(
     piece: &[u8],
     now: Moment,
 ) -> Step
-    ensures sees { SeesFirst side (Some now) tap.old.timed tap.new.timed piece.now result.used
-        result.seen }
+    ensures sees { (is_line : Bool) × SeesLined (Some now) side tap.old.lines tap.new.lines
+        tap.old.timed tap.new.timed piece.now result.used result.seen is_line }
     ensures counts { CountsSeen filter.now client side now tap.old tap.new result.used result.seen
         counts.old.rows.items counts.new.rows.items }
     ensures other_side { KeepsOther side tap.old.timed.tap tap.new.timed.tap }
@@ -282,7 +323,7 @@ pub fn count_some(
     let asked = tap.timed.asked();
     let before = tap.timed.tap.waiting();
     let at = tap.timed.tap.line.asked_at();
-    let step = step(&mut tap.timed, side, piece, Some(now));
+    let step = step_or_line(&mut tap.lines, &mut tap.timed, side, piece, Some(now)).step;
     let heard = Heard {
         bytes: tap.take_bytes(side, step.used, &step.seen),
         is_error: is_error(&step.seen),

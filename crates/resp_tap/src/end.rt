@@ -2,7 +2,7 @@
 
 ghost use Rattle.std.specs.Prelude.{◌≡◌, ◌+◌, ◌++◌, ℕ, List, codes, decimal, length, None, false, true};
 ghost use Rattle.resp_print.specs.Written.{WritesText};
-ghost use Rattle.resp_tap.specs.Ends.{bytes_end, client_words, cut_end, cut_of, end_text, ended_words, named_line, part_words};
+ghost use Rattle.resp_tap.specs.Ends.{CutsCommand, CutsOff, bytes_end, client_words, cut_end, cut_of, end_text, ended_words, named_line, part_words};
 ghost use Rattle.resp_tap.specs.Taps.{tap_state};
 ghost use Rattle.resp_tap.specs.Watching.{WhereAnswered, WhereRequested, place_of_value};
 ghost use Rattle.resp_tap.specs.declared.seen.Place.TheVariants as place;
@@ -62,6 +62,30 @@ impl Tap {
             return None;
         }
         cut_at(self.line.place(), self.values.taken())
+    }
+
+    /// Returns what one side has sent a part of, if the client has sent these bytes of a line.
+    pub(crate) fn cut(&self, side: Side, held: &[u8]) -> Option<Cut>
+        ensures { CutsOff side held.now self.now result }
+    {
+        match side {
+            Side::Client => self.cut_command(held),
+            Side::Server => self.incomplete_reply(),
+        }
+    }
+
+    /// Returns the command of which the client has sent a part: these bytes of a line, or bytes of an
+    /// array.
+    fn cut_command(&self, held: &[u8]) -> Option<Cut>
+        ensures { CutsCommand held.now self.now result }
+    {
+        if held.is_empty() || !self.requests.is_reading() {
+            return self.incomplete_command();
+        }
+        cut_at(
+            Place::Command(self.commands.saturating_add(1)),
+            held.len() as u64,
+        )
     }
 }
 

@@ -2,9 +2,10 @@
 
 ghost use Rattle.std.specs.Prelude.{◌≡◌, [], None, false};
 ghost use Rattle.std.specs.List.{list_any};
-ghost use Rattle.resp_tap.specs.Filters.{has_no_name, is_by_reply, is_late, is_selective, keeps, keeps_answer, keeps_client, keeps_connected, keeps_end, keeps_ends, keeps_gone, keeps_loose, keeps_seen, keeps_words, name_in, same_name};
+ghost use Rattle.resp_tap.specs.Filters.{Chooses, has_no_name, is_by_reply, is_late, is_selective, keeps, keeps_all, keeps_answer, keeps_client, keeps_connected, keeps_end, keeps_ends, keeps_gone, keeps_loose, keeps_name, keeps_seen, same_name};
 
 use crate::end::Cut;
+use crate::keys::{has_key, name_in};
 use crate::line::is_refusal;
 use crate::seen::Seen;
 use resp_session::words::Words;
@@ -33,6 +34,9 @@ pub struct Filter {
     /// The names of the commands that are printed, in upper, lower or mixed case. Without a name,
     /// all are printed.
     pub names: Vec<Vec<u8>>,
+    /// The glob that one of the keys of a command matches, if only commands with such a key are
+    /// printed.
+    pub key: Option<Vec<u8>>,
     /// The client whose lines are printed, if only one client's are.
     pub client: Option<u64>,
     /// Whether all lines about connections are printed, whatever the other parts let through, apart from
@@ -49,13 +53,6 @@ fn is_late(least: Option<u64>, waited: Option<u64>) -> bool
         (Some(_), None) => false,
         (Some(least), Some(waited)) => least < waited,
     }
-}
-
-/// Returns the name of a command.
-fn name_in(words: &Words) -> &[u8]
-    ensures { result.now ≡ name_in words.now }
-{
-    if words.len() == 0 { b"" } else { words.word(0) }
 }
 
 /// Returns whether these are the same name, in upper, lower or mixed case.
@@ -85,6 +82,7 @@ impl Filter {
         ensures errors { result.errors ≡ false }
         ensures slower { result.slower ≡ None }
         ensures names { result.names.items ≡ [] }
+        ensures key { result.key ≡ None }
         ensures client { result.client ≡ None }
         ensures connections { result.connections ≡ false }
     {
@@ -92,6 +90,7 @@ impl Filter {
             errors: false,
             slower: None,
             names: Vec::new(alloc),
+            key: None,
             client: None,
             connections: false,
         }
@@ -115,17 +114,37 @@ impl Filter {
     }
 
     /// Returns whether commands of all names are printed.
-    pub fn has_no_name(&self) -> bool
+    fn has_no_name(&self) -> bool
         ensures { result ≡ has_no_name self.now }
     {
         self.names.is_empty()
     }
 
+    /// Returns whether commands of all names and all keys are printed.
+    pub fn keeps_all(&self) -> bool
+        ensures { result ≡ keeps_all self.now }
+    {
+        self.has_no_name() && self.key.is_none()
+    }
+
     /// Returns whether commands with these words are printed, by their name.
-    pub fn keeps_words(&self, words: &Words) -> bool
-        ensures { result ≡ keeps_words self.now words.now }
+    fn keeps_name(&self, words: &Words) -> bool
+        ensures { result ≡ keeps_name self.now words.now }
     {
         self.has_no_name() || is_among(self.names.as_slice(), name_in(words))
+    }
+
+    /// Returns whether commands with these words are printed, by their name and their keys.
+    pub fn keeps_words(&self, words: &Words) -> bool
+        ensures { Chooses self.now words.now result }
+    {
+        if !self.keeps_name(words) {
+            return false;
+        }
+        match &self.key {
+            Some(glob) => has_key(words, glob.as_slice()),
+            None => true,
+        }
     }
 
     /// Returns whether a reply is printed that arrived after this delay.
@@ -139,7 +158,7 @@ impl Filter {
     fn keeps_loose(&self, is_error: bool) -> bool
         ensures { result ≡ keeps_loose self.now is_error }
     {
-        self.has_no_name() && self.keeps_answer(is_error, None)
+        self.keeps_all() && self.keeps_answer(is_error, None)
     }
 
     /// Returns whether a result is printed, if the lines about its client are.
@@ -148,7 +167,7 @@ impl Filter {
     {
         match seen {
             Seen::Nothing | Seen::Passed => false,
-            Seen::Command { words, .. } => !self.is_by_reply() && self.keeps_words(words),
+            Seen::Command { .. } => !self.is_by_reply() && is_chosen,
             Seen::Reply { value, .. } => is_chosen && self.keeps_answer(is_refusal(value), waited),
             Seen::Push(_) => self.keeps_loose(false),
             Seen::Value(value) => self.keeps_loose(is_refusal(value)),
@@ -156,8 +175,8 @@ impl Filter {
         }
     }
 
-    /// Returns whether a result of this client is printed. `is_chosen` says whether the command of
-    /// a reply has a name that is printed, and `waited` how many microseconds it waited.
+    /// Returns whether a result of this client is printed. `is_chosen` says whether the command, or
+    /// that of a reply, has words that are printed, and `waited` how many microseconds it waited.
     pub fn keeps(&self, client: u64, is_chosen: bool, waited: Option<u64>, seen: &Seen) -> bool
         ensures { result ≡ keeps self.now client is_chosen waited seen.now }
     {
@@ -168,7 +187,7 @@ impl Filter {
     pub fn is_selective(&self) -> bool
         ensures { result ≡ is_selective self.now }
     {
-        self.is_by_reply() || !self.has_no_name()
+        self.is_by_reply() || !self.keeps_all()
     }
 
     /// Returns whether the line is printed that says from where a client is connected.

@@ -1,7 +1,8 @@
 //! A tap whose traffic is printed through a filter.
 
-ghost use Rattle.std.specs.Prelude.{◌≡◌, ◌<◌, ◌≤◌, ◌-◌, List, [], length, drop};
+ghost use Rattle.std.specs.Prelude.{◌≡◌, ◌<◌, ◌≤◌, ◌-◌, Bool, List, [], length, drop, true};
 ghost use Rattle.resp_tap.specs.ClientNames.{naming_of};
+ghost use Rattle.resp_tap.specs.Ends.{CutsOff};
 ghost use Rattle.resp_tap.specs.Filtering.{FiltersAll, PrintsFiltered, SeesFiltered};
 ghost use Rattle.resp_tap.specs.Noted.{IsAdded, NotesAfter, NotesBy};
 ghost use Rattle.resp_tap.specs.Taps.{new_tap, tap_state};
@@ -11,14 +12,16 @@ ghost use Rattle.resp_tap.specs.Watching.{HasTakenRequest, HasTakenValue};
 ghost use Rattle.resp_tap.specs.declared.seen.Seen.{Seen};
 
 use crate::client_name::ClientName;
+use crate::end::Cut;
 use crate::filter::Filter;
+use crate::lines::{Lines, step_or_line};
 use crate::moment::Moment;
-use crate::note::{Note, note_of, write_filtered};
+use crate::note::{Note, is_chosen, note_of, write_filtered};
 use crate::print::Printing;
 use crate::seen::Seen;
 use crate::tap::Tap;
 use crate::timed::TimedTap;
-use crate::watch::{Side, Watched, first_error, stamp_of, step};
+use crate::watch::{Side, Watched, first_error, stamp_of};
 use resp_print::print_error::PrintError;
 use resp_session::words::Words;
 use resp_value::device::Sink;
@@ -28,8 +31,8 @@ use std::collections::VecDeque;
 
 /// A tap whose traffic is printed through a [`Filter`].
 ///
-/// If a filter has names, or prints a command only with its reply, the tap keeps for each command
-/// that waits when it came and whether its name passes. If the reply decides, it also keeps the
+/// If a filter has names or a key, or prints a command only with its reply, the tap keeps for each command
+/// that waits when it came and whether its words pass. If the reply decides, it also keeps the
 /// first 1,024 bytes of the text of the command's words. It keeps such a text only of a command
 /// behind fewer than 1,024 others that wait, so it keeps at most 1,024 texts. Use the same filter
 /// for all bytes of a connection.
@@ -40,23 +43,29 @@ use std::collections::VecDeque;
 pub struct FilteredTap {
     pub(crate) alloc: Global,
     pub(crate) timed: TimedTap,
+    /// The lines among the bytes of the client.
+    pub(crate) lines: Lines,
     /// What is kept of the commands that wait, in their order.
     pub(crate) notes: VecDeque<Note>,
     pub(crate) name: ClientName,
 }
 
 impl FilteredTap {
-    /// Returns a tap of a new connection, which is read within these limits. It allocates nothing.
+    /// Returns a tap of a new connection, which is read within these limits. A line of the client is
+    /// a command too. It allocates nothing.
     pub fn new(alloc: Global, limits: &Limits) -> FilteredTap
         ensures nothing_passed { tap_state result.timed.tap ≡ new_tap limits.now }
         ensures nothing_requested { HasTakenRequest result.timed.tap [] }
         ensures nothing_answered { HasTakenValue result.timed.tap [] }
+        ensures reads_lines { result.lines.are_read ≡ true }
+        ensures nothing_held { result.lines.held.items ≡ [] }
         ensures nothing_kept { result.notes.items ≡ [] }
         ensures no_name { (naming_of result.name).name ≡ [] }
     {
         FilteredTap {
             alloc,
             timed: TimedTap::new(alloc, limits),
+            lines: Lines::new(alloc, true),
             notes: VecDeque::new(alloc),
             name: ClientName::new(),
         }
@@ -67,6 +76,24 @@ impl FilteredTap {
         ensures { result.now ≡ self.now.timed.tap }
     {
         self.timed.tap()
+    }
+
+    /// Returns the tap of a new connection, whose lines are commands or are not. Without lines a byte
+    /// that begins no array is an error.
+    pub fn with_lines(mut self, are_read: bool) -> FilteredTap
+        ensures lines { result.lines ≡ record self.lines { are_read = are_read } }
+        ensures same { result ≡ record self { lines = result.lines } }
+    {
+        self.lines.are_read = are_read;
+        self
+    }
+
+    /// Returns the command, reply or value of which this side has sent a part, if its bytes are still
+    /// read.
+    pub fn cut(&self, side: Side) -> Option<Cut>
+        ensures { CutsOff side self.now.lines.held.items self.now.timed.tap result }
+    {
+        self.timed.tap.cut(side, self.lines.held.as_slice())
     }
 
     /// Returns the name that the client has given to the connection.
@@ -84,17 +111,20 @@ impl FilteredTap {
         printing: Printing,
         now: Option<Moment>,
         before: u64,
+        is_line: bool,
+        is_chosen: bool,
         seen: &Seen,
     )
-        ensures notes { NotesAfter filter.now printing now seen.now before (waits_in self.old.timed)
-            self.old.notes.items self.new.notes.items }
+        ensures notes { NotesAfter filter.now printing now is_line is_chosen seen.now before
+            (waits_in self.old.timed) self.old.notes.items self.new.notes.items }
         ensures same_tap { self.new.timed ≡ self.old.timed }
+        ensures same_lines { self.new.lines ≡ self.old.lines }
         ensures same_name { self.new.name ≡ self.old.name }
     {
         let after = self.timed.tap.waiting();
         match seen {
             Seen::Command { words, .. } if before < after && filter.is_selective() => {
-                self.add(filter, printing, now, before, words);
+                self.add(filter, printing, now, before, is_line, is_chosen, words);
             }
             _ => self.drop_first(before.saturating_sub(after)),
         }
@@ -107,11 +137,14 @@ impl FilteredTap {
         printing: Printing,
         now: Option<Moment>,
         before: u64,
+        is_line: bool,
+        is_chosen: bool,
         words: &Words,
     )
-        ensures notes { IsAdded filter.now printing now words.now self.old.notes.items
+        ensures notes { IsAdded filter.now printing now is_line is_chosen words.now self.old.notes.items
             self.new.notes.items }
         ensures same_tap { self.new.timed ≡ self.old.timed }
+        ensures same_lines { self.new.lines ≡ self.old.lines }
         ensures same_name { self.new.name ≡ self.old.name }
     {
         let behind = self.notes.len();
@@ -119,7 +152,11 @@ impl FilteredTap {
         if behind as u64 != before {
             return;
         }
-        if let Ok(note) = note_of(self.alloc, filter, printing, now, words, behind) {
+        let alloc = self.alloc;
+        let note = note_of(
+            alloc, filter, printing, now, is_line, is_chosen, words, behind,
+        );
+        if let Ok(note) = note {
             let _ = self.notes.push_back(note);
         }
     }
@@ -128,6 +165,7 @@ impl FilteredTap {
     fn drop_first(&mut self, count: u64)
         ensures notes { self.new.notes.items ≡ drop count self.old.notes.items }
         ensures same_tap { self.new.timed ≡ self.old.timed }
+        ensures same_lines { self.new.lines ≡ self.old.lines }
         ensures same_name { self.new.name ≡ self.old.name }
     {
         let mut left = count;
@@ -154,10 +192,12 @@ pub fn watch_filtered_some<W: Sink>(
     now: Option<Moment>,
     writer: &mut W,
 ) -> Watched
-    ensures watches { (what : Seen) ×
-        SeesFiltered filter.now printing side now tap.old tap.new piece.now result.used what ×
-        PrintsFiltered filter.now printing now tap.old what (W.written writer.old)
-        (W.written writer.new) (W.failures writer.old) (W.failures writer.new) result.printed }
+    ensures watches { (what : Seen) × (is_line : Bool) × (is_chosen : Bool) ×
+        SeesFiltered filter.now printing side now tap.old tap.new piece.now result.used what is_line
+        is_chosen ×
+        PrintsFiltered filter.now printing now tap.old what is_line is_chosen
+        (W.written writer.old) (W.written writer.new) (W.failures writer.old)
+        (W.failures writer.new) result.printed }
     ensures other_side { KeepsOther side tap.old.timed.tap tap.new.timed.tap }
     ensures within_piece { result.used ≤ length piece.now }
     ensures uses_bytes { 0 < length piece.now → 0 < result.used }
@@ -165,17 +205,18 @@ pub fn watch_filtered_some<W: Sink>(
     let asked = tap.timed.asked();
     let before = tap.timed.tap.waiting();
     let at = tap.timed.tap.line.asked_at();
-    let step = step(&mut tap.timed, side, piece, now);
+    let lined = step_or_line(&mut tap.lines, &mut tap.timed, side, piece, now);
+    let step = lined.step;
+    let is_line = lined.is_line;
     let stamp = stamp_of(now, asked, &step.seen);
+    let note = tap.notes.get(at);
+    let is_chosen = is_chosen(filter, note, &step.seen);
     let printed = write_filtered(
-        filter,
-        printing,
-        tap.notes.get(at),
-        stamp,
-        &step.seen,
-        writer,
+        filter, printing, is_line, is_chosen, note, stamp, &step.seen, writer,
     );
-    tap.follow(filter, printing, now, before, &step.seen);
+    tap.follow(
+        filter, printing, now, before, is_line, is_chosen, &step.seen,
+    );
     tap.name.follow(&step.seen);
     Watched {
         used: step.used,

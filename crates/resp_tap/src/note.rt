@@ -3,13 +3,14 @@
 ghost use Rattle.std.specs.Prelude.{◌++◌, ◌≡◌, ◌≤◌, [], false, true, length, take, IfOk, codes, if◌then◌else◌, option_map};
 ghost use Rattle.resp_print.specs.Printed.{Prints};
 ghost use Rattle.resp_print.specs.Written.{WritesText};
-ghost use Rattle.resp_tap.specs.Filters.{is_by_reply, keeps_words};
-ghost use Rattle.resp_tap.specs.Noted.{IsNote, before_text, chosen_by, deferred_text, filtered_text, kept_line, line_end, room_behind, room_for, shown_words, stamp_on, waited_in};
-ghost use Rattle.resp_tap.specs.Texts.{levels_of, numbered_line};
+ghost use Rattle.resp_tap.specs.Filters.{is_by_reply};
+ghost use Rattle.resp_tap.specs.Noted.{IsChosen, IsNote, before_text, deferred_text, filtered_text, kept_line, line_end, room_behind, room_for, shown_words, stamp_on, waited_in};
+ghost use Rattle.resp_tap.specs.Texts.{heading, levels_of};
 
 use crate::filter::Filter;
+use crate::inline::{write_heading, write_shown};
 use crate::moment::Moment;
-use crate::print::{Printing, secrets_for, write_numbered_line, write_seen, write_words};
+use crate::print::{Printing, secrets_for, write_words};
 use crate::seen::Seen;
 use crate::stamp::Stamp;
 use resp_print::print_error::PrintError;
@@ -29,7 +30,9 @@ const MOST_KEPT: usize = 1_024;
 pub(crate) struct Note {
     /// The time of day at which it arrived, in microseconds, if times are printed.
     pub(crate) of_day: Option<u64>,
-    /// Whether the filter lets it through by its name.
+    /// Whether it came as a line.
+    pub(crate) is_line: bool,
+    /// Whether the filter lets it through by its words.
     pub(crate) is_chosen: bool,
     /// Whether the text is that of all its words.
     pub(crate) is_whole: bool,
@@ -67,17 +70,19 @@ pub(crate) fn note_of(
     filter: &Filter,
     printing: Printing,
     now: Option<Moment>,
+    is_line: bool,
+    is_chosen: bool,
     words: &Words,
     behind: usize,
 ) -> Result<Note, AllocError>
-    ensures { IfOk result (IsNote filter.now printing now words.now
-        (room_for filter.now (keeps_words filter.now words.now) behind)) }
+    ensures { IfOk result (IsNote printing now is_line is_chosen words.now
+        (room_for filter.now is_chosen behind)) }
 {
-    let is_chosen = filter.keeps_words(words);
     let room = filter.room_for(is_chosen, behind);
     let (text, is_whole) = first_bytes(alloc, printing, words, room)?;
     Ok(Note {
         of_day: of_day(now),
+        is_line,
         is_chosen,
         is_whole,
         text,
@@ -129,13 +134,15 @@ fn first_bytes(
     ))
 }
 
-/// Returns whether the command of a reply has a name that is printed.
-fn is_chosen(filter: &Filter, note: Option<&Note>) -> bool
-    ensures { result ≡ chosen_by filter.now (option_map (λ note. note.now) note.entry) }
+/// Returns whether the command of a result has words that are printed. `note` is what is kept of the
+/// command that the next reply belongs to.
+pub(crate) fn is_chosen(filter: &Filter, note: Option<&Note>, seen: &Seen) -> bool
+    ensures { IsChosen filter.now (option_map (λ note. note.now) note.entry) seen.now result }
 {
-    match note {
-        Some(note) => note.is_chosen,
-        None => filter.has_no_name(),
+    match (seen, note) {
+        (Seen::Command { words, .. }, _) => filter.keeps_words(words),
+        (_, Some(note)) => note.is_chosen,
+        (_, None) => filter.keeps_all(),
     }
 }
 
@@ -162,30 +169,32 @@ fn stamp_on(of_day: Option<u64>) -> Option<Stamp>
     }
 }
 
-/// Writes the lines of a result, if the filter lets it through. `note` is what is kept of the
-/// command that the next reply belongs to.
+/// Writes the lines of a result, if the filter lets it through. `is_line` says whether it is that of
+/// a line, `is_chosen` says whether the words of
+/// its command are printed, and `note` is what is kept of the command that the next reply belongs to.
 ///
 /// # Errors
 ///
-/// The errors of [`write_seen`]. The first part of the text was written.
+/// The errors of [`write_shown`]. The first part of the text was written.
 pub(crate) fn write_filtered<W: Sink>(
     filter: &Filter,
     printing: Printing,
+    is_line: bool,
+    is_chosen: bool,
     note: Option<&Note>,
     stamp: Option<Stamp>,
     seen: &Seen,
     writer: &mut W,
 ) -> Result<(), PrintError>
     ensures { Prints (W.written writer.old) (W.written writer.new) (W.failures writer.old)
-        (W.failures writer.new) result (filtered_text filter.now printing
+        (W.failures writer.new) result (filtered_text filter.now printing is_line is_chosen
         (option_map (λ note. note.now) note.entry) stamp seen.now) (levels_of seen.now) }
 {
-    let is_chosen = is_chosen(filter, note);
     if !filter.keeps(printing.client, is_chosen, waited_in(stamp), seen) {
         return Ok(());
     }
     match write_before(filter, printing.client, note, seen, writer) {
-        Ok(()) => write_seen(printing, stamp, seen, writer),
+        Ok(()) => write_shown(printing, is_line, stamp, seen, writer),
         Err(_) => Err(PrintError::Write),
     }
 }
@@ -229,13 +238,14 @@ fn write_if_deferred<W: Sink>(
             write_deferred(
                 client,
                 number,
+                note.is_line,
                 stamp,
                 note.is_whole,
                 note.text.as_slice(),
                 writer,
             )
         }
-        None => write_deferred(client, number, None, false, b"", writer),
+        None => write_deferred(client, number, false, None, false, b"", writer),
     }
 }
 
@@ -243,16 +253,17 @@ fn write_if_deferred<W: Sink>(
 fn write_deferred<W: Sink>(
     client: u64,
     number: u64,
+    is_line: bool,
     stamp: Option<Stamp>,
     is_whole: bool,
     text: &[u8],
     writer: &mut W,
 ) -> Result<(), DeviceFault>
     ensures { WritesText (W.written writer.old) (W.written writer.new) (W.failures writer.old)
-        (W.failures writer.new) result (numbered_line client (codes " command ") number stamp ++
+        (W.failures writer.new) result (heading is_line client number stamp ++
         kept_line is_whole text.now) }
 {
-    write_numbered_line(client, b" command ", number, stamp, writer)?;
+    write_heading(client, number, is_line, stamp, writer)?;
     write_kept_line(is_whole, text, writer)
 }
 

@@ -66,7 +66,7 @@ pub fn write_seen<W: Sink>(
 }
 
 /// Returns the result of a write as the result of printing.
-fn printed(written: Result<(), DeviceFault>) -> Result<(), PrintError>
+pub(crate) fn printed(written: Result<(), DeviceFault>) -> Result<(), PrintError>
     ensures { (before after : Option (List ℕ)) (failures failures' : ℕ) (text : List ℕ)
         (levels : ℕ) → WritesText before after failures failures' written text →
         Prints before after failures failures' result text levels }
@@ -237,7 +237,7 @@ fn write_stamped_number<W: Sink>(
 }
 
 /// Writes the line with the words of a command.
-fn write_words_line<W: Sink>(
+pub(crate) fn write_words_line<W: Sink>(
     words: &Words,
     secrets: Secrets,
     writer: &mut W,

@@ -1,8 +1,8 @@
 //! The state of a tap.
 
-ghost use Rattle.std.specs.Prelude.{◌≡◌, length};
+ghost use Rattle.std.specs.Prelude.{◌≡◌, [], length, false, true};
 ghost use Rattle.resp_tap.specs.Taps.{tap_state};
-ghost use Rattle.resp_tap.specs.Watching.{HasTakenSomeRequest, HasTakenSomeValue};
+ghost use Rattle.resp_tap.specs.Watching.{HasTakenSomeRequest, HasTakenSomeValue, WhereRequested};
 
 use crate::tap::Tap;
 
@@ -23,6 +23,14 @@ impl Tap {
         ensures some { HasTakenSomeValue self.now }
     {
         self.values.is_reading()
+    }
+
+    /// Returns whether the client has sent no part of a command.
+    pub(crate) fn is_between(&self) -> bool
+        ensures between { result ≡ true → WhereRequested self.now (λ front. front ≡ []) }
+        ensures inside { result ≡ false → WhereRequested self.now (λ front. front ≡ [] → ⊥) }
+    {
+        self.requests.taken() == 0
     }
 
     /// Returns the number of commands that wait for their replies. MONITOR and other commands after

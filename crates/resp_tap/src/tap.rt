@@ -189,7 +189,7 @@ impl Tap {
     }
 
     /// Stops reading the client's bytes, and reports an error in the next command.
-    fn refuse_command(&mut self, cause: Cause, at: u64, piece: &[u8]) -> Step
+    pub(crate) fn refuse_command(&mut self, cause: Cause, at: u64, piece: &[u8]) -> Step
         ensures after { tap_state self.new ≡ with_refused_command (tap_state self.old) }
         ensures step { result ≡ record {
           used = length piece.now;

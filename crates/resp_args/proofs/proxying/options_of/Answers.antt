@@ -57,3 +57,9 @@ returns-in_err-number_between-3-clause-none c =
     let none : (options : ProxyOptions) → HasProxyOptions (rows_of (found_of c.args.matches.now)) options → ⊥ =
     λ options has. c.in_err-number_between-3.ensures.none _ has.probes in
     if_none _ _ none
+
+pub returns-in_err-number_between-4-clause-none : goal.returns-in_err-number_between-4-clause-none
+returns-in_err-number_between-4-clause-none c =
+    let none : (options : ProxyOptions) → HasProxyOptions (rows_of (found_of c.args.matches.now)) options → ⊥ =
+    λ options has. c.in_err-number_between-4.ensures.none _ has.shared in
+    if_none _ _ none

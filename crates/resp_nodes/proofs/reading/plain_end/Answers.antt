@@ -1,4 +1,4 @@
-use Rattle.std.proofs.Common.{◌-◌, take, ap, arith, subst, ◌≡◌}
+use Rattle.std.proofs.Common.{◌-◌, take, arith, subst, ◌≡◌}
 use Rattle.resp_value.specs.Rules.{rules_under}
 use Rattle.resp_value.specs.Spellings.{IsSpelling}
 use Rattle.resp_value.specs.TreeValues.{value}

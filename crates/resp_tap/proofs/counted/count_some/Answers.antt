@@ -1,4 +1,4 @@
-use Rattle.std.proofs.Common.{rules, ◌≡◌, ◌∙◌, ◌+◌, ℕ, List, refl, ap, sym, subst, min}
+use Rattle.std.proofs.Common.{◌≡◌, ◌∙◌, ◌+◌, ℕ, List, refl, ap, sym, subst, min}
 use Rattle.resp_tap.specs.ClientNames.{named_after, naming_of}
 use Rattle.resp_tap.specs.Counting.{CountsAfter, KeepsTaken, taken_of}
 use Rattle.resp_tap.specs.Lines.{asked_at}
@@ -7,6 +7,7 @@ use Rattle.resp_tap.specs.Times.{waits_in}
 use Rattle.resp_tap.specs.declared.counted.Asked.{Asked}
 use Rattle.resp_tap.specs.declared.counted.CountedTap.{CountedTap}
 use Rattle.resp_tap.specs.declared.counted.Heard.{Heard}
+use Rattle.resp_tap.specs.declared.lines.Lines.{Lines}
 use Rattle.resp_tap.specs.declared.timed.TimedTap.{TimedTap}
 use Rattle.resp_tap.specs.declared.watch.Side.{Side}
 use Rattle.resp_tap.specs.declared.watch.Side.TheVariants.{Client, Server}
@@ -22,9 +23,10 @@ same_other : (side : Side) (old new next : CountedTap) → next.sent ≡ new.sen
 same_other Client old new next sent received kept = received ∙ kept
 same_other Server old new next sent received kept = sent ∙ kept
 
-stepped_other : (side : Side) (old new : CountedTap) (t : TimedTap) → KeepsTaken side (record old { timed = t }) new → KeepsTaken side old new
-stepped_other Client old new t kept = kept
-stepped_other Server old new t kept = kept
+stepped_other : (side : Side) (old new : CountedTap) (t : TimedTap) (l : Lines) → KeepsTaken side (record old { timed = t; lines = l }) new →
+    KeepsTaken side old new
+stepped_other Client old new t l kept = kept
+stepped_other Server old new t l kept = kept
 
 pub returns-clause-counts : goal.returns-clause-counts
 returns-clause-counts c =
@@ -34,7 +36,7 @@ returns-clause-counts c =
     let read = c.take_bytes.new.self in
     let new = c.follow.new.self in
     let last : CountedTap = record new { name = c.follow-2.new.self } in
-    let what = c.step-step.result.seen in
+    let what = c.step_or_line.result.step.seen in
     let heard : Heard = record { bytes = c.take_bytes.result; is_error = c.is_error.result; waited = c.waited_of.result } in
     let rows = c.args.counts.now.rows.items in
     let rows' = c.follow.new.counts.rows.items in
@@ -43,7 +45,7 @@ returns-clause-counts c =
       heard = heard;
       is_heard = record {
         bytes = c.take_bytes.ensures.bytes ∙
-            ap (λ (n : ℕ). min (n + c.step-step.result.used) 18446744073709551615) (same_taken c.args.side old (record old { timed = c.step-step.new.tap }) refl refl);
+            ap (λ (n : ℕ). min (n + c.step_or_line.result.step.used) 18446744073709551615) (same_taken c.args.side old (record old { timed = c.step_or_line.new.tap; lines = c.step_or_line.new.lines }) refl refl);
         error = c.is_error.ensures;
         asked = c.asked-asked.result;
         of_command = c.asked-asked.ensures;
@@ -51,7 +53,7 @@ returns-clause-counts c =
       };
       left = same_taken c.args.side read last c.follow.ensures.same_bytes.0 c.follow.ensures.same_bytes.1 ∙ c.take_bytes.ensures.left;
       same_taken = same_other c.args.side old read last c.follow.ensures.same_bytes.0 c.follow.ensures.same_bytes.1
-          (stepped_other c.args.side old read c.step-step.new.tap c.take_bytes.ensures.same_taken);
+          (stepped_other c.args.side old read c.step_or_line.new.tap c.step_or_line.new.lines c.take_bytes.ensures.same_taken);
       counts = subst (λ (t : TimedTap). CountsAfter f client what heard (waits_in old.timed) (waits_in t) at old.asked.items new.asked.items rows rows') (sym c.follow.ensures.same_tap)
           (subst (λ (l : List Asked). CountsAfter f client what heard (waits_in old.timed) (waits_in read.timed) at l new.asked.items rows rows') c.take_bytes.ensures.same_asked
           (subst (λ (n : ℕ). CountsAfter f client what heard (waits_in old.timed) (waits_in read.timed) n read.asked.items new.asked.items rows rows') c.asked_at-at.ensures

@@ -15,12 +15,14 @@ loop-rest-preserved g c =
           let all = c.loop-rest.invariant.so_far (seen.0 ∷ more) new after failures' (first_error watched.result.printed later) (
             watched.new.tap,
             watched.result.used,
+            seen.1,
+            seen.2,
             g.W.Sink.written watched.new.writer,
             g.W.Sink.failures watched.new.writer,
             watched.result.printed,
             later,
-            seen.1,
-            seen.2,
+            seen.3,
+            seen.4,
             refl,
             subst (λ rest. FiltersAll c.args.filter.now c.args.printing c.args.side c.args.now more watched.new.tap new rest (g.W.Sink.written watched.new.writer) after
                 (g.W.Sink.failures watched.new.writer) failures' later) (take_rest c.loop-rest.rest.now watched.result.used) beyond,

@@ -5,12 +5,12 @@ use Rattle.std.specs.Borrow.{Bor}
 use Rattle.std.proofs.lemmas.Option.{slice_get_past, slice_get_read}
 use Rattle.resp_print.specs.Printed.{Prints}
 use Rattle.resp_tap.specs.ClientNames.{named_after, naming_of}
-use Rattle.resp_tap.specs.Lines.{asked_at}
-use Rattle.resp_tap.specs.Noted.{NotesAfter, filtered_text}
-use Rattle.resp_tap.specs.Taps.{tap_state}
+use Rattle.resp_tap.specs.Filtering.{note_of}
+use Rattle.resp_tap.specs.Noted.{IsChosen, NotesAfter, filtered_text}
 use Rattle.resp_tap.specs.Texts.{levels_of}
 use Rattle.resp_tap.specs.Times.{stamp_of, waits_in}
-use Rattle.resp_tap.specs.Watches.{SeesFirst}
+use Rattle.resp_tap.specs.Lined.{SeesLined}
+use Rattle.resp_tap.specs.declared.lines.Lines.{Lines}
 use Rattle.resp_tap.specs.declared.note.Note.{Note}
 use Rattle.resp_tap.specs.declared.stamp.Stamp.{Stamp}
 use Rattle.resp_tap.specs.declared.timed.TimedTap.{TimedTap}
@@ -27,15 +27,23 @@ returns-clause-watches g c =
     let p = c.args.printing in
     let old = c.args.tap.now in
     let new = c.follow.new.self in
-    let what = c.step-step.result.seen in
+    let what = c.step_or_line-lined.result.step.seen in
     let same = sym c.follow.ensures.same_tap in
-    let note : option_map (λ note. note.now) c.get.result ≡ slice_get old.notes.items (asked_at (tap_state old.timed.tap).line.due) =
-    note_at old.notes.items c.asked_at-at.result c.get.result c.get.ensures.item ∙ ap (slice_get old.notes.items) c.asked_at-at.ensures in (
+    let is_line = c.step_or_line-lined.result.is_line in
+    let is_chosen = c.is_chosen-is_chosen.result in
+    let note : option_map (λ note. note.now) c.get-note.result ≡ note_of old =
+    note_at old.notes.items c.asked_at-at.result c.get-note.result c.get-note.ensures.item ∙ ap (slice_get old.notes.items) c.asked_at-at.ensures in (
       what,
+      is_line,
+      is_chosen,
       record {
-        seen = subst (λ (t : TimedTap). SeesFirst c.args.side c.args.now old.timed t c.args.piece.now c.step-step.result.used what) same c.step-step.ensures.sees;
-        notes = subst (λ (t : TimedTap). NotesAfter f p c.args.now what (waits_in old.timed) (waits_in t) old.notes.items new.notes.items) same
-            (subst (λ n. NotesAfter f p c.args.now what n (waits_in c.step-step.new.tap) old.notes.items new.notes.items) c.waiting-before.ensures
+        seen = subst (λ (t : TimedTap). SeesLined c.args.now c.args.side old.lines new.lines old.timed t c.args.piece.now c.step_or_line-lined.result.step.used
+            what c.step_or_line-lined.result.is_line) same
+            (subst (λ (l : Lines). SeesLined c.args.now c.args.side old.lines l old.timed c.step_or_line-lined.new.tap c.args.piece.now
+            c.step_or_line-lined.result.step.used what c.step_or_line-lined.result.is_line) (sym c.follow.ensures.same_lines) c.step_or_line-lined.ensures.sees);
+        chosen = subst (λ (n : Option Note). IsChosen f n what is_chosen) note c.is_chosen-is_chosen.ensures;
+        notes = subst (λ (t : TimedTap). NotesAfter f p c.args.now is_line is_chosen what (waits_in old.timed) (waits_in t) old.notes.items new.notes.items) same
+            (subst (λ n. NotesAfter f p c.args.now is_line is_chosen what n (waits_in c.step_or_line-lined.new.tap) old.notes.items new.notes.items) c.waiting-before.ensures
             c.follow.ensures.notes);
         name = c.follow-2.ensures ∙ ap (λ n. named_after what (naming_of n)) c.follow.ensures.same_name;
       },
@@ -44,10 +52,10 @@ returns-clause-watches g c =
         of_command = c.asked-asked.ensures;
         text = subst (λ (n : Option Note). Prints (g.W.Sink.written c.args.writer.now) (g.W.Sink.written c.write_filtered-printed.new.writer)
             (g.W.Sink.failures c.args.writer.now) (g.W.Sink.failures c.write_filtered-printed.new.writer) c.write_filtered-printed.result
-            (filtered_text f p n (stamp_of c.args.now c.asked-asked.result what) what) (levels_of what)) note
+            (filtered_text f p is_line is_chosen n (stamp_of c.args.now c.asked-asked.result what) what) (levels_of what)) note
             (subst (λ (stamp : Option Stamp). Prints (g.W.Sink.written c.args.writer.now) (g.W.Sink.written c.write_filtered-printed.new.writer)
             (g.W.Sink.failures c.args.writer.now) (g.W.Sink.failures c.write_filtered-printed.new.writer) c.write_filtered-printed.result
-            (filtered_text f p (option_map (λ note. note.now) c.get.result) stamp what) (levels_of what)) c.stamp_of-stamp.ensures
+            (filtered_text f p is_line is_chosen (option_map (λ note. note.now) c.get-note.result) stamp what) (levels_of what)) c.stamp_of-stamp.ensures
             c.write_filtered-printed.ensures);
       },
     )

@@ -5,6 +5,7 @@ use Rattle.resp_tap.proofs.counted.CountedTap.drop_first.Given as goal
 abbrev pub invariant-loop-left : goal.invariant-loop-left
 invariant-loop-left l = record {
   same_tap : l.self.timed ≡ l.initial.self.timed;
+  same_lines : l.self.lines ≡ l.initial.self.lines;
   same_name : l.self.name ≡ l.initial.self.name;
   same_sent : l.self.sent ≡ l.initial.self.sent;
   same_received : l.self.received ≡ l.initial.self.received;

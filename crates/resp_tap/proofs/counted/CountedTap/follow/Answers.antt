@@ -1,4 +1,4 @@
-use Rattle.std.proofs.Common.{rules, arith, ◌≡◌, ◌<◌, ◌-◌, ℕ, List, Bool, true, subst, sym}
+use Rattle.std.proofs.Common.{rules, ◌≡◌, ◌<◌, ◌-◌, ℕ, List, true, subst, sym}
 use Rattle.std.specs.Prelude.{nat_lt}
 use Rattle.resp_counts.specs.declared.row.Row.{Row}
 use Rattle.resp_tap.specs.Counting.{AsksCall, CountsAfter, CountsBy}

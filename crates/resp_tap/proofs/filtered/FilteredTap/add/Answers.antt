@@ -1,6 +1,5 @@
 use Rattle.std.proofs.Common.{rules, ◌≡◌, ℕ, List, [], ◌∷◌, ◌++◌, length, Bool, true, false, Option, inl, inr, subst}
 use Rattle.std.specs.Prelude.{if◌then◌else◌}
-use Rattle.resp_tap.specs.Filters.{keeps_words}
 use Rattle.resp_tap.specs.Noted.{IsAdded, IsNote, room_for}
 use Rattle.resp_tap.specs.declared.filter.Filter.{Filter}
 use Rattle.resp_tap.specs.declared.moment.Moment.{Moment}
@@ -9,11 +8,11 @@ use Rattle.resp_tap.specs.declared.print.Printing.{Printing}
 use Rattle.resp_tap.proofs.filtered.FilteredTap.add.Goals as goal
 
 -- a note was put at the end, unless memory is out
-put_last : (f : Filter) (p : Printing) (now : Option Moment) (words : List (List ℕ)) (old new : List Note) (note : Note) (put : Bool) →
-    IsNote f p now words (room_for f (keeps_words f words) (length old)) note → new ≡ (if put then old ++ note ∷ [] else old) →
-    IsAdded f p now words old new
-put_last f p now words old new note true is e = inr (note, is, e)
-put_last f p now words old new note false is e = inl e
+put_last : (f : Filter) (p : Printing) (now : Option Moment) (is_line is_chosen : Bool) (words : List (List ℕ)) (old new : List Note) (note : Note) (put : Bool) →
+    IsNote p now is_line is_chosen words (room_for f is_chosen (length old)) note → new ≡ (if put then old ++ note ∷ [] else old) →
+    IsAdded f p now is_line is_chosen words old new
+put_last f p now is_line is_chosen words old new note true is e = inr (note, is, e)
+put_last f p now is_line is_chosen words old new note false is e = inl e
 
 pub returns-in-Ok-clause-notes : goal.returns-in-Ok-clause-notes
 returns-in-Ok-clause-notes c =
@@ -21,6 +20,6 @@ returns-in-Ok-clause-notes c =
     let words = c.args.words.now in
     let old = c.args.self.now.notes.items in
     let behind : c.len-behind.result ≡ length old = search rules in
-    put_last f c.args.printing c.args.now words old c.push_back.new.self.items c.in-Ok.note _
-    (subst (λ n. IsNote f c.args.printing c.args.now words (room_for f (keeps_words f words) n) c.in-Ok.note) behind c.in-Ok.ensures)
+    put_last f c.args.printing c.args.now c.args.is_line c.args.is_chosen words old c.push_back.new.self.items c.in-Ok.note _
+    (subst (λ n. IsNote c.args.printing c.args.now c.args.is_line c.args.is_chosen words (room_for f c.args.is_chosen n) c.in-Ok.note) behind c.in-Ok.ensures)
     c.push_back.ensures.items

@@ -15,16 +15,16 @@ use Rattle.resp_tap.proofs.filtered.FilteredTap.follow.Goals as goal
 both_hold : (before after : ℕ) (some : Bool) → before < after → some ≡ true → (nat_lt before after && some) ≡ true
 both_hold before after some less is = grind (arith, less, is)
 
-one_more : (f : Filter) (p : Printing) (now : Option Moment) (what : Seen) (number : ℕ) (words : List (List ℕ)) (before after : ℕ) (old new : List Note) →
-    what ≡ seen.Command number words → before < after → is_selective f ≡ true → IsAdded f p now words old new →
-    NotesAfter f p now what before after old new
-one_more f p now what number words before after old new is less some added =
-    subst (λ w. NotesBy (nat_lt before after && is_selective f) f p now w (before - after) old new) (sym is)
-    (subst (λ b. NotesBy b f p now (seen.Command number words) (before - after) old new) (sym (both_hold before after (is_selective f) less some)) added)
+one_more : (f : Filter) (p : Printing) (now : Option Moment) (is_line is_chosen : Bool) (what : Seen) (number : ℕ) (words : List (List ℕ)) (before after : ℕ)
+    (old new : List Note) → what ≡ seen.Command number words → before < after → is_selective f ≡ true → IsAdded f p now is_line is_chosen words old new →
+    NotesAfter f p now is_line is_chosen what before after old new
+one_more f p now is_line is_chosen what number words before after old new is less some added =
+    subst (λ w. NotesBy (nat_lt before after && is_selective f) f p now is_line is_chosen w (before - after) old new) (sym is)
+    (subst (λ b. NotesBy b f p now is_line is_chosen (seen.Command number words) (before - after) old new) (sym (both_hold before after (is_selective f) less some)) added)
 
 pub returns-in-Command-clause-notes : goal.returns-in-Command-clause-notes
 returns-in-Command-clause-notes c =
     let more : c.args.before < waits_in c.args.self.now.timed = search rules in
     let some : is_selective c.args.filter.now ≡ true = search rules in
-    one_more c.args.filter.now c.args.printing c.args.now c.args.seen.now c.in-Command.number c.in-Command.words c.args.before
+    one_more c.args.filter.now c.args.printing c.args.now c.args.is_line c.args.is_chosen c.args.seen.now c.in-Command.number c.in-Command.words c.args.before
     (waits_in c.args.self.now.timed) c.args.self.now.notes.items c.add.new.self.notes.items c.in-Command.is more some c.add.ensures.notes

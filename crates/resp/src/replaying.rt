@@ -1,0 +1,105 @@
+//! `resp tap --replay`, which prints the traffic in a capture.
+
+use crate::failures::{Failures, Input};
+use crate::listening::{filter_of, tables_of};
+use resp_args::options::STANDARD_INPUT;
+use resp_args::tapping::Tapping;
+use resp_args::tool_error::ToolError;
+use resp_args::traffic::Captured;
+use resp_args::words::{refuse_file, stop};
+use resp_print::live::LiveSink;
+use resp_serve::{Replay, ReplayError, ReplaySettings};
+use resp_tap::Filter;
+use resp_value::device::{Device, Sink};
+use std::alloc::{AllocError, Global};
+use std::fs::File;
+use std::io::Read;
+
+/// The status if the file is no capture, or is cut off.
+const WRONG_CAPTURE: u8 = 1;
+
+/// Returns how the capture is printed.
+fn settings_of(tapping: &Tapping<'_>, captured: &Captured<'_>, is_slow: bool) -> ReplaySettings {
+    ReplaySettings {
+        limits: tapping.limits,
+        tells_time: tapping.tells_time || is_slow,
+        reads_lines: !tapping.refuses_lines,
+        shows_passwords: tapping.shows_passwords,
+        tables: tables_of(tapping.stats),
+        port: port_of(captured.port),
+    }
+}
+
+/// Returns the port of the server, or `None` for 0.
+fn port_of(port: u64) -> Option<u16> {
+    match u16::try_from(port) {
+        Ok(0) | Err(_) => None,
+        Ok(port) => Some(port),
+    }
+}
+
+/// Prints the traffic in a capture, and returns the status.
+pub fn run_replay<W: LiveSink, F: Sink>(
+    rt: &HostRuntime,
+    tapping: &Tapping<'_>,
+    captured: &Captured<'_>,
+    slower: Option<u64>,
+    writer: &mut W,
+    failures: &Failures,
+    faults: &mut F,
+) -> Result<u8, AllocError> {
+    let alloc = rt.alloc();
+    let filter = filter_of(alloc, &tapping.filter, slower)?;
+    let settings = settings_of(tapping, captured, slower.is_some());
+    if captured.file == STANDARD_INPUT {
+        return replay(
+            alloc,
+            rt.stdin(),
+            settings,
+            filter,
+            writer,
+            failures,
+            faults,
+        );
+    }
+    match File::open(rt, captured.file) {
+        Ok(file) => replay(alloc, file, settings, filter, writer, failures, faults),
+        Err(error) => {
+            let why = format!(in alloc; "{error}")?;
+            Ok(refuse_file(captured.file, why.as_str(), faults))
+        }
+    }
+}
+
+/// Prints the traffic in a capture that is read from a stream, and returns the status.
+fn replay<R: Read + Drop, W: LiveSink, F: Sink>(
+    alloc: Global,
+    stream: R,
+    settings: ReplaySettings,
+    filter: Filter,
+    writer: &mut W,
+    failures: &Failures,
+    faults: &mut F,
+) -> Result<u8, AllocError> {
+    let mut reader = Device::new(Input::new(stream, failures));
+    let Ok(mut replay) = Replay::new(alloc, settings, filter) else {
+        return Err(AllocError);
+    };
+    let ended = replay.run(&mut reader, writer);
+    let fragments = replay.fragments();
+    if fragments > 0 {
+        let line = format!(in alloc; "fragments of packets that are not read: {fragments}\n")?;
+        let _ = faults.write(line.as_str().as_bytes());
+    }
+    match ended {
+        Ok(()) => Ok(0),
+        Err(ReplayError::Capture(error)) => {
+            let line = format!(in alloc; "capture: {error}\n")?;
+            let _ = faults.write(line.as_str().as_bytes());
+            Ok(WRONG_CAPTURE)
+        }
+        Err(ReplayError::Read) => Ok(stop(&ToolError::Read, faults)),
+        Err(ReplayError::Write) => Ok(stop(&ToolError::Write, faults)),
+        Err(ReplayError::OutOfMemory) => Err(AllocError),
+    }
+}

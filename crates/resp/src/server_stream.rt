@@ -1,0 +1,116 @@
+//! The connection of `ask` and of `proxy --check` to a server.
+
+ghost use Rattle.std.specs.Io.{ReadsAtMost, WritesAtMost};
+
+use resp_serve::Address;
+use std::io;
+use std::io::{ErrorKind, Read, Write};
+use std::net::TcpStream;
+use std::os::unix::net::UnixStream;
+
+/// An open connection to a server.
+#[derive(Drop)]
+pub enum ServerStream {
+    /// Over TCP.
+    Tcp(TcpStream),
+    /// Over a Unix socket.
+    Unix(UnixStream),
+}
+
+impl ServerStream {
+    /// Connects to the first of these addresses that accepts a connection.
+    ///
+    /// # Errors
+    ///
+    /// The error of the last address, or an error of kind `AddrNotAvailable` if there is no address.
+    pub fn connect(rt: &HostRuntime, addresses: &[Address]) -> io::Result<Self> {
+        let mut failed = ErrorKind::AddrNotAvailable.into();
+        for address in addresses {
+            match open(rt, address) {
+                Ok(stream) => return Ok(stream),
+                Err(error) => failed = error,
+            }
+        }
+        Err(failed)
+    }
+
+    /// Reads some bytes.
+    fn read_some(&self, into: &mut [u8]) -> io::Result<usize>
+        ensures { ReadsAtMost result into.new }
+    {
+        match self {
+            ServerStream::Tcp(stream) => read_tcp(stream, into),
+            ServerStream::Unix(stream) => read_unix(stream, into),
+        }
+    }
+
+    /// Writes some bytes.
+    fn write_some(&self, from: &[u8]) -> io::Result<usize>
+        ensures { WritesAtMost result from.now }
+    {
+        match self {
+            ServerStream::Tcp(stream) => write_tcp(stream, from),
+            ServerStream::Unix(stream) => write_unix(stream, from),
+        }
+    }
+}
+
+/// Connects to an address, and sends the bytes of each write at once.
+fn open(rt: &HostRuntime, address: &Address) -> io::Result<ServerStream> {
+    match address {
+        Address::Socket(address) => {
+            let stream = TcpStream::connect(rt, *address)?;
+            let _ = stream.set_nodelay(true);
+            Ok(ServerStream::Tcp(stream))
+        }
+        Address::Path(path) => Ok(ServerStream::Unix(UnixStream::connect(rt, path.as_str())?)),
+    }
+}
+
+impl Read for &ServerStream {
+    fn read(&mut self, into: &mut [u8]) -> io::Result<usize> {
+        self.read_some(into)
+    }
+}
+
+impl Write for &ServerStream {
+    fn write(&mut self, from: &[u8]) -> io::Result<usize> {
+        self.write_some(from)
+    }
+
+    fn flush(&mut self) -> io::Result<()> {
+        Ok(())
+    }
+}
+
+/// Reads some bytes of a connection over TCP.
+fn read_tcp(stream: &TcpStream, into: &mut [u8]) -> io::Result<usize>
+    ensures { ReadsAtMost result into.new }
+{
+    let mut reader = stream;
+    reader.read(into)
+}
+
+/// Reads some bytes of a connection over a Unix socket.
+fn read_unix(stream: &UnixStream, into: &mut [u8]) -> io::Result<usize>
+    ensures { ReadsAtMost result into.new }
+{
+    let mut reader = stream;
+    reader.read(into)
+}
+
+/// Writes some bytes to a connection over TCP.
+fn write_tcp(stream: &TcpStream, from: &[u8]) -> io::Result<usize>
+    ensures { WritesAtMost result from.now }
+{
+    let mut writer = stream;
+    writer.write(from)
+}
+
+/// Writes some bytes to a connection over a Unix socket.
+fn write_unix(stream: &UnixStream, from: &[u8]) -> io::Result<usize>
+    ensures { WritesAtMost result from.now }
+{
+    let mut writer = stream;
+    writer.write(from)
+}

@@ -1,0 +1,4 @@
+pub mod HeaderLemmas
+pub mod HistoryLemmas
+pub mod Lists
+pub mod StreamLemmas

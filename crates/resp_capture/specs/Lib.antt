@@ -1,0 +1,9 @@
+pub mod Blocks
+pub mod Connections
+pub mod Frames
+pub mod Headers
+pub mod Histories
+pub mod Numbers
+pub mod Reading
+pub mod Segments
+pub mod Streams

@@ -1,0 +1,13 @@
+//! Laws about captures.
+
+ghost use Rattle.resp_capture.specs.Histories.{BeginsTrue, StaysTrueOfHeld, StaysTrueOfMissing, StaysTrueOfSegments};
+
+/// What a stream has told is true of the segments that have come: each byte that was told is a byte
+/// of a segment, at its place; no place is told twice; and a byte that has come was told, or a byte
+/// of its place was, or waits. Bytes are told as missing only if none of them has come.
+pub fn told_bytes_have_come()
+    ensures begins { BeginsTrue }
+    ensures segments { StaysTrueOfSegments }
+    ensures held { StaysTrueOfHeld }
+    ensures missing { StaysTrueOfMissing }
+{}

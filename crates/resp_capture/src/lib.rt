@@ -1,0 +1,33 @@
+//! Captures of traffic over TCP, without files and sockets.
+//!
+//! [`Capture`] reads the blocks of a pcap or pcapng file that comes in pieces of any size, and
+//! returns the packets. [`packet::read_packet`] finds the TCP segment of a packet. [`Stream`] puts
+//! the segments of one side of a connection together, and [`Connection`] has both sides. [`record`]
+//! writes a pcap file.
+#![tactic(auto)]
+
+pub mod address;
+mod block;
+pub mod capture;
+pub mod connection;
+pub mod error;
+mod held;
+mod interface;
+pub mod laws;
+pub mod link;
+mod network;
+pub mod number;
+pub mod packet;
+pub mod stream;
+pub mod time;
+pub mod transport;
+
+pub use address::{Address, Endpoint};
+pub use capture::{Capture, Frame};
+pub use connection::{Connection, End, is_to_server};
+pub use error::{CaptureError, Reason, StreamError};
+pub use link::Link;
+pub use packet::Packet;
+pub use stream::{Stream, Taken};
+pub use time::Time;
+pub use transport::Segment;

@@ -1,0 +1,11 @@
+//! What a client keeps when it moves to another proxy.
+
+/// The number and the name of a client. No other client of the program has the number, also if
+/// clients move between proxies.
+#[derive(Drop)]
+pub(crate) struct Identity {
+    /// The reply to CLIENT ID.
+    pub(crate) number: u64,
+    /// The name that the client has given itself, or no byte.
+    pub(crate) name: Vec<u8>,
+}

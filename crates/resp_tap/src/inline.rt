@@ -1,0 +1,119 @@
+//! The lines of commands that came as lines.
+
+ghost use Rattle.std.specs.Prelude.{◌++◌};
+ghost use Rattle.resp_print.specs.Printed.{Prints};
+ghost use Rattle.resp_print.specs.Written.{WritesText};
+ghost use Rattle.resp_tap.specs.Secrets.{printed_words};
+ghost use Rattle.resp_tap.specs.Texts.{heading, inline_end, inline_line, levels_of, line_text, shown_text, words_line};
+
+use crate::print::{
+    Printing, printed, secrets_for, write_numbered_line, write_seen, write_words_line,
+};
+use crate::seen::Seen;
+use crate::stamp::{Stamp, write_ending};
+use resp_print::print_error::PrintError;
+use resp_print::text::write_number;
+use resp_session::words::Words;
+use resp_value::device::{DeviceFault, Sink};
+
+/// Writes the number of a command, and that it came as a line if it did.
+pub(crate) fn write_heading<W: Sink>(
+    client: u64,
+    number: u64,
+    is_line: bool,
+    stamp: Option<Stamp>,
+    writer: &mut W,
+) -> Result<(), DeviceFault>
+    ensures { WritesText (W.written writer.old) (W.written writer.new) (W.failures writer.old)
+        (W.failures writer.new) result (heading is_line client number stamp) }
+{
+    if is_line {
+        write_inline_line(client, number, stamp, writer)
+    } else {
+        write_numbered_line(client, b" command ", number, stamp, writer)
+    }
+}
+
+/// Writes the number of a command that came as a line.
+fn write_inline_line<W: Sink>(
+    client: u64,
+    number: u64,
+    stamp: Option<Stamp>,
+    writer: &mut W,
+) -> Result<(), DeviceFault>
+    ensures { WritesText (W.written writer.old) (W.written writer.new) (W.failures writer.old)
+        (W.failures writer.new) result (inline_line client number stamp) }
+{
+    write_number(writer, b"client ", client, b" command ")?;
+    write_inline_end(number, stamp, writer)
+}
+
+/// Writes the number of a command that came as a line, and the end of the line.
+fn write_inline_end<W: Sink>(
+    number: u64,
+    stamp: Option<Stamp>,
+    writer: &mut W,
+) -> Result<(), DeviceFault>
+    ensures { WritesText (W.written writer.old) (W.written writer.new) (W.failures writer.old)
+        (W.failures writer.new) result (inline_end number stamp) }
+{
+    write_number(writer, b"", number, b" inline")?;
+    write_ending(stamp, writer)
+}
+
+/// Writes a command that came as a line.
+fn write_inline<W: Sink>(
+    printing: Printing,
+    number: u64,
+    stamp: Option<Stamp>,
+    words: &Words,
+    writer: &mut W,
+) -> Result<(), DeviceFault>
+    ensures { WritesText (W.written writer.old) (W.written writer.new) (W.failures writer.old)
+        (W.failures writer.new) result (inline_line printing.client number stamp ++
+        words_line (printed_words printing.shows_passwords words.now)) }
+{
+    write_inline_line(printing.client, number, stamp, writer)?;
+    write_words_line(words, secrets_for(printing, words), writer)
+}
+
+/// Writes the lines of a result of a line.
+fn write_of_line<W: Sink>(
+    printing: Printing,
+    stamp: Option<Stamp>,
+    seen: &Seen,
+    writer: &mut W,
+) -> Result<(), PrintError>
+    ensures { Prints (W.written writer.old) (W.written writer.new) (W.failures writer.old)
+        (W.failures writer.new) result (line_text printing stamp seen.now) (levels_of seen.now) }
+{
+    match seen {
+        Seen::Command { number, words } => {
+            printed(write_inline(printing, *number, stamp, words, writer))
+        }
+        _ => write_seen(printing, stamp, seen, writer),
+    }
+}
+
+/// Writes the lines of a result, which may be that of a line.
+///
+/// # Errors
+///
+/// The errors of [`write_seen`]. The first part of the text was written.
+pub(crate) fn write_shown<W: Sink>(
+    printing: Printing,
+    is_line: bool,
+    stamp: Option<Stamp>,
+    seen: &Seen,
+    writer: &mut W,
+) -> Result<(), PrintError>
+    ensures { Prints (W.written writer.old) (W.written writer.new) (W.failures writer.old)
+        (W.failures writer.new) result (shown_text is_line printing stamp seen.now)
+        (levels_of seen.now) }
+{
+    if is_line {
+        write_of_line(printing, stamp, seen, writer)
+    } else {
+        write_seen(printing, stamp, seen, writer)
+    }
+}
