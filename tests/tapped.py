@@ -89,7 +89,7 @@ waits_for('client 7 reply 4\n  null\nclient 7 reply 5\n  double "1.5" 3\nclient 
 def client_of(asked):
     """Returns the number of the last client with this first command, as it is printed."""
     waits_for("\n  " + asked + "\n")
-    return re.findall(r"client (\d+) command 1\n  " + re.escape(asked) + "\n", printed())[-1]
+    return re.findall(r"client (\d+) command 1(?: inline)?\n  " + re.escape(asked) + "\n", printed())[-1]
 
 
 # In version 2 SUBSCRIBE is answered by arrays, and messages belong to no command.
