@@ -109,6 +109,20 @@ def plain():
     return pcap(timed(talk(commands=[(PING, PONG), (GET, BULK)])))
 
 
+def kinds():
+    """Commands and replies of many kinds: a password, a null, bytes that are not UTF-8, a line, a map, an attribute."""
+    return pcap(timed(talk(commands=[
+        (b"*3\r\n$4\r\nAUTH\r\n$3\r\nann\r\n$2\r\npw\r\n", b"+OK\r\n"),
+        (b"*2\r\n$3\r\nget\r\n$1\r\nk\r\n", b"$-1\r\n"),
+        (b"*1\r\n$2\r\n\xff\xfe\r\n", b'-ERR "\\\r\n'),
+        (b"PING\r\n", PONG),
+        (b"*2\r\n$5\r\nHELLO\r\n$1\r\n3\r\n", b"%1\r\n$5\r\nproto\r\n:3\r\n"),
+        (b"*1\r\n$1\r\nx\r\n", b"|1\r\n+ttl\r\n:1\r\n!4\r\nERR\xff\r\n"),
+        (b"*2\r\n$9\r\nSUBSCRIBE\r\n$1\r\nc\r\n", b">3\r\n$9\r\nsubscribe\r\n$1\r\nc\r\n:1\r\n"),
+        (b"*1\r\n:1\r\n", b"?\r\n"),
+    ])))
+
+
 def reordered():
     """The client's sequence numbers wrap. Its segments come in another order, twice, and they overlap."""
     order, first, text = ">", 2**32 - 9, PING + GET
@@ -177,6 +191,9 @@ def main():
     files = {
         "replay": plain(),
         "replay-time": plain(),
+        "replay-json": kinds(),
+        "replay-json-errors": kinds(),
+        "replay-json-gap": gap(),
         "replay-connections": plain(),
         "replay-stats": plain(),
         "replay-of-another-order": reordered(),

@@ -34,7 +34,8 @@ class Program:
             [PROGRAM, *words], stdin=subprocess.DEVNULL, stdout=self.log, stderr=subprocess.STDOUT,
             preexec_fn=limit if descriptors else None)
         until(lambda: b"\n" in self.printed(), "it doesn't listen")
-        self.port = int(re.match(rb"listening on 127\.0\.0\.1:(\d+)\n", self.printed())[1])
+        first = rb'(?:listening on |\{"kind":"listening","address":")127\.0\.0\.1:(\d+)["\n]'
+        self.port = int(re.match(first, self.printed())[1])
 
     def printed(self):
         with open(self.log.name, "rb") as file:

@@ -9,7 +9,7 @@ _resp() {
         return
     fi
     case $before in
-    --replay) compopt -o filenames && COMPREPLY=($(compgen -f -- "$word")) && return ;;
+    --record | --replay) compopt -o filenames && COMPREPLY=($(compgen -f -- "$word")) && return ;;
     --proto) COMPREPLY=($(compgen -W "2 3" -- "$word")) && return ;;
     --color) COMPREPLY=($(compgen -W "auto always never" -- "$word")) && return ;;
     --depth | --length | --total | --items | --piece | --clients | --held | --user | --window | \
@@ -20,7 +20,7 @@ _resp() {
     loop) options="--explain --no-explain -h --help" ;;
     serve) options="$limits --clients --held -h --help" ;;
     tap)
-        options="$limits --clients --time --errors --slower --command --key --client --connections --stats --stats-every --exit-with-output --keep-going --no-inline --show-passwords --replay --port --color --utf8 -h --help"
+        options="$limits --clients --time --errors --slower --command --key --client --connections --stats --stats-every --exit-with-output --keep-going --no-inline --show-passwords --record --replay --port --color --utf8 -h --help"
         ;;
     proxy)
         options="$limits --clients --own --lines --waiting --held --unsent --patience --report --local-ping --no-inline --drain --also --check-every --check --all -h --help"

@@ -50,8 +50,10 @@ complete -c resp -n '__fish_seen_subcommand_from tap' -l exit-with-output -d 'En
 complete -c resp -n '__fish_seen_subcommand_from tap' -l keep-going -d 'Accepts clients after the output has failed'
 complete -c resp -n '__fish_seen_subcommand_from tap' -l no-inline -d 'Reads no commands that are lines'
 complete -c resp -n '__fish_seen_subcommand_from tap' -l show-passwords -d 'Prints the passwords in commands'
+complete -c resp -n '__fish_seen_subcommand_from tap' -l record -r -F -d 'Writes the traffic to a capture'
 complete -c resp -n '__fish_seen_subcommand_from tap' -l replay -r -F -d 'Reads the traffic in a capture'
 complete -c resp -n '__fish_seen_subcommand_from tap' -l port -x -d 'Port of the server in the capture'
+complete -c resp -n '__fish_seen_subcommand_from tap' -l json -d 'Prints each command and reply as a line of JSON'
 
 complete -c resp -n '__fish_seen_subcommand_from proxy' -l own -x -d 'Maximum clients with a connection of their own, 0 to 65536'
 complete -c resp -n '__fish_seen_subcommand_from proxy' -l lines -x -d 'Maximum connections that clients share, 1 to 256'

@@ -2,10 +2,13 @@
 //! segments were cut.
 //!
 //! Prints the number of orders, and the number of orders with other bytes, for segments without
-//! gaps, for segments that overlap, and for segments of which one is missing.
+//! gaps, for segments that overlap, and for segments of which one is missing. Then it writes a
+//! conversation as a capture, reads it in pieces of several sizes, and prints the number of segments,
+//! and the number of those that are not the written ones.
 #![tactic(auto)]
 
 mod orders;
+mod records;
 mod side;
 
 use anyhow::Result;
@@ -26,5 +29,14 @@ fn main(rt: HostRuntime) -> Result<()> {
     )?;
     let full = side::fills(alloc)?;
     println!(rt; "bytes that wait at most: {full}")?;
+    let are_right = records::bytes_are_right(alloc)?;
+    println!(rt; "bytes of a record are right: {are_right}")?;
+    for piece in [1usize, 7, 24, 4_096] {
+        let read = records::are_read(alloc, piece)?;
+        println!(rt;
+            "written and read by {piece}: {} segments, {} wrong",
+            read.segments, read.wrong
+        )?;
+    }
     Ok(())
 }

@@ -5,11 +5,27 @@ use crate::outcome::Outcome;
 use resp_counts::{Counts, table_of};
 use resp_tap::counted::watch_counted;
 use resp_tap::filtered::watch_filtered;
+use resp_tap::json_tap::watch_json;
 use resp_tap::watch::Side;
 use resp_tap::way::{Visited, Way};
-use resp_tap::{CountedTap, Filter, FilteredTap, Moment, Printing};
+use resp_tap::{CountedTap, Filter, FilteredTap, JsonTap, Moment, Printing};
 use resp_value::{Limits, MemorySink, MemorySource};
 use std::alloc::{AllocError, Global};
+
+/// The line of JSON of a command.
+const COMMAND_JSON: &[u8] =
+    b"{\"client\":1,\"kind\":\"command\",\"number\":1,\"command\":\"A\",\"words\":1,\"size\":11,\"time\":\"00:00:00.000000\"}\n";
+
+/// The beginning of the line of JSON of a command or a reply for which memory is out.
+const REFUSED_JSON: &[u8] = b"{\"client\":1,\"kind\":\"refused\",\"cause\":\"OutOfMemory\"";
+
+/// The lines of JSON of a command and its reply.
+const JSON: &[u8] =
+    b"{\"client\":1,\"kind\":\"command\",\"number\":1,\"command\":\"A\",\"words\":1,\"size\":11,\"time\":\"00:00:00.000000\"}\n{\"client\":1,\"kind\":\"reply\",\"number\":1,\"command\":\"A\",\"micros\":0,\"type\":\"error\",\"size\":4,\"error\":\"E\",\"time\":\"00:00:00.000000\"}\n";
+
+/// The same lines if nothing is kept of the command.
+const JSON_WITHOUT_NAME: &[u8] =
+    b"{\"client\":1,\"kind\":\"command\",\"number\":1,\"command\":\"A\",\"words\":1,\"size\":11,\"time\":\"00:00:00.000000\"}\n{\"client\":1,\"kind\":\"reply\",\"number\":1,\"micros\":0,\"type\":\"error\",\"size\":4,\"error\":\"E\",\"time\":\"00:00:00.000000\"}\n";
 
 /// A piece of which the writer accepts four bytes at a time.
 pub(crate) fn of_way(alloc: Global) -> Outcome {
@@ -62,6 +78,36 @@ pub(crate) fn of_filtered_tap(alloc: Global) -> Outcome {
     Outcome::of(
         text == b"client 1 command 1\n  \"a\"\nclient 1 reply 1\n  error \"E\" 1\n".as_slice(),
     )
+}
+
+/// A command and its reply that are printed as JSON, the reply with the name of the command.
+pub(crate) fn of_json_tap(alloc: Global) -> Outcome {
+    let filter = Filter::all(alloc);
+    let now = Moment {
+        of_day: 0,
+        steady: 0,
+    };
+    let mut tap = JsonTap::new(alloc, &Limits::standard());
+    let Ok(mut text) = MemorySink::new(alloc, 4_096, 4_096) else {
+        return Outcome::OutOfMemory;
+    };
+    for (side, piece) in [
+        (Side::Client, b"*1\r\n$1\r\na\r\n".as_slice()),
+        (Side::Server, b"-E\r\n".as_slice()),
+    ] {
+        if watch_json(&mut tap, &filter, 1, side, piece, now, &mut text).is_err() {
+            return Outcome::Wrong;
+        }
+    }
+    let text = text.bytes();
+    let after_command = text.get(COMMAND_JSON.len()..).unwrap_or(b"".as_slice());
+    if text.starts_with(REFUSED_JSON) || after_command.starts_with(REFUSED_JSON) {
+        return Outcome::OutOfMemory;
+    }
+    if text == JSON_WITHOUT_NAME {
+        return Outcome::OutOfMemory;
+    }
+    Outcome::of(text == JSON)
 }
 
 /// A command that is counted with its reply, and the table of it.

@@ -67,7 +67,7 @@ fn print(rt: &impl Print, parts: &[Part]) -> Result<()> {
 }
 
 /// Runs each part, and returns their outcomes in order.
-fn parts(alloc: Global) -> [Part; 53] {
+fn parts(alloc: Global) -> [Part; 54] {
     [
         ("decode a piece", decoding::of_one_piece(alloc)),
         ("decode bytes", decoding::of_single_bytes(alloc)),
@@ -107,6 +107,7 @@ fn parts(alloc: Global) -> [Part; 53] {
         ("take reply", frames::of_join(alloc)),
         ("way", forwarding::of_way(alloc)),
         ("filtered tap", forwarding::of_filtered_tap(alloc)),
+        ("json tap", forwarding::of_json_tap(alloc)),
         ("counted tap", forwarding::of_counted_tap(alloc)),
         ("stream of a capture", capturing::of_stream(alloc)),
         ("capture", capturing::of_capture(alloc)),

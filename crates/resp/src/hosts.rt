@@ -2,7 +2,7 @@
 
 use resp_args::server_address::ServerAddress;
 use resp_args::words::refuse_host;
-use resp_serve::Address;
+use resp_loop::Address;
 use resp_value::device::Sink;
 use std::alloc::{AllocError, Global};
 use std::io;

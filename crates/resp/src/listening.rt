@@ -12,14 +12,16 @@ use resp_args::tapping::{FilterOptions, StatsOptions, Tapping};
 use resp_args::tool_error::ToolError;
 use resp_args::traffic::{Route, Traffic};
 use resp_args::words::{refuse_file, stop};
+use resp_loop::Backend;
 use resp_paint::{Painted, Style};
 use resp_print::live::LiveSink;
 use resp_print::text::write_text;
-use resp_serve::{
-    AfterFailure, Backend, ProxyServer, ProxySettings, Server, Settings, Tables, Window,
-};
+use resp_relay::{ProxyServer, ProxySettings};
+use resp_serve::Server;
 use resp_tap::Filter;
+use resp_tap::json_line::write_listening_json;
 use resp_value::device::{DeviceFault, Sink};
+use resp_window::{AfterFailure, Settings, Tables, Window};
 use std::alloc::{AllocError, Global};
 use std::hash::RandomState;
 use std::io::ErrorKind;
@@ -36,11 +38,18 @@ const DEVICE_FAILED: u8 = 3;
 /// The environment variable with the password of the server.
 const PASSWORD: &str = "RESP_PASSWORD";
 
+/// The error of `tap` with `--json` and a table of counts.
+const NO_JSON_OF_TABLES: &[u8] =
+    b"error: the argument '--json' cannot be used with '--stats' or '--stats-every <N>'\n\n\
+    For more information, try '--help'.\n";
+
 /// Why the program stops listening for clients.
 #[derive(Drop)]
 enum ListenError {
     /// Listening on the address, or a connection to it, failed.
     Address(io::Error),
+    /// The file to be written can't be created.
+    File(io::Error),
     /// Another device or an allocation failed.
     Tool(ToolError),
 }
@@ -116,6 +125,10 @@ pub fn run_tap<W: LiveSink, F: Sink>(
         let _ = write_bad_duration(tapping.filter.slower.unwrap_or(""), faults);
         return Ok(BAD_ARGUMENTS);
     };
+    if tapping.style.json && tables_of(tapping.stats).is_some() {
+        let _ = write_text(faults, NO_JSON_OF_TABLES);
+        return Ok(BAD_ARGUMENTS);
+    }
     match &tapping.traffic {
         Traffic::Live(route) => run_window(rt, tapping, route, slower, style, writer, faults),
         Traffic::Captured(captured) => {
@@ -143,6 +156,10 @@ fn run_window<W: LiveSink, F: Sink>(
     match tap(rt, tapping, route, backend, slower, style, writer) {
         // It ends this way only after a write has failed, which was reported then.
         Ok(()) => Ok(DEVICE_FAILED),
+        Err(ListenError::File(error)) => {
+            let why = format!(in rt.alloc(); "{error}")?;
+            Ok(refuse_file(route.record.unwrap_or(""), why.as_str(), faults))
+        }
         Err(error) => refuse(rt.alloc(), route.address_text, &error, faults),
     }
 }
@@ -238,21 +255,34 @@ fn tap<W: LiveSink>(
     let settings = Settings {
         limits: tapping.limits,
         most: tapping.clients,
-        tells_time: tapping.tells_time || slower.is_some(),
+        tells_time: tapping.tells_time || slower.is_some() || tapping.style.json,
         after_failure: after_failure(tapping),
         reads_lines: !tapping.refuses_lines,
         shows_passwords: tapping.shows_passwords,
+        json: tapping.style.json,
         tables: tables_of(tapping.stats),
         style,
     };
     let mut window = Window::listen(rt, alloc, route.address, backend, settings, filter)?;
+    record(rt, &mut window, route.record)?;
     if !window.may_wait() {
         writer.set_style(style);
     }
-    write_listening(alloc, window.address()?, writer)?;
+    write_tapping(alloc, window.address()?, tapping.style.json, writer)?;
     match window.run(rt, writer) {
         Err(error) if error.kind() == ErrorKind::WriteZero => Err(ToolError::Write.into()),
         ended => Ok(ended?),
+    }
+}
+
+/// Creates the file to which the traffic is written, if there is one.
+fn record(rt: &HostRuntime, window: &mut Window, file: Option<&str>) -> Result<(), ListenError> {
+    let Some(file) = file else {
+        return Ok(());
+    };
+    match window.record(rt, file) {
+        Ok(()) => Ok(()),
+        Err(error) => Err(ListenError::File(error)),
     }
 }
 
@@ -381,6 +411,25 @@ fn write_listening<W: Sink>(
     }
 }
 
+/// Prints the address on which the tap listens, as JSON or as text.
+fn write_tapping<W: Sink>(
+    alloc: Global,
+    address: SocketAddr,
+    json: bool,
+    writer: &mut W,
+) -> Result<(), ToolError> {
+    if !json {
+        return write_listening(alloc, address, writer);
+    }
+    let Ok(text) = format!(in alloc; "{address}") else {
+        return Err(ToolError::Memory);
+    };
+    match write_listening_json(text.as_str().as_bytes(), writer) {
+        Ok(()) => Ok(()),
+        Err(_) => Err(ToolError::Write),
+    }
+}
+
 /// Reports why the program cannot listen on this address, and returns the status.
 fn refuse<F: Sink>(
     alloc: Global,
@@ -389,7 +438,7 @@ fn refuse<F: Sink>(
     faults: &mut F,
 ) -> Result<u8, AllocError> {
     match error {
-        ListenError::Address(error) => {
+        ListenError::Address(error) | ListenError::File(error) => {
             let why = format!(in alloc; "{error}")?;
             Ok(refuse_file(address, why.as_str(), faults))
         }

@@ -8,9 +8,9 @@ use resp_args::tool_error::ToolError;
 use resp_args::traffic::Captured;
 use resp_args::words::{refuse_file, stop};
 use resp_print::live::LiveSink;
-use resp_serve::{Replay, ReplayError, ReplaySettings};
 use resp_tap::Filter;
 use resp_value::device::{Device, Sink};
+use resp_window::{Replay, ReplayError, ReplaySettings};
 use std::alloc::{AllocError, Global};
 use std::fs::File;
 use std::io::Read;
@@ -22,9 +22,10 @@ const WRONG_CAPTURE: u8 = 1;
 fn settings_of(tapping: &Tapping<'_>, captured: &Captured<'_>, is_slow: bool) -> ReplaySettings {
     ReplaySettings {
         limits: tapping.limits,
-        tells_time: tapping.tells_time || is_slow,
+        tells_time: tapping.tells_time || is_slow || tapping.style.json,
         reads_lines: !tapping.refuses_lines,
         shows_passwords: tapping.shows_passwords,
+        json: tapping.style.json,
         tables: tables_of(tapping.stats),
         port: port_of(captured.port),
     }

@@ -2,7 +2,7 @@
 
 ghost use Rattle.std.specs.Io.{ReadsAtMost, WritesAtMost};
 
-use resp_serve::Address;
+use resp_loop::Address;
 use std::io;
 use std::io::{ErrorKind, Read, Write};
 use std::net::TcpStream;

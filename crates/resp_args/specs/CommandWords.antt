@@ -174,11 +174,13 @@ pub record HasRoute (given : List Row) (route : Route) : Type 0 where
   pub server_is : first_of (codes "server") given ≡ Some server_text
   pub listen : IsAddressText route.address_text.now route.address
   pub to : IsServerText server_text route.server
+  pub recorded : option_map (λ file. file.now) route.record ≡ first_of (codes "record") given
 
--- the capture of `tap`: no address is given too
+-- the capture of `tap`: no address is given too, and no other capture is written
 pub record HasCaptured (given : List Row) (captured : Captured) : Type 0 where
   pub from : first_of (codes "replay") given ≡ Some captured.file.now
   pub no_listener : first_of (codes "listen") given ≡ None
+  pub no_record : first_of (codes "record") given ≡ None
   pub at_port : HasNumberBetween given (codes "port") 0 65535 captured.port
 
 -- where the traffic of `tap` comes from

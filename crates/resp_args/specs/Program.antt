@@ -118,14 +118,16 @@ optional_word name = record (new_rule name) { value_names = 1 }
 
 -- the options of `tap` that say where the traffic comes from
 abbrev pub traffic_options : List Rule
-traffic_options = name_option (codes "replay") ∷ number_option (codes "port") 0 65535 (codes "0") ∷ []
+traffic_options = name_option (codes "record") ∷ name_option (codes "replay") ∷
+    number_option (codes "port") 0 65535 (codes "0") ∷ []
 
 -- the options of `tap`
 abbrev pub tap_options : List Rule
 tap_options = listening_options
     (flag_option (codes "time") ∷ filter_options ++ stats_options ++
     flag_option (codes "exit-with-output") ∷ flag_option (codes "keep-going") ∷ flag_option (codes "no-inline") ∷
-    flag_option (codes "show-passwords") ∷ traffic_options ++ style_options ++ optional_word (codes "listen") ∷ optional_word (codes "server") ∷ [])
+    flag_option (codes "show-passwords") ∷ traffic_options ++ style_options ++ flag_option (codes "json") ∷
+    optional_word (codes "listen") ∷ optional_word (codes "server") ∷ [])
 
 -- the options of `proxy`
 abbrev pub proxy_options : List Rule

@@ -23,6 +23,11 @@ pub(crate) const OTHER_WORDS: &[u8] = b"error: these words ask for nothing here\
 const BOTH: &[u8] = b"error: the argument '--replay <FILE>' cannot be used with '<LISTEN>'\n\n\
     Usage: resp tap --replay <FILE>\n\nFor more information, try '--help'.\n";
 
+/// The lines for two captures.
+const BOTH_FILES: &[u8] =
+    b"error: the argument '--replay <FILE>' cannot be used with '--record <FILE>'\n\n\
+    Usage: resp tap --replay <FILE>\n\nFor more information, try '--help'.\n";
+
 /// The end of the lines about missing addresses.
 const NEEDS_ADDRESSES: &[u8] = b"  <SERVER>\n\nUsage: resp tap [OPTIONS] <LISTEN> <SERVER>\n       \
     resp tap [OPTIONS] --replay <FILE>\n\nFor more information, try '--help'.\n";
@@ -79,6 +84,8 @@ pub(crate) enum NothingAsked<'a> {
     },
     /// Both a capture and an address are given to `tap`.
     BothFileAndAddress,
+    /// Both a capture to be read and one to be written are given to `tap`.
+    BothFiles,
     /// An allocation failed.
     Memory,
 }
@@ -93,6 +100,7 @@ impl NothingAsked<'_> {
             Self::BadServer { text } => write_bad_server(text, faults),
             Self::NoAddress { listens } => write_no_address(listens, faults),
             Self::BothFileAndAddress => write_text(faults, BOTH),
+            Self::BothFiles => write_text(faults, BOTH_FILES),
             Self::BadSize {
                 text,
                 name,

@@ -100,10 +100,12 @@ const TAP: Subcommand = Subcommand {
         KEEP_GOING,
         READS_NO_LINES,
         SHOW_PASSWORDS,
+        RECORD,
         REPLAY,
         PORT,
         COLOR,
         UTF8,
+        JSON_LINES,
         TAP_LISTEN,
         TAP_SERVER,
     ],
@@ -176,7 +178,9 @@ const TAP_HELP: &str = r"Examples:
   resp tap --time 127.0.0.1:6380 127.0.0.1:6379 >traffic.txt
   resp tap --slower 10ms --command get,mget 6380 redis.internal:6379
   resp tap --stats-every 10 6380 6379
+  resp tap --record traffic.pcap 6380 6379
   resp tap --replay traffic.pcap --errors
+  resp tap --json 6380 6379 | jq 'select(.micros > 1000)'
 
 Clients connect to LISTEN instead of SERVER. All commands and replies are
 printed, or those that pass all of --errors, --slower, --command, --key and
@@ -313,6 +317,13 @@ const JSON: Parameter = Parameter {
     name: "json",
     form: Form::Flag,
     help: "Prints each value as a line of JSON",
+};
+
+/// `--json` of `tap`: whether the traffic is printed as JSON.
+const JSON_LINES: Parameter = Parameter {
+    name: "json",
+    form: Form::Flag,
+    help: "Prints each command and reply as a line of JSON",
 };
 
 /// `--explain`: whether an error in the input is explained.
@@ -477,6 +488,13 @@ const SHOW_PASSWORDS: Parameter = Parameter {
     name: "show-passwords",
     form: Form::Flag,
     help: "Prints the passwords in commands",
+};
+
+/// `--record`: the capture that `tap` writes.
+const RECORD: Parameter = Parameter {
+    name: "record",
+    form: Form::Text { value_name: "FILE" },
+    help: "Writes the traffic to a capture (pcap) for --replay,\nwith all passwords",
 };
 
 /// `--replay`: the capture that `tap` reads.

@@ -32,6 +32,8 @@ pub struct Route<'a> {
     pub address_text: &'a str,
     /// The address of the server.
     pub server: ServerAddress<'a>,
+    /// The name of the file to which the traffic is written, if it was given.
+    pub record: Option<&'a str>,
 }
 
 /// A capture.
@@ -61,7 +63,8 @@ pub(crate) fn traffic_of<'a>(matches: &ArgMatches<'a>) -> Result<Traffic<'a>, No
     }
 }
 
-/// Returns the capture in this file, or why the options ask for none: an address was given too.
+/// Returns the capture in this file, or why the options ask for none: an address or a file to be
+/// written was given too.
 fn captured_of<'a>(
     matches: &ArgMatches<'a>,
     file: &'a str,
@@ -73,6 +76,9 @@ fn captured_of<'a>(
 {
     if text_of(matches, "listen").is_some() {
         return Err(NothingAsked::BothFileAndAddress);
+    }
+    if text_of(matches, "record").is_some() {
+        return Err(NothingAsked::BothFiles);
     }
     match number_between(matches, "port", 0, 65_535) {
         Some(port) => Ok(Captured { file, port }),
@@ -98,6 +104,7 @@ fn route_of<'a>(matches: &ArgMatches<'a>) -> Result<Route<'a>, NothingAsked<'a>>
             address,
             address_text: listen,
             server,
+            record: text_of(matches, "record"),
         }),
         Err(nothing) => Err(nothing),
     }

@@ -1,4 +1,5 @@
 pub mod HeaderLemmas
 pub mod HistoryLemmas
 pub mod Lists
+pub mod RecordLemmas
 pub mod StreamLemmas

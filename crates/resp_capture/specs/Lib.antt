@@ -5,5 +5,7 @@ pub mod Headers
 pub mod Histories
 pub mod Numbers
 pub mod Reading
+pub mod Recording
 pub mod Segments
 pub mod Streams
+pub mod Writing

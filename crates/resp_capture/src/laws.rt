@@ -1,6 +1,7 @@
 //! Laws about captures.
 
 ghost use Rattle.resp_capture.specs.Histories.{BeginsTrue, StaysTrueOfHeld, StaysTrueOfMissing, StaysTrueOfSegments};
+ghost use Rattle.resp_capture.specs.Writing.{SegmentsAreReadBack, TimesAreReadBack};
 
 /// What a stream has told is true of the segments that have come: each byte that was told is a byte
 /// of a segment, at its place; no place is told twice; and a byte that has come was told, or a byte
@@ -10,4 +11,12 @@ pub fn told_bytes_have_come()
     ensures segments { StaysTrueOfSegments }
     ensures held { StaysTrueOfHeld }
     ensures missing { StaysTrueOfMissing }
+{}
+
+/// A record that [`record_head`](crate::record::record_head) begins is read back: any segment that
+/// [`read_packet`](crate::packet::read_packet) returns for it is the one that was written, and the
+/// time of its packet is the one that was written if it is before the year 2106.
+pub fn written_records_are_read()
+    ensures segments { SegmentsAreReadBack }
+    ensures times { TimesAreReadBack }
 {}

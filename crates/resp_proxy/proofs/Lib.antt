@@ -12,3 +12,5 @@ pub mod Others
 pub mod Leavings
 pub mod Refusals
 pub mod Moves
+pub mod Openings
+pub mod Hellos

@@ -12,6 +12,8 @@ pub mod Visiting
 pub mod Leaving
 pub mod Moving
 pub mod Wishes
+pub mod Openings
+pub mod Hellos
 pub mod Terms
 pub mod Unfinished
 -- The internal contracts of the parts, which no public contract names.

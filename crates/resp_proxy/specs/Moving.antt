@@ -13,6 +13,10 @@ use Rattle.resp_proxy.specs.declared.moving.Departed.{Departed}
 abbrev pub rest_of : Departed → List ℕ
 rest_of d = d.rest.items
 
+-- the number of the client, which no other client of the program has
+abbrev pub number_of : Departed → ℕ
+number_of d = d.identity.number
+
 -- the client is open, no command of it waits, and no bytes wait for it
 pub record HasAll (m : Multiplexed) (who : ClientId) : Type 0 where
   pub no_bytes : waiting_for m who ≡ Some []

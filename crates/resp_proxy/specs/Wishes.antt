@@ -1,5 +1,5 @@
 -- What commands ask for that concern the setting of their client.
-use Rattle.std.specs.Prelude.{ℕ, Bool, List, [], ◌∷◌, Option, None, Some, unwrap_or, if◌then◌else◌, codes}
+use Rattle.std.specs.Prelude.{◌≡◌, ℕ, Bool, List, [], ◌∷◌, Option, None, Some, unwrap_or, if◌then◌else◌, codes}
 use Rattle.std.specs.Option.{option_map}
 use Rattle.std.specs.Str.{bytes_eq, str_to_ascii_lowercase}
 use Rattle.resp_proxy.specs.declared.setting.Login.{Login as OwnedLogin}
@@ -147,3 +147,14 @@ account_kept l = record { user = option_map (λ word. word.items) l.user; passwo
 -- the situation of a setting
 abbrev pub situation_of : Setting → Situation
 situation_of s = record { version = s.version; database = s.database.items; account = option_map account_kept s.login }
+
+-- the name of the user; AUTH without a name is that of the default user
+abbrev pub user_of : Option Account → Option (List ℕ)
+user_of None = None
+user_of (Some account) = Some (unwrap_or account.user (codes "default"))
+
+-- commands in both situations mean the same; the passwords may differ
+pub record MeansSame (a b : Situation) : Type 0 where
+  pub version : a.version ≡ b.version
+  pub database : a.database ≡ b.database
+  pub user : user_of a.account ≡ user_of b.account

@@ -59,7 +59,7 @@ fn keeps_settings(limits: &Limits, command: &CommandFrame) -> bool {
     is(words.name, b"SELECT") && count == 1 && first == b"0".as_slice()
 }
 
-/// What the proxy does with a command that is not sent to the server.
+/// The treatment of a command that is not sent to the server.
 #[derive(Drop)]
 pub(crate) enum Answer {
     /// It sends this reply.

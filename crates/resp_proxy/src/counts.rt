@@ -5,7 +5,7 @@ use resp_mux::Mux;
 use std::alloc::Global;
 use std::time::Duration;
 
-/// What a proxy has counted since it began.
+/// The counts of a proxy since it began.
 #[derive(Clone, Copy, Debug, Default, PartialEq, Eq)]
 pub struct Numbers {
     /// The open clients.
@@ -86,7 +86,7 @@ pub enum Counted {
     Connected,
 }
 
-/// What a proxy has counted, and how long replies took.
+/// The counts of a proxy, and the times of its replies.
 #[derive(Drop)]
 pub(crate) struct Counts {
     /// The clients of the multiplexer that are the proxy's own.

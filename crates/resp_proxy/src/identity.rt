@@ -1,4 +1,4 @@
-//! What a client keeps when it moves to another proxy.
+//! The number and the name of a client, which stay when it moves to another proxy.
 
 /// The number and the name of a client. No other client of the program has the number, also if
 /// clients move between proxies.

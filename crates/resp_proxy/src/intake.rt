@@ -32,7 +32,7 @@ pub(crate) struct Intake {
     pub(crate) admits_own: bool,
     /// Whether the proxy itself replies to HELLO and SELECT if they change nothing.
     pub(crate) answers_settings: bool,
-    /// What the proxy has counted.
+    /// The counts of the proxy.
     pub(crate) counts: Counts,
 }
 

@@ -138,7 +138,7 @@ impl Latency {
     }
 }
 
-/// Removes at most this number of commands. Returns `None` if there are none.
+/// Removes at most this number of commands. Returns `None` if no command waits.
 fn part_of(run: &mut Run, most: usize) -> Option<Run> {
     let count = run.count.min(most);
     if count == 0 {

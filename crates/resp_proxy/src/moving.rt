@@ -3,7 +3,9 @@
 ghost use Rattle.std.specs.Prelude.{◌≡◌, ◌↔◌, ◌++◌, ◌≤◌, List, ℕ, drop, false, length, IfErr, IfOk, IsTrue, OnErr};
 ghost use Rattle.resp_mux.specs.Multiplexing.{HasClosed, KeepsPassed};
 ghost use Rattle.resp_proxy.specs.Clients.{Holds, client_id, is_closing, is_leaving, waits_for_room};
-ghost use Rattle.resp_proxy.specs.Moving.{HasEntered, MayLeave, rest_of};
+ghost use Rattle.resp_proxy.specs.Moving.{HasEntered, MayLeave, number_of, rest_of};
+ghost use Rattle.resp_proxy.specs.Hellos.{IsReplyWithNumber, own_reply};
+ghost use Rattle.resp_value.specs.Canonical.{canonical_text};
 ghost use Rattle.resp_proxy.specs.Proxies.{mux_of, replied_to, reply_rules_of, terms_of};
 
 use crate::answer::is_name;
@@ -37,7 +39,8 @@ impl Departed {
     /// Removes the first bytes: those of a command that was answered.
     pub fn skip(&mut self, count: usize)
         requires { count ≤ length (rest_of self.old) }
-        ensures { rest_of self.new ≡ drop count (rest_of self.old) }
+        ensures rest { rest_of self.new ≡ drop count (rest_of self.old) }
+        ensures same_number { number_of self.new ≡ number_of self.old }
     {
         self.rest.advance(count);
     }
@@ -52,7 +55,8 @@ impl Departed {
 
     /// Gives the client a name, as HELLO does with SETNAME. No byte means no name.
     pub fn set_name(&mut self, name: Vec<u8>)
-        ensures { rest_of self.new ≡ rest_of self.old }
+        ensures same_rest { rest_of self.new ≡ rest_of self.old }
+        ensures same_number { number_of self.new ≡ number_of self.old }
     {
         self.identity.name = name;
     }
@@ -68,7 +72,12 @@ impl Departed {
         alloc: Global,
         version: Version,
         reply: &[u8],
-    ) -> Result<Vec<u8>, AllocError> {
+    ) -> Result<Vec<u8>, AllocError>
+        ensures two { version ≡ Version.Two → IfOk result (λ text.
+            text.items ≡ canonical_text Version.Two (own_reply (number_of self.now))) }
+        ensures three { version ≡ Version.Three → IfOk result (λ text.
+            IsReplyWithNumber (number_of self.now) reply.now text.items) }
+    {
         match version {
             Version::Two => hello_text(alloc, self.identity.number),
             Version::Three => with_number(alloc, reply, self.identity.number),

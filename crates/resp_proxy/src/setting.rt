@@ -1,8 +1,12 @@
 //! The settings in which commands of clients run.
 
-ghost use Rattle.std.specs.Prelude.{◌≡◌, Some, IfNone, IfOk, IfSome};
+ghost use Rattle.std.specs.Prelude.{◌≡◌, ◌↔◌, ◌++◌, ◌≤◌, codes, Some, IsTrue, IfNone, IfOk, IfSome, OnOk};
 ghost use Rattle.std.specs.Option.{option_map};
-ghost use Rattle.resp_proxy.specs.Wishes.{account_kept, account_lent, after_asking, asked_in, first_situation, situation_of, with_database, with_hello};
+ghost use Rattle.resp_proxy.specs.Openings.{auth_text, commands_in, hello_text, login_text, opening_count, opening_text, select_text};
+ghost use Rattle.resp_proxy.specs.Wishes.{account_kept, account_lent, after_asking, asked_in, first_situation, situation_of, user_of, MeansSame, with_database, with_hello};
+ghost use Rattle.resp_value.specs.Canonical.{canonical_text};
+ghost use Rattle.resp_value.specs.Numbers.{decimal};
+ghost use Rattle.resp_value.specs.Words.{word_datum};
 
 use crate::wish::{Account, Wish};
 use resp_value::version::Version;
@@ -49,7 +53,7 @@ impl Setting {
         })
     }
 
-    /// Returns the setting after a command that asks for this, or `None` if the wish names none.
+    /// Returns the setting after a command that asks for this, or `None` if the command does not name a setting.
     ///
     /// # Errors
     ///
@@ -121,7 +125,9 @@ impl Setting {
 
     /// Returns whether commands in both settings mean the same: the version, the database and the
     /// name of the user are the same. The passwords may differ.
-    pub fn is_same(&self, other: &Setting) -> bool {
+    pub fn is_same(&self, other: &Setting) -> bool
+        ensures { IsTrue result ↔ MeansSame (situation_of self.now) (situation_of other.now) }
+    {
         self.version == other.version
             && self.database.as_slice() == other.database.as_slice()
             && name_of(&self.login) == name_of(&other.login)
@@ -132,30 +138,18 @@ impl Setting {
     ///
     /// # Errors
     ///
-    /// `AllocError` if an allocation fails.
-    pub fn commands(&self, own: &[u8], out: &mut Vec<u8>) -> Result<u8, AllocError> {
-        let mut count = 0;
-        match &self.login {
-            Some(login) => {
-                login.command(out)?;
-                count = 1;
-            }
-            None if own.is_empty() => {}
-            None => {
-                out.extend_from_slice(own)?;
-                count = 1;
-            }
-        }
-        if self.version == Version::Three {
-            out.extend_from_slice(b"*2\r\n$5\r\nHELLO\r\n$1\r\n3\r\n")?;
-            count += 1;
-        }
-        if self.database.as_slice() != b"0".as_slice() {
-            out.extend_from_slice(b"*2\r\n$6\r\nSELECT\r\n")?;
-            bulk(&self.database, out)?;
-            count += 1;
-        }
-        Ok(count)
+    /// `AllocError` if an allocation fails. The first bytes of the commands may be appended.
+    pub fn commands(&self, own: &[u8], out: &mut Vec<u8>) -> Result<u8, AllocError>
+        // AUTH of the user, HELLO with version 3, and SELECT of the database, each if it is needed.
+        ensures appended { OnOk result (out.new.items ≡
+            out.old.items ++ opening_text own.now (situation_of self.now)) }
+        ensures count { IfOk result (λ count.
+            count ≡ opening_count own.now (situation_of self.now)) }
+    {
+        let logins = log_in(&self.login, own, out)?;
+        let greetings = greet(self.version, out)?;
+        let selections = select(&self.database, out)?;
+        Ok(logins + greetings + selections)
     }
 
     /// Returns the setting as a text without its password, such as `version 3, database 2, user
@@ -180,22 +174,79 @@ impl Setting {
     }
 }
 
-impl Login {
-    /// Appends the command AUTH.
-    fn command(&self, out: &mut Vec<u8>) -> Result<(), AllocError> {
-        match &self.user {
-            Some(user) => {
-                out.extend_from_slice(b"*3\r\n$4\r\nAUTH\r\n")?;
-                bulk(user, out)?;
-            }
-            None => out.extend_from_slice(b"*2\r\n$4\r\nAUTH\r\n")?,
+/// Appends the command AUTH of a user, or of the proxy's own user, and returns the number of commands.
+fn log_in(login: &Option<Login>, own: &[u8], out: &mut Vec<u8>) -> Result<u8, AllocError>
+    ensures appended { OnOk result (out.new.items ≡
+        out.old.items ++ login_text own.now (option_map account_kept login.now)) }
+    ensures count { IfOk result (λ count.
+        count ≡ commands_in (login_text own.now (option_map account_kept login.now))) }
+    ensures few { IfOk result (λ count. count ≤ 1) }
+{
+    match login {
+        Some(login) => {
+            authenticate(login, out)?;
+            Ok(1)
         }
-        bulk(&self.password, out)
+        None if own.is_empty() => Ok(0),
+        None => {
+            out.extend_from_slice(own)?;
+            Ok(1)
+        }
     }
 }
 
+/// Appends the command AUTH of a user.
+fn authenticate(login: &Login, out: &mut Vec<u8>) -> Result<(), AllocError>
+    ensures { OnOk result (out.new.items ≡ out.old.items ++ auth_text (account_kept login.now)) }
+{
+    match &login.user {
+        Some(user) => {
+            out.extend_from_slice(b"*3\r\n$4\r\nAUTH\r\n")?;
+            bulk(user, out)?;
+            bulk(&login.password, out)?;
+            Ok(())
+        }
+        None => {
+            out.extend_from_slice(b"*2\r\n$4\r\nAUTH\r\n")?;
+            bulk(&login.password, out)?;
+            Ok(())
+        }
+    }
+}
+
+/// Appends HELLO with version 3, if that is the version, and returns the number of commands.
+fn greet(version: Version, out: &mut Vec<u8>) -> Result<u8, AllocError>
+    ensures appended { OnOk result (out.new.items ≡ out.old.items ++ hello_text version) }
+    ensures count { IfOk result (λ count. count ≡ commands_in (hello_text version)) }
+    ensures few { IfOk result (λ count. count ≤ 1) }
+{
+    match version {
+        Version::Two => Ok(0),
+        Version::Three => {
+            out.extend_from_slice(b"*2\r\n$5\r\nHELLO\r\n$1\r\n3\r\n")?;
+            Ok(1)
+        }
+    }
+}
+
+/// Appends SELECT of a database, unless it is the first, and returns the number of commands.
+fn select(database: &[u8], out: &mut Vec<u8>) -> Result<u8, AllocError>
+    ensures appended { OnOk result (out.new.items ≡ out.old.items ++ select_text database.now) }
+    ensures count { IfOk result (λ count. count ≡ commands_in (select_text database.now)) }
+    ensures few { IfOk result (λ count. count ≤ 1) }
+{
+    if database == b"0".as_slice() {
+        return Ok(0);
+    }
+    out.extend_from_slice(b"*2\r\n$6\r\nSELECT\r\n")?;
+    bulk(database, out)?;
+    Ok(1)
+}
+
 /// Returns the name of a user, or `None` for the proxy's own user.
-fn name_of(login: &Option<Login>) -> Option<&[u8]> {
+fn name_of(login: &Option<Login>) -> Option<&[u8]>
+    ensures { option_map (λ name. name.now) result ≡ user_of (option_map account_kept login.now) }
+{
     match login {
         None => None,
         Some(Login { user: None, .. }) => Some(DEFAULT),
@@ -242,9 +293,22 @@ fn copy_of(alloc: Global, login: &Option<Login>) -> Result<Option<Login>, AllocE
 }
 
 /// Appends a bulk string of these bytes.
-fn bulk(word: &[u8], out: &mut Vec<u8>) -> Result<(), AllocError> {
-    let head = format!(in *out.allocator(); "${}\r\n", word.len())?;
+fn bulk(word: &[u8], out: &mut Vec<u8>) -> Result<(), AllocError>
+    ensures { OnOk result (out.new.items ≡
+        out.old.items ++ canonical_text Version.Two (word_datum word.now)) }
+{
+    let head = bulk_head(*out.allocator(), word.len())?;
     out.extend_from_slice(head.as_bytes())?;
     out.extend_from_slice(word)?;
-    out.extend_from_slice(b"\r\n")
+    out.extend_from_slice(b"\r\n")?;
+    Ok(())
+}
+
+/// Returns the head of a bulk string of this many bytes.
+fn bulk_head(alloc: Global, length: usize) -> Result<String, AllocError>
+    ensures { IfOk result (λ head.
+        head.bytes.items ≡ codes "$" ++ decimal length ++ codes "\r\n") }
+{
+    let head = format!(in alloc; "${length}\r\n")?;
+    Ok(head)
 }

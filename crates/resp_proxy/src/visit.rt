@@ -1,10 +1,11 @@
 //! Visits of connections.
 
-ghost use Rattle.std.specs.Prelude.{◌≡◌, ◌↔◌, ◌<◌, [], false, length, true, IfErr, OnOk};
+ghost use Rattle.std.specs.Prelude.{◌≡◌, ◌↔◌, ◌<◌, [], false, length, true, IfErr, IfSome, OnOk};
 ghost use Rattle.resp_mux.specs.Multiplexing.{KeepsClients, WherePassed, unsent};
 ghost use Rattle.resp_proxy.specs.Clients.{client_id, is_closing};
 ghost use Rattle.resp_proxy.specs.Leaving.{LeavesRightly};
-ghost use Rattle.resp_proxy.specs.Proxies.{HasRoomFor, WhereBegunBy, WhereHeld, mux_of, replied_to, terms_of, reply_rules_of, server_begun};
+ghost use Rattle.resp_proxy.specs.Proxies.{HasRoomFor, WhereBegunBy, WhereHeld, expected_of, mux_of, prober_of, replied_to, terms_of, reply_rules_of, server_begun};
+ghost use Rattle.resp_proxy.specs.Probing.{KeepsStep};
 ghost use Rattle.resp_proxy.specs.Telling.{Tells};
 ghost use Rattle.resp_proxy.specs.Visiting.{HasNothingFor, OthersKeep, ReadsClient, ReadsServer, VisitsClient, VisitsServer};
 ghost use Rattle.resp_value.specs.Devices.{count_after};
@@ -151,6 +152,10 @@ impl Proxy {
             (R.remaining reader.old) (R.remaining reader.new) (W.written writer.old)
             (W.written writer.new) front (server_begun self.new) result.read result.end
             (mux_of self.old) (mux_of self.new)) }
+        // The replies to probes are the expected ones. At the first that is not, nothing more is given.
+        ensures step { IfSome result.read (λ count. WhereBegunBy self.old (λ front.
+            WherePassed (mux_of self.old) (λ p. KeepsStep (prober_of self.old)
+            (expected_of self.old) result.end (mux_of self.old) p (mux_of self.new)))) }
         // Each client whose bytes are other than before is returned by `next_replied`.
         ensures told { Tells (replied_to self.old) (replied_to self.new) (mux_of self.old)
             (mux_of self.new) }
@@ -180,6 +185,9 @@ impl Proxy {
             (R.remaining reader.old) (R.remaining reader.new) front (server_begun self.new)
             result.0 result.1
             (mux_of self.old) (mux_of self.new)) }
+        ensures step { IfSome result.0 (λ count. WhereBegunBy self.old (λ front.
+            WherePassed (mux_of self.old) (λ p. KeepsStep (prober_of self.old)
+            (expected_of self.old) result.1 (mux_of self.old) p (mux_of self.new)))) }
         ensures told { Tells (replied_to self.old) (replied_to self.new) (mux_of self.old)
             (mux_of self.new) }
         ensures once { R.calls reader.new ≡ count_after 1 (R.calls reader.old) }

@@ -1,4 +1,4 @@
-//! What the next command of a client asks for that concerns its setting.
+//! Commands that ask for another setting.
 
 ghost use Rattle.std.specs.Prelude.{◌≡◌, ◌∷◌, ℕ, List, IfNone, IfSome};
 ghost use Rattle.resp_proxy.specs.Wishes.{account_asked, account_lent, asked_by, asked_in, auth_asked, both_asked, hello_asked, is_name, name_asked, options_asked, reset_asked, select_asked, version_asked};
@@ -19,7 +19,7 @@ pub struct Account<'a> {
     pub password: &'a [u8],
 }
 
-/// What a command asks for.
+/// The request of a command that concerns the setting of its client.
 #[derive(Clone, Copy)]
 pub enum Wish<'a> {
     /// HELLO: a version, a user and a name, each if it is given.
@@ -36,12 +36,12 @@ pub enum Wish<'a> {
     Other,
 }
 
-/// What the command at the beginning of some bytes asks for.
+/// The command at the beginning of some bytes, and its request.
 #[derive(Clone, Copy)]
 pub struct Asking<'a> {
     /// Its name.
     pub name: &'a [u8],
-    /// What it asks for.
+    /// The request.
     pub wish: Wish<'a>,
     /// The bytes after the command.
     pub rest: &'a [u8],

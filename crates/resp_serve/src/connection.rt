@@ -3,9 +3,10 @@
 ghost use Rattle.std.specs.Prelude.{◌≡◌, None};
 ghost use Rattle.resp_server.specs.Hubs.{seat_at};
 
-use crate::non_blocking::{Input, Output};
-use crate::service::Next;
-use crate::stream::Stream;
+use resp_loop::closing::close;
+use resp_loop::non_blocking::{Input, Output};
+use resp_loop::service::Next;
+use resp_loop::stream::Stream;
 use resp_server::Hub;
 use resp_value::device::Device;
 use resp_wire::ServeError;
@@ -14,16 +15,12 @@ use std::alloc::{AllocError, Global};
 use std::hash::BuildHasher;
 use std::io::{Read, Write};
 use std::mem;
-use std::net::Shutdown;
 
 /// The most reads and writes of a connection before the other connections are served.
 const TURNS: u64 = 16;
 
 /// The most bytes of one read.
 pub const PIECE: usize = 16_384;
-
-/// The most reads of received bytes before a connection is closed.
-const LAST_READS: usize = 4;
 
 /// The memory that the visits of all connections use in turn.
 #[derive(Drop)]
@@ -167,25 +164,5 @@ pub fn answer<R: Read + Drop, W: Write + Drop, S: BuildHasher>(
         None => Next::Again,
         Some(true) => Next::Wait,
         Some(false) => Next::Close,
-    }
-}
-
-/// Sends a line to a client that is not served, and closes the connection.
-pub(crate) fn refuse(stream: &Stream, line: &[u8]) {
-    let mut writer = stream;
-    let _ = writer.write(line);
-    close(stream);
-}
-
-/// Shuts down the sending direction, and then reads bytes that were received but not read: a socket
-/// that is closed with unread bytes discards the bytes that it sent.
-pub(crate) fn close(stream: &Stream) {
-    let _ = stream.shutdown(Shutdown::Write);
-    let mut reader = stream;
-    let mut unread = [0; 4_096];
-    for _ in 0..LAST_READS {
-        let Ok(1..) = reader.read(&mut unread) else {
-            return;
-        };
     }
 }

@@ -1,11 +1,11 @@
 //! The server: its loop, its store, and what it does with a connection.
 
 use crate::connection::{Connection, Room};
-use crate::event_loop::Loop;
-use crate::register::register;
-use crate::service::{Cause, Next, Service, Tokens};
-use crate::stream::Stream;
 use mio::Registry;
+use resp_loop::event_loop::Loop;
+use resp_loop::register::register;
+use resp_loop::service::{Cause, Next, Service, Tokens};
+use resp_loop::stream::Stream;
 use resp_server::Hub;
 use resp_value::limits::Limits;
 use std::alloc::Global;

@@ -26,3 +26,7 @@ pub mod Filtering
 pub mod SeenOf
 pub mod Streams
 pub mod Counting
+-- What is printed as JSON.
+pub mod Called
+pub mod JsonLines
+pub mod JsonTaps

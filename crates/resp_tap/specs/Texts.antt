@@ -39,6 +39,10 @@ numbered_line client what number stamp = (codes "client " ++ decimal client ++ w
 abbrev pub client_line : ℕ → List ℕ → Option Stamp → List ℕ
 client_line client what stamp = (codes "client " ++ decimal client ++ what) ++ ending_text stamp
 
+-- a line of a client with these bytes after its number, and a text
+abbrev pub remark_text : ℕ → List ℕ → List ℕ → Option Stamp → List ℕ
+remark_text client front text stamp = (codes "client " ++ decimal client ++ front) ++ (text ++ ending_text stamp)
+
 -- the lines of a command of a client
 abbrev pub command_text : ℕ → ℕ → Option Stamp → List (List ℕ) → List ℕ
 command_text client number stamp words = numbered_line client (codes " command ") number stamp ++ words_line words

@@ -62,7 +62,7 @@ fn is_error(seen: &Seen) -> bool
 }
 
 /// Returns the number of bytes of an incomplete command or value after a result for this many bytes.
-fn left_of(bytes: u64, seen: &Seen) -> u64
+pub(crate) fn left_of(bytes: u64, seen: &Seen) -> u64
     ensures { result ≡ left_of seen.now bytes }
 {
     match seen {

@@ -3,16 +3,19 @@
 //!
 //! [`tap::Tap`] has no socket. It receives the bytes that both sides of a connection send, and
 //! reports each command, reply and push. [`timed::TimedTap`] also measures how long each command
-//! waited for its reply. [`watch::watch`] prints the traffic as `resp tap` does, and [`way::Way`]
-//! forwards the bytes of one direction.
+//! waited for its reply. [`watch::watch`] prints the traffic as `resp tap` does,
+//! [`json_tap::watch_json`] prints it as JSON, and [`way::Way`] forwards the bytes of one direction.
 #![tactic(auto)]
 
+mod called;
 pub mod client_name;
 pub mod counted;
 pub mod end;
 pub mod filter;
 pub mod filtered;
 mod inline;
+pub mod json_line;
+pub mod json_tap;
 mod keys;
 pub mod kind;
 pub mod laws;
@@ -38,6 +41,7 @@ pub use counted::CountedTap;
 pub use end::Cut;
 pub use filter::Filter;
 pub use filtered::FilteredTap;
+pub use json_tap::JsonTap;
 pub use moment::Moment;
 pub use print::Printing;
 pub use seen::{Place, Seen, Step};

@@ -8,7 +8,7 @@ ghost use Rattle.resp_value.specs.Values.{datum_of};
 ghost use Rattle.resp_value.specs.declared.value.Value.TheVariants as value;
 ghost use Rattle.resp_tap.specs.Secrets.{printed_words, redacted_after, shown_word};
 ghost use Rattle.resp_tap.specs.Stamps.{ending_text};
-ghost use Rattle.resp_tap.specs.Texts.{byte_text, client_line, command_text, levels_of, numbered_end, numbered_line, place_text, push_text, refusal_heading, refusal_text, reply_text, seen_text, value_text, word_text, words_line, words_text};
+ghost use Rattle.resp_tap.specs.Texts.{byte_text, client_line, command_text, levels_of, numbered_end, numbered_line, place_text, push_text, refusal_heading, refusal_text, remark_text, reply_text, seen_text, value_text, word_text, words_line, words_text};
 
 use crate::secrets::Secrets;
 use crate::seen::{Place, Seen};
@@ -206,6 +206,26 @@ pub fn write_client_line<W: Sink>(
 {
     write_number(writer, b"client ", client, what)?;
     write_ending(stamp, writer)
+}
+
+/// Writes a line about a client: these bytes after its number, and a text, such as
+/// `client 1 connected from 127.0.0.1:50000`.
+///
+/// # Errors
+///
+/// `DeviceFault` if a write fails. The first part of the line was written.
+pub fn write_remark<W: Sink>(
+    client: u64,
+    front: &[u8],
+    text: &[u8],
+    stamp: Option<Stamp>,
+    writer: &mut W,
+) -> Result<(), DeviceFault>
+    ensures { WritesText (W.written writer.old) (W.written writer.new) (W.failures writer.old)
+        (W.failures writer.new) result (remark_text client front.now text.now stamp) }
+{
+    write_number(writer, b"client ", client, front)?;
+    write_line(text, stamp, writer)
 }
 
 /// Writes a number and the end of its line.

@@ -2,6 +2,7 @@
 
 ghost use Rattle.std.specs.Prelude.{◌≡◌, ◌≤◌, length, None, IfOk, OnErr, OnOk};
 ghost use Rattle.resp_value.specs.Devices.{Writes, count_after, failures_after, write_fails};
+ghost use Rattle.resp_tap.specs.Screens.{left_out_end, left_out_front, notice_room};
 
 use bytes::BytesMut;
 use itoa::Buffer;
@@ -12,9 +13,15 @@ use std::marker::Model;
 /// The free bytes that the line about omitted bytes needs.
 const ROOM: usize = 64;
 
+/// The free bytes with which a line of JSON is begun.
+const LINE: usize = 8_192;
+
 /// Holds printed text until it is shown, up to a maximum number of bytes. Text that arrives while
 /// the screen is full is omitted and counted. When there is room again, a line says how many bytes
 /// were omitted. If the text before it was cut inside a line, that line is ended first.
+///
+/// A line of JSON is begun only if 8,192 more bytes may be held, so a line that is no longer than
+/// that is not cut, unless an allocation fails.
 ///
 /// A write to a screen never fails, so printing never delays forwarding.
 #[derive(Drop)]
@@ -23,6 +30,7 @@ pub struct Screen {
     most: usize,
     unshown: u64,
     in_line: bool,
+    as_json: bool,
     calls: u64,
     failures: u64,
 }
@@ -37,6 +45,7 @@ impl Model for Screen {
       most = s.most;
       unshown = s.unshown;
       in_line = s.in_line;
+      as_json = s.as_json;
       calls = s.calls;
       failures = s.failures;
     } };
@@ -44,7 +53,7 @@ impl Model for Screen {
 
 impl Screen {
     ghost use Rattle.std.specs.Prelude.{drop};
-    ghost use Rattle.resp_tap.specs.Screens.{KeepsOrCounts, LineIsDue, SaysWhatIsLeftOut, new_screen};
+    ghost use Rattle.resp_tap.specs.Screens.{KeepsOrCounts, LineIsDue, SaysWhatIsLeftOut, has_room_for_line, new_screen};
 
     /// Returns an empty screen that holds at most `most` bytes. It allocates nothing.
     pub fn new(alloc: Global, most: usize) -> Screen
@@ -55,9 +64,19 @@ impl Screen {
             most,
             unshown: 0,
             in_line: false,
+            as_json: false,
             calls: 0,
             failures: 0,
         }
+    }
+
+    /// Returns an empty screen whose lines are JSON, or are not. The line about omitted bytes is then
+    /// JSON too.
+    pub fn with_json(mut self, as_json: bool) -> Screen
+        ensures { result ≡ record self { as_json = as_json } }
+    {
+        self.as_json = as_json;
+        self
     }
 
     /// Returns the text that is held.
@@ -83,15 +102,24 @@ impl Screen {
         self.text.advance(count);
     }
 
+    /// Returns whether this many free bytes suffice to write on.
+    fn has_room_for_line(&self, free: usize) -> bool
+        ensures { result ≡ has_room_for_line self.now free }
+    {
+        !self.as_json || self.in_line || LINE <= free
+    }
+
     /// Appends as much of `text` as there is room for, and counts the rest. Once a byte was
     /// omitted, nothing is appended until the line about omitted bytes is written.
+    /// A line of JSON is begun only if 8,192 more bytes may be held.
     fn keep(&mut self, text: &[u8])
         ensures kept { KeepsOrCounts self.old self.new text.now }
         ensures same_calls { self.new.calls ≡ self.old.calls }
         ensures same_failures { self.new.failures ≡ self.old.failures }
     {
-        let room = if self.unshown == 0 {
-            self.most.saturating_sub(self.text.len())
+        let free = self.most.saturating_sub(self.text.len());
+        let room = if self.unshown == 0 && self.has_room_for_line(free) {
+            free
         } else {
             0
         };
@@ -107,7 +135,7 @@ impl Screen {
     }
 
     /// Appends a line with the number of omitted bytes, if bytes were omitted and at least 64 more
-    /// bytes may be held. Call this between two texts.
+    /// bytes may be held, or 8,256 if the lines are JSON. Call this between two texts.
     ///
     /// # Errors
     ///
@@ -120,7 +148,7 @@ impl Screen {
             length self.new.held ≤ self.new.most }
     {
         let room = self.most.saturating_sub(self.text.len());
-        if self.unshown == 0 || room < ROOM {
+        if self.unshown == 0 || room < notice_room(self.as_json) {
             return Ok(());
         }
         self.text.reserve(ROOM)?;
@@ -128,12 +156,45 @@ impl Screen {
         if self.in_line {
             self.text.extend_reserved(b"\n");
         }
+        self.text.extend_reserved(left_out_front(self.as_json));
         self.text
             .extend_reserved(buffer.format(self.unshown).as_bytes());
-        self.text.extend_reserved(b" bytes not shown\n");
+        self.text.extend_reserved(left_out_end(self.as_json));
         self.unshown = 0;
         self.in_line = false;
         Ok(())
+    }
+}
+
+/// Returns the free bytes with which the line about omitted bytes is appended.
+fn notice_room(as_json: bool) -> usize
+    ensures room { result ≡ notice_room as_json }
+    ensures enough { 64 ≤ result }
+{
+    if as_json { LINE + ROOM } else { ROOM }
+}
+
+/// Returns the text before the number of omitted bytes.
+fn left_out_front(as_json: bool) -> &'static [u8]
+    ensures text { result.now ≡ left_out_front as_json }
+    ensures short { length result.now ≤ 26 }
+{
+    if as_json {
+        b"{\"kind\":\"omitted\",\"bytes\":"
+    } else {
+        b""
+    }
+}
+
+/// Returns the text after the number of omitted bytes.
+fn left_out_end(as_json: bool) -> &'static [u8]
+    ensures text { result.now ≡ left_out_end as_json }
+    ensures short { length result.now ≤ 17 }
+{
+    if as_json {
+        b"}\n"
+    } else {
+        b" bytes not shown\n"
     }
 }
 

@@ -69,7 +69,7 @@ pub(crate) fn write_stamp<W: Sink>(stamp: Stamp, writer: &mut W) -> Result<(), D
 }
 
 /// Writes a time of day, given in microseconds since midnight.
-fn write_time<W: Sink>(micros: u64, writer: &mut W) -> Result<(), DeviceFault>
+pub(crate) fn write_time<W: Sink>(micros: u64, writer: &mut W) -> Result<(), DeviceFault>
     ensures { WritesText (W.written writer.old) (W.written writer.new) (W.failures writer.old)
         (W.failures writer.new) result (time_text micros) }
 {

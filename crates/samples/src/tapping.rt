@@ -2,8 +2,9 @@
 
 use anyhow::Result;
 use resp_tap::filtered::watch_filtered;
+use resp_tap::json_tap::watch_json;
 use resp_tap::watch::{Side, watch};
-use resp_tap::{Filter, FilteredTap, Moment, Printing, Seen, Tap, TimedTap};
+use resp_tap::{Filter, FilteredTap, JsonTap, Moment, Printing, Seen, Tap, TimedTap};
 use resp_value::{Limits, MemorySink};
 use std::alloc::Global;
 use std::str;
@@ -12,7 +13,8 @@ pub(crate) fn run(rt: &impl Print, alloc: Global) -> Result<()> {
     pair_reply(rt, alloc)?;
     measure_reply(rt, alloc)?;
     print_traffic(rt, alloc)?;
-    print_errors(rt, alloc)
+    print_errors(rt, alloc)?;
+    print_json(rt, alloc)
 }
 
 fn pair_reply(rt: &impl Print, alloc: Global) -> Result<()> {
@@ -81,6 +83,40 @@ fn print_errors(rt: &impl Print, alloc: Global) -> Result<()> {
         Side::Server,
         heard,
         None,
+        &mut text,
+    )?;
+    print!(rt; "{}", str::from_utf8(text.bytes())?)?;
+    Ok(())
+}
+
+fn print_json(rt: &impl Print, alloc: Global) -> Result<()> {
+    let sent = Moment {
+        of_day: 20_216_123_456,
+        steady: 5_000_000,
+    };
+    let heard = Moment {
+        of_day: 20_216_123_576,
+        steady: 5_000_120,
+    };
+    let mut tap = JsonTap::new(alloc, &Limits::standard());
+    let mut text = MemorySink::new(alloc, 4_096, 4_096)?;
+    let all = Filter::all(alloc);
+    watch_json(
+        &mut tap,
+        &all,
+        1,
+        Side::Client,
+        b"*1\r\n$4\r\nPING\r\n",
+        sent,
+        &mut text,
+    )?;
+    watch_json(
+        &mut tap,
+        &all,
+        1,
+        Side::Server,
+        b"-ERR no\r\n",
+        heard,
         &mut text,
     )?;
     print!(rt; "{}", str::from_utf8(text.bytes())?)?;

@@ -41,3 +41,19 @@ fn nothing_is_said_without_room_for_the_line(rt: HostRuntime) {
     let _ = screen.say_what_is_left_out();
     check_equal(&rt, (screen.text().len(), screen.unshown()), (36 + 20, 0));
 }
+
+#[test]
+fn lines_of_json_are_omitted_whole(rt: HostRuntime) {
+    let mut screen = Screen::new(rt.alloc(), 8_300).with_json(true);
+    let _ = screen.write(&[b'x'; 106]);
+    let _ = screen.write(&[b'x'; 3]);
+    let _ = screen.write(b"\n");
+    // Less than 8,192 bytes are free.
+    let _ = screen.write(&[b'x'; 30]);
+    let _ = screen.say_what_is_left_out();
+    check_equal(&rt, (screen.text().len(), screen.unshown()), (110, 30));
+    screen.shown(110);
+    let _ = screen.say_what_is_left_out();
+    let line = b"{\"kind\":\"omitted\",\"bytes\":30}\n";
+    check_equal(&rt, screen.text(), line.as_slice());
+}

@@ -11,6 +11,7 @@ returns-in-Ok-clause-ok c = record {
   server_is = sym c.in-Some-text_of.ensures;
   listen = c.in-Ok.ensures.ok.0;
   to = c.in-Ok.ensures.ok.1;
+  recorded = c.text_of-in-Ok.ensures;
 }
 
 pub returns-in-Err-clause-err : goal.returns-in-Err-clause-err

@@ -1,0 +1,158 @@
+//! The addresses of the server, and which of them is tried next.
+
+use crate::own_address::check_server;
+use crate::spare::Spare;
+use crate::stream::Stream;
+use std::alloc::{AllocError, Global};
+use std::io;
+use std::io::ErrorKind;
+use std::net::{Net, SocketAddr};
+
+/// An address of a server.
+#[derive(Debug, Drop)]
+pub enum Address {
+    /// An IP address and a port.
+    Socket(SocketAddr),
+    /// The path of a Unix socket.
+    Path(String),
+}
+
+impl Address {
+    /// Returns a copy.
+    ///
+    /// # Errors
+    ///
+    /// `AllocError` if an allocation fails.
+    fn copy(&self) -> Result<Address, AllocError> {
+        match self {
+            Address::Socket(address) => Ok(Address::Socket(*address)),
+            Address::Path(path) => Ok(Address::Path(path.clone()?)),
+        }
+    }
+}
+
+/// A server with its addresses, which are tried in turn until one of them accepts a connection. The
+/// next connection is tried at that address first.
+#[derive(Drop)]
+pub struct Backend {
+    name: String,
+    addresses: Vec<Address>,
+    /// The index of the address that is tried first.
+    first: usize,
+}
+
+/// An attempt to connect to one of the addresses of a server.
+#[derive(Clone, Copy)]
+pub struct Attempt {
+    /// The index of the address.
+    index: usize,
+    /// The number of attempts after this one, which are at other addresses.
+    left: usize,
+}
+
+impl Backend {
+    /// Returns a server with these addresses, which are tried in this order. The name is used in
+    /// lines about connections that can't be opened.
+    pub fn new(name: String, addresses: Vec<Address>) -> Self {
+        Backend {
+            name,
+            addresses,
+            first: 0,
+        }
+    }
+
+    /// Returns a copy.
+    ///
+    /// # Errors
+    ///
+    /// `AllocError` if an allocation fails.
+    pub fn copy(&self, alloc: Global) -> Result<Self, AllocError> {
+        let mut addresses = Vec::new(alloc);
+        for address in &self.addresses {
+            addresses.push(address.copy()?)?;
+        }
+        Ok(Backend {
+            name: self.name.clone()?,
+            addresses,
+            first: self.first,
+        })
+    }
+
+    /// Returns the name of the server.
+    pub fn name(&self) -> &str {
+        self.name.as_str()
+    }
+
+    /// Fails if connections to one of the addresses would come back to this address to listen on.
+    ///
+    /// # Errors
+    ///
+    /// The error of the address, or an error of kind `InvalidInput`.
+    pub fn check(&self, net: &impl Net, listening: io::Result<SocketAddr>) -> io::Result<()> {
+        let listening = listening?;
+        for address in &self.addresses {
+            if let Address::Socket(address) = address {
+                check_server(net, *address, listening)?;
+            }
+        }
+        Ok(())
+    }
+
+    /// Returns the first attempt of a connection.
+    pub fn first(&self) -> Attempt {
+        Attempt {
+            index: self.first,
+            left: self.addresses.len().saturating_sub(1),
+        }
+    }
+
+    /// Returns the attempt after one that failed, or `None` if each address was tried.
+    pub fn after(&self, failed: Attempt) -> Option<Attempt> {
+        let left = failed.left.checked_sub(1)?;
+        let next = failed.index.saturating_add(1);
+        let index = if next < self.addresses.len() { next } else { 0 };
+        Some(Attempt { index, left })
+    }
+
+    /// Notes that the attempt has succeeded, so its address is tried first from now on.
+    pub fn prefer(&mut self, attempt: Attempt) {
+        self.first = attempt.index;
+    }
+
+    /// Returns the address of an attempt.
+    ///
+    /// # Errors
+    ///
+    /// An error of kind `AddrNotAvailable` if the server has no address.
+    pub fn address(&self, attempt: Attempt) -> io::Result<&Address> {
+        match self.addresses.get(attempt.index) {
+            Some(address) => Ok(address),
+            None => Err(ErrorKind::AddrNotAvailable.into()),
+        }
+    }
+
+    /// Begins to connect to the server by this attempt, or by the next one whose connection can be
+    /// begun. Returns that attempt with the connection.
+    ///
+    /// # Errors
+    ///
+    /// The error of the system for the last attempt.
+    pub fn connect(
+        &self,
+        spare: &mut Spare,
+        net: &impl Net,
+        attempt: Attempt,
+    ) -> io::Result<(Stream, Attempt)> {
+        let mut attempt = attempt;
+        for _ in 0..self.addresses.len() {
+            match spare.connect(net, self.address(attempt)?) {
+                Ok(stream) => return Ok((stream, attempt)),
+                Err(error) => match self.after(attempt) {
+                    Some(next) => attempt = next,
+                    None => return Err(error),
+                },
+            }
+        }
+        Err(ErrorKind::AddrNotAvailable.into())
+    }
+}

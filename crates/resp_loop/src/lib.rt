@@ -1,0 +1,25 @@
+//! A loop over many connections in one thread, over non-blocking sockets, and what its services share.
+//!
+//! A [`Service`] says how connections are made, visited and closed. A [`Loop`] listens on an address
+//! and visits the connections of its service. A [`resp_schedule::Schedule`] decides which connection
+//! it visits next, when it accepts connections, and when it waits.
+//!
+//! A [`Backend`] is a server that connections are forwarded to, with its addresses. A [`Terminal`] writes
+//! to standard output without blocking.
+#![tactic(auto)]
+
+pub mod backend;
+pub mod closing;
+pub mod event_loop;
+pub mod non_blocking;
+mod own_address;
+pub mod register;
+pub mod service;
+pub mod spare;
+pub mod stream;
+pub mod terminal;
+
+pub use backend::{Address, Backend};
+pub use event_loop::Loop;
+pub use service::{Next, Service};
+pub use terminal::Terminal;

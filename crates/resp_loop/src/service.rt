@@ -1,0 +1,129 @@
+//! Services: how connections of a loop are made, visited and closed.
+
+use crate::stream::Stream;
+use mio::{Registry, Token};
+use std::io;
+use std::time::Duration;
+
+/// The token of the socket of a service itself.
+pub const OWN_SOCKET: Token = Token(usize::MAX);
+
+/// The token of standard input.
+pub const INPUT: Token = Token(usize::MAX - 1);
+
+/// The most sockets of a service beside its first.
+pub const FURTHER: usize = 255;
+
+/// Returns the token of a socket of a service, by its number. That of number 0 is [`OWN_SOCKET`].
+pub fn token_of(number: usize) -> Token {
+    if number == 0 {
+        OWN_SOCKET
+    } else {
+        Token((usize::MAX - 1).saturating_sub(number))
+    }
+}
+
+/// Returns the number of a socket of a service beside its first, by its token.
+pub fn number_of(token: usize) -> Option<usize> {
+    let number = (usize::MAX - 1).saturating_sub(token);
+    if number == 0 || number > FURTHER {
+        None
+    } else {
+        Some(number)
+    }
+}
+
+/// When a connection is visited next.
+#[derive(Clone, Copy, Debug, PartialEq, Eq)]
+pub enum Next {
+    /// When one of its sockets is ready.
+    Wait,
+    /// After the other connections were visited.
+    Again,
+    /// Never: it is closed.
+    Close,
+}
+
+/// Why a connection is visited.
+#[derive(Clone, Copy, Debug, PartialEq, Eq)]
+pub enum Cause {
+    /// A socket of it is ready. `is_at_end` says whether an input may have ended.
+    Ready { is_at_end: bool },
+    /// The visit before it asked for another one.
+    Queued,
+    /// The service named its place.
+    Due,
+}
+
+impl Cause {
+    /// Returns whether an input may have ended. The event that reports the end may have passed
+    /// before a queued visit.
+    pub fn is_at_end(self) -> bool {
+        match self {
+            Cause::Ready { is_at_end } => is_at_end,
+            Cause::Queued => true,
+            Cause::Due => false,
+        }
+    }
+}
+
+/// The place of one connection, and the tokens of its sockets.
+#[derive(Clone, Copy)]
+pub struct Tokens {
+    pub place: usize,
+    pub client: Token,
+    pub server: Token,
+}
+
+/// A service for the clients of a loop. `C` is its state for each connection.
+pub trait Service<C> {
+    /// Returns the connection of an accepted client, after registering its sockets under these
+    /// tokens.
+    ///
+    /// # Errors
+    ///
+    /// An error of the system, or of kind `OutOfMemory`. The client's socket is closed.
+    fn admit(&mut self, client: Stream, registry: &Registry, tokens: Tokens) -> io::Result<C>;
+
+    /// Notes that an accepted client was closed at once, because an allocation failed.
+    fn lose(&mut self);
+
+    /// Notes that an accepted client was closed at once, because the most connections are open.
+    fn reject(&mut self);
+
+    /// Reads and writes the sockets of a connection, and says when to do so again. A further socket
+    /// of the connection is registered in the registry.
+    fn visit(&mut self, connection: &mut C, registry: &Registry, cause: Cause) -> Next;
+
+    /// Closes a connection.
+    fn close(&mut self, connection: C);
+
+    /// Returns whether connections are accepted. Once they are not, they never are again, and the
+    /// loop ends when the last connection is closed.
+    fn accepts(&self) -> bool;
+
+    /// Returns the longest time of the next wait, if the service has work that is not about a
+    /// connection.
+    fn patience(&self) -> Option<Duration>;
+
+    /// Does that work, after connections were visited. A socket of the service itself is registered
+    /// under a token of [`token_of`].
+    ///
+    /// # Errors
+    ///
+    /// An error that ends the loop.
+    fn work(&mut self, registry: &Registry) -> io::Result<()>;
+
+    /// Notes that the socket of the service itself with this number is ready. `is_at_end` says
+    /// whether its input may have ended.
+    fn ready(&mut self, _number: usize, _is_at_end: bool) {}
+
+    /// Notes that standard input is ready. `is_at_end` says whether it has ended.
+    fn input_ready(&mut self, _is_at_end: bool) {}
+
+    /// Returns the place of the next connection that is to be visited although its sockets are not
+    /// ready.
+    fn next_due(&mut self) -> Option<usize> {
+        None
+    }
+}

@@ -1,0 +1,498 @@
+//! The connection to the server that the clients in one setting share.
+
+use crate::proxying::ProxySettings;
+use crate::server_link::{Loss, ServerLink};
+use crate::stalled::Stalled;
+use mio::Registry;
+use resp_loop::stream::Stream;
+use resp_mux::ClientId;
+use resp_proxy::{Client, Counted, Departed, Numbers, Proxy, ServerError, Setting, Times};
+use resp_value::version::Version;
+use std::alloc::{AllocError, Global};
+use std::io;
+use std::net::Net;
+use std::random::RandomSource;
+use std::time::Duration;
+
+/// If so many bytes wait for the server, they are written before the next client is visited.
+const EAGER: usize = 16_384;
+
+/// The reply to the commands that wait while there is no connection, if the reason does not fit
+/// into memory.
+pub(crate) const NOT_CONNECTED: &[u8] = b"-ERR cannot connect to server\r\n";
+
+/// The proxy of a setting, its connection to the server, and the places of its clients'
+/// connections.
+#[derive(Drop)]
+pub(crate) struct Channel {
+    alloc: Global,
+    pub(crate) proxy: Proxy,
+    pub(crate) link: ServerLink,
+    /// The setting as it is shown in lines on standard error, or no byte for the first one.
+    shown: String,
+    /// The place of the connection of each client, by the place of the client's id.
+    places: Vec<usize>,
+    stalled: Stalled,
+    /// The number of clients that share the connection, or have left it for another setting that is
+    /// not open yet.
+    pub(crate) clients: usize,
+    /// The next client that got a reply which was not written.
+    next: Option<ClientId>,
+    /// A client that is closed at its next visit, because memory is out.
+    condemned: Option<ClientId>,
+    /// That client, until its place was named.
+    named: Option<ClientId>,
+    /// Whether the connection was lost, and commands that it had begun still wait for a reply.
+    is_losing: bool,
+    /// Whether it was lost because a reply to a probe was wrong.
+    is_out_of_step: bool,
+    /// The commands that were queued since the last probe.
+    unprobed: u64,
+    /// The reply to commands that wait while there is no connection.
+    failure: Vec<u8>,
+}
+
+impl Channel {
+    /// Returns a channel without clients, before the first attempt to connect to the server.
+    /// `shown` is its setting, or empty for the first one.
+    ///
+    /// # Errors
+    ///
+    /// `AllocError` if an allocation fails.
+    pub(crate) fn new(
+        alloc: Global,
+        link: ServerLink,
+        shown: String,
+        settings: &ProxySettings,
+    ) -> Result<Self, AllocError> {
+        let mut own = settings.proxy;
+        own.version = link.setting().version;
+        own.limits = own.limits.with_doubles(own.version == Version::Three);
+        own.answers_settings = shown.is_empty();
+        let mut proxy = Proxy::new(alloc, own)?;
+        if settings.check_every > 0 && proxy.open_prober().is_err() {
+            return Err(AllocError);
+        }
+        Ok(Channel {
+            alloc,
+            proxy,
+            link,
+            shown,
+            places: Vec::new(alloc),
+            stalled: Stalled::new(alloc),
+            clients: 0,
+            next: None,
+            condemned: None,
+            named: None,
+            is_losing: false,
+            is_out_of_step: false,
+            unprobed: 0,
+            failure: Vec::new(alloc),
+        })
+    }
+
+    /// Returns whether clients of this setting may enter now: its connection is open, or it is the
+    /// first.
+    pub(crate) fn is_ready(&self) -> bool {
+        self.shown.is_empty() || self.link.is_open()
+    }
+
+    /// Returns whether the channel may be used for another setting: it has no clients, and nothing
+    /// waits for the server or a reply.
+    pub(crate) fn is_free(&self) -> bool {
+        !self.shown.is_empty()
+            && self.clients == 0
+            && self.proxy.waiting() == 0
+            && self.proxy.unsent() == 0
+    }
+
+    /// Returns the numbers of the channel. Without clients it is no line.
+    pub(crate) fn numbers(&self) -> Numbers {
+        let numbers = self.proxy.numbers();
+        let lines = if self.is_free() { 0 } else { 1 };
+        Numbers { lines, ..numbers }
+    }
+
+    /// Sets the numbers of the other channels, and the times of all. The first channel counts the times itself.
+    pub(crate) fn set_others(&mut self, others: Numbers, times: Times) {
+        let times = if self.shown.is_empty() {
+            None
+        } else {
+            Some(times)
+        };
+        self.proxy.set_others(others, times);
+    }
+
+    /// Returns whether the channel is in this setting.
+    pub(crate) fn is_in(&self, setting: &Setting) -> bool {
+        self.link.setting().is_same(setting)
+    }
+
+    /// Opens a client for the connection in this place. Returns `None` without memory.
+    pub(crate) fn open(&mut self, place: usize) -> Option<Client> {
+        let Ok(client) = self.proxy.open() else {
+            return None;
+        };
+        self.seat(client, place)
+    }
+
+    /// Opens a client that has left a setting, for the connection in this place. It is owed this
+    /// reply first. Returns `None` without memory.
+    pub(crate) fn enter(
+        &mut self,
+        departed: Departed,
+        reply: &[u8],
+        place: usize,
+    ) -> Option<Client> {
+        let Ok(client) = self.proxy.enter(departed, reply) else {
+            return None;
+        };
+        self.seat(client, place)
+    }
+
+    /// Notes the place of a client that was opened. Without memory the client is closed.
+    fn seat(&mut self, client: Client, place: usize) -> Option<Client> {
+        if set_at(&mut self.places, client.id().place, place).is_err() {
+            self.proxy.close(client);
+            return None;
+        }
+        self.clients = self.clients.saturating_add(1);
+        Some(client)
+    }
+
+    /// Closes a client.
+    pub(crate) fn close(&mut self, client: Client) {
+        self.proxy.close(client);
+        self.clients = self.clients.saturating_sub(1);
+    }
+
+    /// Returns whether this client is to be closed now.
+    pub(crate) fn is_condemned(&mut self, who: ClientId) -> bool {
+        if self.condemned != Some(who) {
+            return false;
+        }
+        self.condemned = None;
+        true
+    }
+
+    /// Counts the commands that were queued, and queues a probe if enough were queued since the
+    /// last one. If there is no memory or no random word for it, a later call tries again.
+    pub(crate) fn note_queued(&mut self, random: &impl RandomSource, queued: usize, every: u64) {
+        self.proxy.count(Counted::Queued(queued, self.link.now()));
+        if every == 0 {
+            return;
+        }
+        self.unprobed = self.unprobed.saturating_add(queued as u64);
+        if self.unprobed < every {
+            return;
+        }
+        let mut bytes = [0; 16];
+        if random.fill_bytes(&mut bytes).is_err() {
+            return;
+        }
+        if self.proxy.probe(&word_of(bytes)).is_ok() {
+            self.unprobed = 0;
+            self.proxy.count(Counted::Queued(1, self.link.now()));
+        }
+    }
+
+    /// Visits the connection in a place again when fewer bytes wait for the server.
+    ///
+    /// # Errors
+    ///
+    /// `AllocError` if an allocation fails.
+    pub(crate) fn stall(&mut self, place: usize) -> Result<(), AllocError> {
+        self.stalled.add(place)
+    }
+
+    /// Returns whether more bytes wait for the server than a client's command may wait behind.
+    pub(crate) fn is_full(&self, unsent: usize) -> bool {
+        self.proxy.unsent() > unsent
+    }
+
+    /// Returns the place of the next connection whose client got a reply.
+    pub(crate) fn next_replied_place(&mut self) -> Option<usize> {
+        let who = self.next_replied()?;
+        self.places.get(who.place).copied()
+    }
+
+    /// Returns the place of the next connection whose client got room.
+    pub(crate) fn next_stalled_place(&mut self, unsent: usize) -> Option<usize> {
+        if self.is_full(unsent) {
+            return None;
+        }
+        self.stalled.next()
+    }
+
+    /// Returns the next client that got a reply which was not written.
+    fn next_replied(&mut self) -> Option<ClientId> {
+        self.next
+            .take()
+            .or_else(|| self.named.take())
+            .or_else(|| self.next_noted())
+    }
+
+    /// Returns the next client that was replied to, which is not the proxy's own.
+    fn next_noted(&mut self) -> Option<ClientId> {
+        for _ in 0..u64::MAX {
+            let who = self.proxy.next_replied()?;
+            if !self.proxy.is_prober(who) {
+                return Some(who);
+            }
+        }
+        None
+    }
+
+    /// Returns whether the channel has work to do although no socket is ready.
+    pub(crate) fn has_work(&self, unsent: usize) -> bool {
+        let has_stalled = !self.stalled.is_empty() && !self.is_full(unsent);
+        self.next.is_some() || has_stalled || self.is_losing
+    }
+
+    /// Returns the time until the link has work to do although its socket is not ready.
+    pub(crate) fn patience(&self) -> Option<Duration> {
+        if !self.is_used() && self.link.is_down() {
+            return None;
+        }
+        self.link.patience(self.proxy.waiting() > 0)
+    }
+
+    /// Returns whether the channel needs a connection: it is the first, has clients, or commands
+    /// wait.
+    fn is_used(&self) -> bool {
+        !self.is_free()
+    }
+
+    /// Writes commands if many bytes wait for the server.
+    pub(crate) fn send_eagerly<R: Net + Eprint>(&mut self, rt: &R) {
+        if self.proxy.unsent() >= EAGER {
+            if let Err(loss) = self.link.send(&mut self.proxy) {
+                self.lose(rt, loss);
+            }
+        }
+    }
+
+    /// Writes the commands that wait for the server, reads replies, and connects to the server if
+    /// there is no connection.
+    pub(crate) fn work<R: Net + Eprint>(
+        &mut self,
+        rt: &R,
+        registry: &Registry,
+        buffer: &mut [u8; 65_536],
+    ) {
+        self.finish_connecting(rt);
+        self.exchange(rt, buffer);
+        if let Err(loss) = self.link.judge(self.proxy.waiting() > 0) {
+            self.lose(rt, loss);
+        }
+        self.finish_losing();
+        self.connect(rt, registry);
+        if self.link.is_down() {
+            self.fail();
+        }
+        self.next = self.next_replied();
+    }
+
+    /// Reads replies of the server, and writes commands to it.
+    pub(crate) fn exchange<R: Net + Eprint>(&mut self, rt: &R, buffer: &mut [u8; 65_536]) {
+        let before = self.proxy.waiting();
+        let exchanged = self.link.exchange(&mut self.proxy, buffer);
+        let replied = before.saturating_sub(self.proxy.waiting());
+        if replied > 0 {
+            self.proxy.count(Counted::Replied(replied, self.link.now()));
+        }
+        if let Err(loss) = exchanged {
+            self.lose(rt, loss);
+        }
+    }
+
+    /// Begins to connect to the server if there is no connection, one is needed, and the pause is
+    /// over.
+    fn connect<R: Net + Eprint>(&mut self, rt: &R, registry: &Registry) {
+        if self.is_losing || !self.is_used() {
+            return;
+        }
+        if let Err(error) = self.link.connect(rt, registry) {
+            self.tell_failure(rt, &error);
+        }
+    }
+
+    /// Notes whether the connection that was begun is open.
+    fn finish_connecting(&mut self, log: &impl Eprint) {
+        match self.link.finish_connecting() {
+            Ok(false) => {}
+            Ok(true) => self.tell_connected(log),
+            Err(error) => self.tell_failure(log, &error),
+        }
+    }
+
+    /// Uses a connection that another opened in this setting. `hello` is the reply to HELLO over
+    /// it.
+    ///
+    /// # Errors
+    ///
+    /// The error of the system.
+    pub(crate) fn adopt(
+        &mut self,
+        stream: Stream,
+        hello: Vec<u8>,
+        registry: &Registry,
+        log: &impl Eprint,
+    ) -> io::Result<()> {
+        self.link.adopt(stream, hello, registry)?;
+        self.tell_connected(log);
+        Ok(())
+    }
+
+    /// Counts and prints that the connection is open.
+    fn tell_connected(&mut self, log: &impl Eprint) {
+        self.failure = Vec::new(self.alloc);
+        self.proxy.count(Counted::Connected);
+        self.tell(log, "server connected", "");
+    }
+
+    /// Prints why no connection to the server was opened, if that was not the reason before.
+    fn tell_failure(&mut self, log: &impl Eprint, error: &io::Error) {
+        let reply = format!(in self.alloc; "-ERR cannot connect to server: {error}\r\n");
+        if self.has_failure(reply) {
+            return;
+        }
+        match format!(in self.alloc; "{error}") {
+            Ok(why) => self.tell(log, "cannot connect to server", why.as_str()),
+            Err(_) => self.tell(log, "cannot connect to server", ""),
+        }
+    }
+
+    /// Prints what has happened, the setting unless it is the first, and why if there is a reason.
+    fn tell(&self, log: &impl Eprint, what: &str, why: &str) {
+        let shown = self.shown.as_str();
+        let line = match (shown.is_empty(), why.is_empty()) {
+            (true, true) => format!(in self.alloc; "{what}"),
+            (true, false) => format!(in self.alloc; "{what}: {why}"),
+            (false, true) => format!(in self.alloc; "{what}: {shown}"),
+            (false, false) => format!(in self.alloc; "{what}: {shown}: {why}"),
+        };
+        match line {
+            Ok(line) => {
+                let _ = log.eprintln(line.as_str());
+            }
+            Err(_) => {
+                let _ = log.eprintln(what);
+            }
+        }
+    }
+
+    /// Sets the reply to the commands that wait while there is no connection, and returns whether
+    /// it was this one before. Without memory the reply has no reason.
+    fn has_failure(&mut self, reply: Result<String, AllocError>) -> bool {
+        let reply = match reply {
+            Ok(reply) => reply.into_bytes(),
+            Err(_) => Vec::new(self.alloc),
+        };
+        let is_same = reply.as_slice() == self.failure.as_slice();
+        self.failure = reply;
+        is_same
+    }
+
+    /// Prints that the connection to the server was lost, and replies to the commands that it had
+    /// begun.
+    fn lose<R: Net + Eprint>(&mut self, rt: &R, loss: Loss) {
+        // Otherwise a client that waits gets the descriptor of the lost connection.
+        self.link.keep_spare(rt);
+        let reply = format!(in self.alloc; "-ERR cannot connect to server: {loss}\r\n");
+        let _ = self.has_failure(reply);
+        match format!(in self.alloc; "{loss}") {
+            Ok(why) => self.tell(rt, "server lost", why.as_str()),
+            Err(_) => self.tell(rt, "server lost", ""),
+        }
+        self.is_losing = true;
+        self.is_out_of_step = loss == Loss::Server(ServerError::OutOfStep);
+        self.finish_losing();
+    }
+
+    /// Replies to the commands that a lost connection had begun. Without memory the client of the
+    /// first command is closed, and the next call goes on.
+    fn finish_losing(&mut self) {
+        if !self.is_losing {
+            return;
+        }
+        let before = self.proxy.waiting();
+        let lost = if self.is_out_of_step {
+            self.proxy.lose_out_of_step()
+        } else {
+            self.proxy.lose()
+        };
+        self.proxy.settle_probes();
+        self.count_failed(before);
+        match lost {
+            Ok(()) => self.is_losing = false,
+            Err(AllocError) => self.condemn(),
+        }
+    }
+
+    /// Replies to all commands that wait, since there is no connection.
+    fn fail(&mut self) {
+        if self.is_losing || self.proxy.waiting() == 0 {
+            return;
+        }
+        let before = self.proxy.waiting();
+        let failed = self.proxy.fail(or_not_connected(&self.failure));
+        self.proxy.settle_probes();
+        self.count_failed(before);
+        if failed.is_err() {
+            // The commands that still wait count as begun now.
+            self.is_losing = true;
+            self.condemn();
+        }
+    }
+
+    /// Counts the commands by which the number of commands that wait has fallen, since they failed.
+    fn count_failed(&mut self, before: usize) {
+        let failed = before.saturating_sub(self.proxy.waiting());
+        self.proxy.count(Counted::Failed(failed));
+    }
+
+    /// Closes the client of the first command at its next visit, which is soon.
+    fn condemn(&mut self) {
+        self.condemned = self.proxy.next_client();
+        self.named = self.condemned;
+    }
+}
+
+/// Returns the reply to commands that wait while there is no connection.
+fn or_not_connected(failure: &[u8]) -> &[u8] {
+    if failure.is_empty() {
+        NOT_CONNECTED
+    } else {
+        failure
+    }
+}
+
+/// Returns the digits of these bytes.
+fn word_of(bytes: [u8; 16]) -> [u8; 32] {
+    let mut word = [0; 32];
+    for index in 0..16 {
+        word[2 * index] = digit(bytes[index] / 16);
+        word[2 * index + 1] = digit(bytes[index] % 16);
+    }
+    word
+}
+
+/// Returns the hexadecimal digit of a number.
+fn digit(number: u8) -> u8 {
+    if number < 10 {
+        number + b'0'
+    } else {
+        (number - 10) % 26 + b'a'
+    }
+}
+
+/// Sets the value at an index, after making the list long enough.
+fn set_at(list: &mut Vec<usize>, index: usize, value: usize) -> Result<(), AllocError> {
+    let length = index.checked_add(1).ok_or(AllocError)?;
+    if list.len() < length {
+        list.resize(length, 0)?;
+    }
+    list[index] = value;
+    Ok(())
+}

@@ -1,0 +1,22 @@
+//! A proxy that shares connections to a server among many clients, over non-blocking sockets.
+//!
+//! A [`ProxyServer`] is a service of [`resp_loop::Loop`]. It shares one connection to a server among
+//! many clients, with [`resp_proxy::Proxy::visit_client`] and [`resp_proxy::Proxy::visit_server`].
+#![tactic(auto)]
+
+mod arrival;
+mod channel;
+mod entry;
+mod input_end;
+mod moving;
+mod own;
+mod plan;
+mod proxied;
+mod proxying;
+mod relay;
+mod report;
+mod retry;
+mod server_link;
+mod stalled;
+
+pub use proxying::{ProxyServer, ProxySettings};

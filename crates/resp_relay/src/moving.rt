@@ -1,0 +1,492 @@
+//! How clients of the proxy move to another setting, or to a connection of their own.
+
+use crate::arrival::{Arrival, Arrived};
+use crate::channel::{Channel, NOT_CONNECTED};
+use crate::entry::Entry;
+use crate::own::Own;
+use crate::plan::{Plan, skip};
+use crate::proxied::{Move, Proxied};
+use crate::relay::Relay;
+use crate::server_link::ServerLink;
+use mio::Registry;
+use resp_loop::service::Next;
+use resp_loop::spare::Spare;
+use resp_proxy::{Counted, Departed, Numbers, Setting, next_wish, no_more};
+use std::alloc::AllocError;
+use std::io;
+use std::io::ErrorKind;
+use std::net::Net;
+use std::time::Duration;
+
+impl Relay {
+    /// Gives a client the connection that its next command needs.
+    pub(crate) fn leave<R: Net + Eprint>(
+        &mut self,
+        rt: &R,
+        connection: &mut Proxied,
+        registry: &Registry,
+        from: usize,
+    ) -> Next {
+        let limits = self.settings.proxy.limits;
+        let Some(channel) = self.channels.get_mut(from) else {
+            return Next::Close;
+        };
+        let Some(departed) = connection.leave(&mut channel.proxy) else {
+            return Next::Wait;
+        };
+        let Ok(plan) = Plan::of(self.alloc, &departed, channel.link.setting(), &limits) else {
+            self.note_left(from);
+            return Next::Close;
+        };
+        let next = match plan {
+            Some(plan) => self.follow(rt, connection, registry, from, departed, plan),
+            None => self.give_own(rt, connection, registry, from, departed),
+        };
+        // Until now the setting could not be taken by another.
+        self.note_left(from);
+        next
+    }
+
+    /// Counts a client that has left this setting.
+    fn note_left(&mut self, from: usize) {
+        if let Some(channel) = self.channels.get_mut(from) {
+            channel.clients = channel.clients.saturating_sub(1);
+        }
+    }
+
+    /// Moves a client to the setting that it wants, or begins to open a connection for it.
+    fn follow<R: Net + Eprint>(
+        &mut self,
+        rt: &R,
+        connection: &mut Proxied,
+        registry: &Registry,
+        from: usize,
+        departed: Departed,
+        plan: Plan,
+    ) -> Next {
+        if self.settings.lines <= 1 {
+            return self.give_own(rt, connection, registry, from, departed);
+        }
+        if let Some(setting) = &plan.setting {
+            let found = self.find(setting);
+            if let Some(number) = found {
+                if !plan.has_password && self.is_ready(number) {
+                    return self.enter(connection, number, departed, plan);
+                }
+            } else if self.free_number().is_none() {
+                return self.give_own(rt, connection, registry, from, departed);
+            }
+        }
+        let arrival = self.begin(rt, connection, registry, from, &departed, &plan);
+        let moving = match arrival {
+            Ok(arrival) => Move {
+                departed,
+                plan,
+                from,
+                arrival,
+                since: self.now(),
+            },
+            Err(error) => return self.stay(connection, from, departed, plan.used, &error),
+        };
+        self.wait(connection, moving)
+    }
+
+    /// Begins a connection in the setting that a client wants, or in its present one if only the
+    /// server knows what its command asks for.
+    fn begin(
+        &self,
+        net: &impl Net,
+        connection: &Proxied,
+        registry: &Registry,
+        from: usize,
+        departed: &Departed,
+        plan: &Plan,
+    ) -> io::Result<Arrival> {
+        let Some(channel) = self.channels.get(from) else {
+            return Err(ErrorKind::NotConnected.into());
+        };
+        let link = &channel.link;
+        let entry = match &plan.setting {
+            Some(setting) => Entry::new(self.alloc, setting, link.login()),
+            None => entry_with(link, departed.rest().get(..plan.used)),
+        };
+        let Ok(entry) = entry else {
+            return Err(ErrorKind::OutOfMemory.into());
+        };
+        Arrival::begin(
+            net,
+            link.backend(),
+            registry,
+            connection.server_token(),
+            entry,
+        )
+    }
+
+    /// Lets a client wait for the connection that was begun.
+    fn wait(&mut self, connection: &mut Proxied, moving: Move) -> Next {
+        let until = moving.since.saturating_add(self.settings.patience);
+        if self.moves.push_back((until, connection.place())).is_err() {
+            return Next::Close;
+        }
+        self.begin_move(moving.from);
+        connection.wait(moving);
+        Next::Wait
+    }
+
+    /// Counts a client that waits, and has left this setting.
+    fn begin_move(&mut self, from: usize) {
+        self.moving = self.moving.saturating_add(1);
+        if let Some(channel) = self.channels.get_mut(from) {
+            channel.clients = channel.clients.saturating_add(1);
+        }
+    }
+
+    /// Counts a client that waits no more.
+    pub(crate) fn end_move(&mut self, from: usize) {
+        self.moving = self.moving.saturating_sub(1);
+        self.note_left(from);
+    }
+
+    /// Goes on to open the connection that a client waits for.
+    pub(crate) fn go_on_moving<R: Net + Eprint>(
+        &mut self,
+        rt: &R,
+        connection: &mut Proxied,
+        registry: &Registry,
+        moving: Move,
+    ) -> Next {
+        let mut moving = moving;
+        let from = moving.from;
+        let next = match self.arrived(&mut moving) {
+            Ok(Arrived::No) => {
+                connection.wait(moving);
+                return Next::Wait;
+            }
+            Ok(Arrived::Yes) => self.arrive(rt, connection, registry, moving),
+            Ok(Arrived::Rejected) => self.pass_refusal(connection, moving),
+            Err(error) => self.pass_failure(connection, moving, &error),
+        };
+        // Until now the setting that the client has left could not be taken by another.
+        self.end_move(from);
+        next
+    }
+
+    /// Returns how far the connection is that a client waits for.
+    ///
+    /// # Errors
+    ///
+    /// Those of [`Arrival::go_on`], and an error of kind `TimedOut` if it is given up.
+    fn arrived(&self, moving: &mut Move) -> io::Result<Arrived> {
+        let arrived = moving.arrival.go_on()?;
+        if arrived == Arrived::No && self.is_late(moving.since) {
+            return Err(ErrorKind::TimedOut.into());
+        }
+        Ok(arrived)
+    }
+
+    /// Lets a client go on in the setting that it has left, with the reason why there is no connection.
+    fn pass_failure(&mut self, connection: &mut Proxied, moving: Move, error: &io::Error) -> Next {
+        let Move {
+            departed,
+            plan,
+            from,
+            ..
+        } = moving;
+        self.stay(connection, from, departed, plan.used, error)
+    }
+
+    /// Lets a client go on in the setting that it has left, with the error of the server.
+    fn pass_refusal(&mut self, connection: &mut Proxied, moving: Move) -> Next {
+        let Move {
+            departed,
+            plan,
+            from,
+            arrival,
+            ..
+        } = moving;
+        let reply = arrival.entry().refusal();
+        self.answer(connection, from, departed, plan.used, reply)
+    }
+
+    /// Returns whether a connection that was begun at this time is given up.
+    fn is_late(&self, since: Duration) -> bool {
+        self.now().saturating_sub(since) >= self.settings.patience
+    }
+
+    /// Moves a client to the setting that it wants, since the server has accepted the connection
+    /// that it waited for. Clients share it if the setting has no other.
+    fn arrive<R: Net + Eprint>(
+        &mut self,
+        rt: &R,
+        connection: &mut Proxied,
+        registry: &Registry,
+        moving: Move,
+    ) -> Next {
+        let Move {
+            departed,
+            plan,
+            from,
+            arrival,
+            ..
+        } = moving;
+        let copy = match &plan.setting {
+            Some(setting) => setting.copy(self.alloc),
+            None => return self.give_own(rt, connection, registry, from, departed),
+        };
+        let Ok(setting) = copy else {
+            return Next::Close;
+        };
+        let number = match self.place_for(&setting, from) {
+            Ok(Some(number)) => number,
+            Ok(None) => return self.give_own(rt, connection, registry, from, departed),
+            Err(AllocError) => return Next::Close,
+        };
+        match self.use_arrival(rt, registry, number, setting, arrival) {
+            Ok(()) => self.enter(connection, number, departed, plan),
+            Err(error) => self.stay(connection, from, departed, plan.used, &error),
+        }
+    }
+
+    /// Lets clients in the setting of this number share a connection that has arrived, if they have
+    /// no other.
+    fn use_arrival<R: Net + Eprint>(
+        &mut self,
+        rt: &R,
+        registry: &Registry,
+        number: usize,
+        setting: Setting,
+        arrival: Arrival,
+    ) -> io::Result<()> {
+        let now = self.now();
+        let Some(channel) = self.channels.get_mut(number) else {
+            return Err(ErrorKind::NotConnected.into());
+        };
+        channel.link.set_now(now);
+        if number > 0 {
+            channel.link.set_setting(setting);
+        }
+        if channel.link.is_open() {
+            return Ok(());
+        }
+        let (stream, entry) = arrival.into_parts();
+        let Ok(hello) = entry.hello().to_vec(self.alloc) else {
+            return Err(ErrorKind::OutOfMemory.into());
+        };
+        channel.adopt(stream, hello, registry, rt)
+    }
+
+    /// Opens a client in the setting of this number, in which its connection to the server is open.
+    fn enter(
+        &mut self,
+        connection: &mut Proxied,
+        number: usize,
+        departed: Departed,
+        plan: Plan,
+    ) -> Next {
+        let mut departed = departed;
+        let Some(channel) = self.channels.get_mut(number) else {
+            return Next::Close;
+        };
+        let link = &channel.link;
+        match plan.carry_out(self.alloc, &mut departed, link.setting(), link.hello()) {
+            Ok(reply) => self.seat(connection, number, departed, &reply),
+            Err(AllocError) => Next::Close,
+        }
+    }
+
+    /// Opens a client in the setting of this number. It is owed this reply first.
+    fn seat(
+        &mut self,
+        connection: &mut Proxied,
+        number: usize,
+        departed: Departed,
+        reply: &[u8],
+    ) -> Next {
+        let Some(channel) = self.channels.get_mut(number) else {
+            return Next::Close;
+        };
+        match channel.enter(departed, reply, connection.place()) {
+            Some(client) => {
+                connection.enter(number, client);
+                Next::Again
+            }
+            None => Next::Close,
+        }
+    }
+
+    /// Lets a client go on in the setting that it has left, with this reply to the command that
+    /// moved it.
+    fn answer(
+        &mut self,
+        connection: &mut Proxied,
+        from: usize,
+        departed: Departed,
+        used: usize,
+        reply: &[u8],
+    ) -> Next {
+        let mut departed = departed;
+        skip(&mut departed, used);
+        self.seat(connection, from, departed, reply)
+    }
+
+    /// Does what `answer` does, with the reason why there is no connection.
+    fn stay(
+        &mut self,
+        connection: &mut Proxied,
+        from: usize,
+        departed: Departed,
+        used: usize,
+        error: &io::Error,
+    ) -> Next {
+        match format!(in self.alloc; "-ERR cannot connect to server: {error}\r\n") {
+            Ok(reply) => {
+                self.answer(connection, from, departed, used, reply.as_str().as_bytes())
+            }
+            Err(_) => self.answer(connection, from, departed, used, NOT_CONNECTED),
+        }
+    }
+
+    /// Gives a client a connection of its own, or an error if no more clients may get one.
+    fn give_own<R: Net + Eprint>(
+        &mut self,
+        rt: &R,
+        connection: &mut Proxied,
+        registry: &Registry,
+        from: usize,
+        departed: Departed,
+    ) -> Next {
+        if !self.may_give_own() {
+            return self.refuse_own(connection, from, departed);
+        }
+        let Some(channel) = self.channels.get(from) else {
+            return Next::Close;
+        };
+        let link = &channel.link;
+        let Ok(entry) = link.entry() else {
+            return Next::Close;
+        };
+        let token = connection.server_token();
+        match Arrival::begin(rt, link.backend(), registry, token, entry) {
+            Ok(arrival) => {
+                let own = Own::new(self.alloc, arrival, departed.into_rest());
+                connection.give_own(own);
+                self.count(Counted::OwnOpened);
+                Next::Wait
+            }
+            Err(error) => self.give_up(connection, &error),
+        }
+    }
+
+    /// Tells a client that no more clients may get a connection of their own.
+    fn refuse_own(&mut self, connection: &mut Proxied, from: usize, departed: Departed) -> Next {
+        let (used, reply) = match next_wish(departed.rest(), &self.settings.proxy.limits) {
+            Some(asking) => (
+                departed.rest().len().saturating_sub(asking.rest.len()),
+                no_more(self.alloc, asking.name),
+            ),
+            None => return Next::Close,
+        };
+        match reply {
+            Ok(reply) => self.answer(connection, from, departed, used, &reply),
+            Err(AllocError) => Next::Close,
+        }
+    }
+
+    /// Returns the number of a setting that is in use.
+    fn find(&self, setting: &Setting) -> Option<usize> {
+        let mut number = 0;
+        for channel in &self.channels {
+            if channel.is_in(setting) {
+                return Some(number);
+            }
+            number = usize::saturating_add(number, 1);
+        }
+        None
+    }
+
+    /// Returns whether clients may enter the setting of this number now.
+    fn is_ready(&self, number: usize) -> bool {
+        match self.channels.get(number) {
+            Some(channel) => channel.is_ready(),
+            None => false,
+        }
+    }
+
+    /// Returns the number for one more setting: a new one, or that of a setting without clients.
+    fn free_number(&self) -> Option<usize> {
+        if self.channels.len() < self.settings.lines {
+            return Some(self.channels.len());
+        }
+        let mut number = 0;
+        for channel in &self.channels {
+            if channel.is_free() {
+                return Some(number);
+            }
+            number = usize::saturating_add(number, 1);
+        }
+        None
+    }
+
+    /// Returns the number of a setting, which is in use from now on. Returns `None` if too many are
+    /// in use.
+    fn place_for(&mut self, setting: &Setting, from: usize) -> Result<Option<usize>, AllocError> {
+        if let Some(number) = self.find(setting) {
+            return Ok(Some(number));
+        }
+        let Some(number) = self.free_number() else {
+            return Ok(None);
+        };
+        let channel = self.new_channel(number, setting, from)?;
+        match self.channels.get_mut(number) {
+            Some(place) => {
+                let numbers = place.proxy.numbers();
+                self.gone = self.gone.plus(Numbers {
+                    lines: 0,
+                    ..numbers
+                });
+                *place = channel;
+            }
+            None => {
+                if self.channels.push(channel).is_err() {
+                    return Err(AllocError);
+                }
+            }
+        }
+        Ok(Some(number))
+    }
+
+    /// Returns a channel in a setting, whose connection is not open.
+    fn new_channel(
+        &self,
+        number: usize,
+        setting: &Setting,
+        from: usize,
+    ) -> Result<Channel, AllocError> {
+        let Some(channel) = self.channels.get(from) else {
+            return Err(AllocError);
+        };
+        let old = &channel.link;
+        let shown = setting.shown(self.alloc)?;
+        let link = ServerLink::new(
+            self.alloc,
+            old.backend().copy(self.alloc)?,
+            number,
+            setting.copy(self.alloc)?,
+            old.login().to_vec(self.alloc)?,
+            self.settings.patience,
+            Spare::none(),
+        );
+        let mut channel = Channel::new(self.alloc, link, shown, &self.settings)?;
+        for name in &self.also {
+            channel.proxy.admit(name)?;
+        }
+        Ok(channel)
+    }
+}
+
+/// Returns the entry into the setting of a link, with a command of a client after it.
+fn entry_with(link: &ServerLink, command: Option<&[u8]>) -> Result<Entry, AllocError> {
+    let mut entry = link.entry()?;
+    entry.ask(command.unwrap_or(b""))?;
+    Ok(entry)
+}

@@ -1,0 +1,306 @@
+//! One connection of a client of the proxy.
+
+ghost use Rattle.std.specs.Prelude.{◌<◌, length};
+
+use crate::arrival::Arrival;
+use crate::own::Own;
+use crate::plan::Plan;
+use mio::Token;
+use resp_lane::{Progress, after_write};
+use resp_loop::non_blocking::{Input, Output};
+use resp_loop::service::{Cause, Next, Tokens};
+use resp_loop::stream::Stream;
+use resp_mux::ClientId;
+use resp_proxy::{Client, Departed, Proxy, Read, Written};
+use resp_value::device::Device;
+use std::time::Duration;
+use std::{io, mem};
+
+/// The socket of a client, and the client. They were made together, and never part.
+#[derive(Drop)]
+pub(crate) struct Proxied {
+    stream: Stream,
+    tokens: Tokens,
+    link: Link,
+    /// Whether a read may return bytes.
+    may_read: bool,
+    /// Whether the input may have ended.
+    is_at_end: bool,
+}
+
+/// How the commands of a client reach the server.
+#[derive(Drop)]
+pub(crate) enum Link {
+    /// Over the connection that clients in the setting of this number share.
+    Shared(usize, Client),
+    /// Not yet: a connection in another setting is opened.
+    Moving(Move),
+    /// Over a connection of the client's own.
+    Own(Own),
+    /// Not any more: the connection is closed at the end of its visit.
+    Closed,
+}
+
+/// A client that waits for a connection in another setting.
+#[derive(Drop)]
+pub(crate) struct Move {
+    pub(crate) departed: Departed,
+    pub(crate) plan: Plan,
+    /// The number of the setting that it has left.
+    pub(crate) from: usize,
+    pub(crate) arrival: Arrival,
+    /// The time at which the connection was begun.
+    pub(crate) since: Duration,
+}
+
+/// The result of a read and a write.
+#[derive(Clone, Copy)]
+struct Exchanged {
+    read: Read,
+    /// Whether the next read would block.
+    is_dry: bool,
+    written: Progress,
+}
+
+impl Proxied {
+    /// Returns the connection of a client that has sent nothing.
+    pub(crate) fn new(stream: Stream, tokens: Tokens, client: Client) -> Self {
+        Proxied {
+            stream,
+            tokens,
+            link: Link::Shared(0, client),
+            may_read: false,
+            is_at_end: false,
+        }
+    }
+
+    /// Returns the number of the setting and the id of the client, while it shares a connection.
+    pub(crate) fn seat(&self) -> Option<(usize, ClientId)> {
+        match &self.link {
+            Link::Shared(number, client) => Some((*number, client.id())),
+            _ => None,
+        }
+    }
+
+    /// Notes why the connection is visited.
+    pub(crate) fn note(&mut self, cause: Cause) {
+        if let Cause::Ready { is_at_end } = cause {
+            self.may_read = true;
+            self.is_at_end = self.is_at_end || is_at_end;
+        }
+    }
+
+    /// Reads nothing more from a client that shares a connection.
+    pub(crate) fn shut(&mut self, proxy: &mut Proxy) {
+        match &mut self.link {
+            Link::Shared(_, client) if !client.is_closing() => proxy.shut(client),
+            _ => {}
+        }
+    }
+
+    /// Reads nothing more from a client with a connection of its own.
+    pub(crate) fn shut_own(&mut self) {
+        if let Link::Own(own) = &mut self.link {
+            own.shut();
+        }
+    }
+
+    /// Returns whether bytes are to be read from the client as soon as there is room.
+    pub(crate) fn waits_for_room(&self) -> bool {
+        match &self.link {
+            Link::Shared(_, client) => self.may_read && may_take(client),
+            _ => false,
+        }
+    }
+
+    /// Returns whether the client shares a connection, and is to get another one now: its next
+    /// command needs it, and all replies to the commands before were written.
+    pub(crate) fn leaves(&self, proxy: &Proxy) -> bool {
+        match &self.link {
+            Link::Shared(_, client) => proxy.may_leave(client),
+            _ => false,
+        }
+    }
+
+    /// Reads bytes of the client if there may be some, and writes bytes that wait for it, with at
+    /// most one read and one write.
+    pub(crate) fn visit(&mut self, proxy: &mut Proxy, buffer: &mut [u8]) -> Next
+        requires { 0 < length buffer.old }
+    {
+        let waits = self.waits_for_room();
+        let Link::Shared(_, client) = &mut self.link else {
+            return Next::Wait;
+        };
+        let written = if waits {
+            let exchanged = exchange(
+                proxy,
+                client,
+                &self.stream,
+                &self.stream,
+                self.is_at_end,
+                buffer,
+            );
+            if exchanged.read == Read::Failed && !exchanged.is_dry {
+                return Next::Close;
+            }
+            if exchanged.is_dry && proxy.has_room(client) {
+                self.may_read = false;
+            }
+            exchanged.written
+        } else {
+            give(proxy, client, &self.stream)
+        };
+        next(proxy, client, self.may_read, written)
+    }
+
+    /// Closes the client in this proxy, which it shares, if it may leave. Returns what it keeps.
+    pub(crate) fn leave(&mut self, proxy: &mut Proxy) -> Option<Departed> {
+        let link = mem::replace(&mut self.link, Link::Closed);
+        let Link::Shared(number, client) = link else {
+            self.set_link(link);
+            return None;
+        };
+        match proxy.leave(client) {
+            Ok(departed) => Some(departed),
+            Err(client) => {
+                self.set_link(Link::Shared(number, client));
+                None
+            }
+        }
+    }
+
+    /// Sets the link, and drops the one before it.
+    fn set_link(&mut self, link: Link) {
+        drop(mem::replace(&mut self.link, link));
+    }
+
+    /// Lets the client share the connection of the setting of this number.
+    pub(crate) fn enter(&mut self, number: usize, client: Client) {
+        self.set_link(Link::Shared(number, client));
+        // The client may hold bytes that are taken before anything is read.
+        self.may_read = true;
+    }
+
+    /// Lets the client wait for a connection in another setting.
+    pub(crate) fn wait(&mut self, moving: Move) {
+        self.set_link(Link::Moving(moving));
+    }
+
+    /// Returns what the client waits for, if it waits for a connection in another setting. Put it
+    /// back, or enter a setting.
+    pub(crate) fn take_move(&mut self) -> Option<Move> {
+        let link = mem::replace(&mut self.link, Link::Closed);
+        match link {
+            Link::Moving(moving) => Some(moving),
+            link => {
+                self.set_link(link);
+                None
+            }
+        }
+    }
+
+    /// Gives the client a connection of its own.
+    pub(crate) fn give_own(&mut self, own: Own) {
+        self.set_link(Link::Own(own));
+    }
+
+    /// Forwards bytes over the connection of the client's own. Returns `None` if it has none.
+    ///
+    /// # Errors
+    ///
+    /// Why that connection was not opened.
+    pub(crate) fn forward(&mut self, is_at_end: bool, buffer: &mut [u8]) -> io::Result<Option<Next>>
+        requires { 0 < length buffer.old }
+    {
+        match &mut self.link {
+            Link::Shared(..) | Link::Moving(_) => Ok(None),
+            Link::Own(own) => {
+                let next = own.visit(&self.stream, is_at_end, buffer)?;
+                Ok(Some(next))
+            }
+            Link::Closed => Ok(Some(Next::Close)),
+        }
+    }
+
+    /// Returns the token of the socket of the client's own connection to the server.
+    pub(crate) fn server_token(&self) -> Token {
+        self.tokens.server
+    }
+
+    /// Returns the place of the connection.
+    pub(crate) fn place(&self) -> usize {
+        self.tokens.place
+    }
+
+    /// Returns the socket.
+    pub(crate) fn stream(&self) -> &Stream {
+        &self.stream
+    }
+
+    /// Returns the link, and has none from now on.
+    pub(crate) fn take_link(&mut self) -> Link {
+        mem::replace(&mut self.link, Link::Closed)
+    }
+
+    /// Returns the socket.
+    pub(crate) fn into_stream(self) -> Stream {
+        let Proxied { stream, link, .. } = self;
+        drop(link);
+        stream
+    }
+}
+
+/// Returns whether commands of a client may be taken if there is room.
+fn may_take(client: &Client) -> bool {
+    !client.is_closing() && !client.is_leaving()
+}
+
+/// Returns when a client is visited next, after a visit whose write had this result.
+fn next(proxy: &Proxy, client: &Client, may_read: bool, written: Progress) -> Next {
+    if written == Progress::Failed || proxy.is_done(client) {
+        return Next::Close;
+    }
+    let reads = may_read && may_take(client) && proxy.has_room(client);
+    if written == Progress::MayGoOn || reads {
+        Next::Again
+    } else {
+        Next::Wait
+    }
+}
+
+/// Writes bytes that wait for a client.
+fn give(proxy: &mut Proxy, client: &Client, stream: &Stream) -> Progress {
+    let mut writer = Device::new(Output::new(stream));
+    let written = proxy.give(client, &mut writer);
+    progress(written, &writer.into_inner())
+}
+
+/// Reads bytes of a client from the reader, and writes bytes that wait for it to the writer.
+fn exchange(
+    proxy: &mut Proxy,
+    client: &mut Client,
+    reader: &Stream,
+    writer: &Stream,
+    is_at_end: bool,
+    buffer: &mut [u8],
+) -> Exchanged
+    requires { 0 < length buffer.old }
+{
+    let mut reader = Device::new(Input::new(reader, is_at_end));
+    let mut writer = Device::new(Output::new(writer));
+    let visit = proxy.visit_client(client, &mut reader, &mut writer, buffer);
+    Exchanged {
+        read: visit.read,
+        is_dry: reader.into_inner().would_wait(),
+        written: progress(visit.written, &writer.into_inner()),
+    }
+}
+
+/// Returns the result of a write.
+fn progress<W>(written: Written, writer: &Output<W>) -> Progress {
+    if written == Written::All && !writer.has_failed() {
+        Progress::Waits
+    } else {
+        after_write(writer)
+    }
+}

@@ -1,0 +1,236 @@
+//! The proxy over sockets: its loop, and its settings.
+
+use crate::input_end::InputEnd;
+use crate::proxied::Proxied;
+use crate::relay::Relay;
+use crate::report::Report;
+use mio::Registry;
+use resp_loop::backend::Backend;
+use resp_loop::closing;
+use resp_loop::event_loop::Loop;
+use resp_loop::register::register;
+use resp_loop::service::{Cause, Next, Service, Tokens};
+use resp_loop::stream::Stream;
+use resp_print::live::LiveSink;
+use std::alloc::{AllocError, Global};
+use std::fs::{File, Files};
+use std::io;
+use std::io::{ErrorKind, Read};
+use std::net::{Net, SocketAddr};
+use std::random::RandomSource;
+use std::rt::Clock;
+use std::time::Duration;
+
+/// Shares one connection to a server among many clients. The contracts of [`resp_proxy::Proxy`]
+/// state which bytes go where: each client gets the replies to its own commands, in order, and
+/// nothing else.
+///
+/// A client is not read while as many of its commands wait for replies, or as many bytes wait for
+/// it, as the settings allow, nor while too many bytes wait for the server. Clients with much to do
+/// are visited in turns. If the connection to the server is lost, each command of which a byte was
+/// sent gets an error, and the others wait for the next connection. No command is sent twice.
+#[derive(Drop)]
+pub struct ProxyServer {
+    connections: Loop<Proxied>,
+    relay: Relay,
+}
+
+/// How a [`ProxyServer`] works.
+#[derive(Clone, Copy, Debug)]
+pub struct ProxySettings {
+    /// The limits and bounds of the proxy.
+    pub proxy: resp_proxy::Settings,
+    /// The most clients at once.
+    pub most: usize,
+    /// The most clients at once that have a connection of their own.
+    pub own: usize,
+    /// The most connections to the server that clients share, one for each setting, from 1 to 256.
+    pub lines: usize,
+    /// The time without a reply after which the connection to the server is given up, if a command
+    /// waits. A connection that is not open after this time is given up too.
+    pub patience: Duration,
+    /// The time between two lines with numbers on standard output, if they are printed.
+    pub report: Option<Duration>,
+    /// Whether the proxy ends when standard input ends.
+    pub drains: bool,
+    /// The commands after which the connection to the server is checked by a probe, or 0 if it is
+    /// not.
+    pub check_every: u64,
+}
+
+/// A relay with the runtime, and the output to which its numbers are printed.
+#[derive(Drop)]
+struct Relaying<'a, R, I, W> {
+    relay: &'a mut Relay,
+    report: Option<Report>,
+    input: Option<InputEnd<I>>,
+    rt: &'a R,
+    out: &'a mut W,
+}
+
+impl ProxyServer {
+    /// Listens on an address for clients of a server. `login` is the command AUTH
+    /// that is sent first over each connection to the server, or empty.
+    ///
+    /// # Errors
+    ///
+    /// The error of the system if the address can't be opened, an error of kind `InvalidInput` if
+    /// an address of the server is the address to listen on, or an error of kind `OutOfMemory` if
+    /// an allocation fails.
+    pub fn listen<R: Net>(
+        rt: &R,
+        alloc: Global,
+        address: SocketAddr,
+        backend: Backend,
+        login: Vec<u8>,
+        settings: ProxySettings,
+    ) -> io::Result<Self> {
+        let connections = Loop::listen(rt, alloc, address, settings.most)?;
+        backend.check(rt, connections.address())?;
+        match Relay::new(rt, alloc, backend, login, settings) {
+            Ok(relay) => Ok(ProxyServer { connections, relay }),
+            Err(_) => Err(ErrorKind::OutOfMemory.into()),
+        }
+    }
+
+    /// Admits a command of this name, as [`resp_proxy::Proxy::admit`] does.
+    ///
+    /// # Errors
+    ///
+    /// `AllocError` if an allocation fails.
+    pub fn admit(&mut self, name: &[u8]) -> Result<(), AllocError> {
+        self.relay.admit(name)
+    }
+
+    /// Returns the address that the proxy listens on.
+    ///
+    /// # Errors
+    ///
+    /// The error of the system if it can't be read.
+    pub fn address(&self) -> io::Result<SocketAddr> {
+        self.connections.address()
+    }
+
+    /// Serves all clients until waiting for them fails, or until `input`, which is standard input,
+    /// has ended and the last client was closed, if the settings ask for that. Prints on standard
+    /// error when the server is connected and lost.
+    ///
+    /// # Errors
+    ///
+    /// The error of that wait, an error of the system if standard output can't be used, or an error
+    /// of kind `OutOfMemory` if the first allocation fails.
+    pub fn run<
+        R: Net + Clock + Eprint + RandomSource + Files<File = File>,
+        I: Read + Drop,
+        W: LiveSink,
+    >(&mut self, rt: &R, input: I, out: &mut W) -> io::Result<()> {
+        let mut events = self.connections.events()?;
+        let relay = &mut self.relay;
+        let report = report_of(rt, relay.alloc, relay.settings.report)?;
+        let input = if relay.settings.drains {
+            Some(InputEnd::new(input))
+        } else {
+            None
+        };
+        let mut relaying = Relaying {
+            relay,
+            report,
+            input,
+            rt,
+            out,
+        };
+        self.connections.run(&mut relaying, &mut events)
+    }
+}
+
+/// Returns a report with a line each time this time has passed, if there is one.
+fn report_of<R: Net + Files<File = File>>(
+    rt: &R,
+    alloc: Global,
+    every: Option<Duration>,
+) -> io::Result<Option<Report>> {
+    match every {
+        Some(every) => Ok(Some(Report::new(rt, alloc, every)?)),
+        None => Ok(None),
+    }
+}
+
+impl<R: Net + Clock + Eprint + RandomSource, I: Read + Drop, W: LiveSink> Service<Proxied>
+    for Relaying<'_, R, I, W> {
+    fn admit(
+        &mut self,
+        client: Stream,
+        registry: &Registry,
+        tokens: Tokens,
+    ) -> io::Result<Proxied> {
+        let mut client = client;
+        register(&mut client, registry, tokens.client)?;
+        self.relay.open(client, tokens)
+    }
+
+    fn lose(&mut self) {
+        self.relay.reject();
+    }
+
+    fn reject(&mut self) {
+        self.relay.reject();
+    }
+
+    fn visit(&mut self, connection: &mut Proxied, registry: &Registry, cause: Cause) -> Next {
+        self.relay.visit(self.rt, connection, registry, cause)
+    }
+
+    fn close(&mut self, connection: Proxied) {
+        let stream = self.relay.close(connection);
+        closing::close(&stream);
+    }
+
+    fn accepts(&self) -> bool {
+        !self.relay.is_draining()
+    }
+
+    fn patience(&self) -> Option<Duration> {
+        let of_relay = self.relay.patience();
+        match &self.report {
+            Some(report) => Some(shorter(of_relay, report.patience(self.relay.now()))),
+            None => of_relay,
+        }
+    }
+
+    fn work(&mut self, registry: &Registry) -> io::Result<()> {
+        if let Some(input) = &mut self.input {
+            if input.is_file(registry) {
+                self.relay.drain();
+            }
+        }
+        self.relay.work(self.rt, registry);
+        if let Some(report) = &mut self.report {
+            report.go_on(self.relay.now(), self.relay.numbers(), self.out);
+        }
+        Ok(())
+    }
+
+    fn input_ready(&mut self, is_at_end: bool) {
+        if let Some(input) = &mut self.input {
+            if input.has_come(is_at_end) {
+                self.relay.drain();
+            }
+        }
+    }
+
+    fn ready(&mut self, number: usize, is_at_end: bool) {
+        self.relay.ready(self.rt, number, is_at_end);
+    }
+
+    fn next_due(&mut self) -> Option<usize> {
+        self.relay.next_due()
+    }
+}
+
+/// Returns the shorter of two times, if there are two.
+fn shorter(one: Option<Duration>, other: Duration) -> Duration {
+    match one {
+        Some(one) => one.min(other),
+        None => other,
+    }
+}

@@ -1,0 +1,418 @@
+//! The proxy with its connections: what it does with a client, and with the server.
+
+use crate::channel::{Channel, NOT_CONNECTED};
+use crate::proxied::{Link, Proxied};
+use crate::proxying::ProxySettings;
+use crate::server_link::ServerLink;
+use mio::Registry;
+use resp_lane::PIECE;
+use resp_loop::backend::Backend;
+use resp_loop::closing::refuse;
+use resp_loop::service::{Cause, Next, Tokens};
+use resp_loop::spare::Spare;
+use resp_loop::stream::Stream;
+use resp_proxy::{Client, Counted, Numbers, Setting, Times};
+use std::alloc::{AllocError, Global};
+use std::collections::VecDeque;
+use std::io;
+use std::io::ErrorKind;
+use std::net::Net;
+use std::random::RandomSource;
+use std::rt::Clock;
+use std::time::Duration;
+
+/// The most bytes of one read of a client.
+const CLIENT_PIECE: usize = PIECE;
+
+/// The most bytes of one read of the server.
+const SERVER_PIECE: usize = 65_536;
+
+/// The time between two sums of how long replies took, in milliseconds.
+const SUMMED: u64 = 100;
+
+/// The proxies of all settings, their connections to the server, and the clients that move between
+/// them.
+#[derive(Drop)]
+pub(crate) struct Relay {
+    pub(crate) alloc: Global,
+    pub(crate) settings: ProxySettings,
+    /// The settings that clients are in. In the first one every client begins.
+    pub(crate) channels: Vec<Channel>,
+    /// The commands that each of them admits although the table does not have them.
+    pub(crate) also: Vec<Vec<u8>>,
+    /// The numbers of settings that are not in use any more.
+    pub(crate) gone: Numbers,
+    /// The clients that wait for a connection in another setting, and for each the time at which it
+    /// is given up and its place. Those that wait no more may be among them.
+    pub(crate) moving: u64,
+    pub(crate) moves: VecDeque<(Duration, usize)>,
+    /// The time of the next sum of how long replies took.
+    summed: Duration,
+    times: Times,
+    /// The places of all connections are less than this number.
+    end: usize,
+    /// The places up to this one were named since the relay began to drain, or `None` before that.
+    drained: Option<usize>,
+    client_buffer: [u8; CLIENT_PIECE],
+    server_buffer: [u8; SERVER_PIECE],
+}
+
+impl Relay {
+    /// Admits a command of this name, as [`resp_proxy::Proxy::admit`] does.
+    pub(crate) fn admit(&mut self, name: &[u8]) -> Result<(), AllocError> {
+        let copy = name.to_vec(self.alloc)?;
+        if self.also.push(copy).is_err() {
+            return Err(AllocError);
+        }
+        for channel in &mut self.channels {
+            channel.proxy.admit(name)?;
+        }
+        Ok(())
+    }
+
+    /// Returns a relay without clients, before the first attempt to connect to the server.
+    ///
+    /// # Errors
+    ///
+    /// `AllocError` if an allocation fails.
+    pub(crate) fn new(
+        net: &impl Net,
+        alloc: Global,
+        backend: Backend,
+        login: Vec<u8>,
+        settings: ProxySettings,
+    ) -> Result<Self, AllocError> {
+        let setting = Setting::first(alloc)?;
+        let spare = Spare::new(net);
+        let link = ServerLink::new(alloc, backend, 0, setting, login, settings.patience, spare);
+        let first = Channel::new(alloc, link, String::new(alloc), &settings)?;
+        let mut channels = Vec::new(alloc);
+        if channels.push(first).is_err() {
+            return Err(AllocError);
+        }
+        Ok(Relay {
+            alloc,
+            settings,
+            channels,
+            also: Vec::new(alloc),
+            gone: Numbers::default(),
+            moving: 0,
+            moves: VecDeque::new(alloc),
+            summed: Duration::from_millis(0),
+            times: Times::default(),
+            end: 0,
+            drained: None,
+            client_buffer: [0; CLIENT_PIECE],
+            server_buffer: [0; SERVER_PIECE],
+        })
+    }
+
+    /// Opens a client for a connection with these tokens.
+    ///
+    /// # Errors
+    ///
+    /// An error of kind `OutOfMemory`. The socket is closed.
+    pub(crate) fn open(&mut self, stream: Stream, tokens: Tokens) -> io::Result<Proxied> {
+        let Some(first) = self.channels.first_mut() else {
+            return Err(ErrorKind::OutOfMemory.into());
+        };
+        let Some(client) = first.open(tokens.place) else {
+            return Err(ErrorKind::OutOfMemory.into());
+        };
+        self.end = self.end.max(tokens.place.saturating_add(1));
+        Ok(Proxied::new(stream, tokens, client))
+    }
+
+    /// Closes the client of a connection, and returns the socket.
+    pub(crate) fn close(&mut self, connection: Proxied) -> Stream {
+        let mut connection = connection;
+        self.end(connection.take_link());
+        connection.into_stream()
+    }
+
+    /// Closes a client by its link.
+    fn end(&mut self, link: Link) {
+        match link {
+            Link::Shared(number, client) => self.close_shared(number, client),
+            Link::Moving(moving) => self.end_move(moving.from),
+            Link::Own(_own) => self.count(Counted::OwnClosed),
+            Link::Closed => {}
+        }
+    }
+
+    /// Closes a client that shares the connection of the setting of this number.
+    fn close_shared(&mut self, number: usize, client: Client) {
+        if let Some(channel) = self.channels.get_mut(number) {
+            channel.close(client);
+        }
+    }
+
+    /// Counts in the first setting.
+    pub(crate) fn count(&mut self, counted: Counted) {
+        if let Some(first) = self.channels.first_mut() {
+            first.proxy.count(counted);
+        }
+    }
+
+    /// Begins to end: nothing more is read from clients, and each is closed when its commands have
+    /// their replies.
+    pub(crate) fn drain(&mut self) {
+        if self.drained.is_none() {
+            self.drained = Some(0);
+        }
+    }
+
+    /// Returns whether the relay has begun to end.
+    pub(crate) fn is_draining(&self) -> bool {
+        self.drained.is_some()
+    }
+
+    /// Returns the current time.
+    pub(crate) fn now(&self) -> Duration {
+        match self.channels.first() {
+            Some(first) => first.link.now(),
+            None => Duration::from_millis(0),
+        }
+    }
+
+    /// Returns the numbers of all settings, and how long replies took.
+    pub(crate) fn numbers(&self) -> (Numbers, Times) {
+        match self.channels.first() {
+            Some(first) => (first.proxy.all_numbers(), first.proxy.times()),
+            None => (Numbers::default(), Times::default()),
+        }
+    }
+
+    /// Reads and writes the sockets of a client.
+    pub(crate) fn visit<R: Net + Eprint + RandomSource>(
+        &mut self,
+        rt: &R,
+        connection: &mut Proxied,
+        registry: &Registry,
+        cause: Cause,
+    ) -> Next {
+        connection.note(cause);
+        if self.is_draining() {
+            connection.shut_own();
+        }
+        match connection.forward(cause.is_at_end(), &mut self.client_buffer) {
+            Ok(Some(next)) => return next,
+            Ok(None) => {}
+            Err(error) => return self.give_up(connection, &error),
+        }
+        if connection.seat().is_some() {
+            return self.visit_shared(rt, connection, registry);
+        }
+        match connection.take_move() {
+            Some(moving) => self.go_on_moving(rt, connection, registry, moving),
+            None => Next::Close,
+        }
+    }
+
+    /// Reads and writes the socket of a client that shares a connection.
+    fn visit_shared<R: Net + Eprint + RandomSource>(
+        &mut self,
+        rt: &R,
+        connection: &mut Proxied,
+        registry: &Registry,
+    ) -> Next {
+        let Some((number, who)) = connection.seat() else {
+            return Next::Close;
+        };
+        let (is_draining, may_leave) = (self.is_draining(), self.may_leave());
+        let Some(channel) = self.channels.get_mut(number) else {
+            return Next::Close;
+        };
+        if channel.is_condemned(who) {
+            return Next::Close;
+        }
+        if is_draining {
+            connection.shut(&mut channel.proxy);
+        }
+        channel.proxy.admit_own(may_leave);
+        let before = channel.proxy.waiting();
+        let next = connection.visit(&mut channel.proxy, &mut self.client_buffer);
+        let queued = channel.proxy.waiting().saturating_sub(before);
+        channel.note_queued(rt, queued, self.settings.check_every);
+        channel.send_eagerly(rt);
+        if connection.leaves(&channel.proxy) {
+            return self.leave(rt, connection, registry, number);
+        }
+        let is_full = channel.is_full(self.settings.proxy.unsent);
+        if next == Next::Wait && connection.waits_for_room() && is_full {
+            return match channel.stall(connection.place()) {
+                Ok(()) => Next::Wait,
+                Err(AllocError) => Next::Close,
+            };
+        }
+        next
+    }
+
+    /// Returns whether a client may get another connection.
+    fn may_leave(&self) -> bool {
+        self.settings.lines > 1 || self.may_give_own()
+    }
+
+    /// Returns whether a client may get a connection of its own.
+    pub(crate) fn may_give_own(&self) -> bool {
+        match self.channels.first() {
+            Some(first) => first.proxy.numbers().own < self.settings.own as u64,
+            None => false,
+        }
+    }
+
+    /// Tells a client that it gets no connection of its own, and why.
+    pub(crate) fn give_up(&self, connection: &Proxied, error: &io::Error) -> Next {
+        let reply = format!(in self.alloc; "-ERR cannot connect to server: {error}\r\n");
+        match &reply {
+            Ok(reply) => refuse(connection.stream(), reply.as_str().as_bytes()),
+            Err(_) => refuse(connection.stream(), NOT_CONNECTED),
+        }
+        Next::Close
+    }
+
+    /// Returns the place of the next connection whose client got a reply or room.
+    pub(crate) fn next_due(&mut self) -> Option<usize> {
+        for channel in &mut self.channels {
+            if let Some(place) = channel.next_replied_place() {
+                return Some(place);
+            }
+        }
+        if let Some(place) = self.next_late() {
+            return Some(place);
+        }
+        if let Some(place) = self.next_to_drain() {
+            return Some(place);
+        }
+        for channel in &mut self.channels {
+            if let Some(place) = channel.next_stalled_place(self.settings.proxy.unsent) {
+                return Some(place);
+            }
+        }
+        None
+    }
+
+    /// Returns the place of the next client that has waited too long for a connection.
+    fn next_late(&mut self) -> Option<usize> {
+        let (until, place) = *self.moves.front()?;
+        if until > self.now() {
+            return None;
+        }
+        let _ = self.moves.pop_front();
+        Some(place)
+    }
+
+    /// Returns whether a place was not named since the relay began to drain.
+    fn has_to_drain(&self) -> bool {
+        matches!(self.drained, Some(drained) if drained < self.end)
+    }
+
+    /// Returns the next place that was not named since the relay began to drain.
+    fn next_to_drain(&mut self) -> Option<usize> {
+        let place = self.drained?;
+        if place >= self.end {
+            return None;
+        }
+        self.drained = Some(place.saturating_add(1));
+        Some(place)
+    }
+
+    /// Returns the longest time of the next wait.
+    pub(crate) fn patience(&self) -> Option<Duration> {
+        if self.has_to_drain() {
+            return Some(Duration::from_millis(0));
+        }
+        let mut shortest = match self.moves.front() {
+            Some((until, _)) => Some(until.saturating_sub(self.now())),
+            None => None,
+        };
+        for channel in &self.channels {
+            if channel.has_work(self.settings.proxy.unsent) {
+                return Some(Duration::from_millis(0));
+            }
+            shortest = shorter(shortest, channel.patience());
+        }
+        shortest
+    }
+
+    /// Reads and writes the socket of the server with this number after it became ready.
+    pub(crate) fn ready<R: Net + Clock + Eprint>(
+        &mut self,
+        rt: &R,
+        number: usize,
+        is_at_end: bool,
+    ) {
+        self.look_at_clock(rt);
+        if let Some(channel) = self.channels.get_mut(number) {
+            channel.link.note_ready(is_at_end);
+            channel.exchange(rt, &mut self.server_buffer);
+        }
+    }
+
+    /// Notes the current time, if the clock can be read.
+    fn look_at_clock(&mut self, clock: &impl Clock) {
+        if let Ok(now) = clock.monotonic() {
+            for channel in &mut self.channels {
+                channel.link.set_now(now);
+            }
+        }
+    }
+
+    /// Writes the commands that wait for the server, reads replies, and connects to the server
+    /// where there is no connection.
+    pub(crate) fn work<R: Net + Clock + Eprint>(&mut self, rt: &R, registry: &Registry) {
+        self.look_at_clock(rt);
+        for channel in &mut self.channels {
+            channel.work(rt, registry, &mut self.server_buffer);
+        }
+        self.share_numbers();
+    }
+
+    /// Tells each setting the numbers of the others.
+    fn share_numbers(&mut self) {
+        let mut all = self.gone;
+        all.clients = all.clients.saturating_add(self.moving);
+        for channel in &self.channels {
+            all = all.plus(channel.numbers());
+        }
+        if self.summed <= self.now() && self.settings.lines > 1 {
+            self.summed = self.now().saturating_add(Duration::from_millis(SUMMED));
+            self.times = times_of(&mut self.channels);
+        }
+        let times = self.times;
+        for channel in &mut self.channels {
+            let others = all.minus(channel.numbers());
+            channel.set_others(others, times);
+        }
+    }
+
+    /// Counts a client that was rejected.
+    pub(crate) fn reject(&mut self) {
+        self.count(Counted::Rejected);
+    }
+}
+
+/// Counts the times of all settings in the first one, and returns them.
+fn times_of(channels: &mut [Channel]) -> Times {
+    match channels.split_first_mut() {
+        Some((first, others)) => sum_times(first, others),
+        None => Times::default(),
+    }
+}
+
+/// Counts the times of other settings in this one, and returns the times of all.
+fn sum_times(first: &mut Channel, others: &mut [Channel]) -> Times {
+    for channel in others {
+        first.proxy.take_times(&mut channel.proxy);
+    }
+    first.proxy.times()
+}
+
+/// Returns the shorter of two times, if there are some.
+fn shorter(one: Option<Duration>, other: Option<Duration>) -> Option<Duration> {
+    match (one, other) {
+        (Some(one), Some(other)) => Some(one.min(other)),
+        (Some(time), None) | (None, Some(time)) => Some(time),
+        (None, None) => None,
+    }
+}

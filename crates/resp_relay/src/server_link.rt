@@ -1,0 +1,603 @@
+//! The connection of the proxy to the server.
+
+ghost use Rattle.std.specs.Prelude.{◌<◌, length};
+
+use crate::entry::{Entry, Progress};
+use crate::retry::next_pause;
+use mio::{Interest, Registry, Token};
+use resp_loop::backend::{Attempt, Backend};
+use resp_loop::non_blocking::{Input, Output, is_open};
+use resp_loop::register::register;
+use resp_loop::service::token_of;
+use resp_loop::spare::Spare;
+use resp_loop::stream::Stream;
+use resp_proxy::{Proxy, ServerError, Setting, Written};
+use resp_value::device::Device;
+use std::alloc::{AllocError, Global};
+use std::io::ErrorKind;
+use std::net::Net;
+use std::time::Duration;
+use std::{io, mem};
+use thiserror::Error;
+
+/// The most reads and writes of the server before clients are visited.
+const TURNS: usize = 16;
+
+/// Why no connection was opened, if the server rejected AUTH.
+pub(crate) const REJECTED: &str = "the server rejected AUTH";
+
+/// Why no connection was opened, if the server rejected a command of another setting.
+pub(crate) const REFUSED: &str = "the server rejected AUTH, HELLO or SELECT";
+
+/// Why no connection was opened, if the server closed it during the login.
+pub(crate) const CLOSED: &str = "closed during AUTH";
+
+/// Why the connection to the server was lost.
+#[derive(Clone, Copy, Debug, PartialEq, Eq, Error)]
+pub(crate) enum Loss {
+    /// The server closed the connection.
+    #[error("closed by the server")]
+    Closed,
+    /// A read failed.
+    #[error("read failed")]
+    Read,
+    /// A write failed.
+    #[error("write failed")]
+    Write,
+    /// No reply came in time.
+    #[error("no reply in time")]
+    Silence,
+    /// The bytes of the server are not usable.
+    #[error(transparent)]
+    Server(ServerError),
+}
+
+/// The state of the connection to the server.
+#[derive(Drop)]
+enum State {
+    /// There is no connection. The next attempt is made at this time.
+    Down {
+        until: Duration,
+    },
+    /// A connection was begun at this time.
+    Opening {
+        stream: Stream,
+        since: Duration,
+    },
+    /// The proxy logs in over the connection that was begun at this time.
+    Greeting {
+        stream: Stream,
+        since: Duration,
+        entry: Entry,
+    },
+    /// The connection is open.
+    Open(Line),
+}
+
+/// How far a connection is that is not open yet.
+#[derive(Clone, Copy)]
+enum Stage {
+    /// There is none.
+    Closed,
+    /// The server has not accepted it.
+    Waits,
+    /// The server has accepted it.
+    Connected,
+    /// The proxy logs in.
+    LogsIn,
+}
+
+/// An open connection to the server.
+#[derive(Drop)]
+struct Line {
+    stream: Stream,
+    /// Whether a read may return bytes.
+    may_read: bool,
+    /// Whether the input may have ended.
+    is_at_end: bool,
+    /// Whether a reply has come over this connection, and whether one has come since the last look
+    /// at the time.
+    has_replied: bool,
+    replied: bool,
+    /// Whether a command waited at the last look at the time.
+    waited: bool,
+    /// The last time at which no command waited or a reply came.
+    quiet_since: Duration,
+}
+
+/// The connection to the server, and when it is tried again.
+#[derive(Drop)]
+pub(crate) struct ServerLink {
+    alloc: Global,
+    backend: Backend,
+    /// The attempt to connect that is made, or is made next.
+    attempt: Attempt,
+    /// The number of the socket.
+    number: usize,
+    /// The setting of the connection.
+    setting: Setting,
+    /// The command AUTH of the proxy's own user, or no byte.
+    login: Vec<u8>,
+    /// The reply of the server to HELLO, or no byte.
+    hello: Vec<u8>,
+    patience: Duration,
+    spare: Spare,
+    state: State,
+    /// The pause before the last attempt, in milliseconds.
+    pause: u64,
+    /// The current time.
+    now: Duration,
+}
+
+impl ServerLink {
+    /// Returns a link to a server, before the first attempt to connect to it. `login` is the
+    /// command AUTH of the proxy's own user, or empty, and `number` is that of the socket.
+    pub(crate) fn new(
+        alloc: Global,
+        backend: Backend,
+        number: usize,
+        setting: Setting,
+        login: Vec<u8>,
+        patience: Duration,
+        spare: Spare,
+    ) -> Self {
+        let attempt = backend.first();
+        ServerLink {
+            alloc,
+            backend,
+            attempt,
+            number,
+            setting,
+            login,
+            hello: Vec::new(alloc),
+            patience,
+            spare,
+            state: State::Down {
+                until: Duration::from_millis(0),
+            },
+            pause: 0,
+            now: Duration::from_millis(0),
+        }
+    }
+
+    /// Returns the setting of the connection.
+    pub(crate) fn setting(&self) -> &Setting {
+        &self.setting
+    }
+
+    /// Sets the setting with which the next connection is opened. It differs by its password at
+    /// most.
+    pub(crate) fn set_setting(&mut self, setting: Setting) {
+        self.setting = setting;
+    }
+
+    /// Returns the reply of the server to HELLO, or no byte.
+    pub(crate) fn hello(&self) -> &[u8] {
+        &self.hello
+    }
+
+    /// Returns whether the connection is open.
+    pub(crate) fn is_open(&self) -> bool {
+        matches!(self.state, State::Open(_))
+    }
+
+    /// Uses a connection that another opened in this setting, if none is open. `hello` is the reply
+    /// to HELLO over it.
+    ///
+    /// # Errors
+    ///
+    /// The error of the system. The connection is closed.
+    pub(crate) fn adopt(
+        &mut self,
+        stream: Stream,
+        hello: Vec<u8>,
+        registry: &Registry,
+    ) -> io::Result<()> {
+        let mut stream = stream;
+        let interests = Interest::READABLE | Interest::WRITABLE;
+        registry.reregister(&mut stream, token_of(self.number), interests)?;
+        self.hello = hello;
+        self.state = State::Open(Line::new(stream, self.now));
+        Ok(())
+    }
+
+    /// Closes the connection, and opens none again before [`ServerLink::connect`].
+    pub(crate) fn close(&mut self) {
+        self.pause = 0;
+        self.state = State::Down { until: self.now };
+    }
+
+    /// Returns the entry of a new connection into the setting.
+    ///
+    /// # Errors
+    ///
+    /// `AllocError` if an allocation fails.
+    pub(crate) fn entry(&self) -> Result<Entry, AllocError> {
+        Entry::new(self.alloc, &self.setting, &self.login)
+    }
+
+    /// Returns the server.
+    pub(crate) fn backend(&self) -> &Backend {
+        &self.backend
+    }
+
+    /// Returns the command AUTH of the proxy's own user, or no byte.
+    pub(crate) fn login(&self) -> &[u8] {
+        &self.login
+    }
+
+    /// Notes the current time.
+    pub(crate) fn set_now(&mut self, now: Duration) {
+        self.now = now;
+    }
+
+    /// Returns the current time.
+    pub(crate) fn now(&self) -> Duration {
+        self.now
+    }
+
+    /// Opens the spare descriptor again, if it is closed and one is left.
+    pub(crate) fn keep_spare(&mut self, net: &impl Net) {
+        self.spare.keep(net);
+    }
+
+    /// Returns whether no connection is open or begun.
+    pub(crate) fn is_down(&self) -> bool {
+        matches!(self.state, State::Down { .. })
+    }
+
+    /// Returns the time until the link has work to do although its socket is not ready. `waits`
+    /// says whether a command waits for a reply.
+    pub(crate) fn patience(&self, waits: bool) -> Option<Duration> {
+        let until = match &self.state {
+            State::Down { until } => *until,
+            State::Opening { since, .. } => since.saturating_add(self.patience),
+            State::Greeting { since, .. } => since.saturating_add(self.patience),
+            State::Open(line) if line.may_read => return Some(Duration::from_millis(0)),
+            State::Open(line) if waits => line.quiet_since.saturating_add(self.patience),
+            State::Open(_) => return None,
+        };
+        Some(until.saturating_sub(self.now))
+    }
+
+    /// Notes that the socket is ready.
+    pub(crate) fn note_ready(&mut self, is_at_end: bool) {
+        if let State::Open(line) = &mut self.state {
+            line.may_read = true;
+            line.is_at_end = line.is_at_end || is_at_end;
+        }
+    }
+
+    /// Begins to connect to the server, if there is no connection and the pause is over.
+    ///
+    /// # Errors
+    ///
+    /// The error of the system. The next attempt is made after a pause.
+    pub(crate) fn connect(&mut self, net: &impl Net, registry: &Registry) -> io::Result<()> {
+        let State::Down { until } = self.state else {
+            return Ok(());
+        };
+        if until > self.now {
+            return Ok(());
+        }
+        let token = token_of(self.number);
+        match open(
+            &mut self.spare,
+            net,
+            &self.backend,
+            self.attempt,
+            registry,
+            token,
+        ) {
+            Ok((stream, attempt)) => {
+                self.attempt = attempt;
+                let since = self.now;
+                self.state = State::Opening { stream, since };
+                Ok(())
+            }
+            Err(error) => {
+                self.pause();
+                Err(error)
+            }
+        }
+    }
+
+    /// Goes on to open the connection that was begun, and to log in over it. Returns whether it is
+    /// open since this call.
+    ///
+    /// # Errors
+    ///
+    /// The error of the system, an error of kind `TimedOut`, or an error of kind `PermissionDenied`
+    /// if the server rejected the login. The next attempt is made after a pause.
+    pub(crate) fn finish_connecting(&mut self) -> io::Result<bool> {
+        let stage = self.stage();
+        match stage {
+            Ok(Stage::Closed | Stage::Waits) => Ok(false),
+            Ok(Stage::Connected) => {
+                self.greet()?;
+                self.finish_login()
+            }
+            Ok(Stage::LogsIn) => self.finish_login(),
+            Err(error) => self.try_next(error),
+        }
+    }
+
+    /// Tries the next address of the server at once, if this was not the last one.
+    ///
+    /// # Errors
+    ///
+    /// The error that the attempt failed with. The next attempt is made after a pause.
+    fn try_next(&mut self, error: io::Error) -> io::Result<bool> {
+        let was_opening = matches!(self.state, State::Opening { .. });
+        match self.backend.after(self.attempt) {
+            Some(next) if was_opening => {
+                self.attempt = next;
+                self.state = State::Down { until: self.now };
+                Ok(false)
+            }
+            _ => {
+                self.pause();
+                Err(error)
+            }
+        }
+    }
+
+    /// Returns how far the connection is.
+    fn stage(&self) -> io::Result<Stage> {
+        match &self.state {
+            State::Opening { stream, since } => {
+                if is_open(stream)? {
+                    return Ok(Stage::Connected);
+                }
+                self.in_time(*since)?;
+                Ok(Stage::Waits)
+            }
+            State::Greeting { since, .. } => {
+                self.in_time(*since)?;
+                Ok(Stage::LogsIn)
+            }
+            _ => Ok(Stage::Closed),
+        }
+    }
+
+    /// Fails if a connection that was begun at this time is not open in time.
+    fn in_time(&self, since: Duration) -> io::Result<()> {
+        if self.now.saturating_sub(since) > self.patience {
+            return Err(ErrorKind::TimedOut.into());
+        }
+        Ok(())
+    }
+
+    /// Goes on to log in. Returns whether the connection is open since this call.
+    fn finish_login(&mut self) -> io::Result<bool> {
+        let State::Greeting { stream, entry, .. } = &mut self.state else {
+            return Ok(false);
+        };
+        match entry.go_on(stream) {
+            Progress::Waits => Ok(false),
+            Progress::Accepted => {
+                self.start();
+                Ok(true)
+            }
+            Progress::Rejected => {
+                self.pause();
+                let why = if self.number == 0 { REJECTED } else { REFUSED };
+                Err(io::Error::new(ErrorKind::PermissionDenied, why))
+            }
+            Progress::Failed => {
+                self.pause();
+                Err(io::Error::new(ErrorKind::ConnectionAborted, CLOSED))
+            }
+        }
+    }
+
+    /// Begins to log in over the connection that was begun.
+    ///
+    /// # Errors
+    ///
+    /// An error of kind `OutOfMemory` if an allocation fails. The next attempt is made after a
+    /// pause.
+    fn greet(&mut self) -> io::Result<()> {
+        let Ok(entry) = self.entry() else {
+            self.pause();
+            return Err(ErrorKind::OutOfMemory.into());
+        };
+        let until = self.now;
+        let state = mem::replace(&mut self.state, State::Down { until });
+        if let State::Opening { stream, since } = state {
+            self.state = State::Greeting {
+                stream,
+                since,
+                entry,
+            };
+        }
+        Ok(())
+    }
+
+    /// Makes the connection that was begun an open one.
+    fn start(&mut self) {
+        let until = self.now;
+        let state = mem::replace(&mut self.state, State::Down { until });
+        if let State::Greeting { stream, entry, .. } = state {
+            self.backend.prefer(self.attempt);
+            if let Ok(hello) = entry.hello().to_vec(self.alloc) {
+                self.hello = hello;
+            }
+            self.state = State::Open(Line::new(stream, self.now));
+        }
+    }
+
+    /// Closes the connection. The next attempt is made after a pause, or at once if a reply came
+    /// over this connection. It begins with the address that was connected last.
+    fn pause(&mut self) {
+        self.attempt = self.backend.first();
+        let has_replied = matches!(&self.state, State::Open(line) if line.has_replied);
+        self.pause = if has_replied {
+            0
+        } else {
+            next_pause(self.pause)
+        };
+        let until = self.now.saturating_add(Duration::from_millis(self.pause));
+        self.state = State::Down { until };
+    }
+
+    /// Reads replies and writes commands until each call would block, or 16 of each were made.
+    ///
+    /// # Errors
+    ///
+    /// Why the connection was lost. It is closed.
+    pub(crate) fn exchange(&mut self, proxy: &mut Proxy, buffer: &mut [u8]) -> Result<(), Loss>
+        requires { 0 < length buffer.old }
+    {
+        let State::Open(line) = &mut self.state else {
+            return Ok(());
+        };
+        let exchanged = line.exchange(proxy, buffer);
+        if exchanged.is_err() {
+            self.pause();
+        }
+        exchanged
+    }
+
+    /// Gives the connection up if commands wait and no reply has come for too long. `waits` says
+    /// whether a command waits for a reply.
+    ///
+    /// # Errors
+    ///
+    /// `Silence` if the connection was given up.
+    pub(crate) fn judge(&mut self, waits: bool) -> Result<(), Loss> {
+        let State::Open(line) = &mut self.state else {
+            return Ok(());
+        };
+        line.look_at_time(self.now, waits);
+        if waits && self.now.saturating_sub(line.quiet_since) > self.patience {
+            self.pause();
+            return Err(Loss::Silence);
+        }
+        Ok(())
+    }
+
+    /// Writes commands until a write would block, or 16 were made.
+    ///
+    /// # Errors
+    ///
+    /// Why the connection was lost. It is closed.
+    pub(crate) fn send(&mut self, proxy: &mut Proxy) -> Result<(), Loss> {
+        let State::Open(line) = &mut self.state else {
+            return Ok(());
+        };
+        let sent = line.send(proxy);
+        if sent.is_err() {
+            self.pause();
+        }
+        sent
+    }
+}
+
+impl Line {
+    /// Returns a connection over which no command was sent.
+    fn new(stream: Stream, now: Duration) -> Self {
+        Line {
+            stream,
+            may_read: true,
+            is_at_end: true,
+            has_replied: false,
+            replied: false,
+            waited: false,
+            quiet_since: now,
+        }
+    }
+
+    /// Reads replies and writes commands until each call would block, or 16 of each were made.
+    fn exchange(&mut self, proxy: &mut Proxy, buffer: &mut [u8]) -> Result<(), Loss>
+        requires { 0 < length buffer.old }
+    {
+        let before = proxy.waiting();
+        for _ in 0..TURNS {
+            if !self.may_read {
+                break;
+            }
+            self.visit(proxy, buffer)?;
+        }
+        if proxy.waiting() < before {
+            self.has_replied = true;
+            self.replied = true;
+        }
+        self.send(proxy)
+    }
+
+    /// Makes one read and at most one write.
+    fn visit(&mut self, proxy: &mut Proxy, buffer: &mut [u8]) -> Result<(), Loss>
+        requires { 0 < length buffer.old }
+    {
+        let stream = &self.stream;
+        self.may_read = exchange(proxy, stream, stream, self.is_at_end, buffer)?;
+        Ok(())
+    }
+
+    /// Notes the time if a reply has come since the last look at it, or no command waited then.
+    fn look_at_time(&mut self, now: Duration, waits: bool) {
+        if self.replied || !self.waited {
+            self.quiet_since = now;
+        }
+        self.replied = false;
+        self.waited = waits;
+    }
+
+    /// Writes commands until a write would block, or 16 were made.
+    fn send(&mut self, proxy: &mut Proxy) -> Result<(), Loss> {
+        for _ in 0..TURNS {
+            let mut writer = Device::new(Output::new(&self.stream));
+            let written = proxy.send(&mut writer);
+            let writer = writer.into_inner();
+            if writer.has_failed() {
+                return Err(Loss::Write);
+            }
+            if written == Written::All || writer.would_wait() {
+                return Ok(());
+            }
+        }
+        Ok(())
+    }
+}
+
+/// Reads bytes of the server from the reader, and writes bytes that wait for it to the writer.
+/// Returns whether another read may return bytes.
+fn exchange(
+    proxy: &mut Proxy,
+    reader: &Stream,
+    writer: &Stream,
+    is_at_end: bool,
+    buffer: &mut [u8],
+) -> Result<bool, Loss>
+    requires { 0 < length buffer.old }
+{
+    let mut reader = Device::new(Input::new(reader, is_at_end));
+    let mut writer = Device::new(Output::new(writer));
+    let visit = proxy.visit_server(&mut reader, &mut writer, buffer);
+    proxy.settle_probes();
+    let is_dry = reader.into_inner().would_wait();
+    if writer.into_inner().has_failed() {
+        return Err(Loss::Write);
+    }
+    match (visit.end, visit.read) {
+        (Err(error), _) => Err(Loss::Server(error)),
+        (Ok(()), Some(0)) => Err(Loss::Closed),
+        (Ok(()), None) if !is_dry => Err(Loss::Read),
+        _ => Ok(!is_dry),
+    }
+}
+
+/// Begins a connection to a server by this attempt or a later one, and registers its socket.
+fn open(
+    spare: &mut Spare,
+    net: &impl Net,
+    backend: &Backend,
+    attempt: Attempt,
+    registry: &Registry,
+    token: Token,
+) -> io::Result<(Stream, Attempt)> {
+    let (mut stream, attempt) = backend.connect(spare, net, attempt)?;
+    register(&mut stream, registry, token)?;
+    Ok((stream, attempt))
+}

@@ -1,0 +1,48 @@
+-- What is kept of a command that waits, while JSON is printed.
+use Rattle.std.specs.Prelude.{◌≡◌, ◌⊎◌, ℕ, ◌-◌, Bool, true, List, [], ◌∷◌, ◌++◌, drop, map, take, nat_lt, Option, None, Some}
+use Rattle.std.specs.Char.{to_ascii_uppercase}
+use Rattle.resp_tap.specs.Filters.{Chooses, keeps_all}
+use Rattle.resp_tap.specs.Keyed.{name_in}
+use Rattle.resp_tap.specs.declared.called.Called.{Called}
+use Rattle.resp_tap.specs.declared.filter.Filter.{Filter}
+use Rattle.resp_tap.specs.declared.seen.Seen.{Seen}
+use Rattle.resp_tap.specs.declared.seen.Seen.TheVariants as seen
+
+-- the first 32 bytes of a word, with letters in upper case
+abbrev pub upper_word : List ℕ → List ℕ
+upper_word word = map to_ascii_uppercase (take 32 word)
+
+-- the printed name of a command with these words
+abbrev pub command_name : List (List ℕ) → List ℕ
+command_name words = upper_word (name_in words)
+
+-- the name of the command of which this is kept, if anything is
+abbrev pub name_of_called : Option Called → List ℕ
+name_of_called None = []
+name_of_called (Some called) = called.name.items
+
+-- whether the command of a reply is let through by its words
+abbrev pub chosen_called : Filter → Option Called → Bool
+chosen_called f None = keeps_all f
+chosen_called f (Some called) = called.is_chosen
+
+-- Whether the command of a result is let through by its words: the words that were sent, or what is kept of them for the
+-- reply.
+abbrev pub IsChosenCalled : Filter → Option Called → Seen → Bool → Type 0
+IsChosenCalled f kept (seen.Command number words) is_chosen = Chooses f words is_chosen
+IsChosenCalled f kept what is_chosen = is_chosen ≡ chosen_called f kept
+
+-- the next command that waits was added with its name; or memory for it was out, or nothing is kept of a command before it
+abbrev pub IsKept : Bool → List (List ℕ) → List Called → List Called → Type 0
+IsKept is_chosen words old new = (new ≡ old) ⊎
+    ((called : Called) × (called.name.items ≡ command_name words) × (called.is_chosen ≡ is_chosen) × (new ≡ old ++ called ∷ []))
+
+-- after a result, by which one more command waits or this many wait no more
+abbrev pub CalledBy : Bool → Bool → Seen → ℕ → List Called → List Called → Type 0
+CalledBy true is_chosen (seen.Command number words) gone old new = IsKept is_chosen words old new
+CalledBy more is_chosen what gone old new = new ≡ drop gone old
+
+-- What is kept after a result, if this many commands waited before it and after it: that of a new command is added, and
+-- that of commands that wait no more is dropped.
+abbrev pub CalledAfter : Bool → Seen → ℕ → ℕ → List Called → List Called → Type 0
+CalledAfter is_chosen what before after old new = CalledBy (nat_lt before after) is_chosen what (before - after) old new

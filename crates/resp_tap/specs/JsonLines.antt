@@ -1,0 +1,192 @@
+-- The lines of JSON that are printed in place of text.
+use Rattle.std.specs.Prelude.{ℕ, Bool, true, false, List, [], ◌∷◌, ◌++◌, length, take, nat_le, ◌&&◌, Option, None, Some, if◌then◌else◌, codes, decimal, slice_index_or}
+use Rattle.resp_json.specs.Json.{text_json}
+use Rattle.resp_value.specs.Attributes.{without_attributes}
+use Rattle.resp_value.specs.Causes.{name_of}
+use Rattle.resp_value.specs.Data.{Array, Set, Map, Attr, Push, Scalar, Null, Int, Simple, Error, Double, Bulk, BulkError, Verbatim, Big, Datum, scalar, aggregate}
+use Rattle.resp_value.specs.Data as d
+use Rattle.resp_value.specs.Values.{datum_of}
+use Rattle.resp_tap.specs.Called.{command_name}
+use Rattle.resp_tap.specs.Digits.{time_text}
+use Rattle.resp_tap.specs.declared.end.Cut.{Cut}
+use Rattle.resp_tap.specs.declared.json_line.Facts.{Facts}
+use Rattle.resp_tap.specs.declared.seen.Place.{Place}
+use Rattle.resp_tap.specs.declared.seen.Place.TheVariants as place
+use Rattle.resp_tap.specs.declared.seen.Seen.{Seen}
+use Rattle.resp_tap.specs.declared.seen.Seen.TheVariants as seen
+use Rattle.resp_tap.specs.declared.watch.Side.{Side}
+use Rattle.resp_tap.specs.declared.watch.Side.TheVariants.{Client, Server}
+
+-- ---- texts
+
+-- whether a byte goes on with a character of UTF-8
+abbrev pub continues : ℕ → Bool
+continues byte = nat_le 128 byte && nat_le byte 191
+
+-- whether the byte at this index goes on with a character
+abbrev pub continues_at : List ℕ → ℕ → Bool
+continues_at text index = continues (slice_index_or text index 0)
+
+-- the end of the last character of a text that ends within the first 1,024 bytes
+abbrev pub last_end : List ℕ → ℕ
+last_end text = if continues_at text 1024 then (if continues_at text 1023 then (if continues_at text 1022 then 1021 else 1022)
+    else 1023) else 1024
+
+-- the first 1,024 bytes of a text, without a part of a character
+abbrev pub shown_part : List ℕ → List ℕ
+shown_part text = if nat_le (length text) 1024 then text else take (last_end text) text
+
+-- a member of an object with this text, after these bytes; or nothing, if the text is empty
+abbrev pub member_json : List ℕ → List ℕ → List ℕ
+member_json front [] = []
+member_json front (byte ∷ text) = front ++ text_json (shown_part (byte ∷ text))
+
+-- a member with this number, after these bytes
+abbrev pub number_json : List ℕ → ℕ → List ℕ
+number_json front number = front ++ decimal number ++ codes ""
+
+-- ---- parts of lines
+
+-- the client, and the kind of the line
+abbrev pub front_json : ℕ → List ℕ → List ℕ
+front_json client kind = codes "{\"client\":" ++ decimal client ++ kind
+
+-- the time of day, and the end of a line
+abbrev pub end_json : ℕ → List ℕ
+end_json of_day = codes ",\"time\":\"" ++ (time_text of_day ++ codes "\"}\n")
+
+-- a line about the command with this number and this name, up to its name
+abbrev pub called_json : ℕ → List ℕ → ℕ → List ℕ → List ℕ
+called_json client kind number name =
+    front_json client kind ++ (number_json (codes ",\"number\":") number ++ member_json (codes ",\"command\":") name)
+
+-- ---- values
+
+-- the word for the type of a value without members
+abbrev pub scalar_word : Scalar → List ℕ
+scalar_word Null = codes "null"
+scalar_word (d.Bool b) = codes "boolean"
+scalar_word (Int i) = codes "integer"
+scalar_word (Simple text) = codes "simple"
+scalar_word (Error text) = codes "error"
+scalar_word (Double text) = codes "double"
+scalar_word (Bulk text) = codes "bulk"
+scalar_word (BulkError text) = codes "bulk_error"
+scalar_word (Verbatim format text) = codes "verbatim"
+scalar_word (Big negative digits) = codes "big"
+
+-- the word for the type of a value that is annotated by no attribute
+abbrev pub plain_word : Datum → List ℕ
+plain_word (scalar s) = scalar_word s
+plain_word (aggregate Array xs) = codes "array"
+plain_word (aggregate Set xs) = codes "set"
+plain_word (aggregate Push xs) = codes "push"
+plain_word (aggregate Map xs) = codes "map"
+plain_word (aggregate Attr xs) = []
+
+-- the word for the type of a value, without its attributes
+abbrev pub type_word : Datum → List ℕ
+type_word x = plain_word (without_attributes x)
+
+abbrev pub plain_error : Datum → List ℕ
+plain_error (scalar (Error text)) = text
+plain_error (scalar (BulkError text)) = text
+plain_error _ = []
+
+-- the text of a value that is an error, with attributes or without
+abbrev pub error_text : Datum → List ℕ
+error_text x = plain_error (without_attributes x)
+
+-- the type and the bytes of a value, and the end of its line
+abbrev pub value_json : List ℕ → List ℕ → ℕ → ℕ → List ℕ
+value_json word error size of_day =
+    codes ",\"type\":\"" ++ (word ++ (number_json (codes "\",\"size\":") size ++ (member_json (codes ",\"error\":") error ++ end_json of_day)))
+
+-- the delay of a reply, if it is known
+abbrev pub waited_json : Option ℕ → List ℕ
+waited_json None = []
+waited_json (Some micros) = number_json (codes ",\"micros\":") micros
+
+-- ---- lines of results
+
+abbrev pub inline_json : Bool → List ℕ
+inline_json is_line = if is_line then codes ",\"inline\":true" else []
+
+-- the number of a command's words, its bytes, and the end of its line
+abbrev pub words_json : Facts → ℕ → List ℕ
+words_json facts words = inline_json facts.is_line ++
+    (number_json (codes ",\"words\":") words ++ (number_json (codes ",\"size\":") facts.size ++ end_json facts.of_day))
+
+-- the line of a command
+abbrev pub command_json : Facts → ℕ → List ℕ → ℕ → List ℕ
+command_json facts number name words =
+    called_json facts.client (codes ",\"kind\":\"command\"") number name ++ words_json facts words
+
+-- the type and the bytes of a value, its text if it is an error, and the end of its line
+abbrev pub answer_json : Facts → Datum → List ℕ
+answer_json facts x = value_json (type_word x) (error_text x) facts.size facts.of_day
+
+-- the line of the reply to the command with this number and this name
+abbrev pub reply_json : Facts → ℕ → List ℕ → Datum → List ℕ
+reply_json facts number name x = called_json facts.client (codes ",\"kind\":\"reply\"") number name ++
+    (waited_json facts.waited ++ answer_json facts x)
+
+-- the line of a push
+abbrev pub push_json : Facts → List ℕ
+push_json facts = front_json facts.client (codes ",\"kind\":\"push\"") ++ value_json (codes "push") [] facts.size facts.of_day
+
+-- the line of a value that is paired with no command
+abbrev pub unpaired_json : Facts → Datum → List ℕ
+unpaired_json facts x = front_json facts.client (codes ",\"kind\":\"value\"") ++ answer_json facts x
+
+-- the command, reply or value that is incomplete or wrong
+abbrev pub place_json : Place → List ℕ
+place_json (place.Command number) = number_json (codes ",\"in\":\"command\",\"number\":") number
+place_json (place.Reply number) = number_json (codes ",\"in\":\"reply\",\"number\":") number
+place_json place.Value = codes ",\"in\":\"value\""
+
+-- the line of an error in the bytes of a side
+abbrev pub refused_json : Facts → List ℕ → ℕ → Place → List ℕ
+refused_json facts name at where' = front_json facts.client (codes ",\"kind\":\"refused\",\"cause\":\"") ++
+    (name ++ (number_json (codes "\",\"at\":") at ++ (place_json where' ++ end_json facts.of_day)))
+
+-- the line of a result. The name is that of the command that is answered.
+abbrev pub seen_json : Facts → List ℕ → Seen → List ℕ
+seen_json facts name seen.Nothing = []
+seen_json facts name seen.Passed = []
+seen_json facts name (seen.Command number words) = command_json facts number (command_name words) (length words)
+seen_json facts name (seen.Reply number x) = reply_json facts number name (datum_of x)
+seen_json facts name (seen.Push items) = push_json facts
+seen_json facts name (seen.Value x) = unpaired_json facts (datum_of x)
+seen_json facts name (seen.NotCommand number) = refused_json facts (codes "NotCommand") 0 (place.Command number)
+seen_json facts name (seen.Refused cause at where') = refused_json facts (name_of cause) at where'
+
+-- ---- lines about connections
+
+-- the line about a connection with this text, which may be empty
+abbrev pub remark_json : ℕ → List ℕ → List ℕ → List ℕ → ℕ → List ℕ
+remark_json client kind member text of_day = front_json client kind ++ (member_json member text ++ end_json of_day)
+
+abbrev pub closed_kind : Side → List ℕ
+closed_kind Client = codes ",\"kind\":\"closed\",\"side\":\"client\""
+closed_kind Server = codes ",\"kind\":\"closed\",\"side\":\"server\""
+
+-- the incomplete command or reply at the end of a side, if there is one
+abbrev pub cut_json : Option Cut → List ℕ
+cut_json None = []
+cut_json (Some cut) = place_json cut.place ++ number_json (codes ",\"size\":") cut.bytes
+
+-- the line with this kind about a side of a connection that has ended
+abbrev pub ended_json : ℕ → List ℕ → List ℕ → Option Cut → ℕ → List ℕ
+ended_json client kind name cut of_day =
+    front_json client kind ++ (member_json (codes ",\"name\":") name ++ (cut_json cut ++ end_json of_day))
+
+-- the line about the side of a connection that has ended
+abbrev pub closed_json : ℕ → List ℕ → Side → Option Cut → ℕ → List ℕ
+closed_json client name side cut of_day = ended_json client (closed_kind side) name cut of_day
+
+-- ---- other lines
+
+-- the line about the address that is listened on
+abbrev pub listening_json : List ℕ → List ℕ
+listening_json address = codes "{\"kind\":\"listening\",\"address\":" ++ (text_json address ++ codes "}\n")

@@ -1,0 +1,85 @@
+-- The results that a tap reports and prints as JSON for the pieces of either side.
+use Rattle.std.specs.Prelude.{◌≡◌, ℕ, ◌+◌, Bool, List, [], ◌∷◌, drop, min, slice_get, Option, Some, Result, Ok, if◌then◌else◌}
+use Rattle.resp_print.specs.Printed.{Prints}
+use Rattle.resp_print.specs.declared.print_error.PrintError.{PrintError}
+use Rattle.resp_tap.specs.Called.{CalledAfter, IsChosenCalled, name_of_called}
+use Rattle.resp_tap.specs.ClientNames.{named_after, naming_of}
+use Rattle.resp_tap.specs.Counting.{left_of}
+use Rattle.resp_tap.specs.Filters.{keeps}
+use Rattle.resp_tap.specs.JsonLines.{seen_json}
+use Rattle.resp_tap.specs.Lined.{SeesLined}
+use Rattle.resp_tap.specs.Lines.{asked_at}
+use Rattle.resp_tap.specs.Taps.{tap_state}
+use Rattle.resp_tap.specs.Times.{HasTimes, waited_of, waits_in}
+use Rattle.resp_tap.specs.Watches.{first_error}
+use Rattle.resp_tap.specs.declared.called.Called.{Called}
+use Rattle.resp_tap.specs.declared.filter.Filter.{Filter}
+use Rattle.resp_tap.specs.declared.json_line.Facts.{Facts}
+use Rattle.resp_tap.specs.declared.json_tap.JsonTap.{JsonTap}
+use Rattle.resp_tap.specs.declared.moment.Moment.{Moment}
+use Rattle.resp_tap.specs.declared.seen.Seen.{Seen}
+use Rattle.resp_tap.specs.declared.watch.Side.{Side}
+use Rattle.resp_tap.specs.declared.watch.Side.TheVariants.{Client, Server}
+
+-- the bytes that were read of a side's incomplete command or value
+abbrev pub taken_of : Side → JsonTap → ℕ
+taken_of Client t = t.sent
+taken_of Server t = t.received
+
+-- the bytes that were read of the other side's incomplete command or value stay the same
+abbrev pub KeepsTaken : Side → JsonTap → JsonTap → Type 0
+KeepsTaken Client old new = new.received ≡ old.received
+KeepsTaken Server old new = new.sent ≡ old.sent
+
+-- what is kept of the command that the next reply belongs to
+abbrev pub called_of : JsonTap → Option Called
+called_of t = slice_get t.calls.items (asked_at (tap_state t.timed.tap).line.due)
+
+-- the line of a result, if the filter lets it through
+abbrev pub kept_json : Filter → Facts → Bool → List ℕ → Seen → List ℕ
+kept_json f facts is_chosen name what =
+    if keeps f facts.client is_chosen facts.waited what then seen_json facts name what else []
+
+-- The first result in a piece: it is reported as without JSON, and that of a line too. Its bytes are those of this piece
+-- and of earlier ones that belong to it.
+pub record SeesJson (f : Filter) (side : Side) (now : Moment) (old new : JsonTap) (piece : List ℕ) (used : ℕ) (what : Seen)
+    (is_line is_chosen : Bool) (size : ℕ) : Type 0 where
+  pub seen : SeesLined (Some now) side old.lines new.lines old.timed new.timed piece used what is_line
+  pub bytes : size ≡ min (taken_of side old + used) 18446744073709551615
+  pub left : taken_of side new ≡ left_of what size
+  pub same_taken : KeepsTaken side old new
+  pub chosen : IsChosenCalled f (called_of old) what is_chosen
+  pub calls : CalledAfter is_chosen what (waits_in old.timed) (waits_in new.timed) old.calls.items new.calls.items
+  pub name : naming_of new.name ≡ named_after what (naming_of old.name)
+
+-- The line of the result is printed if the filter lets it through, as far as writes succeed. A reply has the name and the
+-- delay of its command.
+pub record PrintsJson (f : Filter) (client : ℕ) (now : Moment) (old : JsonTap) (what : Seen) (is_line is_chosen : Bool)
+    (size : ℕ) (before after : Option (List ℕ)) (failures failures' : ℕ) (printed : Result (Unit {0}) PrintError) : Type 0 where
+  pub asked : Option ℕ
+  pub of_command : (times : List ℕ) → HasTimes old.timed times →
+      asked ≡ slice_get times (asked_at (tap_state old.timed.tap).line.due)
+  pub facts : Facts
+  pub are : facts ≡ record {
+    client = client;
+    is_line = is_line;
+    size = size;
+    of_day = now.of_day;
+    waited = waited_of now asked what;
+  }
+  pub text : Prints before after failures failures' printed
+      (kept_json f facts is_chosen (name_of_called (called_of old)) what) 0
+
+-- These are all results in a piece, in order. Each result is printed before the next one is read. The first error of
+-- printing is told.
+abbrev pub PrintsAll : Filter → ℕ → Side → Moment → List Seen → JsonTap → JsonTap → List ℕ → Option (List ℕ) →
+    Option (List ℕ) → ℕ → ℕ → Result (Unit {0}) PrintError → Type 0
+PrintsAll f client side now [] old new piece before after failures failures' told =
+    (piece ≡ []) × (new ≡ old) × (after ≡ before) × (failures' ≡ failures) × (told ≡ Ok tt)
+PrintsAll f client side now (what ∷ more) old new piece before after failures failures' told =
+    (next : JsonTap) × (used : ℕ) × (is_line : Bool) × (is_chosen : Bool) × (size : ℕ) × (written : Option (List ℕ)) ×
+    (failed : ℕ) × (printed : Result (Unit {0}) PrintError) × (later : Result (Unit {0}) PrintError) ×
+    SeesJson f side now old next piece used what is_line is_chosen size ×
+    PrintsJson f client now old what is_line is_chosen size before written failures failed printed ×
+    (told ≡ first_error printed later) ×
+    PrintsAll f client side now more next new (drop used piece) written after failed failures' later

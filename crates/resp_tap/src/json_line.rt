@@ -1,0 +1,466 @@
+//! The lines of JSON of commands, replies, pushes and connections.
+
+ghost use Rattle.std.specs.Prelude.{◌≡◌, ◌++◌, ◌<◌, codes, length};
+ghost use Rattle.resp_json.specs.Json.{text_json};
+ghost use Rattle.resp_print.specs.Written.{WritesText};
+ghost use Rattle.resp_value.specs.Values.{datum_of};
+ghost use Rattle.resp_tap.specs.Called.{command_name};
+ghost use Rattle.resp_tap.specs.JsonLines.{answer_json, called_json, closed_json, closed_kind, command_json, continues, cut_json, end_json, ended_json, error_text, front_json, inline_json, last_end, listening_json, member_json, number_json, place_json, push_json, refused_json, remark_json, reply_json, seen_json, shown_part, type_word, unpaired_json, value_json, waited_json, words_json};
+
+use crate::called::command_name;
+use crate::end::Cut;
+use crate::seen::{Place, Seen};
+use crate::stamp::write_time;
+use crate::watch::Side;
+use resp_json::text::write_json_text;
+use resp_print::text::{write_number, write_text};
+use resp_session::words::Words;
+use resp_value::device::{DeviceFault, Sink};
+use resp_value::value::Value;
+
+/// The most bytes of an error or an address that are printed.
+const SHOWN: usize = 1_024;
+
+/// What the line of a result says apart from the result itself.
+#[derive(Clone, Copy, Debug, PartialEq, Eq)]
+pub(crate) struct Facts {
+    /// The number of the client.
+    pub(crate) client: u64,
+    /// Whether the result is that of a line.
+    pub(crate) is_line: bool,
+    /// The number of its bytes.
+    pub(crate) size: u64,
+    /// The time of day in UTC, in microseconds since midnight.
+    pub(crate) of_day: u64,
+    /// The microseconds that the command of a reply waited, if they are known.
+    pub(crate) waited: Option<u64>,
+}
+
+/// Returns whether a byte goes on with a character of UTF-8.
+fn continues(byte: u8) -> bool
+    ensures { result ≡ continues byte }
+{
+    128 <= byte && byte <= 191
+}
+
+/// Returns the end of the last character of a text that ends within the first 1,024 bytes.
+fn last_end(text: &[u8]) -> usize
+    requires { 1024 < length text.now }
+    ensures { result ≡ last_end text.now }
+{
+    if !continues(text[SHOWN]) {
+        SHOWN
+    } else if !continues(text[SHOWN - 1]) {
+        SHOWN - 1
+    } else if !continues(text[SHOWN - 2]) {
+        SHOWN - 2
+    } else {
+        SHOWN - 3
+    }
+}
+
+/// Returns the first 1,024 bytes of a text, without a part of a character.
+fn shown_part(text: &[u8]) -> &[u8]
+    ensures { result.now ≡ shown_part text.now }
+{
+    if text.len() <= SHOWN {
+        return text;
+    }
+    &text[..last_end(text)]
+}
+
+/// Writes a member of an object after these bytes, or nothing if the text is empty.
+fn write_member<W: Sink>(front: &[u8], text: &[u8], writer: &mut W) -> Result<(), DeviceFault>
+    ensures { WritesText (W.written writer.old) (W.written writer.new) (W.failures writer.old)
+        (W.failures writer.new) result (member_json front.now text.now) }
+{
+    if text.is_empty() {
+        return Ok(());
+    }
+    write_text(writer, front)?;
+    write_part(text, writer)
+}
+
+/// Writes the first part of a text as a JSON string, or as an object if it is not UTF-8.
+fn write_part<W: Sink>(text: &[u8], writer: &mut W) -> Result<(), DeviceFault>
+    ensures { WritesText (W.written writer.old) (W.written writer.new) (W.failures writer.old)
+        (W.failures writer.new) result (text_json (shown_part text.now)) }
+{
+    write_json_text(writer, shown_part(text))
+}
+
+/// Writes a member with a number after these bytes.
+fn write_number_member<W: Sink>(
+    front: &[u8],
+    number: u64,
+    writer: &mut W,
+) -> Result<(), DeviceFault>
+    ensures { WritesText (W.written writer.old) (W.written writer.new) (W.failures writer.old)
+        (W.failures writer.new) result (number_json front.now number) }
+{
+    write_number(writer, front, number, b"")
+}
+
+/// Writes the number of the client, and the kind of the line.
+fn write_front<W: Sink>(client: u64, kind: &[u8], writer: &mut W) -> Result<(), DeviceFault>
+    ensures { WritesText (W.written writer.old) (W.written writer.new) (W.failures writer.old)
+        (W.failures writer.new) result (front_json client kind.now) }
+{
+    write_number(writer, b"{\"client\":", client, kind)
+}
+
+/// Writes the time of day, and the end of a line.
+fn write_end_of_line<W: Sink>(of_day: u64, writer: &mut W) -> Result<(), DeviceFault>
+    ensures { WritesText (W.written writer.old) (W.written writer.new) (W.failures writer.old)
+        (W.failures writer.new) result (end_json of_day) }
+{
+    write_text(writer, b",\"time\":\"")?;
+    write_time(of_day, writer)?;
+    write_text(writer, b"\"}\n")
+}
+
+/// Writes the front of a line about a command, up to its name.
+fn write_called<W: Sink>(
+    client: u64,
+    kind: &[u8],
+    number: u64,
+    name: &[u8],
+    writer: &mut W,
+) -> Result<(), DeviceFault>
+    ensures { WritesText (W.written writer.old) (W.written writer.new) (W.failures writer.old)
+        (W.failures writer.new) result (called_json client kind.now number name.now) }
+{
+    write_front(client, kind, writer)?;
+    write_number_member(b",\"number\":", number, writer)?;
+    write_member(b",\"command\":", name, writer)
+}
+
+/// Returns the word for the type of a value, without its attributes.
+fn type_word(value: &Value) -> &'static [u8]
+    ensures { result.now ≡ type_word (datum_of value.now) }
+{
+    match value.without_attributes() {
+        Value::Null => b"null",
+        Value::Bool(_) => b"boolean",
+        Value::Int(_) => b"integer",
+        Value::Simple(_) => b"simple",
+        Value::Error(_) => b"error",
+        Value::Double(_) => b"double",
+        Value::Bulk(_) => b"bulk",
+        Value::BulkError(_) => b"bulk_error",
+        Value::Verbatim(_, _) => b"verbatim",
+        Value::Big(_) => b"big",
+        Value::Array(_) => b"array",
+        Value::Set(_) => b"set",
+        Value::Push(_) => b"push",
+        Value::Map(_) => b"map",
+        Value::Attr(_, _) => b"",
+    }
+}
+
+/// Returns the text of a value that is an error, with attributes or without. For another value it
+/// returns no byte.
+fn error_text(value: &Value) -> &[u8]
+    ensures { result.now ≡ error_text (datum_of value.now) }
+{
+    match value.without_attributes() {
+        Value::Error(line) => line.text(),
+        Value::BulkError(content) => content.list(),
+        _ => b"",
+    }
+}
+
+/// Writes the type and the bytes of a value, and the end of its line.
+fn write_value_end<W: Sink>(
+    word: &[u8],
+    error: &[u8],
+    size: u64,
+    of_day: u64,
+    writer: &mut W,
+) -> Result<(), DeviceFault>
+    ensures { WritesText (W.written writer.old) (W.written writer.new) (W.failures writer.old)
+        (W.failures writer.new) result (value_json word.now error.now size of_day) }
+{
+    write_text(writer, b",\"type\":\"")?;
+    write_text(writer, word)?;
+    write_number_member(b"\",\"size\":", size, writer)?;
+    write_member(b",\"error\":", error, writer)?;
+    write_end_of_line(of_day, writer)
+}
+
+/// Writes the delay of a reply, if it is known.
+fn write_waited<W: Sink>(waited: Option<u64>, writer: &mut W) -> Result<(), DeviceFault>
+    ensures { WritesText (W.written writer.old) (W.written writer.new) (W.failures writer.old)
+        (W.failures writer.new) result (waited_json waited) }
+{
+    match waited {
+        None => Ok(()),
+        Some(micros) => write_number_member(b",\"micros\":", micros, writer),
+    }
+}
+
+/// Writes that a command came as a line, if it did.
+fn write_inline<W: Sink>(is_line: bool, writer: &mut W) -> Result<(), DeviceFault>
+    ensures { WritesText (W.written writer.old) (W.written writer.new) (W.failures writer.old)
+        (W.failures writer.new) result (inline_json is_line) }
+{
+    if is_line {
+        write_text(writer, b",\"inline\":true")
+    } else {
+        Ok(())
+    }
+}
+
+/// Writes the number of a command's words, its bytes, and the end of its line.
+fn write_words_end<W: Sink>(facts: Facts, words: u64, writer: &mut W) -> Result<(), DeviceFault>
+    ensures { WritesText (W.written writer.old) (W.written writer.new) (W.failures writer.old)
+        (W.failures writer.new) result (words_json facts words) }
+{
+    write_inline(facts.is_line, writer)?;
+    write_number_member(b",\"words\":", words, writer)?;
+    write_number_member(b",\"size\":", facts.size, writer)?;
+    write_end_of_line(facts.of_day, writer)
+}
+
+/// Writes the line of a command.
+fn write_command<W: Sink>(
+    facts: Facts,
+    number: u64,
+    name: &[u8],
+    words: u64,
+    writer: &mut W,
+) -> Result<(), DeviceFault>
+    ensures { WritesText (W.written writer.old) (W.written writer.new) (W.failures writer.old)
+        (W.failures writer.new) result (command_json facts number name.now words) }
+{
+    write_called(facts.client, b",\"kind\":\"command\"", number, name, writer)?;
+    write_words_end(facts, words, writer)
+}
+
+/// Writes the line of the reply to the command with this number and this name.
+fn write_reply<W: Sink>(
+    facts: Facts,
+    number: u64,
+    name: &[u8],
+    value: &Value,
+    writer: &mut W,
+) -> Result<(), DeviceFault>
+    ensures { WritesText (W.written writer.old) (W.written writer.new) (W.failures writer.old)
+        (W.failures writer.new) result (reply_json facts number name.now (datum_of value.now)) }
+{
+    write_called(facts.client, b",\"kind\":\"reply\"", number, name, writer)?;
+    write_waited(facts.waited, writer)?;
+    write_answer(facts, value, writer)
+}
+
+/// Writes the type and the bytes of a value, its text if it is an error, and the end of its line.
+fn write_answer<W: Sink>(facts: Facts, value: &Value, writer: &mut W) -> Result<(), DeviceFault>
+    ensures { WritesText (W.written writer.old) (W.written writer.new) (W.failures writer.old)
+        (W.failures writer.new) result (answer_json facts (datum_of value.now)) }
+{
+    write_value_end(
+        type_word(value),
+        error_text(value),
+        facts.size,
+        facts.of_day,
+        writer,
+    )
+}
+
+/// Writes the line of a push.
+fn write_push<W: Sink>(facts: Facts, writer: &mut W) -> Result<(), DeviceFault>
+    ensures { WritesText (W.written writer.old) (W.written writer.new) (W.failures writer.old)
+        (W.failures writer.new) result (push_json facts) }
+{
+    write_front(facts.client, b",\"kind\":\"push\"", writer)?;
+    write_value_end(b"push", b"", facts.size, facts.of_day, writer)
+}
+
+/// Writes the line of a value that is paired with no command.
+fn write_unpaired<W: Sink>(facts: Facts, value: &Value, writer: &mut W) -> Result<(), DeviceFault>
+    ensures { WritesText (W.written writer.old) (W.written writer.new) (W.failures writer.old)
+        (W.failures writer.new) result (unpaired_json facts (datum_of value.now)) }
+{
+    write_front(facts.client, b",\"kind\":\"value\"", writer)?;
+    write_answer(facts, value, writer)
+}
+
+/// Writes which command, reply or value is incomplete or wrong.
+fn write_place<W: Sink>(place: Place, writer: &mut W) -> Result<(), DeviceFault>
+    ensures { WritesText (W.written writer.old) (W.written writer.new) (W.failures writer.old)
+        (W.failures writer.new) result (place_json place) }
+{
+    match place {
+        Place::Command(number) => {
+            write_number_member(b",\"in\":\"command\",\"number\":", number, writer)
+        }
+        Place::Reply(number) => {
+            write_number_member(b",\"in\":\"reply\",\"number\":", number, writer)
+        }
+        Place::Value => write_text(writer, b",\"in\":\"value\""),
+    }
+}
+
+/// Writes the line of an error in the bytes of one side.
+fn write_refused<W: Sink>(
+    facts: Facts,
+    name: &[u8],
+    at: u64,
+    place: Place,
+    writer: &mut W,
+) -> Result<(), DeviceFault>
+    ensures { WritesText (W.written writer.old) (W.written writer.new) (W.failures writer.old)
+        (W.failures writer.new) result (refused_json facts name.now at place) }
+{
+    write_front(facts.client, b",\"kind\":\"refused\",\"cause\":\"", writer)?;
+    write_text(writer, name)?;
+    write_number_member(b"\",\"at\":", at, writer)?;
+    write_place(place, writer)?;
+    write_end_of_line(facts.of_day, writer)
+}
+
+/// Writes the line of a result. `name` is that of the command that is answered.
+pub(crate) fn write_seen_json<W: Sink>(
+    facts: Facts,
+    name: &[u8],
+    seen: &Seen,
+    writer: &mut W,
+) -> Result<(), DeviceFault>
+    ensures { WritesText (W.written writer.old) (W.written writer.new) (W.failures writer.old)
+        (W.failures writer.new) result (seen_json facts name.now seen.now) }
+{
+    match seen {
+        Seen::Nothing | Seen::Passed => Ok(()),
+        Seen::Command { number, words } => write_words(facts, *number, words, writer),
+        Seen::Reply { number, value } => write_reply(facts, *number, name, value, writer),
+        Seen::Push(_) => write_push(facts, writer),
+        Seen::Value(value) => write_unpaired(facts, value, writer),
+        Seen::NotCommand { number } => {
+            write_refused(facts, b"NotCommand", 0, Place::Command(*number), writer)
+        }
+        Seen::Refused { cause, at, place } => {
+            write_refused(facts, cause.name().as_bytes(), *at, *place, writer)
+        }
+    }
+}
+
+/// Writes the line of a command with these words.
+fn write_words<W: Sink>(
+    facts: Facts,
+    number: u64,
+    words: &Words,
+    writer: &mut W,
+) -> Result<(), DeviceFault>
+    ensures { WritesText (W.written writer.old) (W.written writer.new) (W.failures writer.old)
+        (W.failures writer.new) result (command_json facts number (command_name words.now)
+        (length words.now)) }
+{
+    let name = command_name(words);
+    write_command(facts, number, name.as_slice(), words.len() as u64, writer)
+}
+
+/// Writes the line about a client's connection that has this kind, and this text after the name of
+/// its member, such as `,"kind":"connected"` with an address after `,"from":`. Without a text there
+/// is no such member. Of a text of more than 1,024 bytes only the first part is written.
+///
+/// # Errors
+///
+/// `DeviceFault` if a write fails. The first part of the line was written.
+pub fn write_remark_json<W: Sink>(
+    client: u64,
+    kind: &[u8],
+    member: &[u8],
+    text: &[u8],
+    of_day: u64,
+    writer: &mut W,
+) -> Result<(), DeviceFault>
+    ensures { WritesText (W.written writer.old) (W.written writer.new) (W.failures writer.old)
+        (W.failures writer.new) result (remark_json client kind.now member.now text.now of_day) }
+{
+    write_front(client, kind, writer)?;
+    write_member(member, text, writer)?;
+    write_end_of_line(of_day, writer)
+}
+
+/// Returns the kind of the line about the side that has ended.
+fn closed_kind(side: Side) -> &'static [u8]
+    ensures { result.now ≡ closed_kind side }
+{
+    match side {
+        Side::Client => b",\"kind\":\"closed\",\"side\":\"client\"",
+        Side::Server => b",\"kind\":\"closed\",\"side\":\"server\"",
+    }
+}
+
+/// Writes the incomplete command or reply at the end of a side, if there is one.
+fn write_cut<W: Sink>(cut: Option<Cut>, writer: &mut W) -> Result<(), DeviceFault>
+    ensures { WritesText (W.written writer.old) (W.written writer.new) (W.failures writer.old)
+        (W.failures writer.new) result (cut_json cut) }
+{
+    match cut {
+        None => Ok(()),
+        Some(cut) => write_some_cut(cut, writer),
+    }
+}
+
+/// Writes the incomplete command or reply at the end of a side.
+fn write_some_cut<W: Sink>(cut: Cut, writer: &mut W) -> Result<(), DeviceFault>
+    ensures { WritesText (W.written writer.old) (W.written writer.new) (W.failures writer.old)
+        (W.failures writer.new) result (place_json cut.place ++
+        number_json (codes ",\"size\":") cut.bytes) }
+{
+    write_place(cut.place, writer)?;
+    write_number_member(b",\"size\":", cut.bytes, writer)
+}
+
+/// Writes the line about the side of a client's connection that has ended, and the incomplete
+/// command or reply of that side, if there is one. A connection without a name has an empty one.
+///
+/// # Errors
+///
+/// `DeviceFault` if a write fails. The first part of the line was written.
+pub fn write_closed_json<W: Sink>(
+    client: u64,
+    name: &[u8],
+    side: Side,
+    cut: Option<Cut>,
+    of_day: u64,
+    writer: &mut W,
+) -> Result<(), DeviceFault>
+    ensures { WritesText (W.written writer.old) (W.written writer.new) (W.failures writer.old)
+        (W.failures writer.new) result (closed_json client name.now side cut of_day) }
+{
+    write_closed(client, closed_kind(side), name, cut, of_day, writer)
+}
+
+/// Writes the line with this kind about a side that has ended.
+fn write_closed<W: Sink>(
+    client: u64,
+    kind: &[u8],
+    name: &[u8],
+    cut: Option<Cut>,
+    of_day: u64,
+    writer: &mut W,
+) -> Result<(), DeviceFault>
+    ensures { WritesText (W.written writer.old) (W.written writer.new) (W.failures writer.old)
+        (W.failures writer.new) result (ended_json client kind.now name.now cut of_day) }
+{
+    write_front(client, kind, writer)?;
+    write_member(b",\"name\":", name, writer)?;
+    write_cut(cut, writer)?;
+    write_end_of_line(of_day, writer)
+}
+
+/// Writes the line about the address that is listened on.
+///
+/// # Errors
+///
+/// `DeviceFault` if a write fails. The first part of the line was written.
+pub fn write_listening_json<W: Sink>(address: &[u8], writer: &mut W) -> Result<(), DeviceFault>
+    ensures { WritesText (W.written writer.old) (W.written writer.new) (W.failures writer.old)
+        (W.failures writer.new) result (listening_json address.now) }
+{
+    write_text(writer, b"{\"kind\":\"listening\",\"address\":")?;
+    write_json_text(writer, address)?;
+    write_text(writer, b"}\n")
+}

@@ -1,0 +1,309 @@
+//! A tap whose traffic is printed as JSON.
+
+ghost use Rattle.std.specs.Prelude.{◌≡◌, ◌+◌, ◌<◌, ◌≤◌, ℕ, Bool, List, [], Some, length, drop, min, true};
+ghost use Rattle.resp_print.specs.Printed.{Prints};
+ghost use Rattle.resp_tap.specs.Called.{CalledAfter, IsKept};
+ghost use Rattle.resp_tap.specs.ClientNames.{naming_of};
+ghost use Rattle.resp_tap.specs.Counting.{left_of};
+ghost use Rattle.resp_tap.specs.Ends.{CutsOff};
+ghost use Rattle.resp_tap.specs.JsonTaps.{KeepsTaken, PrintsAll, PrintsJson, SeesJson, kept_json, taken_of};
+ghost use Rattle.resp_tap.specs.Taps.{new_tap, tap_state};
+ghost use Rattle.resp_tap.specs.Times.{waits_in};
+ghost use Rattle.resp_tap.specs.Watches.{KeepsOther};
+ghost use Rattle.resp_tap.specs.Watching.{HasTakenRequest, HasTakenValue};
+ghost use Rattle.resp_tap.specs.declared.seen.Seen.{Seen};
+
+use crate::called::{Called, command_name, is_chosen_called, name_of_called};
+use crate::client_name::ClientName;
+use crate::counted::left_of;
+use crate::end::Cut;
+use crate::filter::Filter;
+use crate::json_line::{Facts, write_seen_json};
+use crate::lines::{Lines, step_or_line};
+use crate::moment::Moment;
+use crate::print::printed;
+use crate::seen::Seen;
+use crate::tap::Tap;
+use crate::timed::TimedTap;
+use crate::watch::{Side, Watched, first_error, waited_of};
+use resp_print::print_error::PrintError;
+use resp_session::words::Words;
+use resp_value::device::Sink;
+use resp_value::limits::Limits;
+use std::alloc::Global;
+use std::collections::VecDeque;
+
+/// A tap whose traffic is printed as JSON, through a [`Filter`].
+///
+/// The tap keeps the name of each command that waits, and whether its words pass. Use the same
+/// filter for all bytes of a connection.
+///
+/// If an allocation fails, nothing is kept of the command, and of the commands after it as long as
+/// it waits. The lines of their replies have no name then.
+#[derive(Drop)]
+pub struct JsonTap {
+    pub(crate) timed: TimedTap,
+    /// The lines among the bytes of the client.
+    pub(crate) lines: Lines,
+    /// What is kept of the commands that wait, in their order.
+    pub(crate) calls: VecDeque<Called>,
+    /// The bytes read of the client's incomplete command, and of the server's incomplete value.
+    pub(crate) sent: u64,
+    pub(crate) received: u64,
+    pub(crate) name: ClientName,
+}
+
+impl JsonTap {
+    /// Returns a tap of a new connection, which is read within these limits. A line of the client is
+    /// a command too. It allocates nothing.
+    pub fn new(alloc: Global, limits: &Limits) -> JsonTap
+        ensures nothing_passed { tap_state result.timed.tap ≡ new_tap limits.now }
+        ensures nothing_requested { HasTakenRequest result.timed.tap [] }
+        ensures nothing_answered { HasTakenValue result.timed.tap [] }
+        ensures reads_lines { result.lines.are_read ≡ true }
+        ensures nothing_held { result.lines.held.items ≡ [] }
+        ensures nothing_kept { result.calls.items ≡ [] }
+        ensures no_bytes { (result.sent ≡ 0) × (result.received ≡ 0) }
+        ensures no_name { (naming_of result.name).name ≡ [] }
+    {
+        JsonTap {
+            timed: TimedTap::new(alloc, limits),
+            lines: Lines::new(alloc, true),
+            calls: VecDeque::new(alloc),
+            sent: 0,
+            received: 0,
+            name: ClientName::new(),
+        }
+    }
+
+    /// Returns the tap without what is kept for JSON.
+    pub fn tap(&self) -> &Tap
+        ensures { result.now ≡ self.now.timed.tap }
+    {
+        self.timed.tap()
+    }
+
+    /// Returns the tap of a new connection, whose lines are commands or are not. Without lines a byte
+    /// that begins no array is an error.
+    pub fn with_lines(mut self, are_read: bool) -> JsonTap
+        ensures lines { result.lines ≡ record self.lines { are_read = are_read } }
+        ensures same { result ≡ record self { lines = result.lines } }
+    {
+        self.lines.are_read = are_read;
+        self
+    }
+
+    /// Returns the command, reply or value of which this side has sent a part, if its bytes are still
+    /// read.
+    pub fn cut(&self, side: Side) -> Option<Cut>
+        ensures { CutsOff side self.now.lines.held.items self.now.timed.tap result }
+    {
+        self.timed.tap.cut(side, self.lines.held.as_slice())
+    }
+
+    /// Returns the name that the client has given to the connection.
+    pub fn name(&self) -> &ClientName
+        ensures { result.now ≡ self.now.name }
+    {
+        &self.name
+    }
+
+    /// Returns the number of bytes that one side has sent of a command or value, after these bytes.
+    fn take_bytes(&mut self, side: Side, used: usize, seen: &Seen) -> u64
+        ensures bytes { result ≡ min (taken_of side self.old + used) 18446744073709551615 }
+        ensures left { taken_of side self.new ≡ left_of seen.now result }
+        ensures same_taken { KeepsTaken side self.old self.new }
+        ensures same_tap { self.new.timed ≡ self.old.timed }
+        ensures same_lines { self.new.lines ≡ self.old.lines }
+        ensures same_name { self.new.name ≡ self.old.name }
+        ensures same_calls { self.new.calls ≡ self.old.calls }
+    {
+        match side {
+            Side::Client => {
+                let bytes = self.sent.saturating_add(used as u64);
+                self.sent = left_of(bytes, seen);
+                bytes
+            }
+            Side::Server => {
+                let bytes = self.received.saturating_add(used as u64);
+                self.received = left_of(bytes, seen);
+                bytes
+            }
+        }
+    }
+
+    /// Adds or drops what is kept of the commands that wait, after a result before which so many
+    /// commands waited.
+    fn follow(&mut self, before: u64, is_chosen: bool, seen: &Seen)
+        ensures calls { CalledAfter is_chosen seen.now before (waits_in self.old.timed)
+            self.old.calls.items self.new.calls.items }
+        ensures same_tap { self.new.timed ≡ self.old.timed }
+        ensures same_lines { self.new.lines ≡ self.old.lines }
+        ensures same_name { self.new.name ≡ self.old.name }
+        ensures same_bytes { (self.new.sent ≡ self.old.sent) ×
+            (self.new.received ≡ self.old.received) }
+    {
+        let after = self.timed.tap.waiting();
+        match seen {
+            Seen::Command { words, .. } if before < after => self.keep(before, is_chosen, words),
+            _ => self.drop_first(before.saturating_sub(after)),
+        }
+    }
+
+    /// Keeps the name of a command behind so many others that wait.
+    fn keep(&mut self, before: u64, is_chosen: bool, words: &Words)
+        ensures calls { IsKept is_chosen words.now self.old.calls.items self.new.calls.items }
+        ensures same_tap { self.new.timed ≡ self.old.timed }
+        ensures same_lines { self.new.lines ≡ self.old.lines }
+        ensures same_name { self.new.name ≡ self.old.name }
+        ensures same_bytes { (self.new.sent ≡ self.old.sent) ×
+            (self.new.received ≡ self.old.received) }
+    {
+        // Otherwise nothing is kept of a command before this one.
+        if self.calls.len() as u64 != before {
+            return;
+        }
+        let name = command_name(words);
+        let _ = self.calls.push_back(Called { name, is_chosen });
+    }
+
+    /// Drops what is kept of the first commands.
+    fn drop_first(&mut self, count: u64)
+        ensures calls { self.new.calls.items ≡ drop count self.old.calls.items }
+        ensures same_tap { self.new.timed ≡ self.old.timed }
+        ensures same_lines { self.new.lines ≡ self.old.lines }
+        ensures same_name { self.new.name ≡ self.old.name }
+        ensures same_bytes { (self.new.sent ≡ self.old.sent) ×
+            (self.new.received ≡ self.old.received) }
+    {
+        let mut left = count;
+        while left > 0 && !self.calls.is_empty() {
+            let _ = self.calls.pop_front();
+            left -= 1;
+        }
+    }
+}
+
+/// Writes the line of a result, if the filter lets it through. `name` is that of the command that is
+/// answered, and `is_chosen` says whether the words of the command are printed.
+fn write_kept<W: Sink>(
+    filter: &Filter,
+    facts: Facts,
+    is_chosen: bool,
+    name: &[u8],
+    seen: &Seen,
+    writer: &mut W,
+) -> Result<(), PrintError>
+    ensures { Prints (W.written writer.old) (W.written writer.new) (W.failures writer.old)
+        (W.failures writer.new) result (kept_json filter.now facts is_chosen name.now seen.now) 0 }
+{
+    if !filter.keeps(facts.client, is_chosen, facts.waited, seen) {
+        return Ok(());
+    }
+    printed(write_seen_json(facts, name, seen, writer))
+}
+
+/// Reads bytes that one side sent, until there is a result or the piece ends, and prints the result
+/// as a line of JSON if the filter lets it through. `client` is the number of the client.
+///
+/// The call reads at least one byte of a piece that is not empty. Call it again with the rest of the
+/// piece.
+///
+/// # Errors
+///
+/// [`Watched::printed`] has the error of printing. The tap has read the bytes in any case.
+pub fn watch_json_some<W: Sink>(
+    tap: &mut JsonTap,
+    filter: &Filter,
+    client: u64,
+    side: Side,
+    piece: &[u8],
+    now: Moment,
+    writer: &mut W,
+) -> Watched
+    ensures watches { (what : Seen) × (is_line : Bool) × (is_chosen : Bool) × (size : ℕ) ×
+        SeesJson filter.now side now tap.old tap.new piece.now result.used what is_line is_chosen
+        size ×
+        PrintsJson filter.now client now tap.old what is_line is_chosen size
+        (W.written writer.old) (W.written writer.new) (W.failures writer.old)
+        (W.failures writer.new) result.printed }
+    ensures other_side { KeepsOther side tap.old.timed.tap tap.new.timed.tap }
+    ensures within_piece { result.used ≤ length piece.now }
+    ensures uses_bytes { 0 < length piece.now → 0 < result.used }
+{
+    let asked = tap.timed.asked();
+    let before = tap.timed.tap.waiting();
+    let at = tap.timed.tap.line.asked_at();
+    let lined = step_or_line(&mut tap.lines, &mut tap.timed, side, piece, Some(now));
+    let step = lined.step;
+    let size = tap.take_bytes(side, step.used, &step.seen);
+    let called = tap.calls.get(at);
+    let is_chosen = is_chosen_called(filter, called, &step.seen);
+    let facts = Facts {
+        client,
+        is_line: lined.is_line,
+        size,
+        of_day: now.of_day,
+        waited: waited_of(now, asked, &step.seen),
+    };
+    let name = name_of_called(called);
+    let printed = write_kept(filter, facts, is_chosen, name, &step.seen, writer);
+    tap.follow(before, is_chosen, &step.seen);
+    tap.name.follow(&step.seen);
+    Watched {
+        used: step.used,
+        printed,
+    }
+}
+
+/// Reads a piece that one side sent, and prints all commands, replies and pushes in it that the
+/// filter lets through, as [`watch_json_some`] does.
+///
+/// # Errors
+///
+/// The first error of printing. The tap has read the whole piece, and has tried to print all of its
+/// results.
+///
+/// # Examples
+///
+/// From [samples](../../samples/src/tapping.rt):
+///
+/// ```rust
+/// let mut tap = JsonTap::new(alloc, &Limits::standard());
+/// let mut text = MemorySink::new(alloc, 4_096, 4_096)?;
+/// let all = Filter::all(alloc);
+/// watch_json(&mut tap, &all, 1, Side::Client, b"*1\r\n$4\r\nPING\r\n", sent, &mut text)?;
+/// watch_json(&mut tap, &all, 1, Side::Server, b"-ERR no\r\n", heard, &mut text)?;
+/// print!(rt; "{}", str::from_utf8(text.bytes())?)?;
+/// ```
+///
+/// If the reply arrives 120 microseconds after the command, this prints:
+///
+/// ```text
+/// {"client":1,"kind":"command","number":1,"command":"PING","words":1,"size":14,"time":"05:36:56.123456"}
+/// {"client":1,"kind":"reply","number":1,"command":"PING","micros":120,"type":"error","size":9,"error":"ERR no","time":"05:36:56.123576"}
+/// ```
+pub fn watch_json<W: Sink>(
+    tap: &mut JsonTap,
+    filter: &Filter,
+    client: u64,
+    side: Side,
+    piece: &[u8],
+    now: Moment,
+    writer: &mut W,
+) -> Result<(), PrintError>
+    ensures watches { (all : List Seen) × PrintsAll filter.now client side now all tap.old tap.new
+        piece.now (W.written writer.old) (W.written writer.new) (W.failures writer.old)
+        (W.failures writer.new) result }
+    ensures other_side { KeepsOther side tap.old.timed.tap tap.new.timed.tap }
+{
+    let mut rest = piece;
+    let mut printed = Ok(());
+    while !rest.is_empty() {
+        let watched = watch_json_some(tap, filter, client, side, rest, now, writer);
+        printed = first_error(printed, watched.printed);
+        // At least one byte was read.
+        rest = &rest[watched.used..];
+    }
+    printed
+}

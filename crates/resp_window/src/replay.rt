@@ -1,0 +1,334 @@
+//! Prints the traffic in a capture as a window prints traffic that it forwards.
+
+ghost use Rattle.std.specs.Prelude.{◌<◌, length};
+
+use crate::remark::Remark;
+use crate::replay_view::ReplayView;
+use crate::replayed::Replayed;
+use crate::stats::Tables;
+use crate::watcher::Watcher;
+use resp_capture::packet::read_packet;
+use resp_capture::{
+    Capture, CaptureError, Connection, Endpoint, Frame, Packet, Segment, is_to_server,
+};
+use resp_lane::PIECE;
+use resp_tap::{Filter, Printing};
+use resp_value::device::{Sink, Source};
+use resp_value::limits::Limits;
+use std::alloc::{AllocError, Global};
+use std::collections::VecDeque;
+use std::io;
+use thiserror::Error;
+
+/// The most reads of a capture.
+const MOST_READS: u64 = 1 << 40;
+
+/// The connections that were closed last, of which later segments are not read.
+const MOST_CLOSED: usize = 256;
+
+/// How a capture is printed.
+#[derive(Clone, Copy, Debug)]
+pub struct ReplaySettings {
+    /// The limits within which both sides are read.
+    pub limits: Limits,
+    /// Whether times are printed.
+    pub tells_time: bool,
+    /// Whether a line of a client is a command.
+    pub reads_lines: bool,
+    /// Whether passwords and other secret words of commands are printed.
+    pub shows_passwords: bool,
+    /// Whether the traffic is printed as JSON. Then times are printed.
+    pub json: bool,
+    /// When the counts of commands are printed, if commands are counted and not printed.
+    pub tables: Option<Tables>,
+    /// The port of the server, if it is known.
+    pub port: Option<u16>,
+}
+
+/// Why a capture is not printed to its end. The traffic before was printed.
+#[derive(Clone, Copy, Debug, PartialEq, Eq, Error)]
+pub enum ReplayError {
+    /// The file is no capture, or it is cut off.
+    #[error("{0}")]
+    Capture(CaptureError),
+    /// A read of the file failed.
+    #[error("read failed")]
+    Read,
+    /// A write of the output failed.
+    #[error("write failed")]
+    Write,
+    /// An allocation failed.
+    #[error("out of memory")]
+    OutOfMemory,
+}
+
+/// Prints the traffic in a capture as [`Window`](crate::Window) prints traffic that it forwards.
+/// The times are those of the packets. If bytes of a connection are missing, that is printed, and
+/// the bytes after them are not read.
+#[derive(Drop)]
+pub struct Replay {
+    alloc: Global,
+    settings: ReplaySettings,
+    view: ReplayView,
+    open: Vec<Replayed>,
+    /// The client and the server of connections that were closed, the last one at the end.
+    closed: VecDeque<(Endpoint, Endpoint)>,
+    /// The number of connections.
+    count: u64,
+    /// The index of the connection of the last segment.
+    last: usize,
+    /// The number of fragments, which are not read.
+    fragments: u64,
+}
+
+impl Replay {
+    /// Returns a replay of a capture of which nothing was read. What the filter lets through is
+    /// printed.
+    ///
+    /// # Errors
+    ///
+    /// An error of kind `OutOfMemory` if an allocation fails.
+    pub fn new(alloc: Global, settings: ReplaySettings, filter: Filter) -> io::Result<Replay> {
+        let view = ReplayView::new(alloc, &settings, filter)?;
+        Ok(Replay {
+            alloc,
+            settings,
+            view,
+            open: Vec::new(alloc),
+            closed: VecDeque::new(alloc),
+            count: 0,
+            last: 0,
+            fragments: 0,
+        })
+    }
+
+    /// Returns the number of fragments of packets that were found. They are not read.
+    pub fn fragments(&self) -> u64 {
+        self.fragments
+    }
+
+    /// Reads a capture to its end and prints its traffic.
+    ///
+    /// # Errors
+    ///
+    /// The first error. The traffic before it was printed.
+    pub fn run<S: Source, W: Sink>(
+        &mut self,
+        source: &mut S,
+        out: &mut W,
+    ) -> Result<(), ReplayError> {
+        let mut capture = Capture::new(self.alloc);
+        let read = self.read_all(&mut capture, source, out);
+        let finished = self.finish(out);
+        match read {
+            Ok(()) => finished,
+            error => error,
+        }
+    }
+
+    /// Reads a capture to its end and prints its traffic.
+    fn read_all<S: Source, W: Sink>(
+        &mut self,
+        capture: &mut Capture,
+        source: &mut S,
+        out: &mut W,
+    ) -> Result<(), ReplayError> {
+        let mut buffer = [0; PIECE];
+        for _ in 0..MOST_READS {
+            let Ok(count) = source.read(&mut buffer) else {
+                return Err(ReplayError::Read);
+            };
+            if count == 0 {
+                break;
+            }
+            self.print_piece(capture, &buffer[..count], out)?;
+        }
+        match capture.end() {
+            Ok(()) => Ok(()),
+            Err(error) => Err(ReplayError::Capture(error)),
+        }
+    }
+
+    /// Reads a piece of the capture and prints its traffic.
+    fn print_piece<W: Sink>(
+        &mut self,
+        capture: &mut Capture,
+        piece: &[u8],
+        out: &mut W,
+    ) -> Result<(), ReplayError> {
+        let mut rest = piece;
+        // Each turn reads at least one byte.
+        for _ in 0..piece.len() {
+            if rest.is_empty() {
+                break;
+            }
+            match capture.read(rest) {
+                Ok(count) => rest = &rest[count..],
+                Err(error) => return Err(ReplayError::Capture(error)),
+            }
+            match capture.frame() {
+                Ok(Some(frame)) => self.print_frame(&frame, out)?,
+                Ok(None) => {}
+                Err(error) => return Err(ReplayError::Capture(error)),
+            }
+        }
+        Ok(())
+    }
+
+    /// Prints the traffic of a packet.
+    fn print_frame<W: Sink>(&mut self, frame: &Frame<'_>, out: &mut W) -> Result<(), ReplayError> {
+        self.view.go_on(frame.time, out);
+        let printed = match read_packet(frame.link, frame.bytes) {
+            Packet::Segment(segment) => self.print_segment(&segment, out),
+            Packet::Fragment => {
+                self.fragments = self.fragments.saturating_add(1);
+                Ok(())
+            }
+            Packet::Other => Ok(()),
+        };
+        match printed {
+            Err(AllocError) => Err(ReplayError::OutOfMemory),
+            Ok(()) if self.view.has_failed() => Err(ReplayError::Write),
+            Ok(()) => Ok(()),
+        }
+    }
+
+    /// Prints the traffic of a segment.
+    fn print_segment<W: Sink>(
+        &mut self,
+        segment: &Segment<'_>,
+        out: &mut W,
+    ) -> Result<(), AllocError> {
+        let Some(index) = self.place_for(segment, out)? else {
+            return Ok(());
+        };
+        self.last = index;
+        let Some(replayed) = self.open.get_mut(index) else {
+            return Ok(());
+        };
+        let Some(end) = replayed.connection.sender(segment) else {
+            return Ok(());
+        };
+        replayed.print_segment(end, segment, &mut self.view, out)?;
+        let have_ended = replayed.print_end(end, &mut self.view, out);
+        if have_ended || segment.resets {
+            self.close(index, out)?;
+        }
+        Ok(())
+    }
+
+    /// Returns the index of the connection of a segment, which is opened if it is not open. Returns
+    /// `None` if no connection is opened: for a segment without bytes that does not begin a
+    /// connection, and for a late one of a closed connection.
+    fn place_for<W: Sink>(
+        &mut self,
+        segment: &Segment<'_>,
+        out: &mut W,
+    ) -> Result<Option<usize>, AllocError> {
+        if let Some(index) = self.find(segment) {
+            let is_other = match self.open.get(index) {
+                Some(replayed) => replayed.connection.is_begun_again(segment),
+                None => false,
+            };
+            if !is_other {
+                return Ok(Some(index));
+            }
+            self.close(index, out)?;
+        }
+        if !segment.begins && (segment.data.is_empty() || self.is_closed(segment)) {
+            return Ok(None);
+        }
+        self.admit(segment, out)?;
+        Ok(Some(self.open.len().saturating_sub(1)))
+    }
+
+    /// Returns the index of the open connection of a segment.
+    fn find(&self, segment: &Segment<'_>) -> Option<usize> {
+        if let Some(replayed) = self.open.get(self.last) {
+            if replayed.connection.sender(segment).is_some() {
+                return Some(self.last);
+            }
+        }
+        self.open
+            .iter()
+            .position(|replayed| replayed.connection.sender(segment).is_some())
+    }
+
+    /// Returns whether a segment is one of a connection that was closed.
+    fn is_closed(&self, segment: &Segment<'_>) -> bool {
+        let (from, to) = (segment.from, segment.to);
+        self.closed
+            .iter()
+            .any(|ends| *ends == (from, to) || *ends == (to, from))
+    }
+
+    /// Opens the connection of a segment.
+    fn admit<W: Sink>(&mut self, segment: &Segment<'_>, out: &mut W) -> Result<(), AllocError> {
+        let (client, server) = if is_to_server(segment, self.settings.port) {
+            (segment.from, segment.to)
+        } else {
+            (segment.to, segment.from)
+        };
+        self.closed.retain(|ends| *ends != (client, server));
+        self.count = self.count.saturating_add(1);
+        let printing = Printing {
+            client: self.count,
+            shows_passwords: self.settings.shows_passwords,
+        };
+        self.view.print_connected(self.count, client, out)?;
+        if !segment.begins {
+            self.view
+                .print_remark(self.count, Remark::InTheMiddle, b"", out);
+        }
+        let watcher = Watcher::new(
+            self.alloc,
+            &self.settings.limits,
+            self.settings.reads_lines,
+            self.view.counts(),
+            self.view.is_json(),
+        );
+        let connection = Connection::new(self.alloc, client, server);
+        let is_whole = segment.begins;
+        match self
+            .open
+            .push(Replayed::new(connection, watcher, printing, is_whole))
+        {
+            Ok(()) => Ok(()),
+            Err(_) => Err(AllocError),
+        }
+    }
+
+    /// Closes a connection, and prints that it has gone.
+    fn close<W: Sink>(&mut self, index: usize, out: &mut W) -> Result<(), AllocError> {
+        if index >= self.open.len() {
+            return Ok(());
+        }
+        let mut replayed = self.open.remove(index);
+        replayed.finish(&mut self.view, out)?;
+        replayed.print_gone(&mut self.view, out);
+        if self.closed.len() >= MOST_CLOSED {
+            let _ = self.closed.pop_front();
+        }
+        let ends = (replayed.connection.client(), replayed.connection.server());
+        match self.closed.push_back(ends) {
+            Ok(()) => Ok(()),
+            Err(_) => Err(AllocError),
+        }
+    }
+
+    /// Prints which bytes are missing at the end of the capture, and the table.
+    fn finish<W: Sink>(&mut self, out: &mut W) -> Result<(), ReplayError> {
+        for replayed in self.open.iter_mut() {
+            if replayed.finish(&mut self.view, out).is_err() {
+                return Err(ReplayError::OutOfMemory);
+            }
+        }
+        if self.view.counts() {
+            self.view.print_table(out);
+        }
+        if self.view.has_failed() {
+            return Err(ReplayError::Write);
+        }
+        Ok(())
+    }
+}

@@ -1,0 +1,211 @@
+//! What is printed of a capture.
+
+use crate::packet_clock::PacketClock;
+use crate::printer::Printer;
+use crate::remark::Remark;
+use crate::replay::ReplaySettings;
+use crate::shown::Shown;
+use crate::stats::Stats;
+use crate::timing::Timing;
+use crate::watcher::Watcher;
+use resp_capture::{Address, Endpoint, Time};
+use resp_tap::watch::Side;
+use resp_tap::{Filter, Printing};
+use resp_value::device::Sink;
+use std::alloc::{AllocError, Global};
+use std::io;
+use std::net::{IpAddr, Ipv4Addr, Ipv6Addr, SocketAddr};
+
+/// What is printed of a capture, as [`Window`](crate::window::Window) prints it.
+#[derive(Drop)]
+pub(crate) struct ReplayView {
+    alloc: Global,
+    clock: PacketClock,
+    timing: Timing,
+    stats: Option<Stats>,
+    shown: Shown,
+    /// Whether a write has failed.
+    has_failed: bool,
+}
+
+/// Returns the address of an end of a connection.
+fn address_of(end: Endpoint) -> SocketAddr {
+    match end.address {
+        Address::Four(bits) => SocketAddr::new(IpAddr::V4(Ipv4Addr::from_bits(bits)), end.port),
+        Address::Six { high, low } => {
+            let bits = (high as u128) * 18_446_744_073_709_551_616 + low as u128;
+            SocketAddr::new(IpAddr::V6(Ipv6Addr::from_bits(bits)), end.port)
+        }
+    }
+}
+
+/// Returns a writer that is used.
+fn lent<W>(writer: &mut W) -> Option<&mut W> {
+    Some(writer)
+}
+
+impl ReplayView {
+    /// Returns a view of a capture of which nothing was read.
+    ///
+    /// # Errors
+    ///
+    /// An error of kind `OutOfMemory` if an allocation fails.
+    pub(crate) fn new(
+        alloc: Global,
+        settings: &ReplaySettings,
+        filter: Filter,
+    ) -> io::Result<ReplayView> {
+        let clock = PacketClock::default();
+        let timing = Timing::new(&clock, settings.tells_time || settings.tables.is_some())?;
+        let stats = match settings.tables {
+            Some(tables) => Some(Stats::new(alloc, tables)?),
+            None => None,
+        };
+        Ok(ReplayView {
+            alloc,
+            clock,
+            timing,
+            stats,
+            shown: Shown {
+                filter,
+                json: settings.json,
+            },
+            has_failed: false,
+        })
+    }
+
+    /// Returns whether a write has failed.
+    pub(crate) fn has_failed(&self) -> bool {
+        self.has_failed
+    }
+
+    /// Returns whether commands are counted and not printed.
+    pub(crate) fn counts(&self) -> bool {
+        self.stats.is_some()
+    }
+
+    /// Sets the clock to the time of a packet, and prints the table if it is time for it.
+    pub(crate) fn go_on<W: Sink>(&mut self, time: Option<Time>, out: &mut W) {
+        if let Some(time) = time {
+            self.clock.set(time);
+        }
+        let Some(stats) = &self.stats else {
+            return;
+        };
+        if let Some(now) = self.timing.now(&self.clock) {
+            if stats.is_due(now.steady) {
+                self.print_table(out);
+            }
+        }
+    }
+
+    /// Prints the table of the counts.
+    pub(crate) fn print_table<W: Sink>(&mut self, out: &mut W) {
+        let writer = lent(out);
+        let (timing, stats) = (&mut self.timing, self.stats.as_mut());
+        let mut printer = Printer::new(&self.clock, timing, stats, &self.shown, writer);
+        printer.print_table(self.alloc);
+        self.has_failed = self.has_failed || printer.has_failed();
+    }
+
+    /// Reads bytes that one side of a connection has sent, and prints or counts the results.
+    pub(crate) fn print_data<W: Sink>(
+        &mut self,
+        watcher: &mut Watcher,
+        printing: Printing,
+        side: Side,
+        bytes: &[u8],
+        out: &mut W,
+    ) {
+        let writer = lent(out);
+        let (timing, stats) = (&mut self.timing, self.stats.as_mut());
+        let mut printer = Printer::new(&self.clock, timing, stats, &self.shown, writer);
+        printer.print(watcher, printing, side, bytes);
+        self.has_failed = self.has_failed || printer.has_failed();
+    }
+
+    /// Prints which side of a connection has ended.
+    pub(crate) fn print_end<W: Sink>(
+        &mut self,
+        watcher: &Watcher,
+        client: u64,
+        side: Side,
+        out: &mut W,
+    ) {
+        let writer = lent(out);
+        let (timing, stats) = (&mut self.timing, self.stats.as_mut());
+        let mut printer = Printer::new(&self.clock, timing, stats, &self.shown, writer);
+        printer.print_end(watcher, client, side);
+        self.has_failed = self.has_failed || printer.has_failed();
+    }
+
+    /// Prints that a connection has gone.
+    pub(crate) fn print_gone<W: Sink>(&mut self, watcher: &Watcher, client: u64, out: &mut W) {
+        let writer = lent(out);
+        let (timing, stats) = (&mut self.timing, self.stats.as_mut());
+        let mut printer = Printer::new(&self.clock, timing, stats, &self.shown, writer);
+        printer.print_gone(watcher, client);
+        self.has_failed = self.has_failed || printer.has_failed();
+    }
+
+    /// Returns whether the traffic is printed as JSON.
+    pub(crate) fn is_json(&self) -> bool {
+        self.shown.json
+    }
+
+    /// Prints a line about a client, with this text.
+    pub(crate) fn print_remark<W: Sink>(
+        &mut self,
+        client: u64,
+        remark: Remark,
+        text: &[u8],
+        out: &mut W,
+    ) {
+        let writer = lent(out);
+        let (timing, stats) = (&mut self.timing, self.stats.as_mut());
+        let mut printer = Printer::new(&self.clock, timing, stats, &self.shown, writer);
+        printer.print_remark(client, remark, text);
+        self.has_failed = self.has_failed || printer.has_failed();
+    }
+
+    /// Prints from where a client is connected, if connections are printed.
+    ///
+    /// # Errors
+    ///
+    /// `AllocError` if an allocation fails.
+    pub(crate) fn print_connected<W: Sink>(
+        &mut self,
+        client: u64,
+        end: Endpoint,
+        out: &mut W,
+    ) -> Result<(), AllocError> {
+        if self.shown.filter.keeps_connected(client) {
+            let address = address_of(end);
+            let text = format!(in self.alloc; "{address}")?;
+            let bytes = text.as_str().as_bytes();
+            self.print_remark(client, Remark::ConnectedFrom, bytes, out);
+        }
+        Ok(())
+    }
+
+    /// Prints how many bytes of a side are missing.
+    ///
+    /// # Errors
+    ///
+    /// `AllocError` if an allocation fails.
+    pub(crate) fn print_missing<W: Sink>(
+        &mut self,
+        client: u64,
+        side: Side,
+        missing: u64,
+        out: &mut W,
+    ) -> Result<(), AllocError> {
+        let side = match side {
+            Side::Client => "client",
+            Side::Server => "server",
+        };
+        let text = format!(in self.alloc; "{missing} bytes of the {side} are missing")?;
+        self.print_remark(client, Remark::Missing, text.as_str().as_bytes(), out);
+        Ok(())
+    }
+}

@@ -1,0 +1,10 @@
+//! Which lines are printed, and in which form.
+
+use resp_tap::Filter;
+
+/// Which lines are printed, and whether they are JSON.
+#[derive(Debug, Drop)]
+pub(crate) struct Shown {
+    pub(crate) filter: Filter,
+    pub(crate) json: bool,
+}

@@ -1,0 +1,211 @@
+//! One forwarded connection.
+
+ghost use Rattle.std.specs.Prelude.{◌<◌, length};
+
+use crate::printer::Printer;
+use crate::recording::Recording;
+use crate::watcher::Watcher;
+use mio::Registry;
+use resp_capture::{End, Recorded, Sent};
+use resp_lane::{Lane, Progress, TURNS, next_of};
+use resp_loop::backend::Attempt;
+use resp_loop::non_blocking::is_open;
+use resp_loop::register::register;
+use resp_loop::service::{Next, Tokens};
+use resp_loop::stream::Stream;
+use resp_tap::Printing;
+use resp_tap::watch::Side;
+use resp_value::device::Sink;
+use std::alloc::Global;
+use std::io;
+use std::rt::Clock;
+
+/// Whether the connection to the server is open.
+#[derive(Drop)]
+pub(crate) enum Opening {
+    /// The server has not accepted the connection yet.
+    Connecting,
+    /// The connection is open. `is_new` is true the first time.
+    Connected { is_new: bool },
+    /// The connection could not be opened.
+    Failed(io::Error),
+}
+
+/// The sockets of a connection.
+#[derive(Drop)]
+pub(crate) struct Sockets {
+    pub(crate) client: Stream,
+    pub(crate) server: Stream,
+    /// The tokens under which they are registered.
+    pub(crate) tokens: Tokens,
+    /// The attempt to connect to the server that the second one belongs to.
+    pub(crate) attempt: Attempt,
+}
+
+/// The connection of a client, and the connection to the server for it.
+#[derive(Drop)]
+pub(crate) struct Tapped {
+    sockets: Sockets,
+    /// Whether the connection to the server is open. Nothing is read from the client before.
+    is_connected: bool,
+    to_server: Lane,
+    to_client: Lane,
+    watcher: Watcher,
+    /// The client's number, and how its traffic is printed.
+    printing: Printing,
+    /// The connection as it is recorded.
+    recorded: Recorded,
+}
+
+impl Tapped {
+    /// Returns a connection of which nothing was read.
+    pub(crate) fn new(
+        alloc: Global,
+        sockets: Sockets,
+        watcher: Watcher,
+        printing: Printing,
+        recorded: Recorded,
+    ) -> Self {
+        Tapped {
+            sockets,
+            is_connected: false,
+            to_server: Lane::new(alloc),
+            to_client: Lane::new(alloc),
+            watcher,
+            printing,
+            recorded,
+        }
+    }
+
+    /// Returns whether the connection to the server is open. The system is asked until it does.
+    pub(crate) fn opening(&mut self) -> Opening {
+        if self.is_connected {
+            return Opening::Connected { is_new: false };
+        }
+        match is_open(&self.sockets.server) {
+            Ok(false) => Opening::Connecting,
+            Ok(true) => {
+                self.is_connected = true;
+                Opening::Connected { is_new: true }
+            }
+            Err(error) => Opening::Failed(error),
+        }
+    }
+
+    /// Returns the attempt to connect to the server.
+    pub(crate) fn attempt(&self) -> Attempt {
+        self.sockets.attempt
+    }
+
+    /// Sets the connection to the server to that of a further attempt.
+    ///
+    /// # Errors
+    ///
+    /// The error of the system if it can't be registered.
+    pub(crate) fn set_server(
+        &mut self,
+        server: Stream,
+        attempt: Attempt,
+        registry: &Registry,
+    ) -> io::Result<()> {
+        let mut server = server;
+        register(&mut server, registry, self.sockets.tokens.server)?;
+        self.sockets.server = server;
+        self.sockets.attempt = attempt;
+        Ok(())
+    }
+
+    /// Returns the client's number, from 1.
+    pub(crate) fn number(&self) -> u64 {
+        self.printing.client
+    }
+
+    /// Returns the tap of the connection.
+    pub(crate) fn watcher(&self) -> &Watcher {
+        &self.watcher
+    }
+
+    /// Returns whether the connection to the server was ever open.
+    pub(crate) fn is_connected(&self) -> bool {
+        self.is_connected
+    }
+
+    /// Records that the connection to the server is open.
+    pub(crate) fn record_opening<C: Clock>(&mut self, recording: &mut Recording, clock: &C) {
+        recording.add(clock, &mut self.recorded, End::Server, Sent::Beginning, b"");
+    }
+
+    /// Records that the connection is closed, if that was not told by its sides.
+    pub(crate) fn record_close<C: Clock>(&mut self, recording: &mut Recording, clock: &C) {
+        if !self.have_ended() {
+            recording.add(clock, &mut self.recorded, End::Server, Sent::Reset, b"");
+        }
+    }
+
+    /// Forwards the bytes received, until each call would block or the allowed number of pieces was
+    /// forwarded. Each piece is read into the buffer. `is_at_end` says whether an input may have ended.
+    pub(crate) fn hand_on<W: Sink, C: Clock>(
+        &mut self,
+        is_at_end: bool,
+        buffer: &mut [u8],
+        printer: &mut Printer<'_, '_, '_, W, C>,
+        recording: &mut Recording,
+    ) -> Next
+        requires { 0 < length buffer.old }
+    {
+        for _ in 0..TURNS {
+            let to_server = self.visit(Side::Client, is_at_end, buffer, printer, recording);
+            let to_client = self.visit(Side::Server, is_at_end, buffer, printer, recording);
+            if let Some(next) = next_of(to_server, to_client, self.have_ended()) {
+                return next;
+            }
+        }
+        Next::Again
+    }
+
+    /// Visits the lane of the bytes that one side sends, and prints and records what came.
+    fn visit<W: Sink, C: Clock>(
+        &mut self,
+        side: Side,
+        is_at_end: bool,
+        buffer: &mut [u8],
+        printer: &mut Printer<'_, '_, '_, W, C>,
+        recording: &mut Recording,
+    ) -> Progress
+        requires { 0 < length buffer.old }
+    {
+        let is_first = !self.to_server.has_ended() && !self.to_client.has_ended();
+        let (client, server) = (&self.sockets.client, &self.sockets.server);
+        let forwarded = match side {
+            Side::Client => self.to_server.visit(client, server, is_at_end, buffer),
+            Side::Server => self.to_client.visit(server, client, is_at_end, buffer),
+        };
+        let (clock, end) = (printer.clock(), end_of(side));
+        let piece = &buffer[..buffer.len().min(forwarded.count)];
+        if !piece.is_empty() {
+            recording.add(clock, &mut self.recorded, end, Sent::Bytes, piece);
+            printer.print(&mut self.watcher, self.printing, side, piece);
+        }
+        if forwarded.has_ended {
+            recording.add(clock, &mut self.recorded, end, Sent::End, b"");
+        }
+        // The end of a side is printed if the other side has not ended before.
+        if forwarded.has_ended && is_first {
+            printer.print_end(&self.watcher, self.printing.client, side);
+        }
+        forwarded.progress
+    }
+
+    /// Returns whether both sides have ended.
+    fn have_ended(&self) -> bool {
+        self.to_server.has_ended() && self.to_client.has_ended()
+    }
+}
+
+/// Returns the end that sends the bytes of a side.
+fn end_of(side: Side) -> End {
+    match side {
+        Side::Client => End::Client,
+        Side::Server => End::Server,
+    }
+}

@@ -1,0 +1,56 @@
+//! The tap of one connection.
+
+use crate::window::Settings;
+use resp_tap::watch::Side;
+use resp_tap::{ClientName, CountedTap, Cut, FilteredTap, JsonTap};
+use resp_value::limits::Limits;
+use std::alloc::Global;
+
+/// The tap of a connection whose traffic is printed or counted.
+#[derive(Drop)]
+pub(crate) enum Watcher {
+    Printed(FilteredTap),
+    Json(JsonTap),
+    Counted(CountedTap),
+}
+
+impl Watcher {
+    /// Returns the tap of a new connection, which is counted, or is printed as JSON or as text.
+    /// `reads_lines` says whether a line of a client is a command. It allocates nothing.
+    pub(crate) fn new(
+        alloc: Global,
+        limits: &Limits,
+        reads_lines: bool,
+        is_counted: bool,
+        json: bool,
+    ) -> Self {
+        if is_counted {
+            let tap = CountedTap::new(alloc, limits);
+            Watcher::Counted(tap.with_lines(reads_lines))
+        } else if json {
+            let tap = JsonTap::new(alloc, limits);
+            Watcher::Json(tap.with_lines(reads_lines))
+        } else {
+            let tap = FilteredTap::new(alloc, limits);
+            Watcher::Printed(tap.with_lines(reads_lines))
+        }
+    }
+
+    /// Returns the command or reply of which this side has sent a part.
+    pub(crate) fn cut(&self, side: Side) -> Option<Cut> {
+        match self {
+            Watcher::Printed(tap) => tap.cut(side),
+            Watcher::Json(tap) => tap.cut(side),
+            Watcher::Counted(tap) => tap.cut(side),
+        }
+    }
+
+    /// Returns the name that the client has given to the connection.
+    pub(crate) fn name(&self) -> &ClientName {
+        match self {
+            Watcher::Printed(tap) => tap.name(),
+            Watcher::Json(tap) => tap.name(),
+            Watcher::Counted(tap) => tap.name(),
+        }
+    }
+}
