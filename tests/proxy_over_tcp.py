@@ -629,6 +629,21 @@ def times_of_replies():
         hear(other, LOST)
 
 
+def errors_by_word():
+    """`INFO proxy` counts the error replies of the server by their first words, also of one that comes in two pieces."""
+    with proxied() as (proxy, _, server), connect(proxy.port) as client:
+        client.sendall(PING * 5)
+        hear(server, PING * 5)
+        server.sendall(b"-WRONGTYPE no\r\n+-ERR\r\n-ERR no\r\n-lower no\r\n-WRONG")
+        hear(client, b"-WRONGTYPE no\r\n+-ERR\r\n-ERR no\r\n-lower no\r\n")
+        server.sendall(b"TYPE no\r\n")
+        hear(client, b"-WRONGTYPE no\r\n")
+        client.sendall(command(b"INFO", b"proxy"))
+        wanted = b"\r\nerrorstat_ERR:count=1\r\nerrorstat_WRONGTYPE:count=2\r\nerrorstat_other:count=1\r\n\r\n"
+        found = hear_section(client)
+        assert found.endswith(wanted), found
+
+
 def end_of_standard_input():
     """With --drain the proxy ends with standard input, after the replies to the commands that it has read."""
     for as_file in (False, True):
@@ -696,7 +711,7 @@ def heard_in_a_moment(stream):
 def descriptors_of_proxy():
     """While no descriptor is left clients wait, and a lost connection to the server is still opened again."""
     peer = Peer()
-    words = ["proxy", "127.0.0.1:0", peer.address, "--patience", "60000"]
+    words = ["proxy", "127.0.0.1:0", peer.address, "--patience", "60000", "--clients", "1000"]
     with running(*words, descriptors=32) as proxy, contextlib.ExitStack() as closing:
         server = peer.accept()
         is_connected(proxy)
@@ -948,6 +963,6 @@ sends these too; name only those that have one reply and do not wait
 TESTS = [pipelines_cut_at_random, client_that_goes, end_of_input, server_that_closes, server_that_ends_inside_a_reply,
          reply_that_nobody_waits_for, server_that_is_not_there, patience, protocol_error, own_replies, lines,
          client_that_does_not_read, server_that_does_not_read, one_command_at_a_time, login,
-         admitted_commands, ping_of_the_proxy, reports, times_of_replies, end_of_standard_input, most_of_proxy,
+         admitted_commands, ping_of_the_proxy, reports, times_of_replies, errors_by_word, end_of_standard_input, most_of_proxy,
          descriptors_of_proxy, busy_clients, own_address_of_proxy, check_of_commands, probes,
          server_out_of_step]

@@ -22,10 +22,12 @@ import random
 import re
 import socket
 import threading
+import time
 import unittest.mock
 
 from own_over_tcp import MULTI, Listening
-from proxy_over_tcp import LOST, NOT_CONNECTED, bulk, commands_of, cut, get, is_connected, line_of, proxied
+from proxy_over_tcp import (LOST, NOT_CONNECTED, bulk, commands_of, cut, get, hear_section, is_connected, line_of,
+                            proxied)
 from tcp_programs import LIMIT, PING, PONG, Peer, ask, command, connect, has_reply, hear, hear_end, running, until
 
 OK = b"+OK\r\n"
@@ -400,6 +402,32 @@ def lost_connection_of_a_setting():
         assert re.search(lost, printed), printed
 
 
+def errors_of_settings():
+    """INFO proxy counts the errors of all settings, in each of them."""
+    with proxied() as (proxy, peer, server), connect(proxy.port) as client, connect(proxy.port) as other:
+        client.sendall(HELLO)
+        with accepted(peer, (HELLO, hello_of(4))) as line:
+            hear(client, hello_of(1))
+            client.sendall(PING + PING)
+            hear(line, PING + PING)
+            line.sendall(b"-ERR one\r\n-OOM two\r\n")
+            hear(client, b"-ERR one\r\n-OOM two\r\n")
+            other.sendall(PING)
+            hear(server, PING)
+            server.sendall(b"-ERR three\r\n")
+            hear(other, b"-ERR three\r\n")
+            for asking in client, other:
+                # The sum may be 100 ms old.
+                for _ in range(50):
+                    asking.sendall(command(b"INFO", b"proxy"))
+                    found = hear_section(asking)
+                    if found.endswith(b"\r\nerrorstat_ERR:count=2\r\nerrorstat_OOM:count=1\r\n\r\n"):
+                        break
+                    time.sleep(0.1)
+                else:
+                    raise AssertionError(found)
+
+
 class Settings(Peer):
     """A server whose replies name the setting of their connection. It checks passwords: that of a user is its name twice."""
 
@@ -511,4 +539,4 @@ def journey(number, source):
 
 TESTS = [settings_share_connections, settings_of_words, passwords_are_checked, refusals, server_that_opens_no_setting,
          client_that_goes_while_it_moves, names_and_ids, own_connections_of_settings, most_settings,
-         lost_connection_of_a_setting, settings_at_random]
+         lost_connection_of_a_setting, errors_of_settings, settings_at_random]

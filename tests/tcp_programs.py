@@ -13,7 +13,7 @@ import tempfile
 import time
 
 HERE = os.path.dirname(os.path.dirname(os.path.realpath(__file__)))
-PROGRAM = sys.argv[2] if sys.argv[1:2] == ["--program"] else f"{HERE}/crates/resp/out/resp"
+PROGRAM = os.path.abspath(sys.argv[2]) if sys.argv[1:2] == ["--program"] else f"{HERE}/crates/resp/out/resp"
 PING, PONG = b"*1\r\n$4\r\nPING\r\n", b"+PONG\r\n"
 TOO_MANY = b"-ERR max number of clients reached\r\n"
 LIMIT = 20
@@ -33,9 +33,11 @@ class Program:
         self.process = subprocess.Popen(
             [PROGRAM, *words], stdin=subprocess.DEVNULL, stdout=self.log, stderr=subprocess.STDOUT,
             preexec_fn=limit if descriptors else None)
-        until(lambda: b"\n" in self.printed(), "it doesn't listen")
-        first = rb'(?:listening on |\{"kind":"listening","address":")127\.0\.0\.1:(\d+)["\n]'
-        self.port = int(re.match(first, self.printed())[1])
+        listening = re.compile(rb'^(?:listening on |\{"kind":"listening","address":")([^"\n]*)["\n]', re.M)
+        until(lambda: listening.search(self.printed()), "it doesn't listen")
+        # The path of a Unix socket has no port.
+        address = listening.search(self.printed())[1].decode()
+        self.port = None if address.startswith(("/", "./")) else int(re.fullmatch(r"127\.0\.0\.1:(\d+)", address)[1])
 
     def printed(self):
         with open(self.log.name, "rb") as file:
@@ -78,6 +80,14 @@ def until(holds, what):
 
 def command(*words):
     return b"*%d\r\n" % len(words) + b"".join(b"$%d\r\n%s\r\n" % (len(word), word) for word in words)
+
+
+def connect_to(path):
+    """Connects to a Unix socket."""
+    stream = socket.socket(socket.AF_UNIX)
+    stream.settimeout(LIMIT)
+    stream.connect(path)
+    return stream
 
 
 def connect(port):

@@ -18,7 +18,7 @@ _resp() {
     case $command in
     show | check | canon) options="-2 -3 --proto $limits --doubles --piece --color --utf8 --json --explain --no-explain -h --help" ;;
     loop) options="--explain --no-explain -h --help" ;;
-    serve) options="$limits --clients --held -h --help" ;;
+    serve) options="$limits --clients --held --test-server -h --help" ;;
     tap)
         options="$limits --clients --time --errors --slower --command --key --client --connections --stats --stats-every --exit-with-output --keep-going --no-inline --show-passwords --record --replay --port --color --utf8 -h --help"
         ;;

@@ -37,6 +37,7 @@ complete -c resp -n $limited -l no-streamed -d 'Rejects streamed strings and agg
 
 complete -c resp -n '__fish_seen_subcommand_from serve tap proxy' -l clients -x -d 'Maximum clients at once, 1 to 65536'
 complete -c resp -n '__fish_seen_subcommand_from serve proxy' -l held -x -d 'Maximum bytes waiting for a client, 1 to 1024G'
+complete -c resp -n '__fish_seen_subcommand_from serve' -l test-server -d 'Also serves inline commands, SELECT, FLUSHDB and others, in 16 databases'
 complete -c resp -n '__fish_seen_subcommand_from tap' -l time -d 'Prints the time in UTC, and how long each reply took'
 complete -c resp -n '__fish_seen_subcommand_from tap' -l errors -d 'Prints only commands whose reply is an error'
 complete -c resp -n '__fish_seen_subcommand_from tap' -l slower -x -d 'Prints only commands that wait longer, such as 10ms'

@@ -3,7 +3,8 @@
 use crate::cuts::Tally;
 use anyhow::Result;
 use resp_commands::Class;
-use resp_frames::{Begun, CommandFrame, CommandWords, Frames};
+use resp_frames::{Begun, CommandFrame, CommandWords, FrameError, Frames};
+use resp_value::cause::Cause;
 use resp_value::limits::Limits;
 use resp_value::version::Version;
 use std::alloc::Global;
@@ -17,7 +18,17 @@ const COMMANDS: &[u8] = b"*2\r\n$3\r\nGet\r\n$3\r\nkey\r\n\
 *2\r\n$6\r\nclient\r\n$5\r\nreply\r\n\
 *2\r\n$3\r\nfoo\r\n$3\r\nkey\r\n\
 *5\r\n$4\r\nmset\r\n$1\r\na\r\n$1\r\n1\r\n$1\r\nb\r\n$1\r\n2\r\n\
-*6\r\n$4\r\nEVAL\r\n$1\r\n-\r\n$1\r\n2\r\n$1\r\nk\r\n$1\r\nl\r\n$1\r\nm\r\n";
+*6\r\n$4\r\nEVAL\r\n$1\r\n-\r\n$1\r\n2\r\n$1\r\nk\r\n$1\r\nl\r\n$1\r\nm\r\n\
+*2\r\n$3\r\nGet\r\n$5\r\nother\r\n\
+*2\r\n$3\r\nGeo\r\n$3\r\nkey\r\n\
+*2\r\n$3\r\nGet\r\n$0\r\n\r\n\
+*3\r\n$3\r\nGet\r\n$1\r\na\r\n$1\r\nb\r\n\
+*4\r\n$13\r\nzrangebyscore\r\n$1\r\nk\r\n$1\r\n0\r\n$1\r\n1\r\n\
+*4\r\n$13\r\nzrxngebyscore\r\n$1\r\nk\r\n$1\r\n0\r\n$1\r\n1\r\n\
+*4\r\n$13\r\nzrangebyscore\r\n$1\r\nl\r\n$1\r\n0\r\n$1\r\n1\r\n\
+*6\r\n$5\r\nXREAD\r\n$5\r\ncount\r\n$1\r\n2\r\n$7\r\nstreams\r\n$1\r\nt\r\n$1\r\n0\r\n\
+*6\r\n$5\r\nXREAD\r\n$5\r\nblock\r\n$1\r\n0\r\n$7\r\nstreams\r\n$1\r\nu\r\n$1\r\n0\r\n\
+*2\r\n$6\r\nclient\r\n$7\r\ncaching\r\n";
 
 /// Returns the number of words after the name, and the class, of the command of this number.
 fn expected(number: usize) -> Option<(u64, Option<Class>)> {
@@ -31,6 +42,16 @@ fn expected(number: usize) -> Option<(u64, Option<Class>)> {
         6 => (1, None),
         7 => (4, Some(Class::Shared)),
         8 => (5, Some(Class::Shared)),
+        9 => (1, Some(Class::Shared)),
+        10 => (1, None),
+        11 => (1, Some(Class::Shared)),
+        12 => (2, Some(Class::Shared)),
+        13 => (3, Some(Class::Shared)),
+        14 => (3, None),
+        15 => (3, Some(Class::Shared)),
+        16 => (5, Some(Class::Shared)),
+        17 => (5, Some(Class::OwnConnection)),
+        18 => (1, Some(Class::OwnConnection)),
         _ => return None,
     })
 }
@@ -45,6 +66,14 @@ fn expected_keys(number: usize) -> Option<&'static [u8]> {
         3 => Some(b"s "),
         7 => Some(b"a b "),
         8 => Some(b"k l "),
+        9 => Some(b"other "),
+        11 => Some(b" "),
+        12 => Some(b"a "),
+        13 => Some(b"k "),
+        15 => Some(b"l "),
+        16 => Some(b"t "),
+        17 => Some(b"u "),
+        18 => Some(b""),
         _ => None,
     }
 }
@@ -91,12 +120,38 @@ fn holds(alloc: Global, pieces: &[&[u8]]) -> Result<bool> {
     Ok(expected(number).is_none())
 }
 
+/// Returns whether commands that begin as one before them are rejected at the same byte as the first
+/// one would be.
+fn keeps_limits(alloc: Global) -> Result<bool> {
+    let limits = Limits::new(4, 64, 256)?;
+    let mut frames = Frames::new(alloc, Version::Two, &limits)?;
+    let mut begun = Begun::new();
+    let first = b"*2\r\n$3\r\nGET\r\n$1\r\na\r\n".as_slice();
+    for _ in 0..2 {
+        if !matches!(frames.next_command(&mut begun, first), Ok(Some(_))) {
+            return Ok(false);
+        }
+    }
+    let long = frames.next_command(&mut begun, b"*2\r\n$3\r\nGET\r\n$65\r\n");
+    let wrong = frames.next_command(&mut begun, b"*2\r\n$3\r\nGET\r\n$1\r\nab\n");
+    Ok(is_fault(long, Cause::Length, 15) && is_fault(wrong, Cause::Syntax, 18))
+}
+
+/// Returns whether a byte was rejected here, for this reason.
+fn is_fault(found: Result<Option<CommandFrame>, FrameError>, cause: Cause, at: u64) -> bool {
+    match found {
+        Err(FrameError::Fault(fault)) => fault.cause == cause && fault.at == at,
+        _ => false,
+    }
+}
+
 /// Cuts the commands in two at each byte, and into single bytes.
 pub(crate) fn all(alloc: Global) -> Result<Tally> {
     let mut tally = Tally { cuts: 0, wrong: 0 };
     for cut in 0..COMMANDS.len() {
         tally.add(holds(alloc, &[&COMMANDS[..cut], &COMMANDS[cut..]])?);
     }
+    tally.add(keeps_limits(alloc)?);
     let mut bytes = Vec::new(alloc);
     for at in 0..COMMANDS.len() {
         bytes.push(&COMMANDS[at..at + 1])?;

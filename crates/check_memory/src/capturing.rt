@@ -37,9 +37,10 @@ pub(crate) fn of_capture(alloc: Global) -> Outcome {
     for byte in FILE {
         match capture.read(&[*byte]) {
             Ok(1) => {}
-            Err(error) if error.reason == Reason::OutOfMemory => return Outcome::refused(
-                capture.end().is_err(),
-            ),
+            Err(error) if error.reason == Reason::OutOfMemory => {
+                let again = capture.read(b"x");
+                return Outcome::refused(capture.end().is_err() && again == Err(error));
+            }
             _ => return Outcome::Wrong,
         }
     }

@@ -14,6 +14,7 @@ mod forwarding;
 mod frames;
 mod framing;
 mod given;
+mod hosting;
 mod multiplexing;
 mod outcome;
 mod pipelining;
@@ -67,7 +68,7 @@ fn print(rt: &impl Print, parts: &[Part]) -> Result<()> {
 }
 
 /// Runs each part, and returns their outcomes in order.
-fn parts(alloc: Global) -> [Part; 54] {
+fn parts(alloc: Global) -> [Part; 58] {
     [
         ("decode a piece", decoding::of_one_piece(alloc)),
         ("decode bytes", decoding::of_single_bytes(alloc)),
@@ -93,6 +94,10 @@ fn parts(alloc: Global) -> [Part; 54] {
         ("hub hello", serving::of_hello(alloc)),
         ("hub protocol error", serving::of_protocol_error(alloc)),
         ("hub push", serving::of_push(alloc)),
+        ("databases new", hosting::of_new(alloc)),
+        ("databases lines", hosting::of_lines(alloc)),
+        ("databases arrays", hosting::of_arrays(alloc)),
+        ("databases fault", hosting::of_fault(alloc)),
         ("ask", engines::of_ask(alloc)),
         ("serve", engines::of_serve(alloc)),
         ("words of a line", asking::of_line(alloc)),

@@ -1,5 +1,5 @@
-//! Reads conversations as rows from the files `scan`, `decode`, `client`, `server`, `wire`, `tap` and
-//! `proxy`, runs each with its texts cut in every way, and prints where the lines printed are not the
+//! Reads conversations as rows from the files `scan`, `decode`, `client`, `server`, `databases`, `wire`,
+//! `tap` and `proxy`, runs each with its texts cut in every way, and prints where the lines printed are not the
 //! expected lines.
 //!
 //! Conversations are separated by empty lines. The first line of a conversation is its title, `#
@@ -15,6 +15,7 @@ mod bounds;
 mod client;
 mod conversation;
 mod cut;
+mod databases;
 mod decode;
 mod player;
 mod proxy;
@@ -28,6 +29,7 @@ mod wire;
 
 use anyhow::Result;
 use client::Talker;
+use databases::Hosting;
 use decode::Reader;
 use player::play;
 use proxy::Proxying;
@@ -41,6 +43,7 @@ fn main(rt: HostRuntime) -> Result<()> {
     play::<Reader>(&rt, "decode")?;
     play::<Talker>(&rt, "client")?;
     play::<Serving>(&rt, "server")?;
+    play::<Hosting>(&rt, "databases")?;
     play::<Talk>(&rt, "wire")?;
     play::<Tapping>(&rt, "tap")?;
     play::<Proxying>(&rt, "proxy")

@@ -1,5 +1,6 @@
-//! The addresses of servers that are given by the name of a host.
+//! The addresses of listeners and of servers, which may be given by the name of a host.
 
+use resp_args::listen_address::ListenAddress;
 use resp_args::server_address::ServerAddress;
 use resp_args::words::refuse_host;
 use resp_loop::Address;
@@ -7,6 +8,18 @@ use resp_value::device::Sink;
 use std::alloc::{AllocError, Global};
 use std::io;
 use std::net::{Net, ToSocketAddrs};
+
+/// Returns the address to listen on.
+///
+/// # Errors
+///
+/// `AllocError` if an allocation fails.
+pub fn listening_on(alloc: Global, address: &ListenAddress<'_>) -> Result<Address, AllocError> {
+    match *address {
+        ListenAddress::Socket(address) => Ok(Address::Socket(address)),
+        ListenAddress::Path(path) => Ok(Address::Path(String::from_str(alloc, path)?)),
+    }
+}
 
 /// Returns the addresses of a server. The system looks up a name, and may wait for other machines.
 ///

@@ -2,7 +2,8 @@
 
 use crate::checking::run_check;
 use crate::failures::Failures;
-use crate::hosts::{addresses_of, name_of, refuse_server};
+use crate::hosts::{addresses_of, listening_on, name_of, refuse_server};
+use crate::most_clients::{SERVE, TAP, descriptors_of_proxy, most_clients};
 use crate::replaying::run_replay;
 use crate::style::style_of;
 use resp_args::duration::duration_of;
@@ -12,12 +13,12 @@ use resp_args::tapping::{FilterOptions, StatsOptions, Tapping};
 use resp_args::tool_error::ToolError;
 use resp_args::traffic::{Route, Traffic};
 use resp_args::words::{refuse_file, stop};
-use resp_loop::Backend;
+use resp_loop::{Address, Backend};
 use resp_paint::{Painted, Style};
 use resp_print::live::LiveSink;
 use resp_print::text::write_text;
 use resp_relay::{ProxyServer, ProxySettings};
-use resp_serve::Server;
+use resp_serve::{Server, TestServer};
 use resp_tap::Filter;
 use resp_tap::json_line::write_listening_json;
 use resp_value::device::{DeviceFault, Sink};
@@ -25,7 +26,6 @@ use resp_window::{AfterFailure, Settings, Tables, Window};
 use std::alloc::{AllocError, Global};
 use std::hash::RandomState;
 use std::io::ErrorKind;
-use std::net::SocketAddr;
 use std::time::Duration;
 use std::{env, io};
 
@@ -60,6 +60,12 @@ impl From<io::Error> for ListenError {
     }
 }
 
+impl From<AllocError> for ListenError {
+    fn from(_: AllocError) -> Self {
+        ListenError::Tool(ToolError::Memory)
+    }
+}
+
 impl From<ToolError> for ListenError {
     fn from(error: ToolError) -> Self {
         ListenError::Tool(error)
@@ -73,7 +79,12 @@ pub fn run_serve<W: LiveSink, F: Sink>(
     writer: &mut W,
     faults: &mut F,
 ) -> Result<u8, AllocError> {
-    match serve(rt, serving, writer) {
+    let served = if serving.is_test_server {
+        serve_tests(rt, serving, writer)
+    } else {
+        serve(rt, serving, writer)
+    };
+    match served {
         Ok(()) => Ok(0),
         Err(error) => refuse(rt.alloc(), serving.address_text, &error, faults),
     }
@@ -89,17 +100,46 @@ fn serve<W: LiveSink>(
     let Ok(hasher) = RandomState::new(rt) else {
         return Err(ToolError::Read.into());
     };
-    let most = serving.clients;
+    let most = most_clients(rt, serving.clients, SERVE);
+    let address = listening_on(alloc, &serving.address)?;
     let mut server = Server::listen(
         rt,
         alloc,
-        serving.address,
+        &address,
         serving.limits,
         most,
         serving.held,
         hasher,
     )?;
-    write_listening(alloc, server.address()?, writer)?;
+    write_listening(alloc, &server.address()?, writer)?;
+    if writer.flush().is_err() {
+        return Err(ToolError::Write.into());
+    }
+    Ok(server.run()?)
+}
+
+/// Serves clients with 16 databases until that fails.
+fn serve_tests<W: LiveSink>(
+    rt: &HostRuntime,
+    serving: &Serving<'_>,
+    writer: &mut W,
+) -> Result<(), ListenError> {
+    let alloc = rt.alloc();
+    let Ok(hasher) = RandomState::new(rt) else {
+        return Err(ToolError::Read.into());
+    };
+    let most = most_clients(rt, serving.clients, SERVE);
+    let address = listening_on(alloc, &serving.address)?;
+    let mut server = TestServer::listen(
+        rt,
+        alloc,
+        &address,
+        serving.limits,
+        most,
+        serving.held,
+        hasher,
+    )?;
+    write_listening(alloc, &server.address()?, writer)?;
     if writer.flush().is_err() {
         return Err(ToolError::Write.into());
     }
@@ -254,7 +294,7 @@ fn tap<W: LiveSink>(
     };
     let settings = Settings {
         limits: tapping.limits,
-        most: tapping.clients,
+        most: most_clients(rt, tapping.clients, TAP),
         tells_time: tapping.tells_time || slower.is_some() || tapping.style.json,
         after_failure: after_failure(tapping),
         reads_lines: !tapping.refuses_lines,
@@ -263,12 +303,13 @@ fn tap<W: LiveSink>(
         tables: tables_of(tapping.stats),
         style,
     };
-    let mut window = Window::listen(rt, alloc, route.address, backend, settings, filter)?;
+    let address = listening_on(alloc, &route.address)?;
+    let mut window = Window::listen(rt, alloc, &address, backend, settings, filter)?;
     record(rt, &mut window, route.record)?;
     if !window.may_wait() {
         writer.set_style(style);
     }
-    write_tapping(alloc, window.address()?, tapping.style.json, writer)?;
+    write_tapping(alloc, &window.address()?, tapping.style.json, writer)?;
     match window.run(rt, writer) {
         Err(error) if error.kind() == ErrorKind::WriteZero => Err(ToolError::Write.into()),
         ended => Ok(ended?),
@@ -326,15 +367,16 @@ fn proxy<W: LiveSink>(
     writer: &mut W,
 ) -> Result<(), ListenError> {
     let alloc = rt.alloc();
-    let settings = settings_of(&proxying.options);
+    let settings = settings_of(rt, &proxying.options);
     let Ok(login) = login_of(rt) else {
         return Err(ToolError::Memory.into());
     };
-    let mut server = ProxyServer::listen(rt, alloc, proxying.address, backend, login, settings)?;
+    let address = listening_on(alloc, &proxying.address)?;
+    let mut server = ProxyServer::listen(rt, alloc, &address, backend, login, settings)?;
     if admit(&mut server, proxying.also).is_err() {
         return Err(ToolError::Memory.into());
     }
-    write_listening(alloc, server.address()?, writer)?;
+    write_listening(alloc, &server.address()?, writer)?;
     if writer.flush().is_err() {
         return Err(ToolError::Write.into());
     }
@@ -375,7 +417,7 @@ fn report_of(seconds: u64) -> Option<Duration> {
 }
 
 /// Returns the settings that the options of `proxy` ask for.
-fn settings_of(options: &ProxyOptions) -> ProxySettings {
+fn settings_of(rt: &HostRuntime, options: &ProxyOptions) -> ProxySettings {
     ProxySettings {
         proxy: resp_proxy::Settings {
             limits: options.limits,
@@ -386,7 +428,7 @@ fn settings_of(options: &ProxyOptions) -> ProxySettings {
             lines: !options.refuses_lines,
             ..resp_proxy::Settings::standard()
         },
-        most: options.clients,
+        most: most_clients(rt, options.clients, descriptors_of_proxy(options)),
         own: options.own,
         lines: options.lines,
         patience: Duration::from_millis(options.patience),
@@ -399,7 +441,7 @@ fn settings_of(options: &ProxyOptions) -> ProxySettings {
 /// Prints the address on which the program listens.
 fn write_listening<W: Sink>(
     alloc: Global,
-    address: SocketAddr,
+    address: &Address,
     writer: &mut W,
 ) -> Result<(), ToolError> {
     let Ok(line) = format!(in alloc; "listening on {address}\n") else {
@@ -414,7 +456,7 @@ fn write_listening<W: Sink>(
 /// Prints the address on which the tap listens, as JSON or as text.
 fn write_tapping<W: Sink>(
     alloc: Global,
-    address: SocketAddr,
+    address: &Address,
     json: bool,
     writer: &mut W,
 ) -> Result<(), ToolError> {

@@ -9,6 +9,7 @@ mod failures;
 mod hosts;
 mod input;
 mod listening;
+mod most_clients;
 mod replaying;
 mod server_stream;
 mod style;

@@ -10,9 +10,10 @@ use Rattle.clap.specs.declared.parser.matches.ArgMatches.{ArgMatches}
 use Rattle.clap.specs.declared.parser.matches.Found.{Found}
 use Rattle.clap.proofs.OnLiterals.{clap_on_literals}
 use Rattle.clap.proofs.WalkLemmas.{one_text-rows}
-use Rattle.resp_args.specs.CommandWords.{AnswersSort, AnswersStatus, AskFor, Enters, IsOfSort, FindsWords, HasAsking, HasFlag, HasNumber, HasProxying, HasReading, HasRoute, HasServing, HasTapping, IsAsked, flag_text, task_word}
+use Rattle.resp_args.specs.CommandWords.{AnswersSort, AnswersStatus, AskFor, Enters, IsOfSort, FindsWords, HasAsking, HasFlag, HasMost, HasNumber, HasProxying, HasReading, HasRoute, HasServing, HasSmallNumber, HasTapping, IsAsked, flag_text, task_word}
 use Rattle.resp_args.specs.Addresses.{HasPort, IsAddressText, IsLocalPort}
-use Rattle.resp_args.specs.Hosts.{IsServerText}
+use Rattle.resp_args.specs.Hosts.{IsListenText, IsServerText}
+use Rattle.resp_args.specs.declared.listen_address.ListenAddress.{ListenAddress}
 use Rattle.resp_args.specs.declared.server_address.ServerAddress.{ServerAddress}
 use Rattle.resp_args.specs.Faults.{IsWordStatus}
 use Rattle.std.specs.Str.{bytes_eq}
@@ -122,32 +123,38 @@ no_address text socket local address (inr (number, is, there)) = local number is
 same_text : (a b : Text) (found : Option Text) → found ≡ Some a → found ≡ Some b → a ≡ b
 same_text a b found is is' = ap (λ (o : Option Text). unwrap_or o []) (sym is ∙ is')
 
+-- an option that is given, and is no number in the range, is neither such a number nor missing
+pub no_most : (given : List Row) (name text : Text) → first_of name given ≡ Some text →
+    ((number : ℕ) → HasSmallNumber given name number → ⊥) → (most : Option ℕ) → HasMost given name most → ⊥
+no_most given name text is none None has = none≢some text (sym is ∙ has.0)
+no_most given name text is none (Some number) has = none number (has.0, has.1.0, has.1.1)
+
 -- a text that is no address is that of no address in the words
 pub no_serving : (given : List Row) (text : Text) → first_of (codes "address") given ≡ Some text →
-    ((address : SocketAddr) → IsAddressText text address → ⊥) → (serving : Serving) → HasServing given serving → ⊥
+    ((address : ListenAddress) → IsListenText text address → ⊥) → (serving : Serving) → HasServing given serving → ⊥
 no_serving given text is none serving has =
     let same = same_text text serving.address_text.now (first_of (codes "address") given) is has.0.text in
-    none serving.address (subst (λ z. IsAddressText z serving.address) (sym same) has.1)
+    none serving.address (subst (λ z. IsListenText z serving.address) (sym same) has.1)
 
 pub no_route : (given : List Row) (text text' : Text) → first_of (codes "listen") given ≡ Some text →
     first_of (codes "server") given ≡ Some text' →
-    ((here : SocketAddr) (there : ServerAddress) → IsAddressText text here → IsServerText text' there → ⊥) →
+    ((here : ListenAddress) (there : ServerAddress) → IsListenText text here → IsServerText text' there → ⊥) →
     (route : Route) → HasRoute given route → ⊥
 no_route given text text' is is' none route has =
     let same = same_text text route.address_text.now (first_of (codes "listen") given) is has.listen_text in
     let same' = same_text text' has.server_text (first_of (codes "server") given) is' has.server_is in
-    none route.address route.server (subst (λ z. IsAddressText z route.address) (sym same) has.listen)
+    none route.address route.server (subst (λ z. IsListenText z route.address) (sym same) has.listen)
     (subst (λ z. IsServerText z route.server) (sym same') has.to)
 
 pub no_proxy_addresses : (given : List Row) (text text' : Text) → first_of (codes "listen") given ≡ Some text →
     first_of (codes "server") given ≡ Some text' →
-    ((here : SocketAddr) (there : ServerAddress) → IsAddressText text here → IsServerText text' there → ⊥) →
+    ((here : ListenAddress) (there : ServerAddress) → IsListenText text here → IsServerText text' there → ⊥) →
     (proxying : Proxying) → HasProxying given proxying → ⊥
 no_proxy_addresses given text text' is is' none proxying has =
     let (server, words, listen, to, also, checks, all) = has in
     let same = same_text text proxying.address_text.now (first_of (codes "listen") given) is words.listen_text in
     let same' = same_text text' server (first_of (codes "server") given) is' words.server_text in
-    none proxying.address proxying.server (subst (λ z. IsAddressText z proxying.address) (sym same) listen)
+    none proxying.address proxying.server (subst (λ z. IsListenText z proxying.address) (sym same) listen)
     (subst (λ z. IsServerText z proxying.server) (sym same') to)
 
 pub no_asking : (given : List Row) (text : Text) → first_of (codes "server") given ≡ Some text →

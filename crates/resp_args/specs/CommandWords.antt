@@ -1,6 +1,6 @@
 -- The meaning of the words of a command line.
 use Rattle.std.specs.Prelude.{◌≡◌, ◌≢◌, ◌⊎◌, ◌≤◌, ◌<◌, ◌^◌, ℕ, Bool, false, true, not, if◌then◌else◌, codes}
-use Rattle.std.specs.Prelude.{List, [], map, option_map, unwrap_or, Option, Some, None, Result, Ok, Err}
+use Rattle.std.specs.Prelude.{List, [], map, option_map, unwrap_or, Option, Some, None, IfSome, Result, Ok, Err}
 use Rattle.std.specs.Str.{bytes_eq}
 use Rattle.std.specs.Str.Parse.{IsNumeral, digits_value, without_leading_plus}
 use Rattle.clap.specs.Words.{App, HasKind, IsAmong, Row, Text, all_of, fault_of, first_of, one_of, subcommand_of}
@@ -12,8 +12,7 @@ use Rattle.clap.specs.declared.parser.matches.ArgMatches.{ArgMatches}
 use Rattle.resp_value.specs.Bounds.{AreBounds, Bounds}
 use Rattle.resp_value.specs.declared.version.Version.{Version}
 use Rattle.resp_value.specs.declared.version.Version.TheVariants.{Two, Three}
-use Rattle.resp_args.specs.Addresses.{IsAddressText}
-use Rattle.resp_args.specs.Hosts.{IsServerText}
+use Rattle.resp_args.specs.Hosts.{IsListenText, IsServerText}
 use Rattle.resp_args.specs.Sizes.{IsSize}
 use Rattle.resp_args.specs.declared.asked.Asked.{Asked}
 use Rattle.resp_args.specs.declared.asked.Asked.TheVariants.{Stream, Play, Serve, Tap, Proxy, Ask}
@@ -50,6 +49,18 @@ HasSize given name least most size = (text : Text) × (first_of name given ≡ S
 -- the option is this number, which is from 1 to 65,536
 abbrev pub HasSmallNumber : List Row → Text → ℕ → Type 0
 HasSmallNumber given name number = HasNumber given name number × (1 ≤ number) × (number ≤ 65536)
+
+-- the option is this number, or it is not given
+abbrev pub HasNumberIfGiven : List Row → Text → Option ℕ → Type 0
+HasNumberIfGiven given name None = first_of name given ≡ None
+HasNumberIfGiven given name (Some number) = HasNumber given name number
+
+abbrev pub IsSmall : ℕ → Type 0
+IsSmall number = (1 ≤ number) × (number ≤ 65536)
+
+-- the option is this number, which is from 1 to 65,536, or it is not given
+abbrev pub HasMost : List Row → Text → Option ℕ → Type 0
+HasMost given name most = HasNumberIfGiven given name most × IfSome most IsSmall
 
 -- the option is this number, which is in this range
 abbrev pub HasNumberBetween : List Row → Text → ℕ → ℕ → ℕ → Type 0
@@ -111,10 +122,10 @@ pub record HasOptions (given : List Row) (options : Options) : Type 0 where
   pub styled : HasStyle given options.style
 
 -- the options of `serve`, with the text of its address
-pub record HasServeWords (given : List Row) (address : Text) (limits : Bounds) (clients held : ℕ) : Type 0 where
+pub record HasServeWords (given : List Row) (address : Text) (limits : Bounds) (clients : Option ℕ) (held : ℕ) : Type 0 where
   pub in_limits : HasLimits given limits
   pub no_doubles : limits.doubles ≡ false
-  pub at_once : HasSmallNumber given (codes "clients") clients
+  pub at_once : HasMost given (codes "clients") clients
   pub waiting : HasSize given (codes "held") 1 1099511627776 held
   pub text : first_of (codes "address") given ≡ Some address
 
@@ -122,7 +133,8 @@ pub record HasServeWords (given : List Row) (address : Text) (limits : Bounds) (
 abbrev pub HasServing : List Row → Serving → Type 0
 HasServing given serving =
     HasServeWords given serving.address_text.now serving.limits serving.clients serving.held ×
-    IsAddressText serving.address_text.now serving.address
+    IsListenText serving.address_text.now serving.address ×
+    HasFlag given (codes "test-server") serving.is_test_server
 
 -- the options of `tap` that say which commands are printed
 pub record HasFilter (given : List Row) (filter : FilterOptions) : Type 0 where
@@ -142,7 +154,7 @@ pub record HasStats (given : List Row) (stats : StatsOptions) : Type 0 where
 pub record HasTapOptions (given : List Row) (options : TapOptions) : Type 0 where
   pub in_limits : HasLimits given options.limits
   pub with_doubles : options.limits.doubles ≡ true
-  pub at_once : HasSmallNumber given (codes "clients") options.clients
+  pub at_once : HasMost given (codes "clients") options.clients
   pub tells : HasFlag given (codes "time") options.tells_time
   pub exits : HasFlag given (codes "exit-with-output") options.exits_with_output
   pub keeps : HasFlag given (codes "keep-going") options.keeps_going
@@ -172,7 +184,7 @@ pub record HasRoute (given : List Row) (route : Route) : Type 0 where
   pub listen_text : first_of (codes "listen") given ≡ Some route.address_text.now
   pub server_text : Text
   pub server_is : first_of (codes "server") given ≡ Some server_text
-  pub listen : IsAddressText route.address_text.now route.address
+  pub listen : IsListenText route.address_text.now route.address
   pub to : IsServerText server_text route.server
   pub recorded : option_map (λ file. file.now) route.record ≡ first_of (codes "record") given
 
@@ -205,7 +217,7 @@ HasProxyFlags given flags = HasFlag given (codes "local-ping") flags.0 × HasFla
 pub record HasProxyOptions (given : List Row) (options : ProxyOptions) : Type 0 where
   pub in_limits : HasLimits given options.limits
   pub no_doubles : options.limits.doubles ≡ false
-  pub at_once : HasSmallNumber given (codes "clients") options.clients
+  pub at_once : HasMost given (codes "clients") options.clients
   pub alone : HasNumberBetween given (codes "own") 0 65536 options.own
   pub unanswered : HasNumberBetween given (codes "waiting") 1 1048576 options.waiting
   pub for_client : HasSize given (codes "held") 1 1099511627776 options.held
@@ -226,7 +238,7 @@ pub record HasProxyWords (given : List Row) (address server : Text) (options : P
 abbrev pub HasProxying : List Row → Proxying → Type 0
 HasProxying given proxying = (server_text : Text) ×
     HasProxyWords given proxying.address_text.now server_text proxying.options ×
-    IsAddressText proxying.address_text.now proxying.address × IsServerText server_text proxying.server ×
+    IsListenText proxying.address_text.now proxying.address × IsServerText server_text proxying.server ×
     (option_map (λ names. names.now) proxying.also ≡ first_of (codes "also") given) ×
     (proxying.checks ≡ is_on (first_of (codes "check") given)) × (proxying.all ≡ is_on (first_of (codes "all") given))
 
@@ -275,15 +287,15 @@ Enters (Some entered) asked = IsAsked entered.0 entered.1 asked
 abbrev pub AskFor : App → List Text → Asked → Type 0
 AskFor program words asked = (fault_of program words ≡ []) × Enters (subcommand_of program words) asked
 
--- The size of a read, the most clients at once, and the most commands that wait are from 1 to 65,536; for `proxy` at most
--- 65,536 clients have a connection of their own, a client has from 1 to 1,048,576 commands that wait, patience ends within
--- an hour, and reports follow one another within a day.
+-- The size of a read, the most clients at once if it is given, and the most commands that wait are from 1 to 65,536; for
+-- `proxy` at most 65,536 clients have a connection of their own, a client has from 1 to 1,048,576 commands that wait,
+-- patience ends within an hour, and reports follow one another within a day.
 abbrev pub IsInRange : Asked → Type 0
 IsInRange (Stream options) = (1 ≤ options.piece) × (options.piece ≤ 65536)
 IsInRange (Play explains never_explains file) = Unit {0}
-IsInRange (Serve serving) = (1 ≤ serving.clients) × (serving.clients ≤ 65536)
-IsInRange (Tap tapping) = (1 ≤ tapping.clients) × (tapping.clients ≤ 65536)
-IsInRange (Proxy proxying) = (1 ≤ proxying.options.clients) × (proxying.options.clients ≤ 65536) ×
+IsInRange (Serve serving) = IfSome serving.clients IsSmall
+IsInRange (Tap tapping) = IfSome tapping.clients IsSmall
+IsInRange (Proxy proxying) = IfSome proxying.options.clients IsSmall ×
     (proxying.options.own ≤ 65536) ×
     (1 ≤ proxying.options.waiting) × (proxying.options.waiting ≤ 1048576) ×
     (1 ≤ proxying.options.patience) × (proxying.options.patience ≤ 3600000) × (proxying.options.report ≤ 86400)

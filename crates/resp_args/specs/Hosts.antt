@@ -1,8 +1,10 @@
--- The address of a server in words, which may have the name of a host.
+-- The addresses of a listener and of a server in words. Each may be a path, and that of a server may have the name of a host.
 use Rattle.std.specs.Prelude.{◌≡◌, ◌≤◌, ◌<◌, ◌++◌, ◌⊎◌, ℕ, All, List, codes, take}
 use Rattle.std.specs.Net.Grammar.{IsSocketText}
 use Rattle.std.specs.declared.net.socket_addr.SocketAddr.{SocketAddr}
 use Rattle.resp_args.specs.Addresses.{HasPort, IsAddressText}
+use Rattle.resp_args.specs.declared.listen_address.ListenAddress.{ListenAddress}
+use Rattle.resp_args.specs.declared.listen_address.ListenAddress.TheVariants as listen
 use Rattle.resp_args.specs.declared.server_address.ServerAddress.{ServerAddress}
 use Rattle.resp_args.specs.declared.server_address.ServerAddress.TheVariants.{Socket, Named, Path}
 
@@ -29,7 +31,12 @@ IsHostText text host port = IsHost host ×
 abbrev pub IsPath : List ℕ → Type 0
 IsPath text = (take 1 text ≡ codes "/") ⊎ (take 2 text ≡ codes "./")
 
--- the text is a path, or an address that a listener may have, or else the name of a host with its port
+-- the text is a path, or an IP address and a port, or a port of this machine
+abbrev pub IsListenText : List ℕ → ListenAddress → Type 0
+IsListenText text (listen.Socket address) = IsAddressText text address
+IsListenText text (listen.Path path) = (path.now ≡ text) × IsPath text
+
+-- the text is that of a listener, or else the name of a host with its port
 abbrev pub IsServerText : List ℕ → ServerAddress → Type 0
 IsServerText text (Socket address) = IsAddressText text address
 IsServerText text (Path path) = (path.now ≡ text) × IsPath text

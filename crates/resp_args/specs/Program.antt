@@ -34,6 +34,10 @@ value_option name parser default = record (new_rule name) {
 abbrev pub number_option : Text → ℕ → ℕ → Text → Rule
 number_option name least most = value_option name (vp.Unsigned least most)
 
+-- `--name N`, a number in a range, without a default
+abbrev pub range_option : Text → ValueParser → Rule
+range_option name range = record (new_rule name) { long = Some name; value_names = 1; parser = Some range }
+
 -- `--name N`, a number of bytes: any text for the parser
 abbrev pub size_option : Text → Text → Rule
 size_option name default = record (new_rule name) { long = Some name; value_names = 1; defaults = default ∷ [] }
@@ -96,12 +100,12 @@ address_word name = record (new_rule name) { value_names = 1; required = true }
 
 -- the options of `serve`, `tap` and `proxy`, followed by those that only one of them has
 abbrev pub listening_options : List Rule → List Rule
-listening_options others = limit_options ++ number_option (codes "clients") 1 65536 (codes "1000") ∷ others
+listening_options others = limit_options ++ range_option (codes "clients") (vp.Unsigned 1 65536) ∷ others
 
 -- the options of `serve`
 abbrev pub serve_options : List Rule
 serve_options = listening_options
-    (size_option (codes "held") (codes "1M") ∷ address_word (codes "address") ∷ [])
+    (size_option (codes "held") (codes "1M") ∷ flag_option (codes "test-server") ∷ address_word (codes "address") ∷ [])
 
 -- the options of `tap` that say which commands are printed
 abbrev pub filter_options : List Rule

@@ -2,7 +2,7 @@
 use Rattle.std.specs.Prelude.{List, [], ◌∷◌, map}
 use Rattle.clap.specs.Words.{App, Rule, Text, new_app, new_rule, with_subcommand}
 use Rattle.clap.specs.declared.builder.value_parser.ValueParser.TheVariants as vp
-use Rattle.resp_args.specs.Program.{address_word, command_word, flag_option, name_option, numbers_between, optional_word, short_flag_option, size_option, value_option, with_options}
+use Rattle.resp_args.specs.Program.{address_word, command_word, flag_option, name_option, numbers_between, optional_word, range_option, short_flag_option, size_option, value_option, with_options}
 use Rattle.resp_args.specs.declared.parameter.Form.{Form}
 use Rattle.resp_args.specs.declared.parameter.Form.TheVariants as form
 use Rattle.resp_args.specs.declared.parameter.Parameter.{Parameter}
@@ -13,6 +13,7 @@ abbrev pub rule_by : Text → Form → Rule
 rule_by name form.Flag = flag_option name
 rule_by name (form.ShortFlag short) = short_flag_option name short
 rule_by name (form.Number least most default hides) = value_option name (numbers_between least most) default.now
+rule_by name (form.NumberIfGiven least most) = range_option name (numbers_between least most)
 rule_by name (form.Size default) = size_option name default.now
 rule_by name (form.Choice shown values default) = value_option name (vp.Names values) default.now
 rule_by name (form.Text shown) = name_option name

@@ -119,7 +119,7 @@ fn write_bad_address<F: Sink>(text: &str, name: &str, faults: &mut F) -> Result<
     write_text(faults, name.as_bytes())?;
     write_text(
         faults,
-        b">': expected an IP address and a port, such as 127.0.0.1:6380, or a port of this machine, such as 6380 or localhost:6380\n\n",
+        b">': expected an IP address and a port, such as 127.0.0.1:6380, a port of this machine, such as 6380 or localhost:6380, or the path of a Unix socket, such as /run/resp/resp.sock\n\n",
     )?;
     write_text(faults, b"For more information, try '--help'.\n")
 }

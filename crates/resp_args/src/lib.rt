@@ -8,6 +8,7 @@ pub mod asked;
 pub mod asking;
 pub mod duration;
 pub mod laws;
+pub mod listen_address;
 pub mod options;
 mod parameter;
 mod parser;

@@ -1,9 +1,9 @@
 //! The options of the command line.
 
-ghost use Rattle.std.specs.Prelude.{◌≡◌, ℕ, Bool, false, IfNone, IfOk, IfSome, OnErr, option_map};
+ghost use Rattle.std.specs.Prelude.{◌≡◌, ℕ, Bool, Option, false, IfNone, IfOk, IfSome, OnErr, option_map};
 ghost use Rattle.clap.specs.Words.{first_of, found_of, rows_of};
 ghost use Rattle.resp_args.specs.Addresses.{HasPort, IsAddressText, IsLocalPort};
-ghost use Rattle.resp_args.specs.CommandWords.{HasFlag, HasLimits, HasNumber, HasOptions, HasProto, HasReading, HasSize, HasSmallNumber};
+ghost use Rattle.resp_args.specs.CommandWords.{HasFlag, HasLimits, HasNumber, HasOptions, HasProto, HasMost, HasReading, HasSize, HasSmallNumber};
 ghost use Rattle.resp_value.specs.Bounds.{Bounds};
 
 use crate::asked::NothingAsked;
@@ -102,6 +102,18 @@ pub(crate) fn small_number_of(matches: &ArgMatches<'_>, name: &str) -> Option<us
         return None;
     }
     Some(number as usize)
+}
+
+/// Returns the number of an option from 1 to 65,536, if it is given; `None` if it is outside that range.
+pub(crate) fn most_of(matches: &ArgMatches<'_>, name: &str) -> Option<Option<usize>>
+    ensures some { IfSome result (HasMost (rows_of (found_of matches.now)) name.now) }
+    ensures none { IfNone result ((most : Option ℕ)
+        → HasMost (rows_of (found_of matches.now)) name.now most → ⊥) }
+{
+    let Some(_text) = text_of(matches, name) else {
+        return Some(None);
+    };
+    Some(Some(small_number_of(matches, name)?))
 }
 
 /// Returns whether an option is given.

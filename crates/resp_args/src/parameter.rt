@@ -30,6 +30,11 @@ pub(crate) enum Form {
         default: &'static str,
         hides_default: bool,
     },
+    /// `--name N`, with a number in this range, and without a default.
+    NumberIfGiven {
+        least: i64,
+        most: i64,
+    },
     /// `--name N`, with a number of bytes such as `64K`.
     Size {
         default: &'static str,
@@ -84,6 +89,10 @@ impl Parameter {
                 .value_parser(clap::value_parser!(u64).range(least..=most))
                 .default_value(default)
                 .hide_default_value(hides_default),
+            Form::NumberIfGiven { least, most } => arg
+                .long(self.name)
+                .value_name("N")
+                .value_parser(clap::value_parser!(u64).range(least..=most)),
             Form::Size { default } => arg.long(self.name).value_name("N").default_value(default),
             Form::Choice {
                 value_name,

@@ -3,24 +3,21 @@
 ghost use Rattle.std.specs.Prelude.{ℕ, Bool, List, IfNone, IfOk, IfSome, OnErr};
 ghost use Rattle.clap.specs.Words.{found_of, rows_of};
 ghost use Rattle.resp_args.specs.CommandWords.{HasNumberBetween, HasProxyFlags, HasProxyOptions, HasProxyTimes, HasProxyWords, HasProxying};
-ghost use Rattle.resp_args.specs.Addresses.{IsAddressText};
-ghost use Rattle.resp_args.specs.Hosts.{IsServerText};
+ghost use Rattle.resp_args.specs.Hosts.{IsListenText, IsServerText};
 
 use crate::asked::{NothingAsked, wrong_options};
-use crate::options::{
-    MOST_BYTES, address_of, bytes_of, flag_of, limits_of, number_of, small_number_of, text_of,
-};
+use crate::listen_address::{ListenAddress, listen_of};
+use crate::options::{MOST_BYTES, bytes_of, flag_of, limits_of, most_of, number_of, text_of};
 use crate::server_address::{ServerAddress, server_of};
 use crate::style::is_on;
 use clap::ArgMatches;
 use resp_value::limits::Limits;
-use std::net::SocketAddr;
 
 /// The options of `resp proxy`.
 #[derive(Clone, Copy, Debug)]
 pub struct Proxying<'a> {
     /// The address to listen on.
-    pub address: SocketAddr,
+    pub address: ListenAddress<'a>,
     /// The address as it was given.
     pub address_text: &'a str,
     /// The address of the server.
@@ -41,8 +38,8 @@ pub struct Proxying<'a> {
 pub struct ProxyOptions {
     /// The limits of commands and replies.
     pub limits: Limits,
-    /// The most clients at once, from 1 to 65,536.
-    pub clients: usize,
+    /// The most clients at once, from 1 to 65,536, if it is given.
+    pub clients: Option<usize>,
     /// The most clients at once that have a connection of their own, from 0 to 65,536.
     pub own: usize,
     /// The most connections to the server that clients share, from 1 to 256.
@@ -105,13 +102,13 @@ pub(crate) fn proxying_of<'a>(matches: &ArgMatches<'a>) -> Result<Proxying<'a>, 
 pub(crate) fn addresses_of<'a>(
     listen: &'a str,
     server: &'a str,
-) -> Result<(SocketAddr, ServerAddress<'a>), NothingAsked<'a>>
-    ensures ok { IfOk result (λ both. IsAddressText listen.now both.0 ×
+) -> Result<(ListenAddress<'a>, ServerAddress<'a>), NothingAsked<'a>>
+    ensures ok { IfOk result (λ both. IsListenText listen.now both.0 ×
         IsServerText server.now both.1) }
-    ensures err { OnErr result ((here : SocketAddr) (there : ServerAddress)
-        → IsAddressText listen.now here → IsServerText server.now there → ⊥) }
+    ensures err { OnErr result ((here : ListenAddress) (there : ServerAddress)
+        → IsListenText listen.now here → IsServerText server.now there → ⊥) }
 {
-    let address = address_of(listen, "LISTEN")?;
+    let address = listen_of(listen, "LISTEN")?;
     Ok((address, server_of(server)?))
 }
 
@@ -143,7 +140,7 @@ fn options_of(matches: &ArgMatches<'_>) -> Option<ProxyOptions>
     let refuses_lines = flag_of(matches, "no-inline")?;
     Some(ProxyOptions {
         limits: limits_of(matches)?,
-        clients: small_number_of(matches, "clients")?,
+        clients: most_of(matches, "clients")?,
         own: number_between(matches, "own", 0, 65_536)? as usize,
         waiting: number_between(matches, "waiting", 1, 1_048_576)? as u32,
         held: bytes_of(matches, "held", 1, MOST_BYTES)? as usize,

@@ -27,7 +27,7 @@ pub enum ServerAddress<'a> {
 }
 
 /// Returns the address of a server in a text, which was given for the argument `SERVER`. A text that
-/// begins with `/` or `./` is a path. A text that is the address of a listener is that address.
+/// begins with `/` or `./` is a path. An IP address with a port, or a port alone, is that address.
 pub(crate) fn server_of<'a>(text: &'a str) -> Result<ServerAddress<'a>, NothingAsked<'a>>
     ensures ok { IfOk result (IsServerText text.now) }
     ensures err { OnErr result ((server : ServerAddress) → IsServerText text.now server → ⊥) }
@@ -45,7 +45,7 @@ pub(crate) fn server_of<'a>(text: &'a str) -> Result<ServerAddress<'a>, NothingA
 }
 
 /// Returns whether a text is the path of a Unix socket.
-fn is_path(text: &str) -> bool
+pub(crate) fn is_path(text: &str) -> bool
     ensures { IsTrue result ↔ IsPath text.now }
 {
     matches!(text.as_bytes(), [b'/', ..] | [b'.', b'/', ..])

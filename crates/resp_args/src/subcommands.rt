@@ -71,6 +71,7 @@ const SERVE: Subcommand = Subcommand {
         NO_STREAMED,
         CLIENTS,
         HELD,
+        TEST_SERVER,
         ADDRESS,
     ],
     after_help: SERVE_HELP,
@@ -165,6 +166,7 @@ Exit status:
 const SERVE_HELP: &str = r"Examples:
   resp serve 127.0.0.1:6380
   resp serve --clients 100 --total 1M 127.0.0.1:0
+  resp serve --test-server 6379
 
 The server runs until it is stopped. With port 0 the system chooses the port.
 
@@ -360,13 +362,11 @@ const FILE: Parameter = Parameter {
 /// `--clients`: the most clients at once.
 pub(crate) const CLIENTS: Parameter = Parameter {
     name: "clients",
-    form: Form::Number {
+    form: Form::NumberIfGiven {
         least: 1,
         most: 65_536,
-        default: "1000",
-        hides_default: false,
     },
-    help: "Maximum clients at once, 1 to 65536",
+    help: "Maximum clients at once, 1 to 65536\n[default: as many as ulimit -n allows]",
 };
 
 /// `--held`: the most bytes that wait for a client of `serve` before its next command is run.
@@ -376,13 +376,20 @@ const HELD: Parameter = Parameter {
     help: "Maximum bytes waiting for a client when its\nnext command is run, 1 to 1024G",
 };
 
+/// `--test-server`: whether `serve` has 16 databases and more commands.
+const TEST_SERVER: Parameter = Parameter {
+    name: "test-server",
+    form: Form::Flag,
+    help: "Also serves inline commands, QUIT, SELECT, CLIENT,\nEXISTS, DBSIZE, FLUSHDB and FLUSHALL, in 16 databases",
+};
+
 /// The address that `serve` listens on.
 const ADDRESS: Parameter = Parameter {
     name: "address",
     form: Form::Required {
         value_name: "ADDRESS",
     },
-    help: "Address to listen on, such as 127.0.0.1:6380",
+    help: "Address to listen on: IP:PORT, PORT or PATH",
 };
 
 /// `--time`: whether times are printed.
@@ -522,7 +529,7 @@ const TAP_LISTEN: Parameter = Parameter {
     form: Form::Word {
         value_name: "LISTEN",
     },
-    help: "Address to listen on, such as 127.0.0.1:6380",
+    help: "Address to listen on: IP:PORT, PORT or PATH",
 };
 
 /// The address of the server of `tap`.
@@ -540,7 +547,7 @@ pub(crate) const LISTEN: Parameter = Parameter {
     form: Form::Required {
         value_name: "LISTEN",
     },
-    help: "Address to listen on, such as 127.0.0.1:6380",
+    help: "Address to listen on: IP:PORT, PORT or PATH",
 };
 
 /// The address of the server.

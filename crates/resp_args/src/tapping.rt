@@ -5,7 +5,7 @@ ghost use Rattle.clap.specs.Words.{found_of, rows_of};
 ghost use Rattle.resp_args.specs.CommandWords.{HasFilter, HasStats, HasTapOptions, HasTapping};
 
 use crate::asked::{NothingAsked, wrong_options};
-use crate::options::{flag_of, limits_of, number_of, small_number_of, text_of};
+use crate::options::{flag_of, limits_of, most_of, number_of, text_of};
 use crate::style::{StyleOptions, style_of};
 use crate::traffic::{Traffic, traffic_of};
 use clap::ArgMatches;
@@ -18,8 +18,8 @@ pub struct Tapping<'a> {
     pub traffic: Traffic<'a>,
     /// The limits, which allow doubles.
     pub limits: Limits,
-    /// The most clients at once, from 1 to 65,536.
-    pub clients: usize,
+    /// The most clients at once, from 1 to 65,536, if it is given.
+    pub clients: Option<usize>,
     /// Whether times are printed.
     pub tells_time: bool,
     /// Whether the tap ends at once when its output fails.
@@ -72,7 +72,7 @@ pub struct FilterOptions<'a> {
 #[derive(Clone, Copy)]
 struct TapOptions<'a> {
     limits: Limits,
-    clients: usize,
+    clients: Option<usize>,
     tells_time: bool,
     exits_with_output: bool,
     keeps_going: bool,
@@ -118,7 +118,7 @@ fn options_of<'a>(matches: &ArgMatches<'a>) -> Option<TapOptions<'a>>
 {
     Some(TapOptions {
         limits: limits_of(matches)?.with_doubles(true),
-        clients: small_number_of(matches, "clients")?,
+        clients: most_of(matches, "clients")?,
         tells_time: flag_of(matches, "time")?,
         exits_with_output: flag_of(matches, "exit-with-output")?,
         keeps_going: flag_of(matches, "keep-going")?,

@@ -8,11 +8,11 @@ ghost use Rattle.resp_args.specs.declared.traffic.Route.{Route};
 ghost use Rattle.resp_args.specs.declared.traffic.Traffic.{Traffic};
 
 use crate::asked::NothingAsked;
+use crate::listen_address::ListenAddress;
 use crate::options::text_of;
 use crate::proxying::{addresses_of, number_between};
 use crate::server_address::ServerAddress;
 use clap::ArgMatches;
-use std::net::SocketAddr;
 
 /// Where the traffic of `resp tap` comes from.
 #[derive(Clone, Copy, Debug)]
@@ -27,7 +27,7 @@ pub enum Traffic<'a> {
 #[derive(Clone, Copy, Debug)]
 pub struct Route<'a> {
     /// The address to listen on.
-    pub address: SocketAddr,
+    pub address: ListenAddress<'a>,
     /// The address as it was given.
     pub address_text: &'a str,
     /// The address of the server.

@@ -1,7 +1,7 @@
 //! Addresses of the ends of a connection.
 
 /// An address of version 4 or version 6 of the internet protocol, as a number.
-#[derive(Clone, Copy, Debug, PartialEq, Eq)]
+#[derive(Clone, Copy, Debug, PartialEq, Eq, PartialOrd, Ord)]
 pub enum Address {
     /// The four bytes.
     Four(u32),
@@ -10,7 +10,7 @@ pub enum Address {
 }
 
 /// An end of a connection.
-#[derive(Clone, Copy, Debug, PartialEq, Eq)]
+#[derive(Clone, Copy, Debug, PartialEq, Eq, PartialOrd, Ord)]
 pub struct Endpoint {
     pub address: Address,
     pub port: u16,

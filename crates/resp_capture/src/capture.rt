@@ -1,10 +1,10 @@
 //! The packets of a capture that comes in pieces.
 
 ghost use Rattle.std.specs.Prelude.{◌≡◌, ◌+◌, ◌<◌, ◌≤◌, ◌++◌, [], ◌∷◌, true, false, length, IfErr, IfOk, OnOk};
-ghost use Rattle.std.specs.Prelude.{Some, IfSome, slice_get};
+ghost use Rattle.std.specs.Prelude.{◌⊎◌, None, Some, IfSome, OnErr, slice_get};
 ghost use Rattle.resp_capture.specs.Frames.{IsEnhanced, IsFrame, IsRecord, IsSimple, IsTime, simple_count, ticks_in};
 ghost use Rattle.resp_capture.specs.Numbers.{number32};
-ghost use Rattle.resp_capture.specs.Reading.{HasFrame, IsAtEnd, ReadsBlock, begun_bytes, next_at};
+ghost use Rattle.resp_capture.specs.Reading.{HasFrame, HasNoFault, IsAtEnd, IsNotReadOn, ReadsBlock, StopsAt, begun_bytes, failure_of, fault_of, fault_of_block, fault_of_pcapng, next_at};
 ghost use Rattle.resp_capture.specs.declared.interface.Interface.{Interface};
 ghost use Rattle.resp_capture.specs.declared.time.Time.{Time};
 
@@ -47,6 +47,8 @@ pub struct Capture {
     pub(crate) is_whole: bool,
     /// The byte of the file at which the block begins.
     pub(crate) at: u64,
+    /// Why a call of [`read`](Capture::read) has failed, if one has.
+    pub(crate) failure: Option<Reason>,
 }
 
 impl Capture {
@@ -54,6 +56,7 @@ impl Capture {
     pub fn new(alloc: Global) -> Capture
         ensures nothing_read { begun_bytes result ≡ [] }
         ensures unknown { result.format ≡ Format.Unknown }
+        ensures no_failure { failure_of result ≡ None }
     {
         Capture {
             format: Format::Unknown,
@@ -61,6 +64,7 @@ impl Capture {
             held: Vec::new(alloc),
             is_whole: false,
             at: 0,
+            failure: None,
         }
     }
 
@@ -81,6 +85,7 @@ impl Capture {
         ensures same_interfaces { self.new.interfaces.items ≡ self.old.interfaces.items }
         ensures not_whole { self.new.is_whole ≡ false }
         ensures at { self.new.at ≡ next_at self.old }
+        ensures same_failure { self.new.failure ≡ self.old.failure }
     {
         if self.is_whole {
             self.at = self.at.saturating_add(self.held.len() as u64);
@@ -95,17 +100,30 @@ impl Capture {
     ///
     /// # Errors
     ///
-    /// Why the file is not read on. Each later call fails too.
+    /// Why the file is not read on: the size that a block says is wrong or above 1,048,576 bytes,
+    /// the first block is that of no capture or names a link that is not read, or memory is out. The
+    /// bytes that were read up to there are kept, and each later call fails for the same reason.
     pub fn read(&mut self, piece: &[u8]) -> Result<usize, CaptureError>
         ensures read { IfOk result (λ count. ReadsBlock self.old self.new piece.now count) }
         ensures some { IfOk result (λ count. 0 < length piece.now → 0 < count) }
         ensures at { self.new.at ≡ next_at self.old }
         ensures error_at { IfErr result (λ error. error.at ≡ self.new.at) }
+        ensures no_fault { OnOk result (HasNoFault self.old self.new) }
+        ensures fault { IfErr result (λ error.
+            IsNotReadOn (failure_of self.old) self.old self.new piece.now error.reason) }
+        ensures stays_ok { OnOk result (failure_of self.new ≡ None) }
+        ensures stays_failed { IfErr result (λ error. failure_of self.new ≡ Some error.reason) }
     {
         self.begin();
+        if let Some(reason) = self.failure {
+            return Err(self.error(reason));
+        }
         match self.read_on(piece) {
             Ok(count) => Ok(count),
-            Err(reason) => Err(self.error(reason)),
+            Err(reason) => {
+                self.failure = Some(reason);
+                Err(self.error(reason))
+            }
         }
     }
 
@@ -115,6 +133,9 @@ impl Capture {
         ensures read { IfOk result (λ count. ReadsBlock self.old self.new piece.now count) }
         ensures some { IfOk result (λ count. 0 < length piece.now → 0 < count) }
         ensures at { self.new.at ≡ self.old.at }
+        ensures same_failure { self.new.failure ≡ self.old.failure }
+        ensures no_fault { OnOk result (fault_of self.old.format self.new.held.items ≡ None) }
+        ensures fault { IfErr result (StopsAt self.old self.new piece.now) }
     {
         let wanted = block_size(self.format, self.held.as_slice())?;
         // This is so only after an error.
@@ -136,6 +157,10 @@ impl Capture {
     /// Adds bytes to those of the block.
     fn hold(&mut self, bytes: &[u8]) -> Result<(), Reason>
         ensures held { OnOk result (self.new.held.items ≡ self.old.held.items ++ bytes.now) }
+        ensures refused { OnErr result (self.new.held.items ≡ self.old.held.items) }
+        ensures memory { IfErr result (λ reason. reason ≡ Reason.OutOfMemory) }
+        ensures same_failure { self.new.failure ≡ self.old.failure }
+        ensures same_interfaces { self.new.interfaces.items ≡ self.old.interfaces.items }
         ensures same_format { self.new.format ≡ self.old.format }
         ensures not_whole { self.new.is_whole ≡ self.old.is_whole }
         ensures at { self.new.at ≡ self.old.at }
@@ -151,6 +176,14 @@ impl Capture {
         ensures whole { OnOk result (self.new.is_whole ≡ true) }
         ensures held { self.new.held.items ≡ self.old.held.items }
         ensures at { self.new.at ≡ self.old.at }
+        ensures same_failure { self.new.failure ≡ self.old.failure }
+        ensures no_fault { OnOk result
+            (fault_of_block self.old.format self.old.held.items ≡ None) }
+        ensures fault { IfErr result (λ reason. (reason ≡ Reason.OutOfMemory) ⊎
+            (fault_of_block self.old.format self.old.held.items ≡ Some reason)) }
+        ensures refused { OnErr result ((self.new.is_whole ≡ self.old.is_whole) ×
+            (self.new.format ≡ self.old.format) ×
+            (self.new.interfaces.items ≡ self.old.interfaces.items)) }
     {
         match self.format {
             Format::Unknown => self.begin_file()?,
@@ -165,6 +198,14 @@ impl Capture {
     fn begin_file(&mut self) -> Result<(), Reason>
         ensures held { self.new.held.items ≡ self.old.held.items }
         ensures at { self.new.at ≡ self.old.at }
+        ensures same_failure { self.new.failure ≡ self.old.failure }
+        ensures not_whole { self.new.is_whole ≡ self.old.is_whole }
+        ensures no_fault { OnOk result
+            (fault_of_block Format.Unknown self.old.held.items ≡ None) }
+        ensures fault { IfErr result (λ reason. (reason ≡ Reason.OutOfMemory) ⊎
+            (fault_of_block Format.Unknown self.old.held.items ≡ Some reason)) }
+        ensures refused { OnErr result ((self.new.format ≡ self.old.format) ×
+            (self.new.interfaces.items ≡ self.old.interfaces.items)) }
     {
         let bytes = self.held.as_slice();
         if bytes.len() < 24 {
@@ -177,14 +218,22 @@ impl Capture {
         let Some(link) = Link::of_number(number) else {
             return Err(Reason::UnknownLink(number));
         };
+        self.add(Interface::of_pcap(link, magic.per_second))?;
         self.format = Format::Pcap(magic.order);
-        self.add(Interface::of_pcap(link, magic.per_second))
+        Ok(())
     }
 
     /// Keeps what a block of pcapng says.
     fn read_block(&mut self, order: ByteOrder) -> Result<(), Reason>
         ensures held { self.new.held.items ≡ self.old.held.items }
         ensures at { self.new.at ≡ self.old.at }
+        ensures same_failure { self.new.failure ≡ self.old.failure }
+        ensures not_whole { self.new.is_whole ≡ self.old.is_whole }
+        ensures no_fault { OnOk result (fault_of_pcapng order self.old.held.items ≡ None) }
+        ensures fault { IfErr result (λ reason. (reason ≡ Reason.OutOfMemory) ⊎
+            (fault_of_pcapng order self.old.held.items ≡ Some reason)) }
+        ensures refused { OnErr result ((self.new.format ≡ self.old.format) ×
+            (self.new.interfaces.items ≡ self.old.interfaces.items)) }
     {
         let bytes = self.held.as_slice();
         if bytes.len() < 12 {
@@ -210,6 +259,10 @@ impl Capture {
     fn add(&mut self, interface: Interface) -> Result<(), Reason>
         ensures added { OnOk result (self.new.interfaces.items ≡
             self.old.interfaces.items ++ interface ∷ []) }
+        ensures refused { OnErr result (self.new.interfaces.items ≡ self.old.interfaces.items) }
+        ensures memory { IfErr result (λ reason. reason ≡ Reason.OutOfMemory) }
+        ensures same_failure { self.new.failure ≡ self.old.failure }
+        ensures not_whole { self.new.is_whole ≡ self.old.is_whole }
         ensures held { self.new.held.items ≡ self.old.held.items }
         ensures format { self.new.format ≡ self.old.format }
         ensures at { self.new.at ≡ self.old.at }

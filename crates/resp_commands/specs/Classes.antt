@@ -8,6 +8,10 @@ use Rattle.resp_commands.specs.declared.table.TheConstants.{COMMANDS, SUBCOMMAND
 use Rattle.resp_commands.specs.Names.{HasName, IsSubcommand, LacksSubcommand}
 use Rattle.resp_commands.specs.Options.{Blocks}
 
+-- the command has subcommands, or is one
+abbrev pub HasSubcommands : Command → Type 0
+HasSubcommands command = (command.container == 0) ≡ false
+
 -- the class of a subcommand of the command
 pub record HasSubclass (command : Command) (word : List ℕ) (c : Class) : Type 0 where
   pub subcommand : Command

@@ -118,7 +118,8 @@ pub struct Command {
 }
 
 impl Command {
-    ghost use Rattle.std.specs.Prelude.{◌≡◌};
+    ghost use Rattle.std.specs.Prelude.{◌≡◌, ◌↔◌, IsTrue};
+    ghost use Rattle.resp_commands.specs.Classes.{HasSubcommands};
     ghost use Rattle.resp_commands.specs.Names.{name_of};
 
     /// Returns the name in lower case.
@@ -126,5 +127,12 @@ impl Command {
         ensures { result.now ≡ name_of self.now }
     {
         &self.padded[..usize::from(self.length).min(24)]
+    }
+
+    /// Returns whether the command has subcommands or is one.
+    pub fn has_subcommands(&self) -> bool
+        ensures { IsTrue result ↔ HasSubcommands self.now }
+    {
+        self.container != 0
     }
 }

@@ -3,5 +3,6 @@ pub mod Texts
 pub mod Framing
 pub mod Commands
 pub mod Requests
+pub mod KnownHeads
 pub mod Keys
 pub mod Laws

@@ -10,7 +10,7 @@ ghost use Rattle.resp_scan.specs.Reading.{HasNoValue};
 use crate::begun::Begun;
 use crate::error::FrameError;
 use crate::frames::Frames;
-use crate::words::{CommandFrame, Request, command_of_piece, is_empty_array, words_of};
+use crate::words::{CommandFrame, Request, is_empty_array, words_of};
 
 impl Frames {
     /// Finds the end of the next command of a client, as [`Frames::next`] does. A command is an array
@@ -54,7 +54,7 @@ impl Frames {
         ensures same_rules { frame_rules self.new ≡ frame_rules self.old }
     {
         if begun.held.is_none() {
-            if let Some(found) = command_of_piece(piece, &self.limits) {
+            if let Some(found) = self.heads.find(piece, &self.limits) {
                 return Ok(Some(found));
             }
         }
@@ -104,7 +104,7 @@ impl Frames {
         ensures same_rules { frame_rules self.new ≡ frame_rules self.old }
     {
         if begun.held.is_none() {
-            if let Some(found) = command_of_piece(piece, &self.limits) {
+            if let Some(found) = self.heads.find(piece, &self.limits) {
                 return Ok(Some(Request::Command(found)));
             }
         }

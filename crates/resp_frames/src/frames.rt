@@ -11,6 +11,7 @@ ghost use Rattle.resp_scan.specs.Reading.{Events, HasNoValue, HasRead};
 use crate::begun::{Begun, Held};
 use crate::error::FrameError;
 use crate::frame::Frame;
+use crate::heads::Heads;
 use resp_nodes::plain_end;
 use resp_scan::event::{ScanError, Scanned};
 use resp_scan::nobody::Nobody;
@@ -36,6 +37,7 @@ pub struct Frames {
     pub(crate) version: Version,
     pub(crate) limits: Limits,
     pub(crate) scanner: Box<Scanner>,
+    pub(crate) heads: Heads,
 }
 
 impl Frames {
@@ -56,6 +58,7 @@ impl Frames {
             version,
             limits: *limits,
             scanner,
+            heads: Heads::new(),
         })
     }
 

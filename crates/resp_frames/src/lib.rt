@@ -9,7 +9,9 @@ mod commands;
 mod error;
 mod frame;
 mod frames;
+mod heads;
 mod keys;
+mod known_head;
 pub mod laws;
 mod words;
 

@@ -1,5 +1,6 @@
 pub mod Escaped
 pub mod Base64
+pub mod Names
 pub mod Members
 pub mod Strings
 pub mod Numbers

@@ -1,5 +1,5 @@
 -- The first bytes of a value's JSON text show its kind.
-use Rattle.std.proofs.Common.{◌≡◌, ℕ, ◌+◌, ◌*◌, ◌≤◌, ◌==◌, ◌||◌, Bool, true, false, cond, List, ◌∷◌, ◌++◌, codes, get_or, refl, sym, ap, ◌∙◌, arith}
+use Rattle.std.proofs.Common.{◌≡◌, ◌⊎◌, inl, inr, ℕ, ◌+◌, ◌*◌, ◌≤◌, ◌==◌, ◌||◌, Bool, true, false, cond, List, ◌∷◌, ◌++◌, codes, get_or, refl, sym, ap, ◌∙◌, arith}
 use Rattle.std.proofs.lemmas.Bool.{ne_eqb}
 use Rattle.std.specs.Fmt.{signed_decimal}
 use Rattle.std.specs.Str.{is_utf8}
@@ -15,16 +15,21 @@ use Rattle.resp_json.proofs.Numbers.{integer_begins}
 abbrev member_kind : ℕ → ℕ
 member_kind letters = cond (letters == 25185) 4 letters
 
--- the kind of the value whose JSON text comes first: for an object by two letters of its first member
+-- the kind of a value by the first byte of its JSON text, and for an object by two letters of its first member
+abbrev kind_by : ℕ → ℕ → ℕ
+kind_by byte letters =
+    cond (byte == 123) (member_kind letters)
+    (cond (byte == 110) 1
+    (cond (byte == 116) 2
+    (cond (byte == 102) 2
+    (cond (byte == 34) 4
+    (cond (byte == 91) 5
+    (cond (byte == 93) 6
+    (cond (byte == 125) 6 3)))))))
+
+-- the kind of the value whose JSON text comes first
 abbrev pub kind_at : List ℕ → ℕ
-kind_at text =
-    cond (get_or text 0 0 == 123) (member_kind (get_or text 2 0 * 256 + get_or text 3 0))
-    (cond (get_or text 0 0 == 110) 1
-    (cond (get_or text 0 0 == 116) 2
-    (cond (get_or text 0 0 == 102) 2
-    (cond (get_or text 0 0 == 34) 4
-    (cond (get_or text 0 0 == 91) 5
-    (cond (get_or text 0 0 == 93) 6 3))))))
+kind_at text = kind_by (get_or text 0 0) (get_or text 2 0 * 256 + get_or text 3 0)
 
 -- the kind of a scalar
 abbrev pub scalar_kind : Scalar → ℕ
@@ -62,7 +67,8 @@ integer_at text h =
     let a4 : (a == 34) ≡ false = ne_eqb a 34 (λ e. omega (arith, h.0)) in
     let a5 : (a == 91) ≡ false = ne_eqb a 91 (λ e. omega (arith, h.1)) in
     let a6 : (a == 93) ≡ false = ne_eqb a 93 (λ e. omega (arith, h.1)) in
-    rw (a0, a1, a2, a3, a4, a5, a6) refl
+    let a7 : (a == 125) ≡ false = ne_eqb a 125 (λ e. omega (arith, h.1)) in
+    rw (a0, a1, a2, a3, a4, a5, a6, a7) refl
 
 text_at : (text rest : List ℕ) (test : Bool) → is_utf8 text ≡ test → kind_at (text_json text ++ rest) ≡ 4
 text_at text rest true h =
@@ -124,7 +130,7 @@ aggregate_is Push = refl
 pub kinds_differ : (s : Scalar) (k : Kind) → scalar_kind s ≡ aggregate_kind k → ⊥
 kinds_differ s k e = let h : false ≡ true = sym (scalar_is_none s) ∙ ap is_aggregate e ∙ aggregate_is k in cc
 
--- whether it is the kind of a closing bracket
+-- whether it is the kind of a closing bracket or brace
 abbrev is_close : ℕ → Bool
 is_close kind = kind == 6
 
@@ -148,7 +154,19 @@ value_is_open (aggregate Map xs) = refl
 value_is_open (aggregate Attr xs) = refl
 value_is_open (aggregate Push xs) = refl
 
+-- a closing brace or bracket comes first
+abbrev pub IsStop : List ℕ → Type 0
+IsStop text = (get_or text 0 0 ≡ 125) ⊎ (get_or text 0 0 ≡ 93)
+
+-- no value begins with such a text
+stop_is_close : (text : List ℕ) → IsStop text → is_close (kind_at text) ≡ true
+stop_is_close text (inl h) = ap (λ byte. is_close (kind_by byte (get_or text 2 0 * 256 + get_or text 3 0))) h
+stop_is_close text (inr h) = ap (λ byte. is_close (kind_by byte (get_or text 2 0 * 256 + get_or text 3 0))) h
+
+pub value_no_stop : (x : Datum) (rest : List ℕ) → IsValue x → IsStop (json_of x ++ rest) → ⊥
+value_no_stop x rest p stop =
+    let h : true ≡ false = sym (stop_is_close (json_of x ++ rest) stop) ∙ ap is_close (kind_is x rest p) ∙ value_is_open x in cc
+
 -- no value begins with a closing bracket
 pub no_bracket : (x : Datum) (rest rest' : List ℕ) → IsValue x → 93 ∷ rest' ≡ json_of x ++ rest → ⊥
-no_bracket x rest rest' p e =
-    let h : true ≡ false = ap (λ z. is_close (kind_at z)) e ∙ ap is_close (kind_is x rest p) ∙ value_is_open x in cc
+no_bracket x rest rest' p e = value_no_stop x rest p (inr (ap (λ z. get_or z 0 0) (sym e)))

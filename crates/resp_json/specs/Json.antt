@@ -1,8 +1,9 @@
 -- The JSON text of a value, without spaces and without an LF.
-use Rattle.std.specs.Prelude.{ℕ, ◌/◌, ◌%◌, Bool, true, false, ◌==◌, ◌&&◌, nat_le, cond, List, [], ◌∷◌, ◌++◌, codes}
+use Rattle.std.specs.Prelude.{ℕ, ◌/◌, ◌%◌, Bool, true, false, ◌==◌, ◌&&◌, nat_le, cond, List, [], ◌∷◌, ◌++◌, length, map, codes}
 use Rattle.std.specs.Fmt.{signed_decimal}
-use Rattle.std.specs.List.{flat_map}
-use Rattle.std.specs.Str.{is_utf8}
+use Rattle.std.specs.List.{flat_map, list_all}
+use Rattle.std.specs.Set.{distinct_count}
+use Rattle.std.specs.Str.{bytes_eq, is_utf8}
 use Rattle.base64.specs.Engines.{standard}
 use Rattle.base64.specs.GeneralPurpose.{encode_of}
 use Rattle.resp_value.specs.Data.{Array, Set, Map, Attr, Push, Scalar, Null, Int, Simple, Error, Double, Bulk, BulkError, Verbatim, Big, Datum, Data, scalar, aggregate, none, more}
@@ -66,9 +67,47 @@ scalar_json (BulkError text) = text_object (codes "{\"bulk_error\":") text
 scalar_json (Verbatim format text) = codes "{\"verbatim\":" ++ (text_json text ++ text_object (codes ",\"format\":") format)
 scalar_json (Big negative digits) = big_front negative ++ (digits ++ codes "\"}")
 
--- a key and its value as an array, after what separates it from the pair before
-abbrev pub pair_json : List ℕ → List ℕ → List ℕ → List ℕ
-pair_json separator key value = separator ++ (codes "[" ++ (key ++ (codes "," ++ (value ++ codes "]"))))
+-- the keys among keys and values in turn: what an attribute annotates comes last, and is no key
+abbrev pub keys : Data → List Datum
+keys none = []
+keys (more x none) = []
+keys (more k (more x xs)) = k ∷ keys xs
+
+-- a bulk string that is UTF-8
+abbrev pub is_name : Datum → Bool
+is_name (scalar (Bulk text)) = is_utf8 text
+is_name _ = false
+
+-- the bytes of a bulk string
+abbrev pub name_text : Datum → List ℕ
+name_text (scalar (Bulk text)) = text
+name_text _ = []
+
+-- each key is a bulk string that is UTF-8, and no two are equal
+abbrev pub are_names : List Datum → Bool
+are_names ks = list_all is_name ks && (distinct_count bytes_eq (map name_text ks) == length ks)
+
+-- pairs are an object if there are at most 512 and their keys are names, and otherwise an array
+abbrev pub is_object : Data → Bool
+is_object xs = nat_le (length (keys xs)) 512 && are_names (keys xs)
+
+-- the brackets around pairs: of an object, or of an array
+abbrev pub open_bracket : Bool → List ℕ
+open_bracket true = codes "{"
+open_bracket false = codes "["
+
+abbrev pub close_bracket : Bool → List ℕ
+close_bracket true = codes "}"
+close_bracket false = codes "]"
+
+-- pairs in their brackets
+abbrev pub in_brackets : Bool → List ℕ → List ℕ
+in_brackets named pairs = open_bracket named ++ (pairs ++ close_bracket named)
+
+-- a key and its value, after what separates it from the pair before: a member of an object, or an array
+abbrev pub pair_json : Bool → List ℕ → List ℕ → List ℕ → List ℕ
+pair_json true separator key value = separator ++ (key ++ (codes ":" ++ value))
+pair_json false separator key value = separator ++ (codes "[" ++ (key ++ (codes "," ++ (value ++ codes "]"))))
 
 -- the JSON text of a value
 abbrev mutual
@@ -77,8 +116,9 @@ abbrev mutual
   json_of (aggregate Array xs) = codes "[" ++ (members_json [] xs ++ codes "]")
   json_of (aggregate Set xs) = codes "{\"set\":[" ++ (members_json [] xs ++ codes "]}")
   json_of (aggregate Push xs) = codes "{\"push\":[" ++ (members_json [] xs ++ codes "]}")
-  json_of (aggregate Map xs) = codes "{\"map\":[" ++ (pairs_json [] xs ++ codes "]}")
-  json_of (aggregate Attr xs) = codes "{\"attribute\":[" ++ (pairs_json [] xs ++ codes "}")
+  json_of (aggregate Map xs) = codes "{\"map\":" ++ (in_brackets (is_object xs) (pairs_json (is_object xs) [] xs) ++ codes "}")
+  json_of (aggregate Attr xs) =
+      codes "{\"attribute\":" ++ (open_bracket (is_object xs) ++ (pairs_json (is_object xs) [] xs ++ codes "}"))
 
   -- members, separated by commas; the first comes after this separator
   pub members_json : List ℕ → Data → List ℕ
@@ -86,10 +126,11 @@ abbrev mutual
   members_json separator (more x xs) = separator ++ (json_of x ++ members_json (codes ",") xs)
 
   -- keys and values in turn as pairs, and the value that an attribute annotates, which comes last
-  pub pairs_json : List ℕ → Data → List ℕ
-  pairs_json separator none = []
-  pairs_json separator (more x none) = codes "],\"of\":" ++ json_of x
-  pairs_json separator (more k (more x xs)) = pair_json separator (json_of k) (json_of x) ++ pairs_json (codes ",") xs
+  pub pairs_json : Bool → List ℕ → Data → List ℕ
+  pairs_json named separator none = []
+  pairs_json named separator (more x none) = close_bracket named ++ (codes ",\"of\":" ++ json_of x)
+  pairs_json named separator (more k (more x xs)) =
+      pair_json named separator (json_of k) (json_of x) ++ pairs_json named (codes ",") xs
 
 -- the line of a value
 abbrev pub json_line : Datum → List ℕ

@@ -5,5 +5,6 @@
 #![tactic(auto)]
 
 pub mod laws;
+mod pairs;
 pub mod text;
 pub mod value;

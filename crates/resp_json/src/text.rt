@@ -138,7 +138,7 @@ pub fn write_json_text<W: Sink>(writer: &mut W, text: &[u8]) -> Result<(), Devic
 }
 
 /// Returns whether the bytes are UTF-8.
-fn is_utf8(text: &[u8]) -> bool
+pub(crate) fn is_utf8(text: &[u8]) -> bool
     ensures { result ≡ is_utf8 text.now }
 {
     str::from_utf8(text).is_ok()

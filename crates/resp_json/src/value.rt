@@ -5,10 +5,11 @@ ghost use Rattle.resp_value.specs.Data.{data_of_list, in_turn};
 ghost use Rattle.resp_value.specs.Data as d;
 ghost use Rattle.resp_value.specs.Values.{datum_of, digits_text, is_negative, pair_data};
 ghost use Rattle.resp_value.specs.declared.value.Value.TheVariants as value;
-ghost use Rattle.resp_json.specs.Json.{big_front, json_line, json_of, members_json, pairs_json, scalar_json, text_object};
+ghost use Rattle.resp_json.specs.Json.{big_front, in_brackets, is_object, json_line, json_of, members_json, pairs_json, scalar_json, text_object};
 ghost use Rattle.resp_print.specs.Printed.{IsScalar};
 ghost use Rattle.resp_print.specs.Written.{WritesText};
 
+use crate::pairs::{after_value, before_key, before_value, close_bracket, is_object, open_bracket};
 use crate::text::write_json_text;
 use resp_print::text::{write_number, write_text};
 use resp_value::device::{DeviceFault, Sink};
@@ -46,9 +47,9 @@ pub fn write_json<W: Sink>(value: &Value, writer: &mut W) -> Result<(), DeviceFa
         Value::Array(members) => write_members(b"[", members.list(), b"]", writer),
         Value::Set(members) => write_members(b"{\"set\":[", members.list(), b"]}", writer),
         Value::Push(members) => write_members(b"{\"push\":[", members.list(), b"]}", writer),
-        Value::Map(pairs) => write_pairs(b"{\"map\":[", pairs.list(), b"]}", writer),
+        Value::Map(pairs) => write_pairs(b"{\"map\":", pairs.list(), b"}", writer),
         Value::Attr(pairs, annotated) => {
-            write_pairs(b"{\"attribute\":[", pairs.list(), b"],\"of\":", writer)?;
+            write_pairs(b"{\"attribute\":", pairs.list(), b",\"of\":", writer)?;
             write_json(annotated, writer)?;
             write_text(writer, b"}")
         }
@@ -128,7 +129,7 @@ fn write_member<W: Sink>(
     write_json(member, writer)
 }
 
-/// Writes pairs as arrays, separated by commas, between two texts.
+/// Writes pairs as an object or an array, between two texts.
 #[cycle(json)]
 fn write_pairs<W: Sink>(
     front: &[u8],
@@ -136,28 +137,40 @@ fn write_pairs<W: Sink>(
     end: &[u8],
     writer: &mut W,
 ) -> Result<(), DeviceFault>
-    ensures { WritesText (W.written writer.old) (W.written writer.new) (W.failures writer.old)
+    ensures { let xs = data_of_list (in_turn (map pair_data pairs.now)) in
+        WritesText (W.written writer.old) (W.written writer.new) (W.failures writer.old)
         (W.failures writer.new) result (front.now ++
-        (pairs_json [] (data_of_list (in_turn (map pair_data pairs.now))) ++ end.now)) }
+        (in_brackets (is_object xs) (pairs_json (is_object xs) [] xs) ++ end.now)) }
 {
+    let named = is_object(pairs);
     write_text(writer, front)?;
-    write_each_pair(pairs, writer)?;
+    write_text(writer, open_bracket(named))?;
+    write_each_pair(named, pairs, writer)?;
+    write_text(writer, close_bracket(named))?;
     write_text(writer, end)
 }
 
-/// Writes pairs as arrays, separated by commas.
+/// Writes pairs, separated by commas: as members of an object if they are `named`, and otherwise as
+/// arrays.
 #[cycle(json)]
-fn write_each_pair<W: Sink>(pairs: &[(Value, Value)], writer: &mut W) -> Result<(), DeviceFault>
+fn write_each_pair<W: Sink>(
+    named: bool,
+    pairs: &[(Value, Value)],
+    writer: &mut W,
+) -> Result<(), DeviceFault>
     ensures { WritesText (W.written writer.old) (W.written writer.new) (W.failures writer.old)
         (W.failures writer.new) result
-        (pairs_json [] (data_of_list (in_turn (map pair_data pairs.now)))) }
+        (pairs_json named [] (data_of_list (in_turn (map pair_data pairs.now)))) }
 {
+    let opening = before_key(named);
+    let middle = before_value(named);
+    let ending = after_value(named);
     let mut separator: &[u8] = b"";
     for pair in pairs {
         write_text(writer, separator)?;
-        write_member(b"[", &pair.0, writer)?;
-        write_member(b",", &pair.1, writer)?;
-        write_text(writer, b"]")?;
+        write_member(opening, &pair.0, writer)?;
+        write_member(middle, &pair.1, writer)?;
+        write_text(writer, ending)?;
         separator = b",";
     }
     Ok(())

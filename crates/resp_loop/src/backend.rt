@@ -1,14 +1,16 @@
 //! The addresses of the server, and which of them is tried next.
 
-use crate::own_address::check_server;
+use crate::own_address::{check_path, check_server};
 use crate::spare::Spare;
 use crate::stream::Stream;
 use std::alloc::{AllocError, Global};
-use std::io;
+use std::fmt::{Display, Formatter, Write};
+use std::fs::Files;
 use std::io::ErrorKind;
 use std::net::{Net, SocketAddr};
+use std::{fmt, io};
 
-/// An address of a server.
+/// An address of a server or of a listener.
 #[derive(Debug, Drop)]
 pub enum Address {
     /// An IP address and a port.
@@ -27,6 +29,16 @@ impl Address {
         match self {
             Address::Socket(address) => Ok(Address::Socket(*address)),
             Address::Path(path) => Ok(Address::Path(path.clone()?)),
+        }
+    }
+}
+
+impl Display for Address {
+    /// Writes the IP address and the port, or the path.
+    fn fmt<W: Write>(&self, f: &mut Formatter<W>) -> fmt::Result {
+        match self {
+            Address::Socket(address) => write!(f, "{address}"),
+            Address::Path(path) => write!(f, "{path}"),
         }
     }
 }
@@ -83,16 +95,23 @@ impl Backend {
         self.name.as_str()
     }
 
-    /// Fails if connections to one of the addresses would come back to this address to listen on.
+    /// Fails if connections to one of the addresses would come back to this address, on which the
+    /// caller has just begun to listen. The file of its Unix socket is removed then.
     ///
     /// # Errors
     ///
     /// The error of the address, or an error of kind `InvalidInput`.
-    pub fn check(&self, net: &impl Net, listening: io::Result<SocketAddr>) -> io::Result<()> {
+    pub fn check<R: Net + Files>(&self, rt: &R, listening: io::Result<Address>) -> io::Result<()> {
         let listening = listening?;
         for address in &self.addresses {
-            if let Address::Socket(address) = address {
-                check_server(net, *address, listening)?;
+            match (address, &listening) {
+                (Address::Socket(server), Address::Socket(listening)) => {
+                    check_server(rt, *server, *listening)?;
+                }
+                (Address::Path(server), Address::Path(listening)) => {
+                    check_path(rt, server.as_str(), listening.as_str())?;
+                }
+                _ => {}
             }
         }
         Ok(())

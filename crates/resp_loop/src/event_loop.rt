@@ -4,16 +4,18 @@ ghost use Rattle.std.specs.Prelude.{◌≡◌, ◌<◌, ◌≤◌, [], None, Som
 ghost use Rattle.resp_loop.specs.Placing.{ArePlaced, KeepsOthers, NoneAppears};
 ghost use Rattle.resp_loop.specs.Waits.{IsNoWait};
 
+use crate::backend::Address;
 use crate::closing::refuse;
+use crate::listener::Listener;
 use crate::service::{Cause, INPUT, Next, OWN_SOCKET, Service, Tokens, number_of};
 use crate::stream::Stream;
-use mio::net::TcpListener;
-use mio::{Events, Interest, Poll, Registry, Token};
+use mio::{Events, Poll, Registry, Token};
 use resp_schedule::{Backlog, OpenError, Schedule, State, Wait};
 use std::alloc::{AllocError, Global};
+use std::fs::Files;
 use std::io;
 use std::io::ErrorKind;
-use std::net::{Net, SocketAddr};
+use std::net::Net;
 use std::time::Duration;
 
 /// The token of the listener. The tokens of the connection in a place are twice the place plus 1
@@ -41,7 +43,7 @@ pub struct Loop<C> {
     alloc: Global,
     poll: Poll,
     /// The listener, until no connection is accepted any more.
-    listener: Option<TcpListener>,
+    listener: Option<Listener>,
     schedule: Schedule,
     /// The connection in each place.
     connections: Vec<Option<C>>,
@@ -52,21 +54,23 @@ impl<C: Drop> Loop<C> {
     ghost use Rattle.resp_schedule.specs.Places.{without};
     ghost use Rattle.resp_schedule.specs.Plans.{due_of, state_of};
 
-    /// Listens on an address, for at most `most` connections at once.
+    /// Listens on an address, for at most `most` connections at once. The file of a Unix socket is
+    /// left when the loop ends.
     ///
     /// # Errors
     ///
-    /// The error of the system if the address can't be opened.
-    pub fn listen(
-        net: &impl Net,
+    /// The error of the system if the address can't be opened. Its kind is `AddrInUse` if the address
+    /// is used, or if the path of a Unix socket has a file that is not a socket or that somebody
+    /// listens on.
+    pub fn listen<R: Net + Files>(
+        rt: &R,
         alloc: Global,
-        address: SocketAddr,
+        address: &Address,
         most: usize,
     ) -> io::Result<Self> {
-        let poll = Poll::new(net)?;
-        let mut listener = TcpListener::bind(net, address)?;
-        poll.registry()
-            .register(&mut listener, Token(LISTENER), Interest::READABLE)?;
+        let poll = Poll::new(rt)?;
+        let mut listener = Listener::bind(rt, address)?;
+        listener.register(poll.registry(), Token(LISTENER))?;
         Ok(Loop {
             alloc,
             poll,
@@ -80,11 +84,11 @@ impl<C: Drop> Loop<C> {
     ///
     /// # Errors
     ///
-    /// The error of the system if it can't be read, or an error of kind `NotConnected` if the loop
-    /// does not listen any more.
-    pub fn address(&self) -> io::Result<SocketAddr> {
+    /// The error of the system if it can't be read, an error of kind `OutOfMemory` if an allocation
+    /// fails, or an error of kind `NotConnected` if the loop does not listen any more.
+    pub fn address(&self) -> io::Result<Address> {
         match &self.listener {
-            Some(listener) => listener.local_addr(),
+            Some(listener) => listener.address(),
             None => Err(ErrorKind::NotConnected.into()),
         }
     }
@@ -308,12 +312,12 @@ impl<C: Drop> Loop<C> {
 /// # Errors
 ///
 /// Whether connections may wait, if none is accepted.
-fn accept(listener: &Option<TcpListener>) -> Result<Stream, Backlog> {
+fn accept(listener: &Option<Listener>) -> Result<Stream, Backlog> {
     let Some(listener) = listener else {
         return Err(Backlog::Empty);
     };
     match listener.accept() {
-        Ok((client, _)) => Ok(Stream::Tcp(client)),
+        Ok(client) => Ok(client),
         Err(error) if error.kind() == ErrorKind::WouldBlock => Err(Backlog::Empty),
         Err(_) => Err(Backlog::Failing),
     }

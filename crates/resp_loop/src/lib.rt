@@ -10,7 +10,9 @@
 
 pub mod backend;
 pub mod closing;
+pub mod descriptors;
 pub mod event_loop;
+mod listener;
 pub mod non_blocking;
 mod own_address;
 pub mod register;

@@ -4,9 +4,11 @@ ghost use Rattle.std.specs.Prelude.{◌≡◌, true};
 ghost use Rattle.std.specs.Net.Socket.{socket_port};
 
 use mio::net::TcpListener;
-use std::io;
+use std::fs::Files;
 use std::io::ErrorKind;
 use std::net::{IpAddr, Ipv4Addr, Ipv6Addr, Net, SocketAddr};
+use std::os::unix::fs::MetadataExt;
+use std::{fs, io};
 
 /// Why nothing listens on the address of the server.
 const COMES_BACK: &str = "connections to the server would come back to this address";
@@ -25,6 +27,27 @@ pub(crate) fn check_server(
         return Err(io::Error::new(ErrorKind::InvalidInput, COMES_BACK));
     }
     Ok(())
+}
+
+/// Fails if the path of a server leads to the socket at the path `listening`, which is removed then.
+///
+/// # Errors
+///
+/// An error of kind `InvalidInput`, or the error of the system if the socket can't be removed.
+pub(crate) fn check_path(files: &impl Files, server: &str, listening: &str) -> io::Result<()> {
+    if is_same_file(files, server, listening) {
+        fs::remove_file(files, listening)?;
+        return Err(io::Error::new(ErrorKind::InvalidInput, COMES_BACK));
+    }
+    Ok(())
+}
+
+/// Returns whether two paths lead to the same file.
+fn is_same_file(files: &impl Files, one: &str, other: &str) -> bool {
+    match (fs::metadata(files, one), fs::metadata(files, other)) {
+        (Ok(one), Ok(other)) => one.dev() == other.dev() && one.ino() == other.ino(),
+        _ => false,
+    }
 }
 
 /// Returns whether an address is one of this machine's.

@@ -1,3 +1,4 @@
+pub mod ErrorLemmas
 pub mod Carryings
 pub mod Linings
 pub mod Takings

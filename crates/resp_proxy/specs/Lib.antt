@@ -16,5 +16,6 @@ pub mod Openings
 pub mod Hellos
 pub mod Terms
 pub mod Unfinished
+pub mod ErrorRows
 -- The internal contracts of the parts, which no public contract names.
 pub mod Reasons

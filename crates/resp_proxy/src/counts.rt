@@ -1,8 +1,9 @@
 //! The numbers of a proxy.
 
+use crate::error_counts::ErrorCounts;
 use crate::latency::{Latency, Times};
 use resp_mux::Mux;
-use std::alloc::Global;
+use std::alloc::{AllocError, Global};
 use std::time::Duration;
 
 /// The counts of a proxy since it began.
@@ -102,12 +103,15 @@ pub(crate) struct Counts {
     /// The numbers of the other proxies of the program, and the times of all.
     others: Numbers,
     times: Option<Times>,
+    /// The error replies, and the lines about those of all proxies if they are counted elsewhere.
+    pub(crate) errors: ErrorCounts,
+    pub(crate) error_lines: Option<String>,
 }
 
 impl Counts {
     /// Returns the counts of a proxy that begins.
-    pub(crate) fn new(alloc: Global) -> Self {
-        Counts {
+    pub(crate) fn new(alloc: Global) -> Result<Self, AllocError> {
+        Ok(Counts {
             hidden: 0,
             entered: 0,
             rejected: 0,
@@ -118,7 +122,9 @@ impl Counts {
             latency: Latency::new(alloc),
             others: Numbers::default(),
             times: None,
-        }
+            errors: ErrorCounts::new(alloc)?,
+            error_lines: None,
+        })
     }
 
     /// Returns the numbers, with those of the multiplexer.
@@ -151,6 +157,21 @@ impl Counts {
         match self.times {
             Some(times) => times,
             None => self.latency.times(),
+        }
+    }
+
+    /// Adds the lines about error replies to a text.
+    pub(crate) fn add_error_lines(
+        &self,
+        alloc: Global,
+        text: &mut String,
+    ) -> Result<(), AllocError> {
+        match &self.error_lines {
+            Some(lines) => text.push_str(lines.as_str()),
+            None => {
+                let lines = self.errors.lines(alloc)?;
+                text.push_str(lines.as_str())
+            }
         }
     }
 

@@ -49,7 +49,7 @@ impl Intake {
             admitted: Vec::new(alloc),
             admits_own: false,
             answers_settings: settings.answers_settings,
-            counts: Counts::new(alloc),
+            counts: Counts::new(alloc)?,
         })
     }
 

@@ -10,6 +10,7 @@ mod client;
 mod commands;
 mod counts;
 mod error;
+mod error_counts;
 mod giving;
 mod hello;
 mod identity;

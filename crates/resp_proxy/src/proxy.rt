@@ -382,6 +382,35 @@ impl Proxy {
         self.intake.counts.take_times(&mut other.intake.counts);
     }
 
+    /// Counts the error replies of another proxy here, and no longer there.
+    pub fn take_errors(&mut self, other: &mut Proxy)
+        ensures same_state { self.new ≡ self.old }
+        ensures other_state { other.new ≡ other.old }
+    {
+        self.intake
+            .counts
+            .errors
+            .take(&mut other.intake.counts.errors);
+    }
+
+    /// Returns the lines of `INFO proxy` about error replies: for each first word of their texts how many
+    /// there were.
+    ///
+    /// # Errors
+    ///
+    /// `AllocError` if an allocation fails.
+    pub fn error_lines(&self) -> Result<String, AllocError> {
+        self.intake.counts.errors.lines(self.alloc)
+    }
+
+    /// Sets the lines about error replies that `INFO proxy` prints, if those of this proxy are counted
+    /// elsewhere.
+    pub fn set_error_lines(&mut self, lines: String)
+        ensures same_state { self.new ≡ self.old }
+    {
+        self.intake.counts.error_lines = Some(lines);
+    }
+
     /// Returns how long the replies of the last one to two minutes took, as it was counted.
     pub fn times(&self) -> Times {
         self.intake.counts.times()
@@ -428,6 +457,7 @@ impl Proxy {
             &mut self.mux,
             &mut self.replied,
             &self.prober,
+            &mut self.intake.counts.errors,
             piece,
         );
         match taken {

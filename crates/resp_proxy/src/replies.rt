@@ -8,6 +8,7 @@ ghost use Rattle.resp_proxy.specs.Replying.{TakesReplies};
 ghost use Rattle.resp_proxy.specs.Telling.{Tells};
 
 use crate::error::ServerError;
+use crate::error_counts::ErrorCounts;
 use crate::probing::Prober;
 use crate::told::note;
 use resp_frames::{Begun, Frames};
@@ -15,14 +16,16 @@ use resp_join::{ReplyError, take_reply};
 use resp_mux::{AnswerError, ClientId, Mux};
 use std::collections::VecDeque;
 
-/// Gives each reply in the piece to the client of its command, and queues this client. Without an
-/// error it takes all bytes. It stops at a reply to a probe that is not the expected one.
+/// Gives each reply in the piece to the client of its command, queues this client, and counts the reply
+/// if it is an error. Without an error it takes all bytes. It stops at a reply to a probe that is not
+/// the expected one.
 pub(crate) fn take_replies(
     frames: &mut Frames,
     begun: &mut Begun,
     mux: &mut Mux,
     queued: &mut VecDeque<ClientId>,
     prober: &Prober,
+    errors: &mut ErrorCounts,
     piece: &[u8],
 ) -> Result<(), ServerError>
     ensures taken { WhereBegun frames.old begun.old (λ front. WherePassed mux.old (λ p.
@@ -42,13 +45,16 @@ pub(crate) fn take_replies(
         if queued.reserve(1).is_err() {
             return Err(out_of_memory());
         }
+        let is_begun = !begun.is_empty();
         let found = match take_reply(frames, begun, mux, &piece[used..]) {
             Ok(found) => found,
             Err(error) => return Err(ServerError::Reply(error)),
         };
         let Some(reply) = found else {
+            errors.hold(is_begun, &piece[used..]);
             return Ok(());
         };
+        errors.end(is_begun, &piece[used..]);
         note(queued, reply.client);
         if !prober.stays_in_step(mux, reply.client) {
             return Err(ServerError::OutOfStep);

@@ -437,6 +437,7 @@ impl Relay {
             return Ok(None);
         };
         let channel = self.new_channel(number, setting, from)?;
+        self.share_errors();
         match self.channels.get_mut(number) {
             Some(place) => {
                 let numbers = place.proxy.numbers();

@@ -5,7 +5,7 @@ use crate::proxied::Proxied;
 use crate::relay::Relay;
 use crate::report::Report;
 use mio::Registry;
-use resp_loop::backend::Backend;
+use resp_loop::backend::{Address, Backend};
 use resp_loop::closing;
 use resp_loop::event_loop::Loop;
 use resp_loop::register::register;
@@ -16,7 +16,7 @@ use std::alloc::{AllocError, Global};
 use std::fs::{File, Files};
 use std::io;
 use std::io::{ErrorKind, Read};
-use std::net::{Net, SocketAddr};
+use std::net::Net;
 use std::random::RandomSource;
 use std::rt::Clock;
 use std::time::Duration;
@@ -77,10 +77,10 @@ impl ProxyServer {
     /// The error of the system if the address can't be opened, an error of kind `InvalidInput` if
     /// an address of the server is the address to listen on, or an error of kind `OutOfMemory` if
     /// an allocation fails.
-    pub fn listen<R: Net>(
+    pub fn listen<R: Net + Files>(
         rt: &R,
         alloc: Global,
-        address: SocketAddr,
+        address: &Address,
         backend: Backend,
         login: Vec<u8>,
         settings: ProxySettings,
@@ -106,8 +106,9 @@ impl ProxyServer {
     ///
     /// # Errors
     ///
-    /// The error of the system if it can't be read.
-    pub fn address(&self) -> io::Result<SocketAddr> {
+    /// The error of the system if it can't be read, or an error of kind `OutOfMemory` if an allocation
+    /// fails.
+    pub fn address(&self) -> io::Result<Address> {
         self.connections.address()
     }
 

@@ -378,11 +378,23 @@ impl Relay {
         if self.summed <= self.now() && self.settings.lines > 1 {
             self.summed = self.now().saturating_add(Duration::from_millis(SUMMED));
             self.times = times_of(&mut self.channels);
+            self.share_errors();
         }
         let times = self.times;
         for channel in &mut self.channels {
             let others = all.minus(channel.numbers());
             channel.set_others(others, times);
+        }
+    }
+
+    /// Counts the error replies of all settings in the first one, and shows them to the others. Without memory
+    /// the others show what they showed before.
+    pub(crate) fn share_errors(&mut self) {
+        if let Some((first, others)) = self.channels.split_first_mut() {
+            take_errors(first, others);
+            if let Ok(lines) = first.proxy.error_lines() {
+                show_errors(&lines, others);
+            }
         }
     }
 
@@ -406,6 +418,22 @@ fn sum_times(first: &mut Channel, others: &mut [Channel]) -> Times {
         first.proxy.take_times(&mut channel.proxy);
     }
     first.proxy.times()
+}
+
+/// Counts the error replies of other settings in this one.
+fn take_errors(first: &mut Channel, others: &mut [Channel]) {
+    for channel in others {
+        first.proxy.take_errors(&mut channel.proxy);
+    }
+}
+
+/// Sets the lines about error replies that settings show.
+fn show_errors(lines: &String, channels: &mut [Channel]) {
+    for channel in channels {
+        if let Ok(copy) = lines.clone() {
+            channel.proxy.set_error_lines(copy);
+        }
+    }
 }
 
 /// Returns the shorter of two times, if there are some.

@@ -17,7 +17,7 @@ use std::io::{Read, Write};
 use std::mem;
 
 /// The most reads and writes of a connection before the other connections are served.
-const TURNS: u64 = 16;
+pub(crate) const TURNS: u64 = 16;
 
 /// The most bytes of one read.
 pub const PIECE: usize = 16_384;
@@ -25,11 +25,11 @@ pub const PIECE: usize = 16_384;
 /// The memory that the visits of all connections use in turn.
 #[derive(Drop)]
 pub struct Room {
-    alloc: Global,
+    pub(crate) alloc: Global,
     /// The bytes of one read.
-    buffer: [u8; PIECE],
+    pub(crate) buffer: [u8; PIECE],
     /// The most bytes that wait to be written to a client before its next command is run.
-    held: usize,
+    pub(crate) held: usize,
 }
 
 impl Room {
@@ -48,7 +48,7 @@ impl Room {
 /// to be written.
 #[derive(Drop)]
 pub struct Rest {
-    bytes: Vec<u8>,
+    pub(crate) bytes: Vec<u8>,
 }
 
 impl Rest {
@@ -60,7 +60,7 @@ impl Rest {
     }
 
     /// Returns a copy of these bytes, joined. Does not allocate if there is no byte.
-    fn copy(alloc: Global, bytes: &[u8], more: &[u8]) -> Result<Self, AllocError> {
+    pub(crate) fn copy(alloc: Global, bytes: &[u8], more: &[u8]) -> Result<Self, AllocError> {
         let mut rest = Rest::new(alloc);
         rest.bytes.extend_from_slice(bytes)?;
         rest.bytes.extend_from_slice(more)?;

@@ -2,6 +2,7 @@
 
 use crate::connection::{Connection, Room};
 use mio::Registry;
+use resp_loop::backend::Address;
 use resp_loop::event_loop::Loop;
 use resp_loop::register::register;
 use resp_loop::service::{Cause, Next, Service, Tokens};
@@ -9,10 +10,11 @@ use resp_loop::stream::Stream;
 use resp_server::Hub;
 use resp_value::limits::Limits;
 use std::alloc::Global;
+use std::fs::Files;
 use std::hash::BuildHasher;
 use std::io;
 use std::io::ErrorKind;
-use std::net::{Net, SocketAddr};
+use std::net::Net;
 use std::time::Duration;
 
 /// A server of PING, ECHO, GET, SET, DEL and HELLO for many clients at once, over one store.
@@ -41,17 +43,17 @@ impl<S: BuildHasher + Drop> Server<S> {
     /// # Errors
     ///
     /// The error of the system if the address can't be opened.
-    pub fn listen(
-        net: &impl Net,
+    pub fn listen<R: Net + Files>(
+        rt: &R,
         alloc: Global,
-        address: SocketAddr,
+        address: &Address,
         limits: Limits,
         most: usize,
         held: usize,
         hasher: S,
     ) -> io::Result<Self> {
         Ok(Server {
-            connections: Loop::listen(net, alloc, address, most)?,
+            connections: Loop::listen(rt, alloc, address, most)?,
             replies: Replies {
                 hub: Hub::new(alloc, limits, hasher),
                 alloc,
@@ -64,8 +66,9 @@ impl<S: BuildHasher + Drop> Server<S> {
     ///
     /// # Errors
     ///
-    /// The error of the system if it can't be read.
-    pub fn address(&self) -> io::Result<SocketAddr> {
+    /// The error of the system if it can't be read, or an error of kind `OutOfMemory` if an allocation
+    /// fails.
+    pub fn address(&self) -> io::Result<Address> {
         self.connections.address()
     }
 

@@ -3,6 +3,7 @@ pub mod Kinds
 pub mod Notices
 pub mod Lines
 pub mod LinesOf
+pub mod Sides
 pub mod Taps
 pub mod Watching
 pub mod Ways
@@ -26,6 +27,7 @@ pub mod Filtering
 pub mod SeenOf
 pub mod Streams
 pub mod Counting
+pub mod CountedTaps
 -- What is printed as JSON.
 pub mod Called
 pub mod JsonLines

@@ -4,7 +4,6 @@ use Rattle.resp_value.specs.Bounds.{Bounds}
 use Rattle.resp_value.specs.Data.{Datum}
 use Rattle.resp_value.specs.declared.version.Version.{Version}
 use Rattle.resp_value.specs.declared.version.Version.TheVariants.{Two}
-use Rattle.resp_decode.specs.Decoding.{rules_of}
 use Rattle.resp_tap.specs.Lines.{LineState, line_after, line_sent, new_line, next_version, settled}
 use Rattle.resp_tap.specs.LinesOf.{line_of}
 use Rattle.resp_tap.specs.declared.kind.CommandKind.{CommandKind}
@@ -29,7 +28,7 @@ tap_state t = record {
   limits = t.limits;
   commands = t.commands;
   line = line_of t.line;
-  reading = (rules_of t.values.decoder).version;
+  reading = t.values.version;
   reads_commands = t.requests.is_reading;
   reads_replies = t.values.is_reading;
 }

@@ -11,12 +11,11 @@ use Rattle.resp_value.specs.declared.value.Value.TheVariants as value
 use Rattle.resp_value.specs.declared.version.Version.TheVariants.{Two}
 use Rattle.resp_scan.specs.Reading.{HasNoValue}
 use Rattle.resp_scan.specs.declared.event.Fault.{Fault}
-use Rattle.resp_decode.specs.Decoding as decode
-use Rattle.resp_decode.specs.Decoding.{LacksMemory, RefusesByte}
 use Rattle.resp_session.specs.Commands.{NoCommand, Nothing, array_meaning, meaning_of}
 use Rattle.resp_session.specs.Heard.{is_push}
 use Rattle.resp_tap.specs.Kinds.{command_kind}
 use Rattle.resp_tap.specs.Lines.{LineState, due_of, number_for}
+use Rattle.resp_tap.specs.Sides.{HasSent, RefusesSide}
 use Rattle.resp_tap.specs.Taps.{TapState, tap_state, with_command, with_refused_command, with_refused_reply, with_value}
 use Rattle.resp_tap.specs.declared.kind.CommandKind.{CommandKind}
 use Rattle.resp_tap.specs.declared.kind.CommandKind.TheVariants.{Unpairing}
@@ -39,11 +38,11 @@ value_rules s = rules_under s.reading s.limits
 -- The bytes that a tap has read of the client's incomplete value. Callers do not need the definition: `new` establishes
 -- this relation and the next one, and each call preserves them until the first error.
 abbrev pub HasTakenRequest : Tap → List ℕ → Type 0
-HasTakenRequest t front = decode.HasTaken t.requests.decoder front
+HasTakenRequest t front = HasSent t.requests front
 
 -- the bytes that a tap has read of the server's incomplete value
 abbrev pub HasTakenValue : Tap → List ℕ → Type 0
-HasTakenValue t front = decode.HasTaken t.values.decoder front
+HasTakenValue t front = HasSent t.values front
 
 -- Until the first error of the client, a tap has read some bytes of the client's incomplete value.
 abbrev pub HasTakenSomeRequest : Tap → Type 0
@@ -124,8 +123,7 @@ pub record LeavesOut (s : TapState) (written : List ℕ) (cause : Cause) : Type 
 -- rejected
 abbrev pub RefusesOfRequest : TapState → List ℕ → List ℕ → ℕ → Cause → ℕ → Type 0
 RefusesOfRequest s front piece used cause at =
-    RefusesByte (request_rules s.limits) front piece (record { cause = cause; at = at }) ⊎
-    LacksMemory (request_rules s.limits) front piece (record { cause = cause; at = at }) ⊎
+    RefusesSide (request_rules s.limits) front piece (record { cause = cause; at = at }) ⊎
     (LeavesOut s (front ++ take used piece) cause × (at ≡ 0))
 
 -- the client's bytes are rejected, as part of the next command
@@ -173,8 +171,7 @@ pub record AwaitsValue (s : TapState) (new : Tap) (written piece : List ℕ) (us
 
 -- why the server's bytes are rejected: by the grammar, or because an allocation failed
 abbrev pub RefusesOfValue : TapState → List ℕ → List ℕ → Fault → Type 0
-RefusesOfValue s front piece fault =
-    RefusesByte (value_rules s) front piece fault ⊎ LacksMemory (value_rules s) front piece fault
+RefusesOfValue s front piece fault = RefusesSide (value_rules s) front piece fault
 
 -- a value that may be the reply to a command of this kind and number
 abbrev pub place_by_kind : ℕ → CommandKind → Place

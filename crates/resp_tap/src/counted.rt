@@ -1,16 +1,20 @@
 //! A tap whose commands are counted.
 
 ghost use Rattle.std.specs.Prelude.{◌≡◌, ◌+◌, ◌<◌, ◌≤◌, Bool, List, [], Some, length, drop, min, slice_get, true};
+ghost use Rattle.resp_print.specs.Printed.{Prints};
 ghost use Rattle.resp_tap.specs.ClientNames.{naming_of};
+ghost use Rattle.resp_tap.specs.CountedTaps.{CountsAll, PrintsCounted, SeesCounted, counted_text};
 ghost use Rattle.resp_tap.specs.Ends.{CutsOff};
 ghost use Rattle.resp_tap.specs.Counting.{AnswersCall, AsksCall, CountsAfter, CountsSeen, IsCounted, IsPlaceFor, KeepsTaken, ReleasesCall, is_error, left_of, taken_of};
 ghost use Rattle.resp_counts.specs.Names.{table_name};
 ghost use Rattle.resp_counts.specs.Rows.{MayAddRow};
 ghost use Rattle.resp_tap.specs.Taps.{new_tap, tap_state};
+ghost use Rattle.resp_tap.specs.Texts.{levels_of};
 ghost use Rattle.resp_tap.specs.Times.{waits_in};
 ghost use Rattle.resp_tap.specs.Lined.{SeesLined};
 ghost use Rattle.resp_tap.specs.Watches.{KeepsOther};
 ghost use Rattle.resp_tap.specs.Watching.{HasTakenRequest, HasTakenValue};
+ghost use Rattle.resp_tap.specs.declared.seen.Seen.{Seen};
 
 use crate::client_name::ClientName;
 use crate::end::Cut;
@@ -22,7 +26,7 @@ use crate::print::{Printing, write_seen};
 use crate::seen::{Seen, Step};
 use crate::tap::Tap;
 use crate::timed::TimedTap;
-use crate::watch::{Side, first_error, stamp_of, waited_of};
+use crate::watch::{Side, Watched, first_error, stamp_of, waited_of};
 use resp_counts::{Call, Counts, name_of};
 use resp_print::print_error::PrintError;
 use resp_session::words::Words;
@@ -334,12 +338,61 @@ pub fn count_some(
     step
 }
 
+/// Writes the line of a result if it is an error, and the filter lets lines about the client through.
+fn write_counted<W: Sink>(
+    filter: &Filter,
+    printing: Printing,
+    now: Moment,
+    seen: &Seen,
+    writer: &mut W,
+) -> Result<(), PrintError>
+    ensures { Prints (W.written writer.old) (W.written writer.new) (W.failures writer.old)
+        (W.failures writer.new) result (counted_text filter.now printing now seen.now)
+        (levels_of seen.now) }
+{
+    if !(filter.keeps_client(printing.client) && seen.is_refused()) {
+        return Ok(());
+    }
+    write_seen(printing, stamp_of(Some(now), None, seen), seen, writer)
+}
+
+/// Reads bytes that one side sent, as [`count_some`] does. Prints the result if it is an error, and
+/// the filter lets lines about the client through.
+fn watch_counted_some<W: Sink>(
+    tap: &mut CountedTap,
+    counts: &mut Counts,
+    filter: &Filter,
+    printing: Printing,
+    side: Side,
+    piece: &[u8],
+    now: Moment,
+    writer: &mut W,
+) -> Watched
+    ensures watches { (what : Seen) × (is_line : Bool) ×
+        SeesCounted filter.now printing.client side now tap.old tap.new piece.now result.used what
+        is_line counts.old.rows.items counts.new.rows.items ×
+        PrintsCounted filter.now printing now what (W.written writer.old) (W.written writer.new)
+        (W.failures writer.old) (W.failures writer.new) result.printed }
+    ensures other_side { KeepsOther side tap.old.timed.tap tap.new.timed.tap }
+    ensures within_piece { result.used ≤ length piece.now }
+    ensures uses_bytes { 0 < length piece.now → 0 < result.used }
+{
+    let step = count_some(tap, counts, filter, printing.client, side, piece, now);
+    let printed = write_counted(filter, printing, now, &step.seen, writer);
+    Watched {
+        used: step.used,
+        printed,
+    }
+}
+
 /// Reads a piece that one side sent, as [`count_some`] does, and counts all commands that wait no
-/// more. Errors of a side are printed, as without counting.
+/// more. Errors of a side are printed, as without counting, if the filter lets lines about the client
+/// through.
 ///
 /// # Errors
 ///
-/// The first error of printing. The tap has read the whole piece.
+/// The first error of printing. The tap has read the whole piece, and has tried to print all of its
+/// errors.
 pub fn watch_counted<W: Sink>(
     tap: &mut CountedTap,
     counts: &mut Counts,
@@ -349,17 +402,19 @@ pub fn watch_counted<W: Sink>(
     piece: &[u8],
     now: Moment,
     writer: &mut W,
-) -> Result<(), PrintError> {
+) -> Result<(), PrintError>
+    ensures watches { (all : List Seen) × CountsAll filter.now printing side now all tap.old tap.new
+        piece.now counts.old.rows.items counts.new.rows.items (W.written writer.old)
+        (W.written writer.new) (W.failures writer.old) (W.failures writer.new) result }
+    ensures other_side { KeepsOther side tap.old.timed.tap tap.new.timed.tap }
+{
     let mut rest = piece;
     let mut printed = Ok(());
     while !rest.is_empty() {
-        let step = count_some(tap, counts, filter, printing.client, side, rest, now);
-        if filter.keeps_client(printing.client) && step.seen.is_refused() {
-            let stamp = stamp_of(Some(now), None, &step.seen);
-            printed = first_error(printed, write_seen(printing, stamp, &step.seen, writer));
-        }
+        let watched = watch_counted_some(tap, counts, filter, printing, side, rest, now, writer);
+        printed = first_error(printed, watched.printed);
         // At least one byte was read.
-        rest = &rest[step.used..];
+        rest = &rest[watched.used..];
     }
     printed
 }

@@ -1,5 +1,8 @@
 //! The commands, replies and pushes of a connection.
 
+ghost use Rattle.std.specs.Prelude.{◌≡◌};
+ghost use Rattle.resp_tap.specs.CountedTaps.{is_refused};
+
 use resp_session::words::Words;
 use resp_value::cause::Cause;
 use resp_value::value::{Members, Value};
@@ -54,7 +57,9 @@ pub enum Seen {
 
 impl Seen {
     /// Returns whether this is an error, after which the bytes of its side are not read.
-    pub(crate) fn is_refused(&self) -> bool {
+    pub(crate) fn is_refused(&self) -> bool
+        ensures { result ≡ is_refused self.now }
+    {
         matches!(self, Seen::NotCommand { .. } | Seen::Refused { .. })
     }
 }

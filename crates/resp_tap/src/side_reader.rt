@@ -1,39 +1,52 @@
 //! The values that one side of a connection sends, until the first error in its bytes.
 
-ghost use Rattle.std.specs.Prelude.{◌≡◌, List, ℕ, true};
-ghost use Rattle.resp_decode.specs.Decoding.{HasTaken};
+ghost use Rattle.std.specs.Prelude.{◌≡◌, List, ℕ, [], true, None, Some, IfOk, MatchOption, OnErr};
+ghost use Rattle.std.specs.Option.{ForSome};
+ghost use Rattle.resp_value.specs.Rules.{rules_under};
+ghost use Rattle.resp_decode.specs.Decoding.{HasTaken, rules_of};
 
 use resp_decode::Decoder;
 use resp_decode::fed::Fed;
 use resp_scan::event::Fault;
+use resp_value::cause::Cause;
 use resp_value::limits::Limits;
 use resp_value::version::Version;
-use std::alloc::Global;
+use std::alloc::{AllocError, Global};
 
-/// Reads the values that one side sends, until the first error in its bytes.
+/// Reads the values that one side sends, until the first error in its bytes. It holds memory only
+/// between two pieces of a value.
 #[derive(Drop)]
 pub(crate) struct SideReader {
-    pub(crate) decoder: Decoder,
+    pub(crate) alloc: Global,
+    pub(crate) version: Version,
+    pub(crate) limits: Limits,
+    pub(crate) decoder: Option<Box<Decoder>>,
     /// Whether the bytes of this side are still read.
     pub(crate) is_reading: bool,
+    pub ghost same_rules: { ForSome decoder (λ decoder. rules_of decoder.value ≡ rules_under version limits) },
     /// Until the first error, some bytes were read of the value that is incomplete.
-    pub ghost reading: { is_reading ≡ true → ∥ ((front : List ℕ) × HasTaken decoder front) ∥₁ },
+    pub ghost reading: { is_reading ≡ true → ∥ ((front : List ℕ) ×
+        MatchOption decoder (front ≡ []) (λ decoder. HasTaken decoder.value front)) ∥₁ },
 }
 
 impl SideReader {
-    ghost use Rattle.std.specs.Prelude.{◌<◌, ◌≤◌, ◌⊎◌, ◌++◌, [], None, false, length, take, IfErr, IfOk, IsOk, OnErr, OnOk};
-    ghost use Rattle.resp_value.specs.Rules.{rules_under};
+    ghost use Rattle.std.specs.Prelude.{◌<◌, ◌≤◌, ◌++◌, false, length, take, IfErr, OnOk};
     ghost use Rattle.resp_value.specs.declared.version.Version.TheVariants.{Two};
-    ghost use Rattle.resp_decode.specs.Decoding.{GivesValue, IfNoValue, IfValue, LacksMemory, RefusesByte, TakesPiece, WhereTaken, rules_of};
+    ghost use Rattle.resp_decode.specs.Decoding.{IfNoValue, IfValue};
+    ghost use Rattle.resp_tap.specs.Sides.{EndsSide, GoesOnSide, HasSent, RefusesSide, WhereSent, side_rules};
 
     /// Returns a reader of a new connection, in version 2. It allocates nothing.
     pub(crate) fn new(alloc: Global, limits: &Limits) -> SideReader
-        ensures nothing_taken { HasTaken result.decoder [] }
-        ensures rules { rules_of result.decoder ≡ rules_under Two limits.now }
+        ensures nothing_sent { HasSent result [] }
+        ensures version { result.version ≡ Two }
+        ensures limits { result.limits ≡ limits.now }
         ensures reads { result.is_reading ≡ true }
     {
         SideReader {
-            decoder: Decoder::new(alloc, Version::Two, limits),
+            alloc,
+            version: Version::Two,
+            limits: *limits,
+            decoder: None,
             is_reading: true,
         }
     }
@@ -42,56 +55,73 @@ impl SideReader {
     ///
     /// # Errors
     ///
-    /// The faults of [`Decoder::feed`].
+    /// The faults of [`Decoder::feed`], and `OutOfMemory` at byte 0 if there is no memory for a decoder.
     pub(crate) fn feed(&mut self, piece: &[u8]) -> Result<Fed, Fault>
         requires { self.old.is_reading ≡ true }
-        ensures value_whole { WhereTaken self.old.decoder (λ front. IfValue result (λ used.
-            GivesValue (rules_of self.old.decoder) self.new.decoder
-            (front ++ take used piece.now))) }
-        ensures used_up { WhereTaken self.old.decoder (λ front. IfNoValue result
-            (TakesPiece (rules_of self.old.decoder) self.new.decoder (front ++ piece.now)
-            piece.now)) }
-        ensures refusal { WhereTaken self.old.decoder (λ front. IfErr result (λ fault.
-            RefusesByte (rules_of self.old.decoder) front piece.now fault ⊎
-            LacksMemory (rules_of self.old.decoder) front piece.now fault)) }
+        ensures value_whole { WhereSent self.old (λ front. IfValue result (λ used.
+            EndsSide (side_rules self.old) self.new (front ++ take used piece.now))) }
+        ensures used_up { WhereSent self.old (λ front. IfNoValue result
+            (GoesOnSide (side_rules self.old) self.new (front ++ piece.now) piece.now)) }
+        ensures refusal { WhereSent self.old (λ front. IfErr result
+            (RefusesSide (side_rules self.old) front piece.now)) }
         ensures uses_bytes { IfOk result (λ fed. 0 < length piece.now → 0 < fed.used) }
         ensures within_piece { IfOk result (λ fed. fed.used ≤ length piece.now) }
-        ensures same_rules { rules_of self.new.decoder ≡ rules_of self.old.decoder }
+        ensures same_version { self.new.version ≡ self.old.version }
+        ensures same_limits { self.new.limits ≡ self.old.limits }
         ensures goes_on { OnOk result (self.new.is_reading ≡ true) }
         ensures stops { OnErr result (self.new.is_reading ≡ false) }
     {
-        let fed = self.decoder.feed(piece);
-        if fed.is_err() {
+        let held = self.decoder.take();
+        let Ok(mut decoder) = begun(held, self.alloc, self.version, &self.limits) else {
             self.is_reading = false;
+            return Err(Fault {
+                cause: Cause::OutOfMemory,
+                at: 0,
+            });
+        };
+        match decoder.feed(piece) {
+            Ok(fed) => {
+                self.decoder = kept(decoder, &fed, piece);
+                Ok(fed)
+            }
+            Err(fault) => {
+                self.is_reading = false;
+                Err(fault)
+            }
         }
-        fed
     }
 
     /// Changes the version if no byte of a value was read.
     pub(crate) fn set_version(&mut self, version: Version)
-        ensures nothing_taken { HasTaken self.old.decoder [] → HasTaken self.new.decoder [] }
-        ensures new_version { HasTaken self.old.decoder [] → rules_of self.new.decoder ≡
-            rules_under version (rules_of self.old.decoder).limits }
-        ensures same_limits { (rules_of self.new.decoder).limits ≡
-            (rules_of self.old.decoder).limits }
+        ensures nothing_sent { HasSent self.old [] → HasSent self.new [] }
+        ensures new_version { HasSent self.old [] → self.new.version ≡ version }
+        ensures same_limits { self.new.limits ≡ self.old.limits }
         ensures same_reading { self.new.is_reading ≡ self.old.is_reading }
     {
-        let _ = self.decoder.set_version(version);
+        if self.version != version && self.taken() == 0 {
+            self.decoder = None;
+            self.version = version;
+        }
     }
 
     /// Stops reading.
     pub(crate) fn stop(&mut self)
         ensures stops { self.new.is_reading ≡ false }
         ensures same_decoder { self.new.decoder ≡ self.old.decoder }
+        ensures same_version { self.new.version ≡ self.old.version }
+        ensures same_limits { self.new.limits ≡ self.old.limits }
     {
         self.is_reading = false;
     }
 
     /// Returns the number of bytes that were read of the value that is incomplete.
     pub(crate) fn taken(&self) -> u64
-        ensures { WhereTaken self.now.decoder (λ front. result ≡ length front) }
+        ensures { WhereSent self.now (λ front. result ≡ length front) }
     {
-        self.decoder.taken()
+        match &self.decoder {
+            Some(decoder) => decoder.taken(),
+            None => 0,
+        }
     }
 
     /// Returns whether the bytes of this side are still read.
@@ -100,4 +130,38 @@ impl SideReader {
     {
         self.is_reading
     }
+}
+
+/// Returns the decoder, or a new one if there is none.
+fn begun(
+    decoder: Option<Box<Decoder>>,
+    alloc: Global,
+    version: Version,
+    limits: &Limits,
+) -> Result<Box<Decoder>, AllocError>
+    requires rules { ForSome decoder (λ decoder. rules_of decoder.value ≡ rules_under version limits.now) }
+    ensures sent { IfOk result (λ begun. (front : List ℕ) →
+        MatchOption decoder (front ≡ []) (λ decoder. HasTaken decoder.value front) →
+        HasTaken begun.value front) }
+    ensures rules { IfOk result (λ begun. rules_of begun.value ≡ rules_under version limits.now) }
+    ensures nothing_sent { OnErr result ((front : List ℕ) →
+        MatchOption decoder (front ≡ []) (λ decoder. HasTaken decoder.value front) → front ≡ []) }
+{
+    match decoder {
+        Some(decoder) => Ok(decoder),
+        None => Ok(Box::new(alloc, Decoder::new(alloc, version, limits))?),
+    }
+}
+
+/// Returns the decoder, unless the piece ended with a value.
+fn kept(decoder: Box<Decoder>, fed: &Fed, piece: &[u8]) -> Option<Box<Decoder>>
+    ensures nothing_sent { HasTaken decoder.value [] →
+        MatchOption result (◌≡◌ {A = List ℕ} [] []) (λ kept. HasTaken kept.value []) }
+    ensures inside { fed.now.value ≡ None → result ≡ Some decoder }
+    ensures rules { ForSome result (λ kept. rules_of kept.value ≡ rules_of decoder.value) }
+{
+    if fed.value.is_some() && fed.used == piece.len() {
+        return None;
+    }
+    Some(decoder)
 }

@@ -3,7 +3,7 @@
 ghost use Rattle.std.specs.Prelude.{◌≡◌, ◌+◌, ◌<◌, ◌≤◌, ◌^◌, ◌++◌, ℕ, List, None, true, false, [], length, take, IfErr, OnOk, OnErr};
 ghost use Rattle.resp_value.specs.Rules.{rules_under};
 ghost use Rattle.resp_value.specs.declared.version.Version.TheVariants.{Two};
-ghost use Rattle.resp_decode.specs.Decoding.{rules_of};
+ghost use Rattle.resp_tap.specs.Sides.{side_rules};
 ghost use Rattle.resp_tap.specs.declared.seen.Place.TheVariants as place;
 
 use crate::kind::command_kind;
@@ -74,8 +74,8 @@ pub struct Tap {
     pub(crate) line: Line,
     pub(crate) limits: Limits,
     ghost in_range: { commands ≤ 2 ^ 63 },
-    ghost request_rules: { rules_of requests.decoder ≡ rules_under Two limits },
-    ghost value_limits: { (rules_of values.decoder).limits ≡ limits },
+    ghost request_rules: { side_rules requests ≡ rules_under Two limits },
+    ghost value_limits: { values.limits ≡ limits },
 }
 
 impl Step {

@@ -2,6 +2,7 @@
 
 ghost use Rattle.std.specs.Prelude.{◌<◌, length};
 
+use crate::open_connections::OpenConnections;
 use crate::remark::Remark;
 use crate::replay_view::ReplayView;
 use crate::replayed::Replayed;
@@ -70,13 +71,11 @@ pub struct Replay {
     alloc: Global,
     settings: ReplaySettings,
     view: ReplayView,
-    open: Vec<Replayed>,
+    open: OpenConnections,
     /// The client and the server of connections that were closed, the last one at the end.
     closed: VecDeque<(Endpoint, Endpoint)>,
     /// The number of connections.
     count: u64,
-    /// The index of the connection of the last segment.
-    last: usize,
     /// The number of fragments, which are not read.
     fragments: u64,
 }
@@ -94,10 +93,9 @@ impl Replay {
             alloc,
             settings,
             view,
-            open: Vec::new(alloc),
+            open: OpenConnections::new(alloc),
             closed: VecDeque::new(alloc),
             count: 0,
-            last: 0,
             fragments: 0,
         })
     }
@@ -199,11 +197,10 @@ impl Replay {
         segment: &Segment<'_>,
         out: &mut W,
     ) -> Result<(), AllocError> {
-        let Some(index) = self.place_for(segment, out)? else {
+        let Some(number) = self.number_for(segment, out)? else {
             return Ok(());
         };
-        self.last = index;
-        let Some(replayed) = self.open.get_mut(index) else {
+        let Some(replayed) = self.open.get_mut(number) else {
             return Ok(());
         };
         let Some(end) = replayed.connection.sender(segment) else {
@@ -212,46 +209,34 @@ impl Replay {
         replayed.print_segment(end, segment, &mut self.view, out)?;
         let have_ended = replayed.print_end(end, &mut self.view, out);
         if have_ended || segment.resets {
-            self.close(index, out)?;
+            self.close(number, out)?;
         }
         Ok(())
     }
 
-    /// Returns the index of the connection of a segment, which is opened if it is not open. Returns
+    /// Returns the number of the connection of a segment, which is opened if it is not open. Returns
     /// `None` if no connection is opened: for a segment without bytes that does not begin a
     /// connection, and for a late one of a closed connection.
-    fn place_for<W: Sink>(
+    fn number_for<W: Sink>(
         &mut self,
         segment: &Segment<'_>,
         out: &mut W,
-    ) -> Result<Option<usize>, AllocError> {
-        if let Some(index) = self.find(segment) {
-            let is_other = match self.open.get(index) {
+    ) -> Result<Option<u64>, AllocError> {
+        if let Some(number) = self.open.find(segment) {
+            let is_other = match self.open.get(number) {
                 Some(replayed) => replayed.connection.is_begun_again(segment),
                 None => false,
             };
             if !is_other {
-                return Ok(Some(index));
+                return Ok(Some(number));
             }
-            self.close(index, out)?;
+            self.close(number, out)?;
         }
         if !segment.begins && (segment.data.is_empty() || self.is_closed(segment)) {
             return Ok(None);
         }
         self.admit(segment, out)?;
-        Ok(Some(self.open.len().saturating_sub(1)))
-    }
-
-    /// Returns the index of the open connection of a segment.
-    fn find(&self, segment: &Segment<'_>) -> Option<usize> {
-        if let Some(replayed) = self.open.get(self.last) {
-            if replayed.connection.sender(segment).is_some() {
-                return Some(self.last);
-            }
-        }
-        self.open
-            .iter()
-            .position(|replayed| replayed.connection.sender(segment).is_some())
+        Ok(Some(self.count))
     }
 
     /// Returns whether a segment is one of a connection that was closed.
@@ -289,28 +274,21 @@ impl Replay {
         );
         let connection = Connection::new(self.alloc, client, server);
         let is_whole = segment.begins;
-        match self
-            .open
-            .push(Replayed::new(connection, watcher, printing, is_whole))
-        {
-            Ok(()) => Ok(()),
-            Err(_) => Err(AllocError),
-        }
+        self.open
+            .add(Replayed::new(connection, watcher, printing, is_whole))
     }
 
     /// Closes a connection, and prints that it has gone.
-    fn close<W: Sink>(&mut self, index: usize, out: &mut W) -> Result<(), AllocError> {
-        if index >= self.open.len() {
+    fn close<W: Sink>(&mut self, number: u64, out: &mut W) -> Result<(), AllocError> {
+        let Some(mut replayed) = self.open.remove(number) else {
             return Ok(());
-        }
-        let mut replayed = self.open.remove(index);
+        };
         replayed.finish(&mut self.view, out)?;
         replayed.print_gone(&mut self.view, out);
         if self.closed.len() >= MOST_CLOSED {
             let _ = self.closed.pop_front();
         }
-        let ends = (replayed.connection.client(), replayed.connection.server());
-        match self.closed.push_back(ends) {
+        match self.closed.push_back(replayed.ends()) {
             Ok(()) => Ok(()),
             Err(_) => Err(AllocError),
         }
@@ -318,10 +296,8 @@ impl Replay {
 
     /// Prints which bytes are missing at the end of the capture, and the table.
     fn finish<W: Sink>(&mut self, out: &mut W) -> Result<(), ReplayError> {
-        for replayed in self.open.iter_mut() {
-            if replayed.finish(&mut self.view, out).is_err() {
-                return Err(ReplayError::OutOfMemory);
-            }
+        if self.open.finish(&mut self.view, out).is_err() {
+            return Err(ReplayError::OutOfMemory);
         }
         if self.view.counts() {
             self.view.print_table(out);

@@ -3,7 +3,7 @@
 use crate::replay_view::ReplayView;
 use crate::watcher::Watcher;
 use resp_capture::stream::MOST_PARTS;
-use resp_capture::{Connection, End, Segment, StreamError, Taken};
+use resp_capture::{Connection, End, Endpoint, Segment, StreamError, Taken};
 use resp_tap::Printing;
 use resp_tap::watch::Side;
 use resp_value::device::Sink;
@@ -56,6 +56,11 @@ impl Replayed {
     /// Returns the client's number, from 1.
     pub(crate) fn number(&self) -> u64 {
         self.printing.client
+    }
+
+    /// Returns the addresses of the client and of the server.
+    pub(crate) fn ends(&self) -> (Endpoint, Endpoint) {
+        (self.connection.client(), self.connection.server())
     }
 
     /// Prints the bytes of a segment that an end has sent, and the bytes that waited for them.

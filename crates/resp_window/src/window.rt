@@ -28,7 +28,7 @@ use std::alloc::{AllocError, Global};
 use std::fs::{File, Files};
 use std::io;
 use std::io::ErrorKind;
-use std::net::{Net, SocketAddr};
+use std::net::Net;
 use std::rt::Clock;
 use std::time::Duration;
 
@@ -145,7 +145,7 @@ impl Window {
     pub fn listen<R: Net + Clock + Files<File = File>>(
         rt: &R,
         alloc: Global,
-        address: SocketAddr,
+        address: &Address,
         backend: Backend,
         settings: Settings,
         filter: Filter,
@@ -160,8 +160,9 @@ impl Window {
     ///
     /// # Errors
     ///
-    /// The error of the system if it can't be read.
-    pub fn address(&self) -> io::Result<SocketAddr> {
+    /// The error of the system if it can't be read, or an error of kind `OutOfMemory` if an allocation
+    /// fails.
+    pub fn address(&self) -> io::Result<Address> {
         self.connections.address()
     }
 

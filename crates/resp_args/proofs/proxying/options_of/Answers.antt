@@ -22,10 +22,10 @@ returns-in_err-refuses_lines-clause-none c =
     λ options has. c.in_err-refuses_lines.ensures.none _ has.refuses_lines in
     if_none _ _ none
 
-pub returns-in_err-small_number_of-clause-none : goal.returns-in_err-small_number_of-clause-none
-returns-in_err-small_number_of-clause-none c =
+pub returns-in_err-most_of-clause-none : goal.returns-in_err-most_of-clause-none
+returns-in_err-most_of-clause-none c =
     let none : (options : ProxyOptions) → HasProxyOptions (rows_of (found_of c.args.matches.now)) options → ⊥ =
-    λ options has. c.in_err-small_number_of.ensures.none _ has.at_once in
+    λ options has. c.in_err-most_of.ensures.none _ has.at_once in
     if_none _ _ none
 
 pub returns-in_err-number_between-clause-none : goal.returns-in_err-number_between-clause-none

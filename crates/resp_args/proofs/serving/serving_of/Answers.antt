@@ -5,7 +5,7 @@ use Rattle.resp_args.proofs.serving.serving_of.Goals as goal
 pub returns-in_default-clause-err : goal.returns-in_default-clause-err
 returns-in_default-clause-err c = λ serving has. c.in_default.ensures.none _ _ _ _ has.0
 
-pub returns-in_err-address_of-clause-err : goal.returns-in_err-address_of-clause-err
-returns-in_err-address_of-clause-err c =
+pub returns-in_err-listen_of-clause-err : goal.returns-in_err-listen_of-clause-err
+returns-in_err-listen_of-clause-err c =
     let given = rows_of (found_of c.args.matches.now) in
-    on_err _ _ (no_serving given _ c.in-Some.ensures.some.text c.in_err-address_of.ensures.err)
+    on_err _ _ (no_serving given _ c.in-Some.ensures.some.text c.in_err-listen_of.ensures.err)

@@ -4,8 +4,8 @@ use Rattle.resp_args.specs.declared.tapping.TapOptions.{TapOptions}
 use Rattle.resp_args.proofs.AskingLemmas.{if_none}
 use Rattle.resp_args.proofs.tapping.options_of.Goals as goal
 
-pub returns-in_err-small_number_of-clause-none : goal.returns-in_err-small_number_of-clause-none
-returns-in_err-small_number_of-clause-none c =
+pub returns-in_err-most_of-clause-none : goal.returns-in_err-most_of-clause-none
+returns-in_err-most_of-clause-none c =
     let none : (options : TapOptions) → HasTapOptions (rows_of (found_of c.args.matches.now)) options → ⊥ =
-    λ options has. c.in_err-small_number_of.ensures.none _ has.at_once in
+    λ options has. c.in_err-most_of.ensures.none _ has.at_once in
     if_none _ _ none

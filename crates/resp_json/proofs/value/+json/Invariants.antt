@@ -11,6 +11,6 @@ invariant-write_each_member-loop-member g l = HasPrintedUpTo (members_json [] (d
     (g.W.Sink.failures l.initial.writer) (g.W.Sink.failures l.writer)
 
 abbrev pub invariant-write_each_pair-loop-pair : goal.invariant-write_each_pair-loop-pair
-invariant-write_each_pair-loop-pair g l = HasPrintedUpTo (pairs_json [] (data_of_list (in_turn (map pair_data l.pairs))))
-    (pairs_json l.separator (data_of_list (in_turn (map pair_data (drop l.pair-index l.pairs))))) (g.W.Sink.written l.initial.writer) (g.W.Sink.written l.writer)
+invariant-write_each_pair-loop-pair g l = HasPrintedUpTo (pairs_json l.named [] (data_of_list (in_turn (map pair_data l.pairs))))
+    (pairs_json l.named l.separator (data_of_list (in_turn (map pair_data (drop l.pair-index l.pairs))))) (g.W.Sink.written l.initial.writer) (g.W.Sink.written l.writer)
     (g.W.Sink.failures l.initial.writer) (g.W.Sink.failures l.writer)

@@ -1,6 +1,7 @@
-use Rattle.std.proofs.Common.{◌≡◌, ◌∙◌, ◌+◌, ℕ, List, refl, ap, sym, subst, min}
+use Rattle.std.proofs.Common.{◌≡◌, ◌∙◌, ◌+◌, ℕ, List, Some, refl, ap, sym, subst, min}
 use Rattle.resp_tap.specs.ClientNames.{named_after, naming_of}
 use Rattle.resp_tap.specs.Counting.{CountsAfter, KeepsTaken, taken_of}
+use Rattle.resp_tap.specs.Lined.{SeesLined}
 use Rattle.resp_tap.specs.Lines.{asked_at}
 use Rattle.resp_tap.specs.Taps.{tap_state}
 use Rattle.resp_tap.specs.Times.{waits_in}
@@ -61,3 +62,16 @@ returns-clause-counts c =
           c.follow.ensures.counts)));
       name = c.follow-2.ensures ∙ ap (λ n. named_after what (naming_of n)) (c.follow.ensures.same_name ∙ c.take_bytes.ensures.same_name);
     }
+
+pub returns-clause-sees : goal.returns-clause-sees
+returns-clause-sees c =
+    let old = c.args.tap.now in
+    let step = c.step_or_line.result.step in
+    let is_line = c.step_or_line.result.is_line in
+    let lines = c.follow.ensures.same_lines ∙ c.take_bytes.ensures.same_lines in
+    let timed = c.follow.ensures.same_tap ∙ c.take_bytes.ensures.same_tap in (
+      is_line,
+      subst (λ t. SeesLined (Some c.args.now) c.args.side old.lines c.follow.new.self.lines old.timed t c.args.piece.now step.used step.seen is_line) (sym timed)
+          (subst (λ l. SeesLined (Some c.args.now) c.args.side old.lines l old.timed c.step_or_line.new.tap c.args.piece.now step.used step.seen is_line)
+          (sym lines) c.step_or_line.ensures.sees),
+    )

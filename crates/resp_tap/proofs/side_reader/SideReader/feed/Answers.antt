@@ -1,16 +1,36 @@
-use Rattle.std.proofs.Common.{rules, ◌≡◌, false}
+use Rattle.std.proofs.Common.{◌≡◌, ◌∙◌, ◌++◌, Box, Global, ap, length, refl, subst, sym, take}
 use Rattle.std.proofs.Math.Logic.{∥∥₁_map}
-use Rattle.std.specs.Prelude.{is_err}
-use Rattle.resp_decode.specs.Decoding.{rules_of}
-use Rattle.resp_tap.proofs.Fronts.{front_after}
+use Rattle.std.specs.Box.{with_value}
+use Rattle.resp_value.specs.Spellings.{IsSpelling}
+use Rattle.resp_value.specs.Values.{datum_of}
+use Rattle.resp_decode.specs.Decoding.{HasTaken, rules_of}
+use Rattle.resp_decode.specs.declared.decoder.Decoder.{Decoder}
+use Rattle.resp_tap.specs.Sides.{side_rules}
+use Rattle.resp_tap.proofs.Fronts.{HasFront, front_after}
 use Rattle.resp_tap.proofs.side_reader.SideReader.feed.Goals as goal
 
-pub invariant_of-self-else-is_err : goal.invariant_of-self-else-is_err
-invariant_of-self-else-is_err c =
+pub invariant_of-self-in-Ok-feed : goal.invariant_of-self-in-Ok-feed
+invariant_of-self-in-Ok-feed c =
     let old = c.args.self.now in
-    let fed = c.feed-fed in
-    let ok : is_err fed.result ≡ false = search rules in
+    let fed = c.in-Ok-feed in
+    let rules : rules_of c.deref_mut.result.now ≡ side_rules old = ap rules_of c.deref_mut.ensures.value ∙ c.in-Ok.ensures.rules in
     record {
+      same_rules = λ kept is. c.kept.ensures.rules kept is ∙ fed.ensures.same_rules ∙ rules;
       reading = λ on. ∥∥₁_map (old.reading on) (λ h.
-          front_after (rules_of old.decoder) fed.new.self h.0 c.args.piece.now fed.result ok (fed.ensures.value_whole h.0 h.1) (fed.ensures.used_up h.0 h.1));
+          let here : HasTaken c.deref_mut.result.now h.0 = subst (λ (d : Decoder). HasTaken d h.0) (sym c.deref_mut.ensures.value)
+          (c.in-Ok.ensures.sent h.0 (subst (λ d. HasFront d h.0) (sym c.take-held.ensures.value) h.1)) in
+          front_after (rules_of c.deref_mut.result.now) (with_value c.in-Ok.decoder c.feed.new.self) c.kept.result h.0 c.args.piece.now fed.fed.used
+          fed.fed.value (fed.ensures.value_whole h.0 here) (fed.ensures.used_up h.0 here) c.kept.ensures.nothing_sent c.kept.ensures.inside);
+    }
+
+pub returns-in-Ok-feed-clause-value_whole : goal.returns-in-Ok-feed-clause-value_whole
+returns-in-Ok-feed-clause-value_whole c = λ front sent value is.
+    let old = c.args.self.now in
+    let rules : rules_of c.deref_mut.result.now ≡ side_rules old = ap rules_of c.deref_mut.ensures.value ∙ c.in-Ok.ensures.rules in
+    let here : HasTaken c.deref_mut.result.now front = subst (λ (d : Decoder). HasTaken d front) (sym c.deref_mut.ensures.value)
+    (c.in-Ok.ensures.sent front (subst (λ d. HasFront d front) (sym c.take-held.ensures.value) sent)) in
+    let given = c.in-Ok-feed.ensures.value_whole front here value is in
+    record {
+      spelling = subst (λ r. IsSpelling r (datum_of value) (front ++ take c.in-Ok-feed.fed.used c.args.piece.now)) rules given.spelling;
+      takes = c.kept.ensures.nothing_sent given.takes;
     }

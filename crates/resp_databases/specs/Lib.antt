@@ -1,0 +1,6 @@
+pub mod Names
+pub mod Indexes
+pub mod Deeds
+pub mod Outcomes
+pub mod Replying
+pub mod Running

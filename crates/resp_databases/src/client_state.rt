@@ -1,0 +1,80 @@
+//! The state of a client.
+
+ghost use Rattle.std.specs.Prelude.{◌≡◌, ◌≤◌, [], drop, length, true, false};
+ghost use Rattle.resp_value.specs.declared.version.Version.TheVariants.{Two};
+ghost use Rattle.resp_databases.specs.Running.{standing_of, waiting_of};
+
+use crate::client::Client;
+use bytes::BytesMut;
+use resp_frames::Begun;
+use resp_value::version::Version;
+use std::alloc::Global;
+
+impl Client {
+    /// Makes a client of version 2 in database 0, without a name, that has sent nothing. Does not
+    /// allocate.
+    pub(crate) fn new(alloc: Global, id: u64) -> Client
+        ensures standing { standing_of result ≡ record {
+          id = id;
+          version = Two;
+          database = 0;
+          name = [];
+          closing = false;
+        } }
+        ensures nothing_waits { waiting_of result ≡ [] }
+    {
+        Client {
+            alloc,
+            id,
+            version: Version::Two,
+            database: 0,
+            name: Vec::new(alloc),
+            closing: false,
+            out: BytesMut::new(alloc),
+            begun: Begun::new(),
+            line: Vec::new(alloc),
+        }
+    }
+
+    /// Returns the id of the client, which CLIENT ID and HELLO reply.
+    pub fn id(&self) -> u64
+        ensures { result ≡ (standing_of self.now).id }
+    {
+        self.id
+    }
+
+    /// Returns the bytes that wait to be written to the client.
+    pub fn out(&self) -> &[u8]
+        ensures { result.now ≡ waiting_of self.now }
+    {
+        self.out.as_slice()
+    }
+
+    /// Removes the first `count` bytes of [`Client::out`] after they were written. `count` is at
+    /// most the number of bytes that wait.
+    pub fn sent(&mut self, count: usize)
+        requires { count ≤ length (waiting_of self.old) }
+        ensures sent { waiting_of self.new ≡ drop count (waiting_of self.old) }
+        ensures same_standing { standing_of self.new ≡ standing_of self.old }
+    {
+        self.out.advance(count);
+    }
+
+    /// Returns whether no command of the client is run any more: after QUIT, after a protocol error
+    /// and when out of memory.
+    pub fn is_closing(&self) -> bool
+        ensures { result ≡ (standing_of self.now).closing }
+    {
+        self.closing
+    }
+
+    /// Runs no command of the client any more. Drops the bytes of a command that it has begun.
+    pub(crate) fn shut(&mut self)
+        ensures closing { standing_of self.new ≡ record (standing_of self.old) { closing = true } }
+        ensures same_waiting { waiting_of self.new ≡ waiting_of self.old }
+    {
+        self.begun = Begun::new();
+        self.line = Vec::new(self.alloc);
+        self.closing = true;
+    }
+}

@@ -1,0 +1,31 @@
+//! A server of 16 databases, for tests of programs that need Redis, without input and output.
+//!
+//! [`Databases`] holds the databases, and a [`Client`] what the server knows of a connection.
+//! [`Databases::take`] takes the bytes of a client and queues the replies, and [`serve`] does so
+//! over devices. The commands of `resp_server` have the replies that a [`resp_server::Hub`] gives
+//! them.
+//!
+//! It is proved which effect or error a command asks for, given its words, and the text of each kind
+//! of reply. It is also proved that a SELECT, CLIENT, QUIT or HELLO, and a command with an error of
+//! this crate, once it is found, has its effect and its reply. The effects of the others are tested,
+//! and not proved.
+#![tactic(auto)]
+
+mod client;
+mod client_state;
+mod connection;
+mod database;
+mod databases;
+mod deed;
+mod error;
+mod index;
+mod line;
+mod perform;
+mod refusal;
+mod reply;
+mod take;
+
+pub use client::Client;
+pub use connection::{Served, Visit, serve};
+pub use databases::Databases;
+pub use error::ServeError;

@@ -1,0 +1,136 @@
+//! Runs a command of a client.
+
+ghost use Rattle.std.specs.Prelude.{◌≡◌, OnErr, OnOk};
+ghost use Rattle.resp_session.specs.Operations.{Operation};
+ghost use Rattle.resp_session.specs.Operations as one;
+ghost use Rattle.resp_databases.specs.Deeds.{Request, asked_by};
+ghost use Rattle.resp_databases.specs.Running.{HasChanged, IfOfClientAlone, IsOfClient, IsUnchanged};
+
+use crate::client::Client;
+use crate::databases::Databases;
+use crate::deed::{Deed, deed_of};
+use crate::index::DATABASES;
+use crate::reply::{reply_greeting, reply_name, reply_number, reply_ok, reply_unknown};
+use resp_scan::whole;
+use resp_value::version::Version;
+use std::alloc::AllocError;
+use std::hash::BuildHasher;
+
+impl<S: BuildHasher + Copy> Databases<S> {
+    /// Runs a command of a client, whose bytes these are, and queues the reply.
+    ///
+    /// # Errors
+    ///
+    /// `AllocError` if an allocation fails, after 2^63 - 1 commands of a database, or if the bytes
+    /// are no command within the limits. Then nothing is changed.
+    pub(crate) fn run(&mut self, client: &mut Client, command: &[u8]) -> Result<(), AllocError>
+        // A command that concerns the client alone is done, and the databases are the same.
+        ensures done { OnOk result (IfOfClientAlone self.old.limits command.now (λ asked.
+            HasChanged asked client.old client.new × (self.new.list ≡ self.old.list))) }
+    {
+        let Some(words) = whole::command(command, &self.limits) else {
+            return Err(AllocError);
+        };
+        let deed = deed_of(words.name, words.arguments);
+        self.perform(client, command, deed)
+    }
+
+    /// Does what a command asks for, and queues the reply.
+    fn perform(
+        &mut self,
+        client: &mut Client,
+        command: &[u8],
+        deed: Deed<'_>,
+    ) -> Result<(), AllocError>
+        // A command that reads and changes no database is done of the client.
+        ensures done { (request : Operation) → IsOfClient deed.entry →
+            OnOk result (HasChanged (asked_by request deed.entry) client.old client.new) }
+        ensures failed { IsOfClient deed.entry →
+            OnErr result (IsUnchanged client.old client.new) }
+        ensures same { IsOfClient deed.entry → self.new.list ≡ self.old.list }
+    {
+        match deed {
+            Deed::Pass => self.pass(client, command),
+            Deed::Exists(keys) => {
+                let count = match self.list.get(client.database) {
+                    Some(database) => database.count(keys),
+                    None => 0,
+                };
+                reply_number(&mut client.out, count)
+            }
+            Deed::DbSize => {
+                let count = match self.list.get(client.database) {
+                    Some(database) => database.size(),
+                    None => 0,
+                };
+                reply_number(&mut client.out, count)
+            }
+            Deed::FlushDb => {
+                reply_ok(&mut client.out)?;
+                self.flush(client.database);
+                Ok(())
+            }
+            Deed::FlushAll => {
+                reply_ok(&mut client.out)?;
+                for index in 0..DATABASES {
+                    self.flush(index);
+                }
+                Ok(())
+            }
+            deed => change(client, deed),
+        }
+    }
+
+    /// Runs a command in the client's database, and queues the reply.
+    fn pass(&mut self, client: &mut Client, command: &[u8]) -> Result<(), AllocError> {
+        match self.list.get_mut(client.database) {
+            Some(database) => database.run(client.version, command, &mut client.out),
+            None => Err(AllocError),
+        }
+    }
+}
+
+/// Does what a command asks of the client itself, and queues the reply.
+fn change(client: &mut Client, deed: Deed<'_>) -> Result<(), AllocError>
+    ensures done { (request : Operation) → IsOfClient deed.entry →
+        OnOk result (HasChanged (asked_by request deed.entry) client.old client.new) }
+    ensures failed { OnErr result (IsUnchanged client.old client.new) }
+{
+    match deed {
+        Deed::Hello(asked) => greet(client, asked),
+        Deed::Select(index) => {
+            reply_ok(&mut client.out)?;
+            client.database = index;
+            Ok(())
+        }
+        Deed::SetName(name) => {
+            let name = name.to_vec(client.alloc)?;
+            reply_ok(&mut client.out)?;
+            client.name = name;
+            Ok(())
+        }
+        Deed::GetName => reply_name(&mut client.out, client.version, &client.name),
+        Deed::Id => reply_number(&mut client.out, client.id),
+        Deed::Quit => {
+            reply_ok(&mut client.out)?;
+            client.closing = true;
+            Ok(())
+        }
+        Deed::Refused(refusal) => client.out.extend_from_slice(refusal.line()),
+        Deed::UnknownSubcommand(word) => reply_unknown(&mut client.out, word),
+        _ => reply_ok(&mut client.out),
+    }
+}
+
+/// Changes the version if one is requested, and replies with the description of the client in that
+/// version.
+fn greet(client: &mut Client, asked: Option<Version>) -> Result<(), AllocError>
+    ensures done { OnOk result
+        (HasChanged (Request (one.Hello asked)) client.old client.new) }
+    ensures failed { OnErr result (IsUnchanged client.old client.new) }
+{
+    let version = asked.unwrap_or(client.version);
+    reply_greeting(&mut client.out, version, client.id)?;
+    client.version = version;
+    Ok(())
+}

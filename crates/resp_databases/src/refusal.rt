@@ -1,0 +1,80 @@
+//! The error replies of the commands that `resp_server` does not have.
+
+ghost use Rattle.std.specs.Prelude.{◌≡◌};
+ghost use Rattle.resp_value.specs.Canonical.{canonical_text};
+ghost use Rattle.resp_value.specs.declared.version.Version.TheVariants.{Two};
+ghost use Rattle.resp_session.specs.Replies.{error};
+ghost use Rattle.resp_databases.specs.Deeds.{refusal_text};
+ghost use Rattle.resp_databases.specs.declared.refusal.Refusal.TheVariants.{WrongNumber};
+
+/// Why a command has an error reply.
+#[derive(Clone, Copy, Debug, PartialEq, Eq)]
+pub(crate) enum Refusal {
+    /// It has too few or too many words.
+    WrongNumber(Verb),
+    /// It has an unknown option.
+    Syntax,
+    /// A number is not the decimal text of an integer of 64 bits.
+    NoInteger,
+    /// The number of a database is not an integer of 32 bits.
+    FarIndex,
+    /// No database has this number.
+    NoDatabase,
+    /// A name of a client has a byte that is not printable, or a space.
+    BadName,
+}
+
+/// A command or subcommand in the error reply to a wrong number of words.
+#[derive(Clone, Copy, Debug, PartialEq, Eq)]
+pub(crate) enum Verb {
+    /// SELECT.
+    Select,
+    /// EXISTS.
+    Exists,
+    /// DBSIZE.
+    DbSize,
+    /// CLIENT.
+    Client,
+    /// CLIENT SETNAME.
+    SetName,
+    /// CLIENT GETNAME.
+    GetName,
+    /// CLIENT ID.
+    Id,
+    /// CLIENT SETINFO.
+    SetInfo,
+}
+
+impl Refusal {
+    /// Returns the line of the reply.
+    pub(crate) fn line(self) -> &'static [u8]
+        ensures { result.now ≡ canonical_text Two (error (refusal_text self)) }
+    {
+        match self {
+            Refusal::WrongNumber(verb) => wrong_number(verb),
+            Refusal::Syntax => b"-ERR syntax error\r\n",
+            Refusal::NoInteger => b"-ERR value is not an integer or out of range\r\n",
+            Refusal::FarIndex =>
+                b"-ERR value is out of range, value must between -2147483648 and 2147483647\r\n",
+            Refusal::NoDatabase => b"-ERR DB index is out of range\r\n",
+            Refusal::BadName =>
+                b"-ERR Client names cannot contain spaces, newlines or special characters.\r\n",
+        }
+    }
+}
+
+/// Returns the line of the reply to a command with too few or too many words.
+fn wrong_number(verb: Verb) -> &'static [u8]
+    ensures { result.now ≡ canonical_text Two (error (refusal_text (WrongNumber verb))) }
+{
+    match verb {
+        Verb::Select => b"-ERR wrong number of arguments for 'select' command\r\n",
+        Verb::Exists => b"-ERR wrong number of arguments for 'exists' command\r\n",
+        Verb::DbSize => b"-ERR wrong number of arguments for 'dbsize' command\r\n",
+        Verb::Client => b"-ERR wrong number of arguments for 'client' command\r\n",
+        Verb::SetName => b"-ERR wrong number of arguments for 'client|setname' command\r\n",
+        Verb::GetName => b"-ERR wrong number of arguments for 'client|getname' command\r\n",
+        Verb::Id => b"-ERR wrong number of arguments for 'client|id' command\r\n",
+        Verb::SetInfo => b"-ERR wrong number of arguments for 'client|setinfo' command\r\n",
+    }
+}

@@ -1,0 +1,65 @@
+//! The first bytes of the commands that came last.
+
+ghost use Rattle.std.specs.Prelude.{◌<◌, [], IfSome};
+ghost use Rattle.resp_frames.specs.Commands.{IsFrameOfWords};
+
+use crate::known_head::KnownHead;
+use crate::words::{CommandFrame, command_of_piece};
+use resp_value::limits::Limits;
+
+/// The number of heads that are known at once.
+const PLACES: usize = 16;
+
+/// The first bytes of the commands that came last. Most commands of clients begin as one of those
+/// before them, so that neither the name nor the head of the array is read again.
+#[derive(Drop)]
+pub(crate) struct Heads {
+    known: [Option<KnownHead>; PLACES],
+}
+
+impl Heads {
+    /// Returns heads of which none is known.
+    pub(crate) fn new() -> Heads {
+        Heads {
+            known: [None; PLACES],
+        }
+    }
+
+    /// Returns the command at the beginning of the piece, if it lies whole in the piece.
+    #[inline(always)]
+    pub(crate) fn find<'a>(&mut self, piece: &'a [u8], limits: &Limits) -> Option<CommandFrame<'a>>
+        ensures { IfSome result (λ found. IsFrameOfWords limits.now [] piece.now found) }
+    {
+        if let Some(head) = &self.known[place_of(piece)] {
+            if let Some(found) = head.command(piece, limits) {
+                return Some(found);
+            }
+        }
+        self.find_unknown(piece, limits)
+    }
+
+    /// As `find`, if the head of the command is not known. From now on it is, unless the words of the
+    /// command decide its class.
+    #[inline(never)]
+    fn find_unknown<'a>(&mut self, piece: &'a [u8], limits: &Limits) -> Option<CommandFrame<'a>>
+        ensures { IfSome result (λ found. IsFrameOfWords limits.now [] piece.now found) }
+    {
+        let found = command_of_piece(piece, limits)?;
+        if let Some(head) = KnownHead::of(piece, limits) {
+            self.known[place_of(piece)] = Some(head);
+        }
+        Some(found)
+    }
+}
+
+/// Returns the place of the head of a command: a hash of three bytes, which in most commands are the
+/// length of the name and its first two letters.
+#[inline(always)]
+fn place_of(piece: &[u8]) -> usize
+    ensures { result < 16 }
+{
+    if piece.len() < 10 {
+        return 0;
+    }
+    (usize::from(piece[5]) + usize::from(piece[8]) + usize::from(piece[9])) % PLACES
+}

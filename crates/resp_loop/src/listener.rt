@@ -1,0 +1,111 @@
+//! The socket of a listener, over TCP or at the path of a Unix socket.
+
+use crate::backend::Address;
+use crate::stream::Stream;
+use mio::event::Source;
+use mio::net::{TcpListener, UnixListener, UnixStream};
+use mio::{Interest, Registry, Token};
+use std::fs::Files;
+use std::io::ErrorKind;
+use std::net::Net;
+use std::os::unix::fs::FileTypeExt;
+use std::{fs, io};
+
+/// A socket that accepts connections. Accepting one doesn't block.
+#[derive(Drop)]
+pub(crate) enum Listener {
+    /// It accepts connections over TCP.
+    Tcp(TcpListener),
+    /// It accepts connections at a path.
+    Unix { socket: UnixListener, path: String },
+}
+
+impl Listener {
+    /// Listens on an address. At a path it makes a file, and replaces a socket that nothing listens
+    /// on.
+    ///
+    /// # Errors
+    ///
+    /// The error of the system, which is of kind `AddrInUse` if the address is used or the path has
+    /// another file.
+    pub(crate) fn bind<R: Net + Files>(rt: &R, address: &Address) -> io::Result<Self> {
+        match address {
+            Address::Socket(address) => Ok(Listener::Tcp(TcpListener::bind(rt, *address)?)),
+            Address::Path(path) => Ok(Listener::Unix {
+                socket: bind_path(rt, path.as_str())?,
+                path: path.clone()?,
+            }),
+        }
+    }
+
+    /// Returns the address that it listens on.
+    ///
+    /// # Errors
+    ///
+    /// The error of the system if it can't be read, or an error of kind `OutOfMemory`.
+    pub(crate) fn address(&self) -> io::Result<Address> {
+        match self {
+            Listener::Tcp(socket) => Ok(Address::Socket(socket.local_addr()?)),
+            Listener::Unix { path, .. } => Ok(Address::Path(path.clone()?)),
+        }
+    }
+
+    /// Accepts a connection.
+    ///
+    /// # Errors
+    ///
+    /// The error of the system, which is of kind `WouldBlock` if no connection waits.
+    pub(crate) fn accept(&self) -> io::Result<Stream> {
+        match self {
+            Listener::Tcp(socket) => {
+                let (client, _) = socket.accept()?;
+                Ok(Stream::Tcp(client))
+            }
+            Listener::Unix { socket, .. } => {
+                let (client, _) = socket.accept()?;
+                Ok(Stream::Unix(client))
+            }
+        }
+    }
+
+    /// Registers the socket in a registry.
+    ///
+    /// # Errors
+    ///
+    /// The error of the system.
+    pub(crate) fn register(&mut self, registry: &Registry, token: Token) -> io::Result<()> {
+        match self {
+            Listener::Tcp(socket) => socket.register(registry, token, Interest::READABLE),
+            Listener::Unix { socket, .. } => socket.register(registry, token, Interest::READABLE),
+        }
+    }
+}
+
+/// Listens at a path. A socket that nothing listens on is replaced.
+///
+/// # Errors
+///
+/// The error of the system.
+fn bind_path<R: Net + Files>(rt: &R, path: &str) -> io::Result<UnixListener> {
+    match UnixListener::bind(rt, path) {
+        Err(error) if error.kind() == ErrorKind::AddrInUse && is_abandoned(rt, path) => {
+            fs::remove_file(rt, path)?;
+            UnixListener::bind(rt, path)
+        }
+        bound => bound,
+    }
+}
+
+/// Returns whether the file at a path is a Unix socket that nothing listens on.
+fn is_abandoned<R: Net + Files>(rt: &R, path: &str) -> bool {
+    let Ok(file) = fs::symlink_metadata(rt, path) else {
+        return false;
+    };
+    if !file.file_type().is_socket() {
+        return false;
+    }
+    match UnixStream::connect(rt, path) {
+        Ok(_) => false,
+        Err(error) => error.kind() == ErrorKind::ConnectionRefused,
+    }
+}

@@ -1,0 +1,37 @@
+-- Rows of errors at their places.
+use Rattle.std.proofs.Common.{◌≡◌, ◌≢◌, ℕ, ◌<◌, Bool, true, List, [], ◌∷◌, ◌++◌, length, set, refl, ap, zero, suc, sym, subst, arith, length-set}
+use Rattle.std.specs.Prelude.{slice_get, Option, None, Some, IsSomeAnd}
+use Rattle.std.specs.Str.{bytes_eq}
+use Rattle.std.proofs.lemmas.Bool.Decides.{nat_tests}
+use Rattle.resp_proxy.specs.ErrorRows.{AddsErrors, CountsErrors, has_word, row_has}
+use Rattle.resp_proxy.specs.declared.error_counts.ErrorRow.{ErrorRow}
+
+get-set_same : (rows : List ErrorRow) (i : ℕ) (row : ErrorRow) → i < length rows → slice_get (set rows i row) i ≡ Some row
+get-set_same [] i row within = absurd (omega (arith, within))
+get-set_same (x ∷ rows) zero row within = refl
+get-set_same (x ∷ rows) (suc i) row within = get-set_same rows i row (omega (arith, within))
+
+get-set_other : (rows : List ErrorRow) (i j : ℕ) (row : ErrorRow) → j ≢ i → slice_get (set rows i row) j ≡ slice_get rows j
+get-set_other [] i j row apart = refl
+get-set_other (x ∷ rows) zero zero row apart = absurd (apart refl)
+get-set_other (x ∷ rows) zero (suc j) row apart = refl
+get-set_other (x ∷ rows) (suc i) zero row apart = refl
+get-set_other (x ∷ rows) (suc i) (suc j) row apart = get-set_other rows i j row (λ e. apart (ap suc e))
+
+pub counts_errors : (place n : ℕ) (rows : List ErrorRow) (before after : ErrorRow) → place < length rows →
+    slice_get rows place ≡ Some before → AddsErrors n before after → CountsErrors place n rows (set rows place after)
+counts_errors place n rows before after within is adds = record {
+  counted = subst (λ (o : Option ErrorRow). IsSomeAnd o (λ old. IsSomeAnd (slice_get (set rows place after) place) (AddsErrors n old))) (sym is)
+      (subst (λ (o : Option ErrorRow). IsSomeAnd o (AddsErrors n before)) (sym (get-set_same rows place after within)) adds);
+  others = λ other apart. get-set_other rows place other after apart;
+  number = length-set rows place after;
+}
+
+bytes_eq-same : (xs : List ℕ) → bytes_eq xs xs ≡ true
+bytes_eq-same [] = refl
+bytes_eq-same (x ∷ xs) = grind (arith, nat_tests, bytes_eq-same xs)
+
+-- a row that was added is that of its word
+pub added_has : (word : List ℕ) (rows : List ErrorRow) (row : ErrorRow) → row.word.items ≡ word → has_word word (rows ++ row ∷ []) (length rows) ≡ true
+added_has word [] row is = subst (λ (text : List ℕ). bytes_eq text word ≡ true) (sym is) (bytes_eq-same word)
+added_has word (x ∷ rows) row is = added_has word rows row is

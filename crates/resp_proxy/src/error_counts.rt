@@ -1,0 +1,245 @@
+//! Error replies of the server, counted by the first words of their texts.
+
+ghost use Rattle.std.specs.Prelude.{◌≡◌, ◌<◌, ◌≤◌, ℕ, List, length, option_map, slice_get, true, false, IfNone, IfSome};
+ghost use Rattle.resp_proxy.specs.ErrorRows.{AddsErrors, CountsErrors, IsNewRow, MayAddRow, has_word, row_has};
+
+use arrayvec::ArrayVec;
+use std::alloc::{AllocError, Global};
+use std::{mem, str};
+
+/// The most rows: one for each of 128 words, and the first for all other errors.
+const MOST_ROWS: usize = 129;
+
+/// The most bytes of a word.
+const LONGEST: usize = 32;
+
+/// The most bytes of a reply that are looked at: `-`, a word, and the byte behind it.
+const FRONT: usize = 34;
+
+/// The number of errors whose texts begin with one word. It stays at its greatest value.
+#[derive(Drop)]
+pub(crate) struct ErrorRow {
+    pub(crate) word: ArrayVec<u8, LONGEST>,
+    pub(crate) count: u64,
+}
+
+/// The error replies of a server, in a row for each first word, such as `WRONGTYPE`. The first row is
+/// that of all errors whose word has no row of its own: 128 words have, an allocation failed, or the
+/// word is longer than 32 bytes or has other bytes than upper-case letters, digits, `_` and `-`.
+#[derive(Drop)]
+pub(crate) struct ErrorCounts {
+    pub(crate) rows: Vec<ErrorRow>,
+    /// The first bytes of the reply that has begun.
+    front: ArrayVec<u8, FRONT>,
+    ghost some: { 0 < length rows.items },
+    ghost few: { length rows.items ≤ 129 },
+}
+
+/// Returns whether a row is that of this word.
+fn row_has(row: Option<&ErrorRow>, word: &[u8]) -> bool
+    ensures { result ≡ row_has word.now (option_map (λ row. row.now) row.entry) }
+{
+    match row {
+        Some(row) => row.word.as_slice() == word,
+        None => false,
+    }
+}
+
+/// Returns the first word of the text of an error, by the first bytes of the reply. Returns `None` if the
+/// word has no row of its own.
+fn word_of(front: &[u8]) -> Option<&[u8]> {
+    let mut length = 1;
+    while length < front.len() && is_of_word(front[length]) {
+        length += 1;
+    }
+    let is_whole = matches!(front.get(length), Some(b' ' | b'\r'));
+    if length > 1 && is_whole {
+        front.get(1..length)
+    } else {
+        None
+    }
+}
+
+/// Returns whether a word may have this byte.
+fn is_of_word(byte: u8) -> bool {
+    byte.is_ascii_uppercase() || byte.is_ascii_digit() || byte == b'_' || byte == b'-'
+}
+
+impl ErrorCounts {
+    /// Returns counts of no errors.
+    pub(crate) fn new(alloc: Global) -> Result<Self, AllocError> {
+        let mut rows = Vec::new(alloc);
+        rows.push(ErrorRow {
+            word: ArrayVec::new(),
+            count: 0,
+        })?;
+        Ok(ErrorCounts {
+            rows,
+            front: ArrayVec::new(),
+        })
+    }
+
+    /// Counts a reply that ends in this piece, if it is an error. `is_begun` says whether it has begun in
+    /// an earlier piece.
+    #[inline(always)]
+    pub(crate) fn end(&mut self, is_begun: bool, piece: &[u8]) {
+        if is_begun || piece.first() == Some(&b'-') {
+            self.hold(is_begun, piece);
+            self.count_front();
+        }
+    }
+
+    /// Holds the first bytes of a reply that does not end in this piece.
+    pub(crate) fn hold(&mut self, is_begun: bool, piece: &[u8]) {
+        if !is_begun {
+            self.front = ArrayVec::new();
+        }
+        for byte in piece {
+            if self.front.is_full() {
+                return;
+            }
+            self.front.push(*byte);
+        }
+    }
+
+    /// Counts the reply that has begun with the bytes that are held, if it is an error.
+    fn count_front(&mut self) {
+        let front = mem::replace(&mut self.front, ArrayVec::new());
+        if front.as_slice().first() != Some(&b'-') {
+            return;
+        }
+        let place = match word_of(front.as_slice()) {
+            Some(word) => self.place_of(word),
+            None => 0,
+        };
+        self.count(place, 1);
+    }
+
+    /// Counts the errors of another proxy here, and no longer there.
+    pub(crate) fn take(&mut self, other: &mut ErrorCounts) {
+        for from in 0..other.rows.len() {
+            let row = &mut other.rows[from];
+            if row.count > 0 {
+                let place = if from > 0 {
+                    self.place_of(row.word.as_slice())
+                } else {
+                    0
+                };
+                self.count(place, row.count);
+                row.count = 0;
+            }
+        }
+    }
+
+    /// Returns a line for each word that errors began with, in the order of the words, and behind them a
+    /// line for all other errors.
+    ///
+    /// # Errors
+    ///
+    /// `AllocError` if an allocation fails.
+    pub(crate) fn lines(&self, alloc: Global) -> Result<String, AllocError> {
+        let mut text = String::new(alloc);
+        let mut last = None;
+        for _ in 0..self.rows.len() {
+            let Some(row) = self.next_row(last) else {
+                break;
+            };
+            last = Some(row.word.as_slice());
+            let word = str::from_utf8(row.word.as_slice()).unwrap_or("?");
+            add_line(alloc, &mut text, word, row.count)?;
+        }
+        add_line(alloc, &mut text, "other", self.rows[0].count)?;
+        Ok(text)
+    }
+
+    /// Returns the row of the next word behind this one, or of the first word.
+    fn next_row(&self, last: Option<&[u8]>) -> Option<&ErrorRow> {
+        let mut next: Option<&ErrorRow> = None;
+        for row in &self.rows[1..] {
+            let word = row.word.as_slice();
+            let is_left = last.map_or(true, |last| last < word);
+            if is_left && next.map_or(true, |next| word < next.word.as_slice()) {
+                next = Some(row);
+            }
+        }
+        next
+    }
+
+    /// Returns the place of the row of a word. A row is added if there is none; without memory for it, or
+    /// if there are 128 words already, the place is 0.
+    fn place_of(&mut self, word: &[u8]) -> usize
+        ensures within { result < length self.new.rows.items }
+        ensures named { 0 < result → has_word word.now self.new.rows.items result ≡ true }
+        ensures rows { MayAddRow word.now self.old.rows.items self.new.rows.items }
+        ensures found { (place : ℕ) → 0 < place → has_word word.now self.old.rows.items place ≡ true →
+            (0 < result) × (self.new.rows.items ≡ self.old.rows.items) }
+    {
+        if let Some(place) = self.find(word) {
+            return place;
+        }
+        let place = self.rows.len();
+        if place >= MOST_ROWS || word.len() > LONGEST {
+            return 0;
+        }
+        if self.rows.push(row_of(word)).is_err() {
+            return 0;
+        }
+        place
+    }
+
+    /// Returns the place of the row of a word, if there is one.
+    fn find(&self, word: &[u8]) -> Option<usize>
+        ensures some { IfSome result (λ place. (0 < place) ×
+            (has_word word.now self.now.rows.items place ≡ true)) }
+        ensures none { IfNone result ((place : ℕ) → 0 < place →
+            has_word word.now self.now.rows.items place ≡ false) }
+    {
+        for place in 1..self.rows.len() {
+            if row_has(self.rows.get(place), word) {
+                return Some(place);
+            }
+        }
+        None
+    }
+
+    /// Counts so many errors in the row at this place.
+    fn count(&mut self, place: usize, count: u64)
+        requires { place < length self.old.rows.items }
+        ensures { CountsErrors place count self.old.rows.items self.new.rows.items }
+    {
+        self.rows[place].add(count);
+    }
+}
+
+impl ErrorRow {
+    /// Counts so many errors.
+    fn add(&mut self, count: u64)
+        ensures { AddsErrors count self.old self.new }
+    {
+        self.count = self.count.saturating_add(count);
+    }
+}
+
+/// Returns a row of a word without errors.
+fn row_of(word: &[u8]) -> ErrorRow
+    requires { length word.now ≤ 32 }
+    ensures { IsNewRow word.now result }
+{
+    let mut copy = ArrayVec::new();
+    for byte in word {
+        copy.push(*byte);
+    }
+    ErrorRow {
+        word: copy,
+        count: 0,
+    }
+}
+
+/// Adds the line of a word to a text, if there are errors.
+fn add_line(alloc: Global, text: &mut String, word: &str, count: u64) -> Result<(), AllocError> {
+    if count == 0 {
+        return Ok(());
+    }
+    let line = format!(in alloc; "errorstat_{word}:count={count}\r\n")?;
+    text.push_str(line.as_str())
+}
