@@ -12,7 +12,7 @@ _resp() {
     --record | --replay) compopt -o filenames && COMPREPLY=($(compgen -f -- "$word")) && return ;;
     --proto) COMPREPLY=($(compgen -W "2 3" -- "$word")) && return ;;
     --color) COMPREPLY=($(compgen -W "auto always never" -- "$word")) && return ;;
-    --depth | --length | --total | --items | --piece | --clients | --held | --user | --window | \
+    --depth | --length | --total | --items | --piece | --clients | --held | --shown | --user | --window | \
         --own | --lines | --waiting | --unsent | --patience | --report | --slower | --command | --key | --client | --port) return ;;
     esac
     case $command in
@@ -20,7 +20,7 @@ _resp() {
     loop) options="--explain --no-explain -h --help" ;;
     serve) options="$limits --clients --held --test-server -h --help" ;;
     tap)
-        options="$limits --clients --time --errors --slower --command --key --client --connections --stats --stats-every --exit-with-output --keep-going --no-inline --show-passwords --record --replay --port --color --utf8 -h --help"
+        options="$limits --clients --time --errors --slower --command --key --client --connections --stats --stats-every --exit-with-output --keep-going --no-inline --show-passwords --shown --record --replay --port --color --utf8 -h --help"
         ;;
     proxy)
         options="$limits --clients --own --lines --waiting --held --unsent --patience --report --local-ping --no-inline --drain --also --check-every --check --all -h --help"

@@ -55,6 +55,7 @@ pub(crate) fn of_filtered_tap(alloc: Global) -> Outcome {
     let printing = Printing {
         client: 1,
         shows_passwords: false,
+        shown: None,
     };
     let mut tap = FilteredTap::new(alloc, &Limits::standard());
     let Ok(mut text) = MemorySink::new(alloc, 4_096, 4_096) else {
@@ -147,6 +148,7 @@ fn count_piece(
     let printing = Printing {
         client: 1,
         shows_passwords: false,
+        shown: None,
     };
     let now = Moment {
         of_day: 0,

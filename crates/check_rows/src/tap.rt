@@ -43,6 +43,7 @@ impl Subject for Tapping {
             printing: Printing {
                 client: 1,
                 shows_passwords: false,
+                shown: None,
             },
             filter: Filter::all(alloc),
         })

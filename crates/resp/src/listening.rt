@@ -299,6 +299,7 @@ fn tap<W: LiveSink>(
         after_failure: after_failure(tapping),
         reads_lines: !tapping.refuses_lines,
         shows_passwords: tapping.shows_passwords,
+        shown: tapping.shown,
         json: tapping.style.json,
         tables: tables_of(tapping.stats),
         style,

@@ -25,6 +25,7 @@ fn settings_of(tapping: &Tapping<'_>, captured: &Captured<'_>, is_slow: bool) ->
         tells_time: tapping.tells_time || is_slow || tapping.style.json,
         reads_lines: !tapping.refuses_lines,
         shows_passwords: tapping.shows_passwords,
+        shown: tapping.shown,
         json: tapping.style.json,
         tables: tables_of(tapping.stats),
         port: port_of(captured.port),

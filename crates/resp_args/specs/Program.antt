@@ -130,7 +130,7 @@ abbrev pub tap_options : List Rule
 tap_options = listening_options
     (flag_option (codes "time") ∷ filter_options ++ stats_options ++
     flag_option (codes "exit-with-output") ∷ flag_option (codes "keep-going") ∷ flag_option (codes "no-inline") ∷
-    flag_option (codes "show-passwords") ∷ traffic_options ++ style_options ++ flag_option (codes "json") ∷
+    flag_option (codes "show-passwords") ∷ size_option (codes "shown") (codes "1K") ∷ traffic_options ++ style_options ++ flag_option (codes "json") ∷
     optional_word (codes "listen") ∷ optional_word (codes "server") ∷ [])
 
 -- the options of `proxy`

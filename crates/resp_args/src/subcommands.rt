@@ -101,6 +101,7 @@ const TAP: Subcommand = Subcommand {
         KEEP_GOING,
         READS_NO_LINES,
         SHOW_PASSWORDS,
+        SHOWN,
         RECORD,
         REPLAY,
         PORT,
@@ -488,6 +489,13 @@ const READS_NO_LINES: Parameter = Parameter {
     name: "no-inline",
     form: Form::Flag,
     help: "Reads no commands that are lines, such as PING",
+};
+
+/// `--shown`: the most bytes of a word or of a text that `tap` prints.
+const SHOWN: Parameter = Parameter {
+    name: "shown",
+    form: Form::Size { default: "1K" },
+    help: "Maximum bytes printed of each text, 0 to 1024G",
 };
 
 /// `--show-passwords`: whether passwords are printed.

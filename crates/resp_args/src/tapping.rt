@@ -5,7 +5,7 @@ ghost use Rattle.clap.specs.Words.{found_of, rows_of};
 ghost use Rattle.resp_args.specs.CommandWords.{HasFilter, HasStats, HasTapOptions, HasTapping};
 
 use crate::asked::{NothingAsked, wrong_options};
-use crate::options::{flag_of, limits_of, most_of, number_of, text_of};
+use crate::options::{MOST_BYTES, bytes_of, flag_of, limits_of, most_of, number_of, text_of};
 use crate::style::{StyleOptions, style_of};
 use crate::traffic::{Traffic, traffic_of};
 use clap::ArgMatches;
@@ -30,6 +30,8 @@ pub struct Tapping<'a> {
     pub refuses_lines: bool,
     /// Whether passwords in commands are printed.
     pub shows_passwords: bool,
+    /// The most bytes of a word or of a text that are printed, up to 1,024 GiB.
+    pub shown: usize,
     /// How text is printed.
     pub style: StyleOptions<'a>,
     /// Which commands are printed, or counted.
@@ -78,6 +80,7 @@ struct TapOptions<'a> {
     keeps_going: bool,
     refuses_lines: bool,
     shows_passwords: bool,
+    shown: usize,
     style: StyleOptions<'a>,
     filter: FilterOptions<'a>,
     stats: StatsOptions,
@@ -102,6 +105,7 @@ pub(crate) fn tapping_of<'a>(matches: &ArgMatches<'a>) -> Result<Tapping<'a>, No
             keeps_going: options.keeps_going,
             refuses_lines: options.refuses_lines,
             shows_passwords: options.shows_passwords,
+            shown: options.shown,
             style: options.style,
             filter: options.filter,
             stats: options.stats,
@@ -124,6 +128,7 @@ fn options_of<'a>(matches: &ArgMatches<'a>) -> Option<TapOptions<'a>>
         keeps_going: flag_of(matches, "keep-going")?,
         refuses_lines: flag_of(matches, "no-inline")?,
         shows_passwords: flag_of(matches, "show-passwords")?,
+        shown: bytes_of(matches, "shown", 0, MOST_BYTES)? as usize,
         style: style_of(matches),
         filter: filter_of(matches)?,
         stats: stats_of(matches)?,

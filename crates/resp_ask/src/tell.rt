@@ -67,11 +67,11 @@ fn write_reply<O: Sink>(
         (O.failures output.new) result (reply_text telling number (datum_of value.now)) }
 {
     match telling.form {
-        Form::Alone => told(write_value(value, 0, output)),
+        Form::Alone => told(write_value(value, 0, None, output)),
         Form::Numbered => {
             let number = number.saturating_sub(telling.before);
             match write_number(output, b"reply ", number, b"\n") {
-                Ok(()) => told(write_value(value, 1, output)),
+                Ok(()) => told(write_value(value, 1, None, output)),
                 Err(_) => Err(AskError::Output),
             }
         }
@@ -86,7 +86,7 @@ fn write_push<O: Sink>(form: Form, items: &Members, output: &mut O) -> Result<()
         (O.failures output.new) result (push_text form (datum_of (Value.Push items.now))) }
 {
     match form {
-        Form::Alone | Form::Numbered => told(write_push_value(items, 0, output)),
+        Form::Alone | Form::Numbered => told(write_push_value(items, 0, None, output)),
         Form::Json => line_told(write_push_json_line(items, output)),
         Form::Counted => Ok(()),
     }

@@ -1,7 +1,7 @@
 -- The lines of aggregates, part after part.
-use Rattle.std.proofs.Common.{Global, Option, Result, ◌≡◌, ◌≢◌, ◌≤◌, ◌<◌, ◌+◌, ◌/◌, ℕ, suc, List, [], ◌∷◌, ◌++◌, map, length, drop, get_or, max, codes, decimal, refl, sym, ap, ◌∙◌, add-one, append_assoc, length-append, arith}
+use Rattle.std.proofs.Common.{Global, Option, Result, ◌≡◌, ◌≢◌, ◌≤◌, ◌<◌, ◌+◌, ◌/◌, ℕ, suc, List, [], ◌∷◌, ◌++◌, map, length, drop, get_or, max, codes, decimal, refl, sym, ap, ◌∙◌, append_assoc, length-append, arith}
 use Rattle.std.proofs.lemmas.List.{at_drop_more, length-map}
-use Rattle.resp_value.specs.Data.{Kind, Array, Set, Map, Attr, Push, Datum, Data, none, more, scalar, aggregate, data_of_list, count, items_of, depth, greatest_depth, in_turn}
+use Rattle.resp_value.specs.Data.{Kind, Array, Set, Map, Attr, Push, Datum, Data, aggregate, data_of_list, count, items_of, depth, greatest_depth, in_turn}
 use Rattle.std.specs.declared.boxed.Box.{Box}
 use Rattle.resp_value.specs.Values.{datum_of, pair_data, pairs_of}
 use Rattle.resp_value.proofs.DatumOf.{count-data_of_list, datum_of-Attr, length-in_turn}
@@ -11,7 +11,7 @@ use Rattle.resp_value.specs.declared.value.Value.{Value}
 use Rattle.resp_print.specs.declared.print_error.PrintError.{PrintError}
 use Rattle.resp_print.proofs.Printing.{prints_as}
 use Rattle.resp_print.specs.Printed.{Prints, annotating_front, end_line, first_line, group_lines}
-use Rattle.resp_print.specs.Shown.{indentation, kind_word, lines_on, member_lines, annotating_lines}
+use Rattle.resp_print.specs.Shown.{indentation, kind_word, lines_within, member_lines_within, annotating_lines_within}
 
 -- the lines of an aggregate, one part after another
 parts : (ind words newline members number : List ℕ) →
@@ -20,25 +20,25 @@ parts : (ind words newline members number : List ℕ) →
 parts ind words newline members number = simp append_assoc
 
 -- the lines of an aggregate that is no attribute
-pub group_shown : (level : ℕ) (k : Kind) (xs : Data) (n : ℕ) → k ≢ Attr → items_of k (count xs) ≡ n →
-    group_lines level (kind_word k ++ codes "\n") (member_lines (suc level) xs) n ≡ lines_on level (aggregate k xs)
-group_shown level Array xs n other e = ap (λ m. group_lines level (codes "array\n") (member_lines (suc level) xs) m) (sym e) ∙
-    sym (parts (indentation level) (codes "array") (codes "\n") (member_lines (suc level) xs) (decimal (items_of Array (count xs))))
-group_shown level Set xs n other e = ap (λ m. group_lines level (codes "set\n") (member_lines (suc level) xs) m) (sym e) ∙
-    sym (parts (indentation level) (codes "set") (codes "\n") (member_lines (suc level) xs) (decimal (items_of Set (count xs))))
-group_shown level Map xs n other e = ap (λ m. group_lines level (codes "map\n") (member_lines (suc level) xs) m) (sym e) ∙
-    sym (parts (indentation level) (codes "map") (codes "\n") (member_lines (suc level) xs) (decimal (items_of Map (count xs))))
-group_shown level Push xs n other e = ap (λ m. group_lines level (codes "push\n") (member_lines (suc level) xs) m) (sym e) ∙
-    sym (parts (indentation level) (codes "push") (codes "\n") (member_lines (suc level) xs) (decimal (items_of Push (count xs))))
-group_shown level Attr xs n other e = absurd (other refl)
+pub group_shown : (most : Option ℕ) → (level : ℕ) (k : Kind) (xs : Data) (n : ℕ) → k ≢ Attr → items_of k (count xs) ≡ n →
+    group_lines level (kind_word k ++ codes "\n") (member_lines_within most (suc level) xs) n ≡ lines_within most level (aggregate k xs)
+group_shown most level Array xs n other e = ap (λ m. group_lines level (codes "array\n") (member_lines_within most (suc level) xs) m) (sym e) ∙
+    sym (parts (indentation level) (codes "array") (codes "\n") (member_lines_within most (suc level) xs) (decimal (items_of Array (count xs))))
+group_shown most level Set xs n other e = ap (λ m. group_lines level (codes "set\n") (member_lines_within most (suc level) xs) m) (sym e) ∙
+    sym (parts (indentation level) (codes "set") (codes "\n") (member_lines_within most (suc level) xs) (decimal (items_of Set (count xs))))
+group_shown most level Map xs n other e = ap (λ m. group_lines level (codes "map\n") (member_lines_within most (suc level) xs) m) (sym e) ∙
+    sym (parts (indentation level) (codes "map") (codes "\n") (member_lines_within most (suc level) xs) (decimal (items_of Map (count xs))))
+group_shown most level Push xs n other e = ap (λ m. group_lines level (codes "push\n") (member_lines_within most (suc level) xs) m) (sym e) ∙
+    sym (parts (indentation level) (codes "push") (codes "\n") (member_lines_within most (suc level) xs) (decimal (items_of Push (count xs))))
+group_shown most level Attr xs n other e = absurd (other refl)
 
-annotating_parts : (level : ℕ) (xs : List Datum) (x : Datum) → annotating_lines level (data_of_list (xs ++ x ∷ [])) ≡
-    member_lines (suc level) (data_of_list xs) ++ (first_line level (codes "of\n") ++ lines_on (suc level) x)
-annotating_parts level [] x = refl
-annotating_parts level (y ∷ []) x = simp append_assoc
-annotating_parts level (y ∷ (z ∷ zs)) x =
-    ap (λ w. lines_on (suc level) y ++ w) (annotating_parts level (z ∷ zs) x) ∙
-    sym (append_assoc (lines_on (suc level) y) (member_lines (suc level) (data_of_list (z ∷ zs))) (first_line level (codes "of\n") ++ lines_on (suc level) x))
+annotating_parts : (most : Option ℕ) → (level : ℕ) (xs : List Datum) (x : Datum) → annotating_lines_within most level (data_of_list (xs ++ x ∷ [])) ≡
+    member_lines_within most (suc level) (data_of_list xs) ++ (first_line level (codes "of\n") ++ lines_within most (suc level) x)
+annotating_parts most level [] x = refl
+annotating_parts most level (y ∷ []) x = simp append_assoc
+annotating_parts most level (y ∷ (z ∷ zs)) x =
+    ap (λ w. lines_within most (suc level) y ++ w) (annotating_parts most level (z ∷ zs) x) ∙
+    sym (append_assoc (lines_within most (suc level) y) (member_lines_within most (suc level) (data_of_list (z ∷ zs))) (first_line level (codes "of\n") ++ lines_within most (suc level) x))
 
 attribute_parts : (ind pairs of lines number : List ℕ) →
     (ind ++ codes "attr\n") ++ (pairs ++ (ind ++ of)) ++ (lines ++ (ind ++ (codes "end " ++ number ++ codes "\n"))) ≡
@@ -46,14 +46,14 @@ attribute_parts : (ind pairs of lines number : List ℕ) →
 attribute_parts ind pairs of lines number = simp append_assoc
 
 -- the lines of an attribute, up to the annotated value and from there
-pub attribute_shown : (level : ℕ) (xs : List Datum) (x : Datum) (n : ℕ) → items_of Attr (count (data_of_list (xs ++ x ∷ []))) ≡ n →
-    annotating_front level (member_lines (suc level) (data_of_list xs)) ++ (lines_on (suc level) x ++ end_line level n) ≡
-    lines_on level (aggregate Attr (data_of_list (xs ++ x ∷ [])))
-attribute_shown level xs x n e =
+pub attribute_shown : (most : Option ℕ) → (level : ℕ) (xs : List Datum) (x : Datum) (n : ℕ) → items_of Attr (count (data_of_list (xs ++ x ∷ []))) ≡ n →
+    annotating_front level (member_lines_within most (suc level) (data_of_list xs)) ++ (lines_within most (suc level) x ++ end_line level n) ≡
+    lines_within most level (aggregate Attr (data_of_list (xs ++ x ∷ [])))
+attribute_shown most level xs x n e =
     let ind = indentation level in
-    ap (λ m. annotating_front level (member_lines (suc level) (data_of_list xs)) ++ (lines_on (suc level) x ++ end_line level m)) (sym e) ∙
-    attribute_parts ind (member_lines (suc level) (data_of_list xs)) (codes "of\n") (lines_on (suc level) x) (decimal (items_of Attr (count (data_of_list (xs ++ x ∷ []))))) ∙
-    ap (λ z. ind ++ codes "attr\n" ++ z ++ ind ++ codes "end " ++ decimal (items_of Attr (count (data_of_list (xs ++ x ∷ [])))) ++ codes "\n") (sym (annotating_parts level xs x))
+    ap (λ m. annotating_front level (member_lines_within most (suc level) (data_of_list xs)) ++ (lines_within most (suc level) x ++ end_line level m)) (sym e) ∙
+    attribute_parts ind (member_lines_within most (suc level) (data_of_list xs)) (codes "of\n") (lines_within most (suc level) x) (decimal (items_of Attr (count (data_of_list (xs ++ x ∷ []))))) ∙
+    ap (λ z. ind ++ codes "attr\n" ++ z ++ ind ++ codes "end " ++ decimal (items_of Attr (count (data_of_list (xs ++ x ∷ [])))) ++ codes "\n") (sym (annotating_parts most level xs x))
 
 -- the depths of data and of the last one
 pub greatest_depth-last : (xs : List Datum) (x : Datum) → depth x ≤ greatest_depth (data_of_list (xs ++ x ∷ []))
@@ -65,12 +65,12 @@ greatest_depth-front [] x = omega arith
 greatest_depth-front (y ∷ ys) x = omega (arith, greatest_depth-front ys x)
 
 -- the lines of the next member, and of the others
-pub next_member : (level : ℕ) (xs : List Value) (i : ℕ) (x : Value) → i < length xs → x ≡ get_or xs i x →
-    member_lines level (data_of_list (map datum_of (drop i xs))) ≡
-    lines_on level (datum_of x) ++ member_lines level (data_of_list (map datum_of (drop (i + 1) xs)))
-next_member level xs i x below is =
-    let F = λ (ys : List Value). member_lines level (data_of_list (map datum_of ys)) in
-    at_drop_more F xs i x below ∙ ap (λ y. lines_on level (datum_of y) ++ F (drop (i + 1) xs)) (sym is)
+pub next_member : (most : Option ℕ) → (level : ℕ) (xs : List Value) (i : ℕ) (x : Value) → i < length xs → x ≡ get_or xs i x →
+    member_lines_within most level (data_of_list (map datum_of (drop i xs))) ≡
+    lines_within most level (datum_of x) ++ member_lines_within most level (data_of_list (map datum_of (drop (i + 1) xs)))
+next_member most level xs i x below is =
+    let F = λ (ys : List Value). member_lines_within most level (data_of_list (map datum_of ys)) in
+    at_drop_more F xs i x below ∙ ap (λ y. lines_within most level (datum_of y) ++ F (drop (i + 1) xs)) (sym is)
 
 -- their depths
 pub next_depth : (xs : List Value) (i : ℕ) (x : Value) → i < length xs → x ≡ get_or xs i x →
@@ -83,13 +83,13 @@ next_depth xs i x below is =
     (omega (arith, e), omega (arith, e))
 
 -- the lines of the next pair, and of the others
-pub next_pair : (level : ℕ) (xs : List (Value × Value)) (i : ℕ) (x : Value × Value) → i < length xs → x ≡ get_or xs i x →
-    member_lines level (data_of_list (in_turn (map pair_data (drop i xs)))) ≡
-    lines_on level (datum_of x.0) ++ (lines_on level (datum_of x.1) ++ member_lines level (data_of_list (in_turn (map pair_data (drop (i + 1) xs)))))
-next_pair level xs i x below is =
-    let F = λ (ys : List (Value × Value)). member_lines level (data_of_list (in_turn (map pair_data ys))) in
+pub next_pair : (most : Option ℕ) → (level : ℕ) (xs : List (Value × Value)) (i : ℕ) (x : Value × Value) → i < length xs → x ≡ get_or xs i x →
+    member_lines_within most level (data_of_list (in_turn (map pair_data (drop i xs)))) ≡
+    lines_within most level (datum_of x.0) ++ (lines_within most level (datum_of x.1) ++ member_lines_within most level (data_of_list (in_turn (map pair_data (drop (i + 1) xs)))))
+next_pair most level xs i x below is =
+    let F = λ (ys : List (Value × Value)). member_lines_within most level (data_of_list (in_turn (map pair_data ys))) in
     at_drop_more F xs i x below ∙
-    ap (λ (y : Value × Value). lines_on level (datum_of y.0) ++ (lines_on level (datum_of y.1) ++ F (drop (i + 1) xs))) (sym is)
+    ap (λ (y : Value × Value). lines_within most level (datum_of y.0) ++ (lines_within most level (datum_of y.1) ++ F (drop (i + 1) xs))) (sym is)
 
 -- their depths
 pub next_pair_depth : (xs : List (Value × Value)) (i : ℕ) (x : Value × Value) → i < length xs → x ≡ get_or xs i x →
@@ -103,29 +103,29 @@ next_pair_depth xs i x below is =
     (omega (arith, e), omega (arith, e), omega (arith, e))
 
 -- what was printed of an aggregate that counts its members one by one
-pub group_printed : (r : Result (Unit {0}) PrintError) (a b : Option (List ℕ)) (f g level : ℕ) (k : Kind) (v : Value) (members : List Value) → k ≢ Attr →
+pub group_printed : (most : Option ℕ) → (r : Result (Unit {0}) PrintError) (a b : Option (List ℕ)) (f g level : ℕ) (k : Kind) (v : Value) (members : List Value) → k ≢ Attr →
     ((n : ℕ) → items_of k n ≡ n) → aggregate k (data_of_list (map datum_of members)) ≡ datum_of v →
-    Prints a b f g r (group_lines level (kind_word k ++ codes "\n") (member_lines (suc level) (data_of_list (map datum_of members))) (length members))
+    Prints a b f g r (group_lines level (kind_word k ++ codes "\n") (member_lines_within most (suc level) (data_of_list (map datum_of members))) (length members))
     (level + (greatest_depth (data_of_list (map datum_of members)) + 1)) →
-    Prints a b f g r (lines_on level (datum_of v)) (level + depth (datum_of v))
-group_printed r a b f g level k v members other each is printed =
+    Prints a b f g r (lines_within most level (datum_of v)) (level + depth (datum_of v))
+group_printed most r a b f g level k v members other each is printed =
     let xs = data_of_list (map datum_of members) in
     let counted = each (count xs) ∙ count-data_of_list (map datum_of members) ∙ length-map members datum_of in
-    prints_as r a b f g _ (lines_on level (datum_of v)) (level + (greatest_depth xs + 1)) (level + depth (datum_of v))
-    (group_shown level k xs (length members) other counted ∙ ap (lines_on level) is) (omega (arith, ap depth is)) printed
+    prints_as r a b f g _ (lines_within most level (datum_of v)) (level + (greatest_depth xs + 1)) (level + depth (datum_of v))
+    (group_shown most level k xs (length members) other counted ∙ ap (lines_within most level) is) (omega (arith, ap depth is)) printed
 
 -- what was printed of a map
-pub map_printed : (r : Result (Unit {0}) PrintError) (a b : Option (List ℕ)) (f g level : ℕ) (v : Value) (pairs : List (Value × Value)) →
+pub map_printed : (most : Option ℕ) → (r : Result (Unit {0}) PrintError) (a b : Option (List ℕ)) (f g level : ℕ) (v : Value) (pairs : List (Value × Value)) →
     aggregate Map (data_of_list (in_turn (map pair_data pairs))) ≡ datum_of v →
-    Prints a b f g r (group_lines level (codes "map\n") (member_lines (suc level) (data_of_list (in_turn (map pair_data pairs)))) (length pairs))
+    Prints a b f g r (group_lines level (codes "map\n") (member_lines_within most (suc level) (data_of_list (in_turn (map pair_data pairs)))) (length pairs))
     (level + (greatest_depth (data_of_list (in_turn (map pair_data pairs))) + 1)) →
-    Prints a b f g r (lines_on level (datum_of v)) (level + depth (datum_of v))
-map_printed r a b f g level v pairs is printed =
+    Prints a b f g r (lines_within most level (datum_of v)) (level + depth (datum_of v))
+map_printed most r a b f g level v pairs is printed =
     let xs = data_of_list (in_turn (map pair_data pairs)) in
     let counted : count xs / 2 ≡ length pairs =
     omega (arith, count-data_of_list (in_turn (map pair_data pairs)), length-in_turn (map pair_data pairs), length-map pairs pair_data) in
-    prints_as r a b f g _ (lines_on level (datum_of v)) (level + (greatest_depth xs + 1)) (level + depth (datum_of v))
-    (group_shown level Map xs (length pairs) (λ e. absurd (cc)) counted ∙ ap (lines_on level) is) (omega (arith, ap depth is)) printed
+    prints_as r a b f g _ (lines_within most level (datum_of v)) (level + (greatest_depth xs + 1)) (level + depth (datum_of v))
+    (group_shown most level Map xs (length pairs) (λ e. absurd (cc)) counted ∙ ap (lines_within most level) is) (omega (arith, ap depth is)) printed
 
 -- the datum of an attribute
 pub attribute_is : (v : Value) (pairs : PairList) (annotated : Box Value Global) (ps : List (Value × Value)) → ps ≡ pairs_of pairs →
@@ -135,12 +135,12 @@ attribute_is v pairs annotated ps same is =
     sym (ap datum_of is ∙ datum_of-Attr pairs annotated)
 
 -- the lines of an attribute, whose members are one level deeper
-pub attribute_on : (level deeper : ℕ) (ps : List (Value × Value)) (x : Datum) → deeper ≡ suc level →
-    annotating_front level (member_lines deeper (data_of_list (in_turn (map pair_data ps)))) ++ (lines_on deeper x ++ end_line level (length ps)) ≡
-    lines_on level (aggregate Attr (data_of_list (in_turn (map pair_data ps) ++ x ∷ [])))
-attribute_on level deeper ps x is =
+pub attribute_on : (most : Option ℕ) → (level deeper : ℕ) (ps : List (Value × Value)) (x : Datum) → deeper ≡ suc level →
+    annotating_front level (member_lines_within most deeper (data_of_list (in_turn (map pair_data ps)))) ++ (lines_within most deeper x ++ end_line level (length ps)) ≡
+    lines_within most level (aggregate Attr (data_of_list (in_turn (map pair_data ps) ++ x ∷ [])))
+attribute_on most level deeper ps x is =
     let xs = in_turn (map pair_data ps) in
     let counted : count (data_of_list (xs ++ x ∷ [])) / 2 ≡ length ps =
     omega (arith, count-data_of_list (xs ++ x ∷ []), length-append xs (x ∷ []), length-in_turn (map pair_data ps), length-map ps pair_data) in
-    ap (λ m. annotating_front level (member_lines m (data_of_list xs)) ++ (lines_on m x ++ end_line level (length ps))) is ∙
-    attribute_shown level xs x (length ps) counted
+    ap (λ m. annotating_front level (member_lines_within most m (data_of_list xs)) ++ (lines_within most m x ++ end_line level (length ps))) is ∙
+    attribute_shown most level xs x (length ps) counted

@@ -1,7 +1,7 @@
 //! Parts of lines: plain text, numbers, and bytes in quotes.
 
 ghost use Rattle.std.specs.Prelude.{◌≡◌, ◌++◌, ◌<◌, ◌≤◌, false, true, length, drop, take, slice_index};
-ghost use Rattle.resp_print.specs.Shown.{is_plain, hex_digit, escape_of, indentation, quoted_text};
+ghost use Rattle.resp_print.specs.Shown.{escape_of, hex_digit, indentation, is_cut, is_plain, quoted_text, shown_part};
 ghost use Rattle.resp_print.specs.Written.{WritesText};
 
 use itoa::{Buffer, Integer};
@@ -175,4 +175,24 @@ pub fn write_quoted<W: Sink>(writer: &mut W, text: &[u8]) -> Result<(), DeviceFa
         }
     }
     Ok(())
+}
+
+/// Returns the part of a text that is printed: at most its first `most` bytes, if there is a most.
+pub fn shown_part(text: &[u8], most: Option<usize>) -> &[u8]
+    ensures { result.now ≡ shown_part most text.now }
+{
+    match most {
+        Some(most) => &text[..most.min(text.len())],
+        None => text,
+    }
+}
+
+/// Returns whether a text has more bytes than are printed of it.
+pub fn is_cut(text: &[u8], most: Option<usize>) -> bool
+    ensures { result ≡ is_cut most (length text.now) }
+{
+    match most {
+        Some(most) => most < text.len(),
+        None => false,
+    }
 }

@@ -6,18 +6,20 @@ ghost use Rattle.resp_value.specs.Data as d;
 ghost use Rattle.resp_value.specs.Values.{datum_of, digits_text, is_negative, pair_data};
 ghost use Rattle.resp_value.specs.declared.value.Value.TheVariants as value;
 ghost use Rattle.resp_print.specs.Printed.{IsScalar, Prints, annotating_front, big_word, end_line, first_line, group_lines};
-ghost use Rattle.resp_print.specs.Shown.{lines_on, member_lines, quoted_text, scalar_line};
+ghost use Rattle.resp_print.specs.Shown.{count_text, lines_within, member_lines_within, quoted_text, scalar_line_within, shown_part};
 ghost use Rattle.resp_print.specs.Written.{WritesText};
 
 use crate::print_error::PrintError;
-use crate::text::{write_indentation, write_number, write_quoted, write_text};
+use crate::text::{is_cut, shown_part, write_indentation, write_number, write_quoted, write_text};
 use resp_value::device::{DeviceFault, Sink};
 use resp_value::digits::Digits;
 use resp_value::value::{Members, Value};
 
 /// Writes the lines of a value, indented by two spaces for each level.
 ///
-/// The lines are those of `resp show`, which prints a value on level 0. The call allocates nothing.
+/// The lines are those of `resp show`, which prints a value on level 0. With `most`, at most this many
+/// bytes of each text are printed, and `..` stands before the number of bytes of a text that has more.
+/// The call allocates nothing.
 ///
 /// # Errors
 ///
@@ -34,7 +36,7 @@ use resp_value::value::{Members, Value};
 /// let hits = Value::Bulk(Content::new(Vec::from_slice(alloc, b"hits")?));
 /// let value = Value::Array(Members::new(vec![in alloc; hits, Value::Int(7)]?));
 /// let mut text = MemorySink::new(alloc, 4_096, 4_096)?;
-/// write_value(&value, 0, &mut text)?;
+/// write_value(&value, 0, None, &mut text)?;
 /// print!(rt; "{}", str::from_utf8(text.bytes())?)?;
 /// ```
 ///
@@ -47,30 +49,35 @@ use resp_value::value::{Members, Value};
 /// end 2
 /// ```
 #[cycle(lines)]
-pub fn write_value<W: Sink>(value: &Value, level: u64, writer: &mut W) -> Result<(), PrintError>
+pub fn write_value<W: Sink>(
+    value: &Value,
+    level: u64,
+    most: Option<usize>,
+    writer: &mut W,
+) -> Result<(), PrintError>
     ensures { Prints (W.written writer.old) (W.written writer.new) (W.failures writer.old)
-        (W.failures writer.new) result (lines_on level (datum_of value.now))
+        (W.failures writer.new) result (lines_within most level (datum_of value.now))
         (level + depth (datum_of value.now)) }
 {
     match value {
-        Value::Array(members) => write_group(b"array\n", members.list(), level, writer),
-        Value::Set(members) => write_group(b"set\n", members.list(), level, writer),
-        Value::Push(members) => write_group(b"push\n", members.list(), level, writer),
-        Value::Map(pairs) => write_map(pairs.list(), level, writer),
+        Value::Array(members) => write_group(b"array\n", members.list(), level, most, writer),
+        Value::Set(members) => write_group(b"set\n", members.list(), level, most, writer),
+        Value::Push(members) => write_group(b"push\n", members.list(), level, most, writer),
+        Value::Map(pairs) => write_map(pairs.list(), level, most, writer),
         Value::Attr(pairs, annotated) => {
             let pairs = pairs.list();
             let Some(deeper) = level.checked_add(1) else {
                 return Err(PrintError::TooDeep);
             };
-            if let Err(error) = write_annotating(pairs, level, deeper, writer) {
+            if let Err(error) = write_annotating(pairs, level, deeper, most, writer) {
                 return Err(error);
             }
-            if let Err(error) = write_value(annotated, deeper, writer) {
+            if let Err(error) = write_value(annotated, deeper, most, writer) {
                 return Err(error);
             }
             write_end_line(level, pairs.len() as u64, writer)
         }
-        _ => printed(write_scalar(value, level, writer)),
+        _ => printed(write_scalar(value, level, most, writer)),
     }
 }
 
@@ -82,14 +89,15 @@ pub fn write_value<W: Sink>(value: &Value, level: u64, writer: &mut W) -> Result
 pub fn write_push_value<W: Sink>(
     members: &Members,
     level: u64,
+    most: Option<usize>,
     writer: &mut W,
 ) -> Result<(), PrintError>
     ensures { Prints (W.written writer.old) (W.written writer.new) (W.failures writer.old)
         (W.failures writer.new) result
-        (lines_on level (datum_of (value.Push members.now)))
+        (lines_within most level (datum_of (value.Push members.now)))
         (level + depth (datum_of (value.Push members.now))) }
 {
-    write_group(b"push\n", members.list(), level, writer)
+    write_group(b"push\n", members.list(), level, most, writer)
 }
 
 /// Writes the lines of an aggregate with members: its first line, the lines of the members, and its
@@ -99,12 +107,13 @@ fn write_group<W: Sink>(
     words: &[u8],
     members: &[Value],
     level: u64,
+    most: Option<usize>,
     writer: &mut W,
 ) -> Result<(), PrintError>
     ensures { Prints (W.written writer.old) (W.written writer.new) (W.failures writer.old)
         (W.failures writer.new) result
         (group_lines level words.now
-        (member_lines (suc level) (data_of_list (map datum_of members.now)))
+        (member_lines_within most (suc level) (data_of_list (map datum_of members.now)))
         (length members.now))
         (level + (greatest_depth (data_of_list (map datum_of members.now)) + 1)) }
 {
@@ -114,7 +123,7 @@ fn write_group<W: Sink>(
     if let Err(error) = write_first_line(level, words, writer) {
         return Err(error);
     }
-    if let Err(error) = write_members(members, deeper, writer) {
+    if let Err(error) = write_members(members, deeper, most, writer) {
         return Err(error);
     }
     write_end_line(level, members.len() as u64, writer)
@@ -125,12 +134,13 @@ fn write_group<W: Sink>(
 fn write_map<W: Sink>(
     pairs: &[(Value, Value)],
     level: u64,
+    most: Option<usize>,
     writer: &mut W,
 ) -> Result<(), PrintError>
     ensures { Prints (W.written writer.old) (W.written writer.new) (W.failures writer.old)
         (W.failures writer.new) result
         (group_lines level (codes "map\n")
-        (member_lines (suc level) (data_of_list (in_turn (map pair_data pairs.now))))
+        (member_lines_within most (suc level) (data_of_list (in_turn (map pair_data pairs.now))))
         (length pairs.now))
         (level + (greatest_depth (data_of_list (in_turn (map pair_data pairs.now))) + 1)) }
 {
@@ -140,7 +150,7 @@ fn write_map<W: Sink>(
     if let Err(error) = write_first_line(level, b"map\n", writer) {
         return Err(error);
     }
-    if let Err(error) = write_pairs(pairs, deeper, writer) {
+    if let Err(error) = write_pairs(pairs, deeper, most, writer) {
         return Err(error);
     }
     write_end_line(level, pairs.len() as u64, writer)
@@ -152,18 +162,19 @@ fn write_annotating<W: Sink>(
     pairs: &[(Value, Value)],
     level: u64,
     deeper: u64,
+    most: Option<usize>,
     writer: &mut W,
 ) -> Result<(), PrintError>
     ensures { Prints (W.written writer.old) (W.written writer.new) (W.failures writer.old)
         (W.failures writer.new) result
-        (annotating_front level (member_lines deeper
+        (annotating_front level (member_lines_within most deeper
         (data_of_list (in_turn (map pair_data pairs.now)))))
         (deeper + greatest_depth (data_of_list (in_turn (map pair_data pairs.now)))) }
 {
     if let Err(error) = write_first_line(level, b"attr\n", writer) {
         return Err(error);
     }
-    if let Err(error) = write_pairs(pairs, deeper, writer) {
+    if let Err(error) = write_pairs(pairs, deeper, most, writer) {
         return Err(error);
     }
     write_first_line(level, b"of\n", writer)
@@ -171,14 +182,19 @@ fn write_annotating<W: Sink>(
 
 /// Writes the lines of members, one after another.
 #[cycle(lines)]
-fn write_members<W: Sink>(members: &[Value], level: u64, writer: &mut W) -> Result<(), PrintError>
+fn write_members<W: Sink>(
+    members: &[Value],
+    level: u64,
+    most: Option<usize>,
+    writer: &mut W,
+) -> Result<(), PrintError>
     ensures { Prints (W.written writer.old) (W.written writer.new) (W.failures writer.old)
         (W.failures writer.new) result
-        (member_lines level (data_of_list (map datum_of members.now)))
+        (member_lines_within most level (data_of_list (map datum_of members.now)))
         (level + greatest_depth (data_of_list (map datum_of members.now))) }
 {
     for member in members {
-        if let Err(error) = write_value(member, level, writer) {
+        if let Err(error) = write_value(member, level, most, writer) {
             return Err(error);
         }
     }
@@ -190,18 +206,19 @@ fn write_members<W: Sink>(members: &[Value], level: u64, writer: &mut W) -> Resu
 fn write_pairs<W: Sink>(
     pairs: &[(Value, Value)],
     level: u64,
+    most: Option<usize>,
     writer: &mut W,
 ) -> Result<(), PrintError>
     ensures { Prints (W.written writer.old) (W.written writer.new) (W.failures writer.old)
         (W.failures writer.new) result
-        (member_lines level (data_of_list (in_turn (map pair_data pairs.now))))
+        (member_lines_within most level (data_of_list (in_turn (map pair_data pairs.now))))
         (level + greatest_depth (data_of_list (in_turn (map pair_data pairs.now)))) }
 {
     for pair in pairs {
-        if let Err(error) = write_value(&pair.0, level, writer) {
+        if let Err(error) = write_value(&pair.0, level, most, writer) {
             return Err(error);
         }
-        if let Err(error) = write_value(&pair.1, level, writer) {
+        if let Err(error) = write_value(&pair.1, level, most, writer) {
             return Err(error);
         }
     }
@@ -255,58 +272,92 @@ fn write_end<W: Sink>(level: u64, items: u64, writer: &mut W) -> Result<(), Devi
 }
 
 /// Writes the line of a value without members. For another value it writes no line.
-fn write_scalar<W: Sink>(value: &Value, level: u64, writer: &mut W) -> Result<(), DeviceFault>
+fn write_scalar<W: Sink>(
+    value: &Value,
+    level: u64,
+    most: Option<usize>,
+    writer: &mut W,
+) -> Result<(), DeviceFault>
     ensures { IsScalar (datum_of value.now) →
         WritesText (W.written writer.old) (W.written writer.new) (W.failures writer.old)
-        (W.failures writer.new) result (lines_on level (datum_of value.now)) }
+        (W.failures writer.new) result (lines_within most level (datum_of value.now)) }
 {
     write_indentation(writer, level)?;
-    write_scalar_line(value, writer)
+    write_scalar_line(value, most, writer)
 }
 
 /// Writes the line of a value without members, on level 0.
-fn write_scalar_line<W: Sink>(value: &Value, writer: &mut W) -> Result<(), DeviceFault>
+fn write_scalar_line<W: Sink>(
+    value: &Value,
+    most: Option<usize>,
+    writer: &mut W,
+) -> Result<(), DeviceFault>
     ensures { (s : d.Scalar) → datum_of value.now ≡ d.scalar s →
         WritesText (W.written writer.old) (W.written writer.new) (W.failures writer.old)
-        (W.failures writer.new) result (scalar_line s) }
+        (W.failures writer.new) result (scalar_line_within most s) }
 {
     match value {
         Value::Null => write_text(writer, b"null\n"),
         Value::Bool(true) => write_text(writer, b"true\n"),
         Value::Bool(false) => write_text(writer, b"false\n"),
         Value::Int(number) => write_number(writer, b"int ", *number, b"\n"),
-        Value::Simple(line) => write_string(b"simple \"", line.text(), writer),
-        Value::Error(line) => write_string(b"error \"", line.text(), writer),
-        Value::Double(text) => write_string(b"double \"", text.text(), writer),
-        Value::Bulk(content) => write_string(b"bulk \"", content.list(), writer),
-        Value::BulkError(content) => write_string(b"bulkerror \"", content.list(), writer),
-        Value::Verbatim(format, text) => write_verbatim(format, text.list(), writer),
+        Value::Simple(line) => write_string(b"simple \"", line.text(), most, writer),
+        Value::Error(line) => write_string(b"error \"", line.text(), most, writer),
+        Value::Double(text) => write_string(b"double \"", text.text(), most, writer),
+        Value::Bulk(content) => write_string(b"bulk \"", content.list(), most, writer),
+        Value::BulkError(content) => write_string(b"bulkerror \"", content.list(), most, writer),
+        Value::Verbatim(format, text) => write_verbatim(format, text.list(), most, writer),
         Value::Big(digits) => write_big(digits, writer),
         _ => Ok(()),
     }
 }
 
-/// Writes a word and a quote, a text in quotes, and the number of its bytes.
-fn write_string<W: Sink>(word: &[u8], text: &[u8], writer: &mut W) -> Result<(), DeviceFault>
+/// Writes a word and a quote, the part of a text that is printed, and the number of its bytes.
+fn write_string<W: Sink>(
+    word: &[u8],
+    text: &[u8],
+    most: Option<usize>,
+    writer: &mut W,
+) -> Result<(), DeviceFault>
     ensures { WritesText (W.written writer.old) (W.written writer.new) (W.failures writer.old)
-        (W.failures writer.new) result (word.now ++ (quoted_text text.now ++
-        (codes "\" " ++ decimal (length text.now) ++ codes "\n"))) }
+        (W.failures writer.new) result (word.now ++ (quoted_text (shown_part most text.now) ++
+        (codes "\" " ++ count_text most (length text.now) ++ codes "\n"))) }
 {
     write_text(writer, word)?;
-    write_quoted(writer, text)?;
-    write_number(writer, b"\" ", text.len() as u64, b"\n")
+    write_quoted(writer, shown_part(text, most))?;
+    write_count(text, most, writer)
+}
+
+/// Writes the quote after a text, the number of the text's bytes, and LF. If not all of them were
+/// printed, `..` stands before the number.
+fn write_count<W: Sink>(text: &[u8], most: Option<usize>, writer: &mut W) -> Result<(), DeviceFault>
+    ensures { WritesText (W.written writer.old) (W.written writer.new) (W.failures writer.old)
+        (W.failures writer.new) result
+        (codes "\" " ++ count_text most (length text.now) ++ codes "\n") }
+{
+    let count = text.len() as u64;
+    if is_cut(text, most) {
+        write_number(writer, b"\" .. ", count, b"\n")
+    } else {
+        write_number(writer, b"\" ", count, b"\n")
+    }
 }
 
 /// Writes the line of a verbatim string.
-fn write_verbatim<W: Sink>(format: &[u8; 3], text: &[u8], writer: &mut W) -> Result<(), DeviceFault>
+fn write_verbatim<W: Sink>(
+    format: &[u8; 3],
+    text: &[u8],
+    most: Option<usize>,
+    writer: &mut W,
+) -> Result<(), DeviceFault>
     ensures { WritesText (W.written writer.old) (W.written writer.new) (W.failures writer.old)
         (W.failures writer.new) result (codes "verbatim \"" ++ (quoted_text format.now ++
-        (codes "\" \"" ++ (quoted_text text.now ++
-        (codes "\" " ++ decimal (length text.now) ++ codes "\n"))))) }
+        (codes "\" \"" ++ (quoted_text (shown_part most text.now) ++
+        (codes "\" " ++ count_text most (length text.now) ++ codes "\n"))))) }
 {
     write_text(writer, b"verbatim \"")?;
     write_quoted(writer, format)?;
-    write_string(b"\" \"", text, writer)
+    write_string(b"\" \"", text, most, writer)
 }
 
 /// Writes the line of a big number.

@@ -80,7 +80,7 @@ fn write_reply<W: Sink>(
     ensures memory { IsErrOf result PlayError.Memory → 2 ^ 64 ≤ 1 + depth (datum_of reply.now) }
 {
     match write_reply_heading(client, number, writer) {
-        Ok(()) => played(write_value(reply, 1, writer)),
+        Ok(()) => played(write_value(reply, 1, None, writer)),
         Err(_) => Err(PlayError::Write),
     }
 }
@@ -98,7 +98,7 @@ fn write_push<W: Sink>(client: u64, push: &Members, writer: &mut W) -> Result<()
         2 ^ 64 ≤ 1 + depth (datum_of (Value.Push push.now)) }
 {
     match write_number(writer, b"client ", client, b" push\n") {
-        Ok(()) => played(write_push_value(push, 1, writer)),
+        Ok(()) => played(write_push_value(push, 1, None, writer)),
         Err(_) => Err(PlayError::Write),
     }
 }

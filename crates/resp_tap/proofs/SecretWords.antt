@@ -53,19 +53,19 @@ pub printed_whole : (shows : Bool) (words : List (List ℕ)) → shows ≡ true 
 printed_whole shows words e = subst (λ b. redacted_after Absent [] words ≡ printed_words b words) (sym e) (all_are_printed [] words)
 
 -- the text of the next word, and of the rest
-pub next_shown : (secrets : Secrets) (words : List (List ℕ)) (index : ℕ) (word shown : List ℕ) (is_secret : Bool) → index < length words →
+pub next_shown : (most : Option ℕ) (secrets : Secrets) (words : List (List ℕ)) (index : ℕ) (word shown : List ℕ) (is_secret : Bool) → index < length words →
     word ≡ get_or words index [] → is_secret ≡ is_secret_after secrets (take index words) → shown ≡ shown_word is_secret word →
-    words_text (redacted_after secrets (take index words) (drop index words)) ≡
-    word_text shown ++ words_text (redacted_after secrets (take (index + 1) words) (drop (index + 1) words))
-next_shown secrets words index word shown is_secret below is secret as_shown =
+    words_text most (redacted_after secrets (take index words) (drop index words)) ≡
+    word_text most shown ++ words_text most (redacted_after secrets (take (index + 1) words) (drop (index + 1) words))
+next_shown most secrets words index word shown is_secret below is secret as_shown =
     let rest = drop (index + 1) words in
     let hidden = is_secret_after secrets (take index words) in
     let same : shown ≡ shown_word hidden (get_or words index []) =
     as_shown ∙ ap (λ b. shown_word b word) secret ∙ ap (shown_word hidden) is in
-    at_drop_more (λ z. words_text (redacted_after secrets (take index words) z)) words index [] below ∙
-    ap (λ z. word_text (shown_word hidden (get_or words index [])) ++ words_text (redacted_after secrets z rest))
+    at_drop_more (λ z. words_text most (redacted_after secrets (take index words) z)) words index [] below ∙
+    ap (λ z. word_text most (shown_word hidden (get_or words index [])) ++ words_text most (redacted_after secrets z rest))
     (sym (take_more words index [] below)) ∙
-    ap (λ z. word_text z ++ words_text (redacted_after secrets (take (index + 1) words) rest)) (sym same)
+    ap (λ z. word_text most z ++ words_text most (redacted_after secrets (take (index + 1) words) rest)) (sym same)
 
 -- the words that are left after the next word
 pub left_at_next : (secrets : Secrets) (words : List (List ℕ)) (index : ℕ) (word : List ℕ) (left : ℕ) → index < length words →
@@ -74,6 +74,6 @@ left_at_next secrets words index word left below is are =
     subst (λ z. AreLeft secrets z left) (ap (λ w. take index words ++ w ∷ []) is ∙ sym (take_more words index [] below)) are
 
 -- the line of words that are equal
-pub words_line_as : {X E : Type 0} (r : Result X E) (a b : Option (List ℕ)) (f g : ℕ) (words words' : List (List ℕ)) → words ≡ words' →
-    WritesText a b f g r (words_line words) → WritesText a b f g r (words_line words')
-words_line_as r a b f g words words' e written = subst (λ z. WritesText a b f g r (words_line z)) e written
+pub words_line_as : {X E : Type 0} (most : Option ℕ) (r : Result X E) (a b : Option (List ℕ)) (f g : ℕ) (words words' : List (List ℕ)) → words ≡ words' →
+    WritesText a b f g r (words_line most words) → WritesText a b f g r (words_line most words')
+words_line_as most r a b f g words words' e written = subst (λ z. WritesText a b f g r (words_line most z)) e written

@@ -25,7 +25,7 @@ room_for f is_chosen behind = if is_by_reply f && is_chosen then room_behind beh
 
 -- the text of a command's words, without the secret ones
 abbrev pub shown_words : Printing → List (List ℕ) → List ℕ
-shown_words p words = words_text (printed_words p.shows_passwords words)
+shown_words p words = words_text p.shown (printed_words p.shows_passwords words)
 
 -- This is kept of a command that arrived at this moment, as a line or as an array, and is let through by its words or is
 -- not, if so many bytes are kept of them.

@@ -1,11 +1,11 @@
 -- The lines that are printed.
-use Rattle.std.specs.Prelude.{ℕ, ◌+◌, Bool, List, [], ◌++◌, Option, codes, decimal, if◌then◌else◌}
+use Rattle.std.specs.Prelude.{ℕ, ◌+◌, Bool, List, [], ◌++◌, Option, codes, decimal, length, if◌then◌else◌}
 use Rattle.std.specs.List.{flat_map}
 use Rattle.resp_value.specs.Causes.{name_of}
 use Rattle.resp_value.specs.Data.{Datum, depth}
 use Rattle.resp_value.specs.Values.{datum_of}
 use Rattle.resp_value.specs.declared.value.Value.TheVariants as value
-use Rattle.resp_print.specs.Shown.{lines_on, quoted_text}
+use Rattle.resp_print.specs.Shown.{is_cut, lines_within, quoted_text, shown_part}
 use Rattle.resp_tap.specs.Secrets.{printed_words}
 use Rattle.resp_tap.specs.Stamps.{ending_text}
 use Rattle.resp_tap.specs.declared.print.Printing.{Printing}
@@ -15,17 +15,21 @@ use Rattle.resp_tap.specs.declared.seen.Seen.{Seen}
 use Rattle.resp_tap.specs.declared.seen.Seen.TheVariants.{Nothing, Passed, Command, Reply, Push, Value, NotCommand, Refused}
 use Rattle.resp_tap.specs.declared.stamp.Stamp.{Stamp}
 
--- a word in quotes, after a space
-abbrev pub word_text : List ℕ → List ℕ
-word_text word = codes " \"" ++ (quoted_text word ++ codes "\"")
+-- the quote after a word of so many bytes, and two dots and the number if not all of them are printed
+abbrev pub word_end : Option ℕ → ℕ → List ℕ
+word_end most count = if is_cut most count then codes "\" .. " ++ decimal count else codes "\""
+
+-- the part of a word that is printed, in quotes, after a space
+abbrev pub word_text : Option ℕ → List ℕ → List ℕ
+word_text most word = codes " \"" ++ (quoted_text (shown_part most word) ++ word_end most (length word))
 
 -- words in quotes, each after a space
-abbrev pub words_text : List (List ℕ) → List ℕ
-words_text words = flat_map word_text words
+abbrev pub words_text : Option ℕ → List (List ℕ) → List ℕ
+words_text most words = flat_map (word_text most) words
 
 -- the line of a command's words, two spaces deeper
-abbrev pub words_line : List (List ℕ) → List ℕ
-words_line words = codes " " ++ (words_text words ++ codes "\n")
+abbrev pub words_line : Option ℕ → List (List ℕ) → List ℕ
+words_line most words = codes " " ++ (words_text most words ++ codes "\n")
 
 -- a number and the end of its line
 abbrev pub numbered_end : ℕ → Option Stamp → List ℕ
@@ -44,8 +48,9 @@ abbrev pub remark_text : ℕ → List ℕ → List ℕ → Option Stamp → List
 remark_text client front text stamp = (codes "client " ++ decimal client ++ front) ++ (text ++ ending_text stamp)
 
 -- the lines of a command of a client
-abbrev pub command_text : ℕ → ℕ → Option Stamp → List (List ℕ) → List ℕ
-command_text client number stamp words = numbered_line client (codes " command ") number stamp ++ words_line words
+abbrev pub command_text : Printing → ℕ → Option Stamp → List (List ℕ) → List ℕ
+command_text p number stamp words =
+    numbered_line p.client (codes " command ") number stamp ++ words_line p.shown (printed_words p.shows_passwords words)
 
 -- the number of a command that came as a line, and the end of the line
 abbrev pub inline_end : ℕ → Option Stamp → List ℕ
@@ -61,16 +66,16 @@ heading is_line client number stamp =
     if is_line then inline_line client number stamp else numbered_line client (codes " command ") number stamp
 
 -- the lines of the reply to it
-abbrev pub reply_text : ℕ → ℕ → Option Stamp → Datum → List ℕ
-reply_text client number stamp x = numbered_line client (codes " reply ") number stamp ++ lines_on 1 x
+abbrev pub reply_text : Printing → ℕ → Option Stamp → Datum → List ℕ
+reply_text p number stamp x = numbered_line p.client (codes " reply ") number stamp ++ lines_within p.shown 1 x
 
 -- the lines of a push to a client
-abbrev pub push_text : ℕ → Option Stamp → Datum → List ℕ
-push_text client stamp x = client_line client (codes " push") stamp ++ lines_on 1 x
+abbrev pub push_text : Printing → Option Stamp → Datum → List ℕ
+push_text p stamp x = client_line p.client (codes " push") stamp ++ lines_within p.shown 1 x
 
 -- the lines of a value to a client that is paired with no command
-abbrev pub value_text : ℕ → Option Stamp → Datum → List ℕ
-value_text client stamp x = client_line client (codes " value") stamp ++ lines_on 1 x
+abbrev pub value_text : Printing → Option Stamp → Datum → List ℕ
+value_text p stamp x = client_line p.client (codes " value") stamp ++ lines_within p.shown 1 x
 
 -- the command, reply or value that contains a wrong byte
 abbrev pub place_text : Place → Option Stamp → List ℕ
@@ -94,17 +99,17 @@ refusal_text client name at where' stamp = refusal_heading client name ++ byte_t
 abbrev pub seen_text : Printing → Option Stamp → Seen → List ℕ
 seen_text p stamp Nothing = []
 seen_text p stamp Passed = []
-seen_text p stamp (Command number words) = command_text p.client number stamp (printed_words p.shows_passwords words)
-seen_text p stamp (Reply number x) = reply_text p.client number stamp (datum_of x)
-seen_text p stamp (Push items) = push_text p.client stamp (datum_of (value.Push items))
-seen_text p stamp (Value x) = value_text p.client stamp (datum_of x)
+seen_text p stamp (Command number words) = command_text p number stamp words
+seen_text p stamp (Reply number x) = reply_text p number stamp (datum_of x)
+seen_text p stamp (Push items) = push_text p stamp (datum_of (value.Push items))
+seen_text p stamp (Value x) = value_text p stamp (datum_of x)
 seen_text p stamp (NotCommand number) = refusal_text p.client (codes "NotCommand") 0 (place.Command number) stamp
 seen_text p stamp (Refused cause at where') = refusal_text p.client (name_of cause) at where' stamp
 
 -- the lines of a result of a line
 abbrev pub line_text : Printing → Option Stamp → Seen → List ℕ
 line_text p stamp (Command number words) =
-    inline_line p.client number stamp ++ words_line (printed_words p.shows_passwords words)
+    inline_line p.client number stamp ++ words_line p.shown (printed_words p.shows_passwords words)
 line_text p stamp what = seen_text p stamp what
 
 -- the lines of a result, which is that of a line or is not

@@ -5,6 +5,7 @@ use Rattle.resp_print.specs.Shown.{lines_on}
 use Rattle.resp_print.specs.Headings.{push_heading, reply_heading}
 use Rattle.resp_tap.specs.Digits.{micros_text, time_text}
 use Rattle.resp_tap.specs.Texts.{push_text, reply_text}
+use Rattle.resp_tap.specs.declared.print.Printing.{Printing}
 
 -- times of day and microseconds, worked out by hand
 pub record TimesAreToldSo : Type 0 where
@@ -13,8 +14,8 @@ pub record TimesAreToldSo : Type 0 where
   pub last_of_day : time_text 86399999999 ≡ codes "23:59:59.999999"
   pub whole_seconds_left_out : micros_text 12000213 ≡ codes "000213"
 
--- without a time, replies and pushes are printed as those of a script are
+-- without a time, replies and pushes of which all bytes are printed are printed as those of a script are
 abbrev pub PrintsAsPlayed : Type 0
-PrintsAsPlayed = (client number : ℕ) (x : Datum) →
-    (reply_text client number None x ≡ reply_heading client number ++ lines_on 1 x) ×
-    (push_text client None x ≡ push_heading client ++ lines_on 1 x)
+PrintsAsPlayed = (p : Printing) (number : ℕ) (x : Datum) → p.shown ≡ None →
+    (reply_text p number None x ≡ reply_heading p.client number ++ lines_on 1 x) ×
+    (push_text p None x ≡ push_heading p.client ++ lines_on 1 x)

@@ -242,6 +242,7 @@ pub fn watch_filtered_some<W: Sink>(
 /// let printing = Printing {
 ///     client: 1,
 ///     shows_passwords: false,
+///     shown: None,
 /// };
 /// let sent = b"*1\r\n$4\r\nPING\r\n*2\r\n$4\r\nINCR\r\n$1\r\na\r\n";
 /// watch_filtered(&mut tap, &filter, printing, Side::Client, sent, None, &mut text)?;

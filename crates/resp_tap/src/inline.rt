@@ -71,10 +71,10 @@ fn write_inline<W: Sink>(
 ) -> Result<(), DeviceFault>
     ensures { WritesText (W.written writer.old) (W.written writer.new) (W.failures writer.old)
         (W.failures writer.new) result (inline_line printing.client number stamp ++
-        words_line (printed_words printing.shows_passwords words.now)) }
+        words_line printing.shown (printed_words printing.shows_passwords words.now)) }
 {
     write_inline_line(printing.client, number, stamp, writer)?;
-    write_words_line(words, secrets_for(printing, words), writer)
+    write_words_line(words, secrets_for(printing, words), printing.shown, writer)
 }
 
 /// Writes the lines of a result of a line.

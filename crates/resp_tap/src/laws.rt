@@ -18,7 +18,8 @@ pub fn times_are_told_so()
     ensures { TimesAreToldSo }
 {}
 
-/// Without a time, replies and pushes are printed as `resp loop` prints those of its clients.
+/// Without a time, replies and pushes of which all bytes are printed are printed as `resp loop` prints
+/// those of its clients.
 pub fn without_times_lines_are_those_of_loop()
     ensures { PrintsAsPlayed }
 {}

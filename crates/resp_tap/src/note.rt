@@ -122,7 +122,12 @@ fn first_bytes(
     }
     // With one byte more it is known whether the text is longer.
     let mut sink = MemorySink::new(alloc, usize::MAX, room + 1)?;
-    let written = write_words(words, secrets_for(printing, words), &mut sink);
+    let written = write_words(
+        words,
+        secrets_for(printing, words),
+        printing.shown,
+        &mut sink,
+    );
     let text = sink.bytes();
     if written.is_err() && text.len() <= room {
         return Err(AllocError);

@@ -1,20 +1,20 @@
 //! The lines of commands, replies and pushes, as `resp tap` prints them.
 
-ghost use Rattle.std.specs.Prelude.{◌+◌, ◌++◌, ◌≡◌, [], ℕ, List, Option, Some, codes, decimal};
+ghost use Rattle.std.specs.Prelude.{◌+◌, ◌++◌, ◌≡◌, [], ℕ, List, Option, Some, codes, decimal, length};
 ghost use Rattle.resp_print.specs.Printed.{Prints};
 ghost use Rattle.resp_print.specs.Written.{WritesText};
 ghost use Rattle.resp_value.specs.Data.{depth};
 ghost use Rattle.resp_value.specs.Values.{datum_of};
 ghost use Rattle.resp_value.specs.declared.value.Value.TheVariants as value;
-ghost use Rattle.resp_tap.specs.Secrets.{printed_words, redacted_after, shown_word};
+ghost use Rattle.resp_tap.specs.Secrets.{redacted_after, shown_word};
 ghost use Rattle.resp_tap.specs.Stamps.{ending_text};
-ghost use Rattle.resp_tap.specs.Texts.{byte_text, client_line, command_text, levels_of, numbered_end, numbered_line, place_text, push_text, refusal_heading, refusal_text, remark_text, reply_text, seen_text, value_text, word_text, words_line, words_text};
+ghost use Rattle.resp_tap.specs.Texts.{byte_text, client_line, command_text, levels_of, numbered_end, numbered_line, place_text, push_text, refusal_heading, refusal_text, remark_text, reply_text, seen_text, value_text, word_end, word_text, words_line, words_text};
 
 use crate::secrets::Secrets;
 use crate::seen::{Place, Seen};
 use crate::stamp::{Stamp, write_ending, write_stamp};
 use resp_print::print_error::PrintError;
-use resp_print::text::{write_number, write_quoted, write_text};
+use resp_print::text::{is_cut, shown_part, write_number, write_quoted, write_text};
 use resp_print::value::{write_push_value, write_value};
 use resp_session::words::Words;
 use resp_value::device::{DeviceFault, Sink};
@@ -28,10 +28,13 @@ pub struct Printing {
     /// Whether passwords and other secret words of commands are printed. If not, `(redacted)` is
     /// printed in place of each.
     pub shows_passwords: bool,
+    /// The most bytes of a word or of a text that are printed, or `None` if all are. `..` and the
+    /// number of its bytes follow one that has more.
+    pub shown: Option<usize>,
 }
 
-/// Writes the lines of `seen`. Replies and pushes have the lines of `resp loop`. With a stamp, the
-/// first line ends with the time.
+/// Writes the lines of `seen`. Replies and pushes have the lines of `resp loop`, if all their bytes are
+/// printed. With a stamp, the first line ends with the time.
 ///
 /// # Errors
 ///
@@ -51,9 +54,9 @@ pub fn write_seen<W: Sink>(
         Seen::Command { number, words } => {
             printed(write_command(printing, *number, stamp, words, writer))
         }
-        Seen::Reply { number, value } => write_reply(client, *number, stamp, value, writer),
-        Seen::Push(items) => write_push(client, stamp, items, writer),
-        Seen::Value(value) => write_unpaired(client, stamp, value, writer),
+        Seen::Reply { number, value } => write_reply(printing, *number, stamp, value, writer),
+        Seen::Push(items) => write_push(printing, stamp, items, writer),
+        Seen::Value(value) => write_unpaired(printing, stamp, value, writer),
         Seen::NotCommand { number } => {
             let place = Place::Command(*number);
             printed(write_refusal(client, b"NotCommand", 0, place, stamp, writer))
@@ -79,53 +82,53 @@ pub(crate) fn printed(written: Result<(), DeviceFault>) -> Result<(), PrintError
 
 /// Writes the reply to a command, after its heading.
 fn write_reply<W: Sink>(
-    client: u64,
+    printing: Printing,
     number: u64,
     stamp: Option<Stamp>,
     value: &Value,
     writer: &mut W,
 ) -> Result<(), PrintError>
     ensures { Prints (W.written writer.old) (W.written writer.new) (W.failures writer.old)
-        (W.failures writer.new) result (reply_text client number stamp (datum_of value.now))
+        (W.failures writer.new) result (reply_text printing number stamp (datum_of value.now))
         (1 + depth (datum_of value.now)) }
 {
-    match write_numbered_line(client, b" reply ", number, stamp, writer) {
-        Ok(()) => write_value(value, 1, writer),
+    match write_numbered_line(printing.client, b" reply ", number, stamp, writer) {
+        Ok(()) => write_value(value, 1, printing.shown, writer),
         Err(_) => Err(PrintError::Write),
     }
 }
 
 /// Writes a push, after its heading.
 fn write_push<W: Sink>(
-    client: u64,
+    printing: Printing,
     stamp: Option<Stamp>,
     items: &Members,
     writer: &mut W,
 ) -> Result<(), PrintError>
     ensures { Prints (W.written writer.old) (W.written writer.new) (W.failures writer.old)
         (W.failures writer.new) result
-        (push_text client stamp (datum_of (value.Push items.now)))
+        (push_text printing stamp (datum_of (value.Push items.now)))
         (1 + depth (datum_of (value.Push items.now))) }
 {
-    match write_client_line(client, b" push", stamp, writer) {
-        Ok(()) => write_push_value(items, 1, writer),
+    match write_client_line(printing.client, b" push", stamp, writer) {
+        Ok(()) => write_push_value(items, 1, printing.shown, writer),
         Err(_) => Err(PrintError::Write),
     }
 }
 
 /// Writes a value that is paired with no command, after its heading.
 fn write_unpaired<W: Sink>(
-    client: u64,
+    printing: Printing,
     stamp: Option<Stamp>,
     value: &Value,
     writer: &mut W,
 ) -> Result<(), PrintError>
     ensures { Prints (W.written writer.old) (W.written writer.new) (W.failures writer.old)
-        (W.failures writer.new) result (value_text client stamp (datum_of value.now))
+        (W.failures writer.new) result (value_text printing stamp (datum_of value.now))
         (1 + depth (datum_of value.now)) }
 {
-    match write_client_line(client, b" value", stamp, writer) {
-        Ok(()) => write_value(value, 1, writer),
+    match write_client_line(printing.client, b" value", stamp, writer) {
+        Ok(()) => write_value(value, 1, printing.shown, writer),
         Err(_) => Err(PrintError::Write),
     }
 }
@@ -139,11 +142,10 @@ fn write_command<W: Sink>(
     writer: &mut W,
 ) -> Result<(), DeviceFault>
     ensures { WritesText (W.written writer.old) (W.written writer.new) (W.failures writer.old)
-        (W.failures writer.new) result (command_text printing.client number stamp
-        (printed_words printing.shows_passwords words.now)) }
+        (W.failures writer.new) result (command_text printing number stamp words.now) }
 {
     write_numbered_line(printing.client, b" command ", number, stamp, writer)?;
-    write_words_line(words, secrets_for(printing, words), writer)
+    write_words_line(words, secrets_for(printing, words), printing.shown, writer)
 }
 
 /// Returns the secret words of a command that are not printed.
@@ -260,13 +262,14 @@ fn write_stamped_number<W: Sink>(
 pub(crate) fn write_words_line<W: Sink>(
     words: &Words,
     secrets: Secrets,
+    most: Option<usize>,
     writer: &mut W,
 ) -> Result<(), DeviceFault>
     ensures { WritesText (W.written writer.old) (W.written writer.new) (W.failures writer.old)
-        (W.failures writer.new) result (words_line (redacted_after secrets [] words.now)) }
+        (W.failures writer.new) result (words_line most (redacted_after secrets [] words.now)) }
 {
     write_text(writer, b" ")?;
-    write_words(words, secrets, writer)?;
+    write_words(words, secrets, most, writer)?;
     write_text(writer, b"\n")
 }
 
@@ -274,17 +277,18 @@ pub(crate) fn write_words_line<W: Sink>(
 pub(crate) fn write_words<W: Sink>(
     words: &Words,
     secrets: Secrets,
+    most: Option<usize>,
     writer: &mut W,
 ) -> Result<(), DeviceFault>
     ensures { WritesText (W.written writer.old) (W.written writer.new) (W.failures writer.old)
-        (W.failures writer.new) result (words_text (redacted_after secrets [] words.now)) }
+        (W.failures writer.new) result (words_text most (redacted_after secrets [] words.now)) }
 {
     let mut index = 0;
     // How many words from this one on are secret because of a word before it.
     let mut left = 0;
     while index < words.len() {
         let word = words.word(index);
-        write_word(shown(word, secrets.hides(index, left)), writer)?;
+        write_word(shown(word, secrets.hides(index, left)), most, writer)?;
         left = secrets.left_after(left, word);
         index += 1;
     }
@@ -298,14 +302,30 @@ fn shown<'a>(word: &'a [u8], is_secret: bool) -> &'a [u8]
     if is_secret { b"(redacted)" } else { word }
 }
 
-/// Writes a word in quotes, after a space.
-fn write_word<W: Sink>(word: &[u8], writer: &mut W) -> Result<(), DeviceFault>
+/// Writes the part of a word that is printed, in quotes, after a space.
+fn write_word<W: Sink>(word: &[u8], most: Option<usize>, writer: &mut W) -> Result<(), DeviceFault>
     ensures { WritesText (W.written writer.old) (W.written writer.new) (W.failures writer.old)
-        (W.failures writer.new) result (word_text word.now) }
+        (W.failures writer.new) result (word_text most word.now) }
 {
     write_text(writer, b" \"")?;
-    write_quoted(writer, word)?;
-    write_text(writer, b"\"")
+    write_quoted(writer, shown_part(word, most))?;
+    write_word_end(word, most, writer)
+}
+
+/// Writes the quote after a word, and two dots and the number of its bytes if not all are printed.
+fn write_word_end<W: Sink>(
+    word: &[u8],
+    most: Option<usize>,
+    writer: &mut W,
+) -> Result<(), DeviceFault>
+    ensures { WritesText (W.written writer.old) (W.written writer.new) (W.failures writer.old)
+        (W.failures writer.new) result (word_end most (length word.now)) }
+{
+    if is_cut(word, most) {
+        write_number(writer, b"\" .. ", word.len() as u64, b"")
+    } else {
+        write_text(writer, b"\"")
+    }
 }
 
 /// Writes the line of an error in the bytes of one side.

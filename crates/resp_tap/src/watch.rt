@@ -133,6 +133,7 @@ pub(crate) fn first_error(
 /// let printing = Printing {
 ///     client: 1,
 ///     shows_passwords: false,
+///     shown: None,
 /// };
 /// let get = b"*2\r\n$3\r\nGET\r\n$4\r\nhits\r\n";
 /// watch(&mut tap, printing, Side::Client, get, None, &mut text)?;

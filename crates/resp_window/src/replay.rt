@@ -38,6 +38,8 @@ pub struct ReplaySettings {
     pub reads_lines: bool,
     /// Whether passwords and other secret words of commands are printed.
     pub shows_passwords: bool,
+    /// The most bytes of a word or of a text that are printed.
+    pub shown: usize,
     /// Whether the traffic is printed as JSON. Then times are printed.
     pub json: bool,
     /// When the counts of commands are printed, if commands are counted and not printed.
@@ -259,6 +261,7 @@ impl Replay {
         let printing = Printing {
             client: self.count,
             shows_passwords: self.settings.shows_passwords,
+            shown: Some(self.settings.shown),
         };
         self.view.print_connected(self.count, client, out)?;
         if !segment.begins {

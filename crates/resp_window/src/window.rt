@@ -91,6 +91,8 @@ pub struct Settings {
     pub reads_lines: bool,
     /// Whether passwords and other secret words of commands are printed.
     pub shows_passwords: bool,
+    /// The most bytes of a word or of a text that are printed.
+    pub shown: usize,
     /// Whether the traffic is printed as JSON. Then times are printed.
     pub json: bool,
     /// When the counts of commands are printed, if commands are counted and not printed.
@@ -550,6 +552,7 @@ impl View {
         let printing = Printing {
             client: number,
             shows_passwords: self.settings.shows_passwords,
+            shown: Some(self.settings.shown),
         };
         let sockets = Sockets {
             client,

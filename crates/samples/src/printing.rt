@@ -11,7 +11,7 @@ pub(crate) fn run(rt: &impl Print, alloc: Global) -> Result<()> {
     let hits = Value::Bulk(Content::new(Vec::from_slice(alloc, b"hits")?));
     let value = Value::Array(Members::new(vec![in alloc; hits, Value::Int(7)]?));
     let mut text = MemorySink::new(alloc, 4_096, 4_096)?;
-    write_value(&value, 0, &mut text)?;
+    write_value(&value, 0, None, &mut text)?;
     print!(rt; "{}", str::from_utf8(text.bytes())?)?;
     json(rt, alloc)
 }

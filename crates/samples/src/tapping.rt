@@ -47,6 +47,7 @@ fn print_traffic(rt: &impl Print, alloc: Global) -> Result<()> {
     let printing = Printing {
         client: 1,
         shows_passwords: false,
+        shown: None,
     };
     let get = b"*2\r\n$3\r\nGET\r\n$4\r\nhits\r\n";
     watch(&mut tap, printing, Side::Client, get, None, &mut text)?;
@@ -64,6 +65,7 @@ fn print_errors(rt: &impl Print, alloc: Global) -> Result<()> {
     let printing = Printing {
         client: 1,
         shows_passwords: false,
+        shown: None,
     };
     let sent = b"*1\r\n$4\r\nPING\r\n*2\r\n$4\r\nINCR\r\n$1\r\na\r\n";
     watch_filtered(

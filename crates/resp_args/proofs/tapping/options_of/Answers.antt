@@ -9,3 +9,9 @@ returns-in_err-most_of-clause-none c =
     let none : (options : TapOptions) → HasTapOptions (rows_of (found_of c.args.matches.now)) options → ⊥ =
     λ options has. c.in_err-most_of.ensures.none _ has.at_once in
     if_none _ _ none
+
+pub returns-in_err-bytes_of-clause-none : goal.returns-in_err-bytes_of-clause-none
+returns-in_err-bytes_of-clause-none c =
+    let none : (options : TapOptions) → HasTapOptions (rows_of (found_of c.args.matches.now)) options → ⊥ =
+    λ options has. c.in_err-bytes_of.ensures.none _ has.bytes in
+    if_none _ _ none

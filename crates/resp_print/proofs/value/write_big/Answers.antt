@@ -1,5 +1,5 @@
 use Rattle.std.proofs.Common.{◌++◌, codes, subst, ap, ◌∙◌}
-use Rattle.resp_value.specs.Values.{digits_text, is_negative}
+use Rattle.resp_value.specs.Values.{digits_text}
 use Rattle.resp_print.specs.Printed.{big_word}
 use Rattle.resp_print.specs.Written.{WritesText}
 use Rattle.resp_print.proofs.WrittenLemmas.{writes_next, writes_part}

@@ -9,5 +9,5 @@ use Rattle.resp_print.proofs.value.write_push_value.Goals as goal
 
 pub returns : goal.returns
 returns g c =
-    group_printed c.write_group.result _ _ _ _ c.args.level d.Push (value.Push c.args.members.now) c.list.result.now (λ e. absurd (cc)) (λ n. refl)
+    group_printed c.args.most c.write_group.result _ _ _ _ c.args.level d.Push (value.Push c.args.members.now) c.list.result.now (λ e. absurd (cc)) (λ n. refl)
     (ap (λ ms. aggregate d.Push (data_of_list (map datum_of ms))) c.list.ensures ∙ sym (datum_of-Push c.args.members.now)) c.write_group.ensures

@@ -3,7 +3,7 @@ use Rattle.resp_value.specs.Data.{Datum, aggregate, scalar}
 use Rattle.resp_value.specs.Data as d
 use Rattle.resp_value.specs.Values.{datum_of}
 use Rattle.resp_print.specs.Printed.{IsScalar}
-use Rattle.resp_print.specs.Shown.{indentation, lines_on, scalar_line}
+use Rattle.resp_print.specs.Shown.{indentation, lines_within, scalar_line_within}
 use Rattle.resp_print.specs.Written.{WritesText}
 use Rattle.resp_print.proofs.WrittenLemmas.{writes_next, writes_part}
 use Rattle.resp_print.proofs.value.write_scalar.Goals as goal
@@ -15,12 +15,12 @@ the_scalar (aggregate k xs) is = absurd is
 pub returns-in_err-write_indentation : goal.returns-in_err-write_indentation
 returns-in_err-write_indentation g c = λ is.
     let (s, same) = the_scalar (datum_of c.args.value.now) is in
-    subst (WritesText _ _ _ _ c.from_residual.result) (sym (ap (lines_on c.args.level) same))
-    (writes_part c.from_residual.result _ _ _ _ (indentation c.args.level) (scalar_line s) c.from_residual.ensures.0 c.in_err-write_indentation.ensures)
+    subst (WritesText _ _ _ _ c.from_residual.result) (sym (ap (lines_within c.args.most c.args.level) same))
+    (writes_part c.from_residual.result _ _ _ _ (indentation c.args.level) (scalar_line_within c.args.most s) c.from_residual.ensures.0 c.in_err-write_indentation.ensures)
 
 pub returns : goal.returns
 returns g c = λ is.
     let (s, same) = the_scalar (datum_of c.args.value.now) is in
     let r = c.write_scalar_line.result in
-    subst (WritesText _ _ _ _ r) (sym (ap (lines_on c.args.level) same))
-    (writes_next r _ _ _ _ _ _ (indentation c.args.level) (scalar_line s) c.in_ok-write_indentation.ensures (c.write_scalar_line.ensures s same))
+    subst (WritesText _ _ _ _ r) (sym (ap (lines_within c.args.most c.args.level) same))
+    (writes_next r _ _ _ _ _ _ (indentation c.args.level) (scalar_line_within c.args.most s) c.in_ok-write_indentation.ensures (c.write_scalar_line.ensures s same))

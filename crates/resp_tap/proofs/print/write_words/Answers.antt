@@ -11,12 +11,12 @@ returns-in_err-write_word g c =
     let secrets = c.args.secrets in
     let index = c.loop-index.index in
     let below : index < length words = search rules in
-    let whole = words_text (redacted_after secrets [] words) in
-    let rest = words_text (redacted_after secrets (take (index + 1) words) (drop (index + 1) words)) in
+    let whole = words_text c.args.most (redacted_after secrets [] words) in
+    let rest = words_text c.args.most (redacted_after secrets (take (index + 1) words) (drop (index + 1) words)) in
     let is_secret = c.hides.ensures (take index words) (search rules) c.loop-index.invariant.left in
-    let next = next_shown secrets words index c.word-word.result.now c.shown.result.now c.hides.result below
+    let next = next_shown c.args.most secrets words index c.word-word.result.now c.shown.result.now c.hides.result below
     c.word-word.ensures is_secret c.shown.ensures in
-    write_failed c.from_residual.result whole (word_text c.shown.result.now) rest _ _ _ _ _ _
+    write_failed c.from_residual.result whole (word_text c.args.most c.shown.result.now) rest _ _ _ _ _ _
     (printed_as whole _ _ _ _ _ _ next c.loop-index.invariant.printed) c.from_residual.ensures.0 c.in_err-write_word.ensures
 
 pub loop-index-preserved : goal.loop-index-preserved
@@ -25,15 +25,15 @@ loop-index-preserved g c =
     let secrets = c.args.secrets in
     let index = c.loop-index.index in
     let below : index < length words = search rules in
-    let whole = words_text (redacted_after secrets [] words) in
-    let rest = words_text (redacted_after secrets (take (index + 1) words) (drop (index + 1) words)) in
+    let whole = words_text c.args.most (redacted_after secrets [] words) in
+    let rest = words_text c.args.most (redacted_after secrets (take (index + 1) words) (drop (index + 1) words)) in
     let is_secret = c.hides.ensures (take index words) (search rules) c.loop-index.invariant.left in
-    let next = next_shown secrets words index c.word-word.result.now c.shown.result.now c.hides.result below
+    let next = next_shown c.args.most secrets words index c.word-word.result.now c.shown.result.now c.hides.result below
     c.word-word.ensures is_secret c.shown.ensures in
     record {
       within = omega (arith, below);
       left = left_at_next secrets words index c.word-word.result.now c.left_after-left.result below c.word-word.ensures
           (c.left_after-left.ensures (take index words) c.loop-index.invariant.left);
-      printed = printed_more whole (word_text c.shown.result.now) rest _ _ _ _ _ _
+      printed = printed_more whole (word_text c.args.most c.shown.result.now) rest _ _ _ _ _ _
           (printed_as whole _ _ _ _ _ _ next c.loop-index.invariant.printed) c.in_ok-write_word.ensures;
     }

@@ -8,8 +8,8 @@ abbrev pub invariant-loop-index : goal.invariant-loop-index
 invariant-loop-index g l = record {
   within : l.index ≤ length l.words;
   left : AreLeft l.secrets (take l.index l.words) l.left;
-  printed : HasPrintedUpTo (words_text (redacted_after l.secrets [] l.words))
-      (words_text (redacted_after l.secrets (take l.index l.words) (drop l.index l.words)))
+  printed : HasPrintedUpTo (words_text l.most (redacted_after l.secrets [] l.words))
+      (words_text l.most (redacted_after l.secrets (take l.index l.words) (drop l.index l.words)))
       (g.W.Sink.written l.initial.writer) (g.W.Sink.written l.writer)
       (g.W.Sink.failures l.initial.writer) (g.W.Sink.failures l.writer);
 }
