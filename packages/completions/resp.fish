@@ -51,7 +51,7 @@ complete -c resp -n '__fish_seen_subcommand_from tap' -l exit-with-output -d 'En
 complete -c resp -n '__fish_seen_subcommand_from tap' -l keep-going -d 'Accepts clients after the output has failed'
 complete -c resp -n '__fish_seen_subcommand_from tap' -l no-inline -d 'Reads no commands that are lines'
 complete -c resp -n '__fish_seen_subcommand_from tap' -l show-passwords -d 'Prints the passwords in commands'
-complete -c resp -n '__fish_seen_subcommand_from tap' -l shown -x -d 'Maximum bytes printed of each text, 0 to 1024G'
+complete -c resp -n '__fish_seen_subcommand_from tap' -l shown -x -d 'Maximum bytes printed of each text, 32 to 1024G'
 complete -c resp -n '__fish_seen_subcommand_from tap' -l record -r -F -d 'Writes the traffic to a capture'
 complete -c resp -n '__fish_seen_subcommand_from tap' -l replay -r -F -d 'Reads the traffic in a capture'
 complete -c resp -n '__fish_seen_subcommand_from tap' -l port -x -d 'Port of the server in the capture'

@@ -61,6 +61,10 @@ impl Subject for Tapping {
                 self.printing.shows_passwords = true;
                 Ok(())
             }
+            "shown" => {
+                self.printing.shown = Some(given.parse()?);
+                Ok(())
+            }
             "errors" => {
                 self.filter.errors = true;
                 Ok(())

@@ -160,7 +160,7 @@ pub record HasTapOptions (given : List Row) (options : TapOptions) : Type 0 wher
   pub keeps : HasFlag given (codes "keep-going") options.keeps_going
   pub reads_no_lines : HasFlag given (codes "no-inline") options.refuses_lines
   pub shows : HasFlag given (codes "show-passwords") options.shows_passwords
-  pub bytes : HasSize given (codes "shown") 0 1099511627776 options.shown
+  pub bytes : HasSize given (codes "shown") 32 1099511627776 options.shown
   pub filters : HasFilter given options.filter
   pub tables : HasStats given options.stats
   pub styled : HasStyle given options.style

@@ -193,7 +193,7 @@ pub(crate) fn wrong_options<'a>(given: &ArgMatches<'a>) -> NothingAsked<'a> {
     if let Some(wrong) = wrong_size(given, "held", 1, MOST_BYTES) {
         return wrong;
     }
-    if let Some(wrong) = wrong_size(given, "shown", 0, MOST_BYTES) {
+    if let Some(wrong) = wrong_size(given, "shown", 32, MOST_BYTES) {
         return wrong;
     }
     wrong_size(given, "unsent", 1, MOST_BYTES).unwrap_or(NothingAsked::OtherWords)

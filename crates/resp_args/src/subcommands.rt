@@ -495,7 +495,7 @@ const READS_NO_LINES: Parameter = Parameter {
 const SHOWN: Parameter = Parameter {
     name: "shown",
     form: Form::Size { default: "1K" },
-    help: "Maximum bytes printed of each text, 0 to 1024G",
+    help: "Maximum bytes printed of each text,\n32 to 1024G",
 };
 
 /// `--show-passwords`: whether passwords are printed.

@@ -30,7 +30,7 @@ pub struct Tapping<'a> {
     pub refuses_lines: bool,
     /// Whether passwords in commands are printed.
     pub shows_passwords: bool,
-    /// The most bytes of a word or of a text that are printed, up to 1,024 GiB.
+    /// The most bytes of a word or of a text that are printed, from 32 to 1,024 GiB.
     pub shown: usize,
     /// How text is printed.
     pub style: StyleOptions<'a>,
@@ -128,7 +128,7 @@ fn options_of<'a>(matches: &ArgMatches<'a>) -> Option<TapOptions<'a>>
         keeps_going: flag_of(matches, "keep-going")?,
         refuses_lines: flag_of(matches, "no-inline")?,
         shows_passwords: flag_of(matches, "show-passwords")?,
-        shown: bytes_of(matches, "shown", 0, MOST_BYTES)? as usize,
+        shown: bytes_of(matches, "shown", 32, MOST_BYTES)? as usize,
         style: style_of(matches),
         filter: filter_of(matches)?,
         stats: stats_of(matches)?,
