@@ -6,7 +6,7 @@ ghost use Rattle.resp_print.specs.Written.{WritesText};
 ghost use Rattle.resp_value.specs.Data.{depth};
 ghost use Rattle.resp_value.specs.Values.{datum_of};
 ghost use Rattle.resp_value.specs.declared.value.Value.TheVariants as value;
-ghost use Rattle.resp_tap.specs.Secrets.{redacted_after, shown_word};
+ghost use Rattle.resp_tap.specs.Secrets.{printed_words, redacted_after, shown_word};
 ghost use Rattle.resp_tap.specs.Stamps.{ending_text};
 ghost use Rattle.resp_tap.specs.Texts.{byte_text, client_line, command_text, levels_of, numbered_end, numbered_line, place_text, push_text, refusal_heading, refusal_text, remark_text, reply_text, seen_text, value_text, word_end, word_text, words_line, words_text};
 
