@@ -13,6 +13,7 @@ mod key_list;
 mod keys;
 pub mod laws;
 mod lookup;
+mod migrate;
 mod options;
 mod sorts;
 mod table;

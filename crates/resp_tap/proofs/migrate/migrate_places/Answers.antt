@@ -1,0 +1,18 @@
+use Rattle.std.proofs.Common.{◌+◌, ◌-◌, drop, length, length-drop, subst, sym, arith}
+use Rattle.resp_commands.proofs.Migrated.{no_list, with_list, without_list}
+use Rattle.resp_tap.proofs.KeyPlaces.{words_left}
+use Rattle.resp_tap.proofs.migrate.migrate_places.Goals as goal
+
+pub returns-in_default : goal.returns-in_default
+returns-in_default c =
+    let words = c.args.words.now in
+    let long = length-drop 1 words in
+    without_list (drop 1 words) (drop (c.args.skipped + 1) words) c.args.skipped c.min.result (words_left c.args.skipped words)
+    (omega (arith, c.min.ensures, c.saturating_sub-last.ensures, c.len.ensures, long))
+    (omega (arith, c.min.ensures)) (λ more. omega (arith, c.min.ensures, c.saturating_sub-last.ensures, c.len.ensures, long, more)) c.in_default.ensures.none
+
+pub returns-then-not-is_third_empty : goal.returns-then-not-is_third_empty
+returns-then-not-is_third_empty c = ?
+
+pub returns : goal.returns
+returns c = ?
