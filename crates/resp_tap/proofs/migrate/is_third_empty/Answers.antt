@@ -1,4 +1,4 @@
-use Rattle.std.proofs.Common.{ap, arith, drop, drop-drop, length-drop}
+use Rattle.std.proofs.Common.{ap, arith, drop, length, length-drop}
 use Rattle.resp_commands.proofs.Migrated.{tells_empty}
 use Rattle.resp_tap.proofs.KeyPlaces.{third_word}
 use Rattle.resp_tap.proofs.migrate.is_third_empty.Goals as goal
@@ -8,7 +8,7 @@ returns-then-len-lt4 c = λ third.
     let long = ap length third.empty in
     let left = length-drop 2 (drop 1 c.args.words.now) in
     let all = length-drop 1 c.args.words.now in
-    absurd (omega (arith, long, left, all, c.if-len-lt4.true, c.len.ensures))
+    omega (arith, long, left, all, c.if-len-lt4.true, c.len.ensures)
 
 pub returns : goal.returns
 returns c =
