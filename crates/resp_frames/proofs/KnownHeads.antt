@@ -9,7 +9,7 @@ use Rattle.resp_value.specs.Bytes.{IsText, crlf}
 use Rattle.resp_value.specs.Numbers.{IsNumber}
 use Rattle.resp_value.specs.Words.{command_of, word_datum}
 use Rattle.resp_commands.specs.Classes.{HasClass, HasSubcommands}
-use Rattle.resp_commands.specs.Names.{HasName}
+use Rattle.resp_commands.specs.Names.{HasName, IsAt, IsUnknown}
 use Rattle.resp_commands.specs.declared.command.Class.{Class}
 use Rattle.resp_commands.specs.declared.command.Command.{Command}
 use Rattle.resp_commands.specs.declared.table.TheConstants.{COMMANDS}
@@ -85,10 +85,11 @@ pub same_part : (p n k : ℕ) (a b : List ℕ) → p + k ≤ n → take n a ≡ 
 same_part p n k a b less same = sym (part_of_front p n k a less) ∙ ap (λ xs. take k (drop p xs)) same ∙ part_of_front p n k b less
 
 -- the bytes of a command up to the end of its name are known
-pub head_is_known : (limits : Bounds) (piece body name rest : List ℕ) (number n : ℕ) (c : Class) (copy more : List ℕ) →
+pub head_is_known : (limits : Bounds) (piece body name rest : List ℕ) (number n : ℕ) (c : Class) (place : ℕ) (copy more : List ℕ) →
     BeginsWithHead piece 42 number body → BeginsWith limits body (word_datum name) rest → (number ≡ 0 → ⊥) → n ≡ length piece - length rest →
-    n ≤ length piece → copy ≡ take n piece → ((others : List (List ℕ)) → HasClass name others c) → IsKnownHead (take n (copy ++ more)) (number - 1) c
-head_is_known limits piece body name rest number n c copy more head word some is within copied class =
+    n ≤ length piece → copy ≡ take n piece → ((others : List (List ℕ)) → HasClass name others c) → IsAt place name →
+    IsKnownHead (take n (copy ++ more)) (number - 1) c place
+head_is_known limits piece body name rest number n c place copy more head word some is within copied class at =
     let begins = (word_parts_of limits body name rest word).0 in
     let front = (42 ∷ head.digits) ++ crlf ((36 ∷ begins.digits) ++ crlf (name ++ crlf [])) in
     let whole : piece ≡ front ++ rest =
@@ -104,6 +105,7 @@ head_is_known limits piece body name rest number n c copy more head word some is
         whole = ap (λ k. take k (copy ++ more)) size ∙ take-append_seam copy more ∙ copied ∙ front_of front rest piece n whole is;
       };
       class = class;
+      at = at;
     }
 
 -- a text that begins with few bytes of a head begins with the head of an array, and then with the name
@@ -134,11 +136,11 @@ head_of_bytes limits bounds piece bytes name n arguments h same within short =
     }
 
 -- a text that begins with the first bytes of a command, and then with its other words, begins with a command
-pub head_begins : (limits : Bounds) → AreBounds limits → (piece bytes : List ℕ) (n arguments : ℕ) (c : Class) → IsKnownHead (take n bytes) arguments c →
+pub head_begins : (limits : Bounds) → AreBounds limits → (piece bytes : List ℕ) (n arguments : ℕ) (c : Class) (place : ℕ) → IsKnownHead (take n bytes) arguments c place →
     IsText piece → n ≤ length piece → n ≤ 24 → arguments ≤ 15 → take n piece ≡ take n bytes → (words : List (List ℕ)) (rest : List ℕ) → length words ≡ arguments →
     BeginsWithWords limits.length (drop n piece) words rest → length piece ≤ length rest + limits.total → (name : List ℕ) ×
-    BeginsWith limits piece (command_of (name ∷ words)) rest × ((others : List (List ℕ)) → HasClass name others c)
-head_begins limits bounds piece bytes n arguments c known are within short few same words rest as_many others small =
+    BeginsWith limits piece (command_of (name ∷ words)) rest × ((others : List (List ℕ)) → HasClass name others c) × IsAt place name
+head_begins limits bounds piece bytes n arguments c place known are within short few same words rest as_many others small =
     let h = head_of_bytes limits bounds piece bytes known.name n arguments known.head same within short in
     let items_least = bounds.items_in_range.0 in (
       known.name,
@@ -151,14 +153,15 @@ head_begins limits bounds piece bytes n arguments c known are within short few s
             small = small;
           }),
       known.class,
+      known.at,
     )
 
 -- after the first bytes of a command that a text begins with come its other words
-pub words_after_head : (limits : Bounds) → AreBounds limits → (piece bytes : List ℕ) (n arguments : ℕ) (c : Class) → IsKnownHead (take n bytes) arguments c →
+pub words_after_head : (limits : Bounds) → AreBounds limits → (piece bytes : List ℕ) (n arguments : ℕ) (c : Class) (place : ℕ) → IsKnownHead (take n bytes) arguments c place →
     n ≤ length piece → n ≤ 24 → take n piece ≡ take n bytes → (name : List ℕ) (words : List (List ℕ)) (rest : List ℕ) →
     BeginsWith limits piece (command_of (name ∷ words)) rest →
     (length words ≡ arguments) × BeginsWithWords limits.length (drop n piece) words rest × (length piece ≤ length rest + limits.total)
-words_after_head limits bounds piece bytes n arguments c known within short same name words rest begins =
+words_after_head limits bounds piece bytes n arguments c place known within short same name words rest begins =
     let h = head_of_bytes limits bounds piece bytes known.name n arguments known.head same within short in
     let parts = command_parts limits piece (name ∷ words) rest begins in
     let (as_many, (next, first, others)) = number_of_words limits piece (name ∷ words) rest (arguments + 1) h.body h.head parts in (
@@ -217,3 +220,7 @@ pub decided_by_words : (command : Command) (name : List ℕ) → Contains COMMAN
     (command.may_block ≡ true) ⊎ HasSubcommands command → IsDecidedByWords name
 decided_by_words command name among named decided = λ k d less same.
     subst (λ row. (row.may_block ≡ true) ⊎ HasSubcommands row) (sym (only_command command name k d among named less same)) decided
+
+-- no words decide the class of a command that is not in the table
+pub unknown_is_decided : (name : List ℕ) → IsUnknown name → IsDecidedByWords name
+unknown_is_decided name unknown = λ k d less named. absurd (unknown k d less named)

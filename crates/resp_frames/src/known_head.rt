@@ -10,7 +10,7 @@ ghost use Rattle.resp_value.specs.Words.{command_of};
 
 use crate::frame::Frame;
 use crate::words::{CommandFrame, CommandWords};
-use resp_commands::{Class, entry};
+use resp_commands::{Class, entry, place};
 use resp_scan::whole;
 use resp_value::laws::no_spelling_is_empty;
 use resp_value::limits::Limits;
@@ -26,13 +26,14 @@ const ARGUMENTS: u64 = 15;
 const WORD: usize = 8;
 
 /// The first bytes of a command, up to the end of its name. All commands that begin with them have
-/// the same number of words and the same class.
+/// the same number of words, the same class and the same place in the table.
 #[derive(Clone, Copy)]
 pub(crate) struct KnownHead {
     bytes: [u8; MOST],
     length: usize,
     arguments: u64,
     class: Class,
+    place: u8,
 }
 
 impl Model for KnownHead {
@@ -46,16 +47,18 @@ impl Model for KnownHead {
       length = head.length;
       arguments = head.arguments;
       class = head.class;
+      place = head.place;
     } };
 
     ghost invariant = { λ head. (8 ≤ head.length) × (head.length ≤ 24) × (head.arguments ≤ 15) ×
-        IsKnownHead (take head.length head.bytes) head.arguments head.class };
+        IsKnownHead (take head.length head.bytes) head.arguments head.class head.place };
 
     ghost inverse = { λ head. record {
       bytes = head.bytes;
       length = head.length;
       arguments = head.arguments;
       class = head.class;
+      place = head.place;
     } };
 }
 
@@ -79,6 +82,7 @@ impl KnownHead {
             return None;
         }
         let class = class_of_all(name.content)?;
+        let place = place(name.content)?;
         let mut bytes = [0; MOST];
         bytes[..length].copy_from_slice(&piece[..length]);
         Some(KnownHead {
@@ -86,6 +90,7 @@ impl KnownHead {
             length,
             arguments: array.number - 1,
             class,
+            place,
         })
     }
 
@@ -111,6 +116,7 @@ impl KnownHead {
             words: CommandWords {
                 arguments: self.arguments,
                 class: Some(self.class),
+                place: Some(self.place),
             },
         })
     }

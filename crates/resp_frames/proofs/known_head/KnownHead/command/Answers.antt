@@ -28,12 +28,12 @@ returns-clause-command c =
     let has = subst (λ head. HasBody head piece c.in_ok-body.body.now) (sym c.self.view_is) c.in_ok-body.ensures.body in
     let (least, most, few, known) = c.self.invariant in
     let size = ap length has.after in
-    let (name, begins, class) =
-    head_begins limits c.are_in_range.ensures piece c.self.inside.bytes c.self.inside.length c.self.inside.arguments c.self.inside.class known
+    let (name, begins, class, at) =
+    head_begins limits c.are_in_range.ensures piece c.self.inside.bytes c.self.inside.length c.self.inside.arguments c.self.inside.class c.self.inside.place known
     (is_text piece (λ i. (c.type_inv.piece i).fits)) has.begins.within most few has.begins.same words rest as_many
     (subst (λ text. BeginsWithWords limits.length text words rest) has.after others) (grind (arith, common_steps)) in
     whole_command c.no_spelling_is_empty.ensures limits piece _ (length piece - length rest) name words rest begins refl
-    (grind (arith, common_steps, length-take)) (grind (arith, common_steps, length-drop)) (record { count = sym as_many; class = class words })
+    (grind (arith, common_steps, length-take)) (grind (arith, common_steps, length-drop)) (record { count = sym as_many; class = class words; place = at })
 
 pub returns-in_err-rest-clause-none : goal.returns-in_err-rest-clause-none
 returns-in_err-rest-clause-none c = holds_at_none c.from_residual-in_err-rest.result
@@ -44,7 +44,7 @@ returns-in_err-rest-clause-none c = holds_at_none c.from_residual-in_err-rest.re
     let has = subst (λ head. HasBody head piece c.in_ok-body.body.now) (sym c.self.view_is) c.in_ok-body.ensures.body in
     let (least, most, few, known) = c.self.invariant in
     let (as_many, words, small) =
-    words_after_head limits c.are_in_range.ensures piece head.bytes head.length head.arguments head.class known has.begins.within most has.begins.same name
+    words_after_head limits c.are_in_range.ensures piece head.bytes head.length head.arguments head.class head.place known has.begins.within most has.begins.same name
     arguments rest begins in
     c.in_err-rest.ensures.none arguments rest as_many (subst (λ text. BeginsWithWords limits.length text arguments rest) (sym has.after) words)
     (let size = ap length has.after in let left = length-drop head.length piece in omega (arith, size, left, small)))
@@ -58,7 +58,7 @@ returns-then-used-total-clause-none c name arguments rest begins_head begins =
     let has = subst (λ head. HasBody head piece body) (sym c.self.view_is) c.in_ok-body.ensures.body in
     let (least, most, few, known) = c.self.invariant in
     let (as_many, words, small) =
-    words_after_head limits c.are_in_range.ensures piece head.bytes head.length head.arguments head.class known has.begins.within most has.begins.same name
+    words_after_head limits c.are_in_range.ensures piece head.bytes head.length head.arguments head.class head.place known has.begins.within most has.begins.same name
     arguments rest begins in
     let (found, many, others) = c.in_ok-rest.ensures.begins in
     let same = (same_words limits.length body arguments found rest c.in_ok-rest.rest.now (as_many ∙ sym many)

@@ -4,7 +4,7 @@ use Rattle.resp_scan.proofs.CallClauses.Calls.{is_text}
 use Rattle.resp_scan.proofs.Wholes.HeadNumbers.{holds_at_none}
 use Rattle.resp_scan.proofs.Wholes.WordFronts.{one_head}
 use Rattle.resp_frames.specs.KnownHeads.{IsDecidedByWords}
-use Rattle.resp_frames.proofs.KnownHeads.{head_is_known, head_of_bytes, name_spelled, same_head, text_after_head}
+use Rattle.resp_frames.proofs.KnownHeads.{head_is_known, head_of_bytes, name_spelled, same_head, text_after_head, unknown_is_decided}
 use Rattle.resp_frames.proofs.known_head.KnownHead.of.Goals as goal
 use Rattle.resp_frames.proofs.known_head.KnownHead.of.Goals.{then-array-eq0-via-then-array-eq0, then-array-eq0-via-else-array-eq0+then-array-gt-ARGUMENTS, then-length-lt-WORD-via-then-length-lt-WORD, then-length-lt-WORD-via-else-length-lt-WORD+then-length-gt-MOST}
 
@@ -16,8 +16,8 @@ invariant_of-result c =
       grind (arith, common_steps),
       grind (arith, common_steps),
       head_is_known c.args.limits.now piece c.in_ok-array.array.rest.now c.in_ok-name.name.content.now rest c.in_ok-array.array.number (length piece - length rest)
-          c.in_ok-class.class c.copy_from_slice.new.self _ c.in_ok-array.ensures.begins c.in_ok-name.ensures.begins (grind (arith, common_steps)) refl
-          (grind (arith, common_steps)) c.copy_from_slice.ensures.after c.in_ok-class.ensures.class,
+          c.in_ok-class.class c.in_ok-place.place c.copy_from_slice.new.self _ c.in_ok-array.ensures.begins c.in_ok-name.ensures.begins (grind (arith, common_steps)) refl
+          (grind (arith, common_steps)) c.copy_from_slice.ensures.after c.in_ok-class.ensures.class c.in_ok-place.ensures.found,
     )
 
 pub returns-in_err-array-clause-none : goal.returns-in_err-array-clause-none
@@ -79,3 +79,15 @@ returns-in_err-class-clause-none c = holds_at_none c.from_residual-in_err-class.
     let same = (same_head limits piece array.rest.now read.content.now read.rest.now arguments array.number name (drop n piece) head
     c.in_ok-array.ensures.begins c.in_ok-name.ensures.begins).1 in
     subst IsDecidedByWords same c.in_err-class.ensures.none)
+
+pub returns-in_err-place-clause-none : goal.returns-in_err-place-clause-none
+returns-in_err-place-clause-none c = holds_at_none c.from_residual-in_err-place.result
+    (λ n arguments name least most within few h.
+    let limits = c.args.limits.now in
+    let piece = c.args.piece.now in
+    let head = head_of_bytes limits c.are_in_range.ensures piece piece name n arguments h refl within most in
+    let array = c.in_ok-array.array in
+    let read = c.in_ok-name.name in
+    let same = (same_head limits piece array.rest.now read.content.now read.rest.now arguments array.number name (drop n piece) head
+    c.in_ok-array.ensures.begins c.in_ok-name.ensures.begins).1 in
+    subst IsDecidedByWords same (unknown_is_decided c.in_ok-name.name.content.now c.in_err-place.ensures.unknown))
