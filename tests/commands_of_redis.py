@@ -5,9 +5,9 @@ subcommand of the table, for the places of the keys of commands that are drawn a
 and for the keys that globs match, as KEYS finds them. A command that only the server has is a warning, since a newer server has more commands. Any other difference is a
 failure. The table is also made anew, and has the same bytes if the server has the version of the table.
 
-COMMAND GETKEYS refuses many of the drawn commands, for example for too few words. These are not compared, and neither
-are the commands for which the table does not say where the keys are. No word is a number with other letters, as `2x`:
-COMMAND GETKEYS reads it as 2, though the commands refuse it.
+COMMAND GETKEYS refuses many of the drawn commands, for example for too few words. These are not compared. No word is a
+number with other letters, as `2x`: COMMAND GETKEYS reads it as 2, though the commands refuse it. The last word of a
+drawn MIGRATE is not KEYS: COMMAND GETKEYS does not find it there, though MIGRATE does.
 """
 import importlib.machinery
 import importlib.util
@@ -24,8 +24,10 @@ WORDS = "a b c d 0 1 2 3 4 STREAMS streams Store STOREDIST count block -1 by GET
 # The globs that are drawn, and the bytes of which they and the keys are made.
 GLOBS = 400
 GLOB_BYTES = "**??[[]]^--\\\\abcd"
-# The commands for which the table does not say where the keys are, and those whose words are no keys but channels.
-UNKNOWN = {"migrate"}
+# The options of MIGRATE that are drawn.
+MIGRATED = 400
+MIGRATE_OPTIONS = "COPY replace AUTH auth2 keys KEYS a b".split()
+# The commands whose words are no keys but channels.
 CHANNELS = {"spublish", "ssubscribe", "sunsubscribe"}
 
 
@@ -64,6 +66,16 @@ def drawn(names):
     for name in names:
         for _ in range(DRAWN):
             made.append([*name.split("|"), *(draw.choice(WORDS) for _ in range(draw.randrange(1, 9)))])
+    return made
+
+
+def drawn_options():
+    """Returns MIGRATE with options that are drawn from a seed."""
+    draw = random.Random(5)
+    made = []
+    for _ in range(MIGRATED):
+        options = [draw.choice(MIGRATE_OPTIONS) for _ in range(draw.randrange(0, 7))]
+        made.append(["migrate", "h", "1", draw.choice(["", "k"]), "0", "5", *options, draw.choice("cd")])
     return made
 
 
@@ -122,9 +134,10 @@ def compare_keys(commands, port, asked, lines):
         found = sorted(words[int(place)] for place in places)
         if isinstance(reply, commands.Refusal):
             has_none = "no key arguments" in reply and words[0] not in CHANNELS
+            has_none |= words[0] == "migrate" and "Invalid arguments" in reply
             wanted, skipped = [], not has_none
         else:
-            wanted, skipped = sorted(reply), words[0] in UNKNOWN
+            wanted, skipped = sorted(reply), False
         if skipped:
             continue
         compared += 1
@@ -141,7 +154,7 @@ def main():
     with commands.server() as port:
         rows, inner = commands.rows_of(port)
         theirs = lines_of(commands, rows, inner)
-        asked = drawn(sorted(theirs))
+        asked = drawn(sorted(theirs)) + drawn_options()
         every = [b"all", b"all subcommands"]
         every += [b"keys " + " ".join(words).encode() for words in asked] + [b"slot " + key for key in wanted]
         lines = printed(every)

@@ -630,7 +630,7 @@ def times_of_replies():
 
 
 def errors_by_word():
-    """`INFO proxy` counts the error replies of the server by their first words, also of one that comes in two pieces."""
+    """`INFO proxy` counts commands by name, and the server's errors by their first words, also one that comes in two pieces."""
     with proxied() as (proxy, _, server), connect(proxy.port) as client:
         client.sendall(PING * 5)
         hear(server, PING * 5)
@@ -641,7 +641,7 @@ def errors_by_word():
         client.sendall(command(b"INFO", b"proxy"))
         wanted = b"\r\nerrorstat_ERR:count=1\r\nerrorstat_WRONGTYPE:count=2\r\nerrorstat_other:count=1\r\n\r\n"
         found = hear_section(client)
-        assert found.endswith(wanted), found
+        assert found.endswith(wanted) and b"\r\ncmdstat_info:calls=1\r\ncmdstat_ping:calls=5\r\n" in found, found
 
 
 def end_of_standard_input():

@@ -403,7 +403,7 @@ def lost_connection_of_a_setting():
 
 
 def errors_of_settings():
-    """INFO proxy counts the errors of all settings, in each of them."""
+    """INFO proxy counts the commands and the errors of all settings, in each of them."""
     with proxied() as (proxy, peer, server), connect(proxy.port) as client, connect(proxy.port) as other:
         client.sendall(HELLO)
         with accepted(peer, (HELLO, hello_of(4))) as line:
@@ -421,7 +421,8 @@ def errors_of_settings():
                 for _ in range(50):
                     asking.sendall(command(b"INFO", b"proxy"))
                     found = hear_section(asking)
-                    if found.endswith(b"\r\nerrorstat_ERR:count=2\r\nerrorstat_OOM:count=1\r\n\r\n"):
+                    errors = b"\r\nerrorstat_ERR:count=2\r\nerrorstat_OOM:count=1\r\n\r\n"
+                    if found.endswith(errors) and b"\r\ncmdstat_ping:calls=3\r\n" in found:
                         break
                     time.sleep(0.1)
                 else:

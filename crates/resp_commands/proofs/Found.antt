@@ -3,15 +3,15 @@ use Rattle.std.proofs.Common.{Option, None, Some, ◌≡◌, ℕ, zero, suc, ◌
 use Rattle.std.proofs.lemmas.List.{get_or_default, get_or-map}
 use Rattle.std.specs.Char.{to_ascii_lowercase}
 use lib.Ieee.Fits.{and_l, and_r}
-use Rattle.std.specs.Prelude.{Contains, IfNone}
+use Rattle.std.specs.Prelude.{Contains, IfNone, IfSome, MatchOption}
 use Rattle.resp_commands.specs.declared.command.Class.{Class}
 use Rattle.resp_commands.specs.declared.command.Merge.{Merge}
 use Rattle.resp_commands.specs.declared.command.Split.{Split}
 use Rattle.resp_commands.specs.Merges.{IsMerged}
 use Rattle.resp_commands.specs.Rows.{HasNoRow, LacksRow}
 use Rattle.std.specs.Borrow.{Bor}
-use Rattle.resp_commands.specs.Classes.{HasNoClass, LacksArgument}
-use Rattle.resp_commands.specs.Names.{name_of, HasName, IsSubcommand, IsUnknown, LacksSubcommand, NamesAreDistinct, NamesAreInLowerCase, SubcommandsAreDistinct}
+use Rattle.resp_commands.specs.Classes.{HasClass, HasNoClass, IsClassOf, LacksArgument}
+use Rattle.resp_commands.specs.Names.{name_of, HasName, IsAt, IsSubcommand, IsUnknown, LacksSubcommand, NamesAreDistinct, NamesAreInLowerCase, SubcommandsAreDistinct}
 use Rattle.resp_commands.specs.Places.{inner_place_of, place_of}
 use Rattle.resp_commands.specs.declared.command.Command.{Command}
 use Rattle.resp_commands.specs.declared.table.TheConstants.{COMMANDS, SUBCOMMANDS}
@@ -136,6 +136,24 @@ pub no_class : (command : Command) (word : List ℕ) (arguments : List (List ℕ
 no_class command word arguments (Some class) among named lacks = tt
 no_class command word arguments None among named lacks =
     λ k d less same. subst (λ c. LacksArgument c arguments) (sym (only_command command word k d among named less same)) lacks
+
+-- the command at the place of a name
+pub named_at : (word : List ℕ) (place k : ℕ) (d : Command) → k ≡ place → IsAt place word → HasName (get_or COMMANDS k d) word
+named_at word place k d same at =
+    subst (λ n. HasName (get_or COMMANDS n d) word) (sym same)
+    (subst (λ c. HasName c word) (sym (get_or_default COMMANDS place d at.command at.within ∙ at.there)) at.named)
+
+-- the class of a command, or that it has none
+pub listed : (command : Command) (word : List ℕ) (arguments : List (List ℕ)) (found : Option Class) → Contains COMMANDS command →
+    HasName command word → IfSome found (IsClassOf command arguments) → IfNone found (LacksArgument command arguments) →
+    MatchOption found (HasNoClass word arguments) (HasClass word arguments)
+listed command word arguments (Some class) among named known lacks = record {
+  command = command;
+  found = among;
+  named = named;
+  by_arguments = known;
+}
+listed command word arguments None among named known lacks = no_class command word arguments None among named lacks
 
 pub no_row : (command : Command) (word : List ℕ) (first : Option (Bor (List ℕ))) {X : Type 0} (found : Option X) → Contains COMMANDS command →
     HasName command word → IfNone found (LacksRow command first) → IfNone found (HasNoRow word first)

@@ -5,4 +5,5 @@ pub mod Remainders
 pub mod Cases
 pub mod Marks
 pub mod Sorted
-pub mod SortKeys
+pub mod FurtherKeys
+pub mod Migrated

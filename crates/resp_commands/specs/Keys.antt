@@ -6,6 +6,7 @@ use Rattle.resp_value.specs.Numbers.{IsNumber}
 use Rattle.resp_commands.specs.declared.command.Keys.{Keys}
 use Rattle.resp_commands.specs.declared.command.Search.{Search}
 use Rattle.resp_commands.specs.declared.command.Search.TheVariants as search
+use Rattle.resp_commands.specs.Migrates.{IsMigrateKey}
 use Rattle.resp_commands.specs.Sorts.{IsSortedKey}
 use Rattle.resp_commands.specs.declared.keys.KeyPlaces.{KeyPlaces}
 use Rattle.resp_commands.specs.declared.keys.Places.{Places}
@@ -74,6 +75,7 @@ IsFurtherKey search.Streams start arguments place = IsStreamKey start arguments 
 IsFurtherKey search.Stores start arguments place =
     IsStoreKey (codes "store") start arguments place ⊎ IsStoreKey (codes "storedist") start arguments place
 IsFurtherKey search.Sort start arguments place = IsSortedKey start arguments place
+IsFurtherKey search.Migrate start arguments place = IsMigrateKey start arguments place
 IsFurtherKey _ start arguments place = ⊥
 
 -- the word at this place is a key
@@ -86,7 +88,6 @@ abbrev pub AreKeys : Keys → List (List ℕ) → KeyPlaces → Type 0
 AreKeys keys arguments places = (place : ℕ) →
     (IsAmongAny places place → IsKey keys arguments place) × (IsKey keys arguments place → IsAmongAny places place)
 
--- the row does not say where the keys are, or the words have no number of keys
+-- the words have no number of keys
 abbrev pub TellsNoKeys : Keys → List (List ℕ) → Type 0
-TellsNoKeys keys arguments =
-    (keys.search ≡ search.Unknown) ⊎ ((keys.search ≡ search.Counted) × ((count : ℕ) → HasCount keys.start arguments count → ⊥))
+TellsNoKeys keys arguments = (keys.search ≡ search.Counted) × ((count : ℕ) → HasCount keys.start arguments count → ⊥)

@@ -4,6 +4,7 @@ pub mod Rows
 pub mod Merges
 pub mod Options
 pub mod Sorts
+pub mod Migrates
 pub mod Classes
 pub mod Keys
 pub mod KeyWords

@@ -1,5 +1,5 @@
 -- The names of commands.
-use Rattle.std.specs.Prelude.{◌≡◌, ◌≢◌, ℕ, List, map, min, take, All, AllPairs}
+use Rattle.std.specs.Prelude.{◌≡◌, ◌≢◌, ℕ, ◌<◌, List, length, map, min, slice_index_or, take, All, AllPairs}
 use Rattle.std.specs.Char.{to_ascii_lowercase}
 use Rattle.resp_commands.specs.declared.command.Command.{Command}
 use Rattle.resp_commands.specs.declared.table.TheConstants.{COMMANDS, SUBCOMMANDS}
@@ -11,6 +11,13 @@ name_of command = take (min command.length 24) command.padded
 -- the word is the command's name in upper, lower or mixed case
 abbrev pub HasName : Command → List ℕ → Type 0
 HasName command word = map to_ascii_lowercase word ≡ map to_ascii_lowercase (name_of command)
+
+-- the command at this place of the table has this name
+pub record IsAt (place : ℕ) (word : List ℕ) : Type 0 where
+  pub command : Command
+  pub within : place < length COMMANDS
+  pub there : slice_index_or COMMANDS place command ≡ command
+  pub named : HasName command word
 
 -- no command of the table has this name
 abbrev pub IsUnknown : List ℕ → Type 0

@@ -1,25 +1,56 @@
 //! The class of a whole command.
 
-ghost use Rattle.std.specs.Prelude.{◌≡◌, ◌==◌, false, if◌then◌else◌, IfNone, IfSome};
+ghost use Rattle.std.specs.Prelude.{◌≡◌, ◌==◌, false, if◌then◌else◌, IfNone, IfSome, MatchOption};
 ghost use Rattle.resp_commands.specs.Classes.{HasClass, HasClassByWord, HasNoClass, IsClassOf, LacksArgument};
+ghost use Rattle.resp_commands.specs.Names.{IsAt, IsUnknown};
 
 use crate::command::{Class, Command};
-use crate::lookup::{entry, subcommand};
+use crate::lookup::{place, subcommand};
 use crate::options::blocks;
+use crate::table::COMMANDS;
 use resp_scan::whole::Words;
 
-/// Returns the class of a command by its name and its other words, or `None` if the table has no
-/// such command, or no such subcommand of it. Upper and lower case are the same.
+/// What the table says of a command.
+#[derive(Clone, Copy, Debug, PartialEq, Eq)]
+pub struct Listing {
+    /// The place of the command in the table, or `None` if the table has no command of this name.
+    pub place: Option<u8>,
+    /// The class of the command, or `None` if the table has no such command or subcommand.
+    pub class: Option<Class>,
+}
+
+/// Returns what the table says of a command, by its name and its other words. Upper and lower case are
+/// the same.
 ///
 /// A command with subcommands and without a word after its name has the class of its row. XREAD and
 /// XREADGROUP need a connection of their own only with BLOCK.
+#[inline(always)]
+pub fn listing_of(name: &[u8], arguments: Words<'_>) -> Listing
+    ensures place { MatchOption result.place (IsUnknown name.now) (λ place. IsAt place name.now) }
+    ensures class { MatchOption result.class (HasNoClass name.now arguments.entry)
+        (HasClass name.now arguments.entry) }
+{
+    let Some(place) = place(name) else {
+        return Listing {
+            place: None,
+            class: None,
+        };
+    };
+    let command = &COMMANDS[usize::from(place)];
+    Listing {
+        place: Some(place),
+        class: class_by(command, arguments),
+    }
+}
+
+/// Returns the class of a command by its name and its other words, as [`listing_of`] does, or `None` if
+/// the table has no such command, or no such subcommand of it.
 #[inline(always)]
 pub fn class_of(name: &[u8], arguments: Words<'_>) -> Option<Class>
     ensures known { IfSome result (λ class. HasClass name.now arguments.entry class) }
     ensures unknown { IfNone result (HasNoClass name.now arguments.entry) }
 {
-    let command = entry(name)?;
-    class_by(command, arguments)
+    listing_of(name, arguments).class
 }
 
 /// Returns the class of a command by its row and the words after its name.

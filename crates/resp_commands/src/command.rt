@@ -53,8 +53,8 @@ pub enum Search {
     Stores,
     /// A key follows the last option `STORE` of SORT.
     Sort,
-    /// The table does not say where the keys are, as in MIGRATE.
-    Unknown,
+    /// The key of MIGRATE, or the keys after its option `KEYS`.
+    Migrate,
 }
 
 /// Which nodes of a Redis Cluster get a part of a command.

@@ -4,10 +4,12 @@ ghost use Rattle.std.specs.Prelude.{◌≡◌, ◌+◌, ◌-◌, ◌^◌, ◌<�
 ghost use Rattle.std.specs.Bool.{MatchBool};
 ghost use Rattle.resp_value.specs.Numbers.{IsNumber};
 ghost use Rattle.resp_commands.specs.KeyWords.{is_among, is_among_any};
+ghost use Rattle.resp_commands.specs.Migrates.{IsMigrateKey};
 ghost use Rattle.resp_commands.specs.Sorts.{IsSortedKey};
 ghost use Rattle.resp_commands.specs.Keys.{AreKeys, HasCount, IsAmong, IsAmongAny, IsCountedKey, IsFixedKey, IsStoreKey, IsStreamKey, TellsNoKeys, words_before};
 
 use crate::command::{Keys, Search};
+use crate::migrate::{is_third_empty, words_before_keys};
 use crate::options::{is_word, skip};
 use crate::sorts::last_store;
 use resp_scan::whole::Words;
@@ -73,8 +75,8 @@ impl KeyPlaces {
 
 /// Returns the places of the keys of a command, by the row of the table and the words after the name.
 ///
-/// Returns `None` if the row does not say where the keys are, or if the number of keys is no decimal
-/// number or greater than the number of words after it.
+/// Returns `None` if the number of keys is no decimal number or greater than the number of words
+/// after it.
 pub fn key_places(keys: &Keys, arguments: Words<'_>) -> Option<KeyPlaces>
     ensures keys { IfSome result (AreKeys keys.now arguments.entry) }
     ensures none { IfNone result (TellsNoKeys keys.now arguments.entry) }
@@ -88,7 +90,6 @@ pub fn key_places(keys: &Keys, arguments: Words<'_>) -> Option<KeyPlaces>
             further: NOWHERE,
             other: NOWHERE,
         }),
-        Search::Unknown => None,
         Search::Counted => {
             let further = counted_places(arguments, keys.start)?;
             Some(KeyPlaces {
@@ -105,6 +106,11 @@ pub fn key_places(keys: &Keys, arguments: Words<'_>) -> Option<KeyPlaces>
         Search::Sort => Some(KeyPlaces {
             fixed,
             further: sort_place(arguments, start, count),
+            other: NOWHERE,
+        }),
+        Search::Migrate => Some(KeyPlaces {
+            fixed,
+            further: migrate_places(arguments, start, count),
             other: NOWHERE,
         }),
         Search::Stores => {
@@ -264,6 +270,32 @@ fn sort_place(mut arguments: Words<'_>, skipped: u8, count: usize) -> Places
     match last_store(arguments) {
         Some(before) => place_after(before, skipped, count),
         None => NOWHERE,
+    }
+}
+
+/// Returns the places of the keys of MIGRATE, among this many words.
+fn migrate_places(arguments: Words<'_>, skipped: u8, count: usize) -> Places
+    requires { count ≡ length arguments }
+    ensures { (place : ℕ) →
+        (IsAmong result place → IsMigrateKey (skipped + 1) arguments.entry place) ×
+        (IsMigrateKey (skipped + 1) arguments.entry place → IsAmong result place) }
+{
+    let mut options = arguments.iter();
+    skip(&mut options, skipped);
+    let Some(before) = words_before_keys(options) else {
+        return Places {
+            after: 2,
+            last: count.min(3),
+            step: 1,
+        };
+    };
+    if !is_third_empty(arguments) {
+        return NOWHERE;
+    }
+    Places {
+        after: usize::from(skipped) + before + 1,
+        last: count,
+        step: 1,
     }
 }
 

@@ -13,15 +13,16 @@ mod key_list;
 mod keys;
 pub mod laws;
 mod lookup;
+mod migrate;
 mod options;
 mod sorts;
 mod table;
 
 pub use checksum::crc16;
-pub use class::class_of;
+pub use class::{Listing, class_of, listing_of};
 pub use command::{Class, Command, Keys, Merge, Search, Split};
 pub use key::{hashed_part, slot};
 pub use key_list::{KeyWords, key_words};
 pub use keys::{KeyPlaces, Places, key_places};
-pub use lookup::{entry, row_of, subcommand};
+pub use lookup::{entry, place, row_of, subcommand};
 pub use table::{COMMANDS, SUBCOMMANDS};

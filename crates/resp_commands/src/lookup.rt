@@ -3,30 +3,40 @@
 ghost use Rattle.std.specs.Prelude.{◌≡◌, ◌<◌, ℕ, map, slice_index, IfSome, IfNone, Contains};
 ghost use Rattle.std.specs.Bool.{MatchBool};
 ghost use Rattle.std.specs.Char.{to_ascii_lowercase};
-ghost use Rattle.resp_commands.specs.Names.{HasName, IsSubcommand, IsUnknown, LacksSubcommand};
+ghost use Rattle.resp_commands.specs.Names.{HasName, IsAt, IsSubcommand, IsUnknown, LacksSubcommand};
 ghost use Rattle.resp_commands.specs.Rows.{HasNoRow, HasRow, IsRowOf, LacksRow};
 ghost use Rattle.resp_commands.specs.Places.{hash_from, inner_place_of, place_of};
 
 use crate::command::Command;
 use crate::table::{COMMANDS, FACTOR, INNER_PLACES, INNER_STEPS, PLACES, STEPS, SUBCOMMANDS};
 
-/// Returns the command of this name in upper, lower or mixed case, or `None` if the table has no
-/// such command. The time does not depend on the number of commands.
+/// Returns the place in the table of the command of this name in upper, lower or mixed case, or `None`
+/// if the table has no such command. The time does not depend on the number of commands.
+#[inline(always)]
 #[tactic(auto, using(crate::proofs::Found::unknown_past))]
-pub fn entry(name: &[u8]) -> Option<&'static Command>
-    ensures found { IfSome result (λ command. Contains COMMANDS command.now) }
-    ensures named { IfSome result (λ command. HasName command.now name.now) }
+pub fn place(name: &[u8]) -> Option<u8>
+    ensures found { IfSome result (λ place. IsAt place name.now) }
     ensures unknown { IfNone result (IsUnknown name.now) }
 {
     let place = place_of(name);
     if place >= COMMANDS.len() {
         return None;
     }
-    let command = &COMMANDS[place];
-    if !is_lower_case_of(command.name(), name) {
+    if !is_lower_case_of(COMMANDS[place].name(), name) {
         return None;
     }
-    Some(command)
+    Some(place as u8)
+}
+
+/// Returns the command of this name in upper, lower or mixed case, or `None` if the table has no
+/// such command. The time does not depend on the number of commands.
+pub fn entry(name: &[u8]) -> Option<&'static Command>
+    ensures found { IfSome result (λ command. Contains COMMANDS command.now) }
+    ensures named { IfSome result (λ command. HasName command.now name.now) }
+    ensures unknown { IfNone result (IsUnknown name.now) }
+{
+    let place = place(name)?;
+    Some(&COMMANDS[usize::from(place)])
 }
 
 /// Returns the subcommand of this name of a command, or `None` if the table has no such subcommand.

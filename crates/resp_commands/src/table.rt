@@ -139,7 +139,7 @@ pub static COMMANDS: [Command; 240] = [
     command!(b"ltrim                   "; 5; 0; Shared; false; 4; 1; 1; false; 1; false; Nothing; 0; Never; InOrder),
     command!(b"memory                  "; 6; 8; Shared; false; -2; 0; 0; false; 0; false; Nothing; 0; Never; InOrder),
     command!(b"mget                    "; 4; 0; Shared; false; -2; 1; 1; true; 1; false; Nothing; 0; ByKeys; InOrder),
-    command!(b"migrate                 "; 7; 0; Refused; false; -6; 3; 3; false; 1; true; Unknown; 0; Never; InOrder),
+    command!(b"migrate                 "; 7; 0; Refused; false; -6; 0; 0; false; 0; true; Migrate; 6; Never; InOrder),
     command!(b"module                  "; 6; 9; Refused; false; -2; 0; 0; false; 0; false; Nothing; 0; Never; InOrder),
     command!(b"monitor                 "; 7; 0; OwnConnection; false; 1; 0; 0; false; 0; false; Nothing; 0; Never; InOrder),
     command!(b"move                    "; 4; 0; Shared; false; 3; 1; 1; false; 1; false; Nothing; 0; Never; InOrder),

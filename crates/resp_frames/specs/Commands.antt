@@ -6,6 +6,7 @@ use Rattle.resp_value.specs.Spellings.{IsSpelling}
 use Rattle.resp_value.specs.Words.{command_of}
 use Rattle.resp_value.specs.declared.version.Version.TheVariants.{Two}
 use Rattle.resp_commands.specs.Classes.{HasClass, HasNoClass}
+use Rattle.resp_commands.specs.Names.{IsAt, IsUnknown}
 use Rattle.resp_scan.specs.Reading.{IsSpelled}
 use Rattle.resp_frames.specs.declared.frame.Frame.{Frame}
 use Rattle.resp_frames.specs.declared.words.CommandFrame.{CommandFrame}
@@ -25,10 +26,11 @@ pub record IsCommandFrame (limits : Bounds) (front piece : List ℕ) (frame : Fr
   pub some : 0 < used_of frame
   pub command : IsCommand limits (text_of frame)
 
--- the number and the class of these words
+-- the number and the class of these words, and the place in the table of the command of this name
 pub record HasWords (name : List ℕ) (arguments : List (List ℕ)) (words : CommandWords) : Type 0 where
   pub count : words.arguments ≡ length arguments
   pub class : MatchOption words.class (HasNoClass name arguments) (λ class. HasClass name arguments class)
+  pub place : MatchOption words.place (IsUnknown name) (λ place. IsAt place name)
 
 -- the text is a spelling of an array of words, each a bulk string, with this number and class
 pub record TellsWords (limits : Bounds) (text : List ℕ) (words : CommandWords) : Type 0 where

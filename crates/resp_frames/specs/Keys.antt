@@ -23,13 +23,13 @@ pub record HasKeys (name : List ℕ) (arguments found : List (List ℕ)) : Type 
   pub has : HasRow name first row
   pub keys : AreKeyWords row.keys arguments found
 
--- a row of the command with this name does not say where the keys are
+-- by a row of the command with this name, the words have no number of keys
 pub record HidesKeys (name : List ℕ) (first : Option (Bor (List ℕ))) (arguments : List (List ℕ)) : Type 0 where
   pub row : Command
   pub has : HasRow name first row
   pub hidden : TellsNoKeys row.keys arguments
 
--- there is no row of this command, or it does not say where the keys are
+-- there is no row of this command, or the words have no number of keys
 pub record HasNoKeys (name : List ℕ) (arguments : List (List ℕ)) : Type 0 where
   pub first : Option (Bor (List ℕ))
   pub is_first : IsFirst arguments first

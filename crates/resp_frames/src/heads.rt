@@ -1,7 +1,9 @@
 //! The first bytes of the commands that came last.
 
-ghost use Rattle.std.specs.Prelude.{◌<◌, [], IfSome};
+ghost use Rattle.std.specs.Prelude.{◌≡◌, ◌+◌, ◌%◌, ◌<◌, ◌≤◌, ◌∷◌, List, ℕ, [], length, slice_index, IfNone, IfSome};
 ghost use Rattle.resp_frames.specs.Commands.{IsFrameOfWords};
+ghost use Rattle.resp_scan.specs.Whole.{BeginsWith};
+ghost use Rattle.resp_value.specs.Words.{command_of};
 
 use crate::known_head::KnownHead;
 use crate::words::{CommandFrame, command_of_piece};
@@ -28,7 +30,9 @@ impl Heads {
     /// Returns the command at the beginning of the piece, if it lies whole in the piece.
     #[inline(always)]
     pub(crate) fn find<'a>(&mut self, piece: &'a [u8], limits: &Limits) -> Option<CommandFrame<'a>>
-        ensures { IfSome result (λ found. IsFrameOfWords limits.now [] piece.now found) }
+        ensures command { IfSome result (λ found. IsFrameOfWords limits.now [] piece.now found) }
+        ensures none { IfNone result ((name : List ℕ) (arguments : List (List ℕ)) (rest : List ℕ) →
+            BeginsWith limits.now piece.now (command_of (name ∷ arguments)) rest → ⊥) }
     {
         if let Some(head) = &self.known[place_of(piece)] {
             if let Some(found) = head.command(piece, limits) {
@@ -42,7 +46,9 @@ impl Heads {
     /// command decide its class.
     #[inline(never)]
     fn find_unknown<'a>(&mut self, piece: &'a [u8], limits: &Limits) -> Option<CommandFrame<'a>>
-        ensures { IfSome result (λ found. IsFrameOfWords limits.now [] piece.now found) }
+        ensures command { IfSome result (λ found. IsFrameOfWords limits.now [] piece.now found) }
+        ensures none { IfNone result ((name : List ℕ) (arguments : List (List ℕ)) (rest : List ℕ) →
+            BeginsWith limits.now piece.now (command_of (name ∷ arguments)) rest → ⊥) }
     {
         let found = command_of_piece(piece, limits)?;
         if let Some(head) = KnownHead::of(piece, limits) {
@@ -56,7 +62,10 @@ impl Heads {
 /// length of the name and its first two letters.
 #[inline(always)]
 fn place_of(piece: &[u8]) -> usize
-    ensures { result < 16 }
+    ensures within { result < 16 }
+    ensures short { length piece.now < 10 → result ≡ 0 }
+    ensures hash { 10 ≤ length piece.now → result ≡ (slice_index piece.now 5 +
+        slice_index piece.now 8 + slice_index piece.now 9) % 16 }
 {
     if piece.len() < 10 {
         return 0;

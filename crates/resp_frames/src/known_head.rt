@@ -1,14 +1,16 @@
 //! The first bytes of a command, and the commands that begin with them.
 
-ghost use Rattle.std.specs.Prelude.{◌≡◌, ◌+◌, ◌≤◌, List, ℕ, [], drop, length, take, IfSome, IsTrue};
+ghost use Rattle.std.specs.Prelude.{◌≡◌, ◌≢◌, ◌↔◌, ◌+◌, ◌≤◌, ◌∷◌, List, ℕ, [], drop, length, take, IfNone, IfSome, IsTrue};
 ghost use Rattle.std.specs.Int.{from_le_bytes, w64};
 ghost use Rattle.resp_commands.specs.Classes.{HasClass};
 ghost use Rattle.resp_frames.specs.Commands.{IsFrameOfWords};
-ghost use Rattle.resp_scan.specs.Whole.{BeginsWithWords};
+ghost use Rattle.resp_frames.specs.KnownHeads.{IsDecidedByWords};
+ghost use Rattle.resp_scan.specs.Whole.{BeginsWith, BeginsWithWords};
+ghost use Rattle.resp_value.specs.Words.{command_of};
 
 use crate::frame::Frame;
 use crate::words::{CommandFrame, CommandWords};
-use resp_commands::{Class, entry};
+use resp_commands::{Class, entry, place};
 use resp_scan::whole;
 use resp_value::laws::no_spelling_is_empty;
 use resp_value::limits::Limits;
@@ -24,13 +26,14 @@ const ARGUMENTS: u64 = 15;
 const WORD: usize = 8;
 
 /// The first bytes of a command, up to the end of its name. All commands that begin with them have
-/// the same number of words and the same class.
+/// the same number of words, the same class and the same place in the table.
 #[derive(Clone, Copy)]
 pub(crate) struct KnownHead {
     bytes: [u8; MOST],
     length: usize,
     arguments: u64,
     class: Class,
+    place: u8,
 }
 
 impl Model for KnownHead {
@@ -44,25 +47,31 @@ impl Model for KnownHead {
       length = head.length;
       arguments = head.arguments;
       class = head.class;
+      place = head.place;
     } };
 
     ghost invariant = { λ head. (8 ≤ head.length) × (head.length ≤ 24) × (head.arguments ≤ 15) ×
-        IsKnownHead (take head.length head.bytes) head.arguments head.class };
+        IsKnownHead (take head.length head.bytes) head.arguments head.class head.place };
 
     ghost inverse = { λ head. record {
       bytes = head.bytes;
       length = head.length;
       arguments = head.arguments;
       class = head.class;
+      place = head.place;
     } };
 }
 
 impl KnownHead {
-    ghost use Rattle.resp_frames.specs.KnownHeads.{HasBody};
+    ghost use Rattle.resp_frames.specs.KnownHeads.{BeginsWithHeadBytes, HasBody, HasNoKnownHead};
 
     /// Returns the first bytes of the command at the beginning of the piece, if it has few words and
     /// they do not decide its class.
-    pub(crate) fn of(piece: &[u8], limits: &Limits) -> Option<KnownHead> {
+    pub(crate) fn of(piece: &[u8], limits: &Limits) -> Option<KnownHead>
+        ensures head { IfSome result (λ head. BeginsWithHeadBytes head piece.now) }
+        ensures none { IfNone result (HasNoKnownHead piece.now) }
+    {
+        limits.are_in_range();
         let array = whole::array_head(piece, limits)?;
         if array.number == 0 || array.number - 1 > ARGUMENTS {
             return None;
@@ -73,6 +82,7 @@ impl KnownHead {
             return None;
         }
         let class = class_of_all(name.content)?;
+        let place = place(name.content)?;
         let mut bytes = [0; MOST];
         bytes[..length].copy_from_slice(&piece[..length]);
         Some(KnownHead {
@@ -80,6 +90,7 @@ impl KnownHead {
             length,
             arguments: array.number - 1,
             class,
+            place,
         })
     }
 
@@ -87,7 +98,10 @@ impl KnownHead {
     /// in the piece.
     #[inline(always)]
     pub(crate) fn command<'a>(&self, piece: &'a [u8], limits: &Limits) -> Option<CommandFrame<'a>>
-        ensures { IfSome result (λ found. IsFrameOfWords limits.now [] piece.now found) }
+        ensures command { IfSome result (λ found. IsFrameOfWords limits.now [] piece.now found) }
+        ensures none { IfNone result ((name : List ℕ) (arguments : List (List ℕ)) (rest : List ℕ) →
+            BeginsWithHeadBytes self.now piece.now →
+            BeginsWith limits.now piece.now (command_of (name ∷ arguments)) rest → ⊥) }
     {
         no_spelling_is_empty();
         limits.are_in_range();
@@ -102,6 +116,7 @@ impl KnownHead {
             words: CommandWords {
                 arguments: self.arguments,
                 class: Some(self.class),
+                place: Some(self.place),
             },
         })
     }
@@ -109,7 +124,8 @@ impl KnownHead {
     /// Returns the bytes of the piece after these bytes, if it begins with them.
     #[inline(always)]
     fn body<'a>(&self, piece: &'a [u8]) -> Option<&'a [u8]>
-        ensures { IfSome result (λ body. HasBody self.now piece.now body.now) }
+        ensures body { IfSome result (λ body. HasBody self.now piece.now body.now) }
+        ensures none { IfNone result (BeginsWithHeadBytes self.now piece.now → ⊥) }
     {
         let length = self.length;
         if piece.len() < length || !are_same(piece, &self.bytes, 0) {
@@ -129,7 +145,7 @@ impl KnownHead {
 #[inline(always)]
 fn are_same(text: &[u8], other: &[u8], at: usize) -> bool
     requires { (at + 8 ≤ length text.now) × (at + 8 ≤ length other.now) }
-    ensures { IsTrue result → take 8 (drop at text.now) ≡ take 8 (drop at other.now) }
+    ensures { IsTrue result ↔ (take 8 (drop at text.now) ≡ take 8 (drop at other.now)) }
 {
     word_at(text, at) == word_at(other, at)
 }
@@ -155,8 +171,11 @@ fn word_at(text: &[u8], at: usize) -> u64
 /// Returns the bytes after this many bulk strings, if they lie whole at the beginning of a text.
 #[inline(always)]
 fn after_words<'a>(text: &'a [u8], count: u64, limits: &Limits) -> Option<&'a [u8]>
-    ensures { IfSome result (λ rest. (words : List (List ℕ)) × (length words ≡ count) ×
+    ensures begins { IfSome result (λ rest. (words : List (List ℕ)) × (length words ≡ count) ×
         BeginsWithWords limits.now.length text.now words rest.now) }
+    ensures none { IfNone result ((words : List (List ℕ)) (rest : List ℕ) → length words ≡ count →
+        BeginsWithWords limits.now.length text.now words rest →
+        length text.now ≤ length rest + limits.now.total → ⊥) }
 {
     let mut rest = text;
     for _ in 0..count {
@@ -167,7 +186,9 @@ fn after_words<'a>(text: &'a [u8], count: u64, limits: &Limits) -> Option<&'a [u
 
 /// Returns the class of all commands of this name, if the words after the name do not decide it.
 fn class_of_all(name: &[u8]) -> Option<Class>
-    ensures { IfSome result (λ class. (others : List (List ℕ)) → HasClass name.now others class) }
+    ensures class { IfSome result (λ class. (others : List (List ℕ)) →
+        HasClass name.now others class) }
+    ensures none { IfNone result (IsDecidedByWords name.now) }
 {
     let command = entry(name)?;
     if command.may_block || command.has_subcommands() {

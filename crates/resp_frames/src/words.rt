@@ -7,18 +7,20 @@ ghost use Rattle.resp_scan.specs.Whole.{BeginsWith};
 ghost use Rattle.resp_value.specs.Words.{command_of};
 
 use crate::frame::Frame;
-use resp_commands::{Class, class_of};
+use resp_commands::{Class, listing_of};
 use resp_scan::whole;
 use resp_value::laws::{no_spelling_begins_another, no_spelling_is_empty};
 use resp_value::limits::Limits;
 
-/// The number of words of a command, and its class.
+/// The number of words of a command, its class, and its place in the table of commands.
 #[derive(Clone, Copy, Debug)]
 pub struct CommandWords {
     /// The number of words after the name.
     pub arguments: u64,
     /// The class of the command, or `None` if the table has no such command or subcommand.
     pub class: Option<Class>,
+    /// The place of the command in the table, or `None` if the table has no command of its name.
+    pub place: Option<u8>,
 }
 
 /// The bytes of a whole command, and the number and the class of its words.
@@ -52,14 +54,17 @@ impl<'a> Request<'a> {
     }
 }
 
-/// Returns the number and the class of these words.
+/// Returns the number and the class of these words, and the place of the command.
 #[inline(always)]
 fn words_by(name: &[u8], arguments: whole::Words<'_>) -> CommandWords
     ensures { HasWords name.now arguments.entry result }
 {
+    let count = arguments.len();
+    let listing = listing_of(name, arguments);
     CommandWords {
-        arguments: arguments.len(),
-        class: class_of(name, arguments),
+        arguments: count,
+        class: listing.class,
+        place: listing.place,
     }
 }
 

@@ -17,5 +17,6 @@ pub mod Hellos
 pub mod Terms
 pub mod Unfinished
 pub mod ErrorRows
+pub mod NameRows
 -- The internal contracts of the parts, which no public contract names.
 pub mod Reasons

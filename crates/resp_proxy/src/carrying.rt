@@ -12,6 +12,7 @@ ghost use Rattle.resp_proxy.specs.Refusing.{IsOfBytes};
 ghost use Rattle.resp_proxy.specs.Taking.{Carries};
 
 use crate::answer::{Answer, own_answer};
+use crate::counts::Counts;
 use crate::error::ClientError;
 use crate::identity::Identity;
 use crate::intake::Intake;
@@ -29,6 +30,7 @@ pub(crate) fn carry_out(
     alloc: Global,
     settings: &Settings,
     intake: &Intake,
+    counts: &mut Counts,
     identity: &mut Identity,
     mux: &mut Mux,
     who: ClientId,
@@ -45,8 +47,9 @@ pub(crate) fn carry_out(
     ensures same_clients { KeepsClients mux.old mux.new }
 {
     no_spelling_begins_another();
+    counts.commands_by_name.add(command.words.place);
     if is_shared(command) {
-        return match local_answer(alloc, settings, &intake.counts, mux, command) {
+        return match local_answer(alloc, settings, counts, mux, command) {
             Ok(Some(answer)) => own(mux, who, &answer),
             Ok(None) => forward(mux, who, command.frame.text()),
             Err(AllocError) => Err(ClientError::OutOfMemory),

@@ -11,6 +11,7 @@ ghost use Rattle.resp_proxy.specs.Taking.{TakesArray, TakesOne, TakesSome};
 ghost use Rattle.resp_proxy.specs.Unfinished.{WhereUnfinished, terms_of};
 
 use crate::carrying::carry_out;
+use crate::counts::Counts;
 use crate::error::ClientError;
 use crate::identity::Identity;
 use crate::intake::Intake;
@@ -42,6 +43,7 @@ pub(crate) fn take_commands(
     alloc: Global,
     settings: &Settings,
     intake: &mut Intake,
+    counts: &mut Counts,
     unfinished: &mut Unfinished,
     identity: &mut Identity,
     mux: &mut Mux,
@@ -69,6 +71,7 @@ pub(crate) fn take_commands(
             alloc,
             settings,
             intake,
+            counts,
             unfinished,
             identity,
             mux,
@@ -109,6 +112,7 @@ fn take_one(
     alloc: Global,
     settings: &Settings,
     intake: &mut Intake,
+    counts: &mut Counts,
     unfinished: &mut Unfinished,
     identity: &mut Identity,
     mux: &mut Mux,
@@ -134,6 +138,7 @@ fn take_one(
             alloc,
             settings,
             intake,
+            counts,
             &mut unfinished.line,
             identity,
             mux,
@@ -148,6 +153,7 @@ fn take_one(
             alloc,
             settings,
             intake,
+            counts,
             &mut unfinished.begun,
             identity,
             mux,
@@ -163,6 +169,7 @@ fn take_array(
     alloc: Global,
     settings: &Settings,
     intake: &mut Intake,
+    counts: &mut Counts,
     begun: &mut Begun,
     identity: &mut Identity,
     mux: &mut Mux,
@@ -199,7 +206,9 @@ fn take_array(
             Err(AllocError) => Err(ClientError::OutOfMemory),
         };
     }
-    match carry_out(alloc, settings, intake, identity, mux, who, &command) {
+    match carry_out(
+        alloc, settings, intake, counts, identity, mux, who, &command,
+    ) {
         Ok(()) => Ok(Part::Whole(used)),
         Err(error) => Err(error),
     }

@@ -2,6 +2,7 @@
 
 use crate::error_counts::ErrorCounts;
 use crate::latency::{Latency, Times};
+use crate::name_counts::NameCounts;
 use resp_mux::Mux;
 use std::alloc::{AllocError, Global};
 use std::time::Duration;
@@ -103,9 +104,12 @@ pub(crate) struct Counts {
     /// The numbers of the other proxies of the program, and the times of all.
     others: Numbers,
     times: Option<Times>,
-    /// The error replies, and the lines about those of all proxies if they are counted elsewhere.
+    /// The commands of clients, by their names.
+    pub(crate) commands_by_name: NameCounts,
+    /// The error replies.
     pub(crate) errors: ErrorCounts,
-    pub(crate) error_lines: Option<String>,
+    /// The lines about commands by name and error replies, if they are counted elsewhere.
+    pub(crate) count_lines: Option<String>,
 }
 
 impl Counts {
@@ -122,8 +126,9 @@ impl Counts {
             latency: Latency::new(alloc),
             others: Numbers::default(),
             times: None,
+            commands_by_name: NameCounts::new(alloc)?,
             errors: ErrorCounts::new(alloc)?,
-            error_lines: None,
+            count_lines: None,
         })
     }
 
@@ -160,19 +165,28 @@ impl Counts {
         }
     }
 
-    /// Adds the lines about error replies to a text.
-    pub(crate) fn add_error_lines(
-        &self,
-        alloc: Global,
-        text: &mut String,
-    ) -> Result<(), AllocError> {
-        match &self.error_lines {
+    /// Adds the lines about commands by name and error replies to a text.
+    pub(crate) fn add_lines(&self, alloc: Global, text: &mut String) -> Result<(), AllocError> {
+        match &self.count_lines {
             Some(lines) => text.push_str(lines.as_str()),
             None => {
-                let lines = self.errors.lines(alloc)?;
+                let lines = self.lines(alloc)?;
                 text.push_str(lines.as_str())
             }
         }
+    }
+
+    /// Returns the lines about commands by name, and behind them those about error replies.
+    pub(crate) fn lines(&self, alloc: Global) -> Result<String, AllocError> {
+        let mut text = self.commands_by_name.lines(alloc)?;
+        text.push_str(self.errors.lines(alloc)?.as_str())?;
+        Ok(text)
+    }
+
+    /// Counts the commands by name and the error replies of another proxy here, and no longer there.
+    pub(crate) fn take(&mut self, other: &mut Counts) {
+        self.commands_by_name.take(&mut other.commands_by_name);
+        self.errors.take(&mut other.errors);
     }
 
     /// Sets the numbers of the other proxies of the program, and the times of all if they are not

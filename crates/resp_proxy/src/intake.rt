@@ -10,7 +10,6 @@ ghost use Rattle.resp_proxy.specs.Unfinished.{HasArray, HasBytes, HasUnfinished,
 ghost use Rattle.resp_value.specs.Words.{texts_of};
 
 use crate::answer::needs_own;
-use crate::counts::Counts;
 use crate::settings::Settings;
 use crate::unfinished::Unfinished;
 use resp_commands::entry;
@@ -32,8 +31,6 @@ pub(crate) struct Intake {
     pub(crate) admits_own: bool,
     /// Whether the proxy itself replies to HELLO and SELECT if they change nothing.
     pub(crate) answers_settings: bool,
-    /// The counts of the proxy.
-    pub(crate) counts: Counts,
 }
 
 impl Intake {
@@ -49,7 +46,6 @@ impl Intake {
             admitted: Vec::new(alloc),
             admits_own: false,
             answers_settings: settings.answers_settings,
-            counts: Counts::new(alloc)?,
         })
     }
 

@@ -20,6 +20,7 @@ pub mod laws;
 mod lines;
 mod local;
 mod moving;
+mod name_counts;
 mod part;
 mod probing;
 mod proxy;

@@ -9,6 +9,7 @@ ghost use Rattle.resp_proxy.specs.Unfinished.{terms_of};
 ghost use Rattle.resp_value.specs.Words.{texts_of};
 
 use crate::carrying::carry_out;
+use crate::counts::Counts;
 use crate::error::ClientError;
 use crate::identity::Identity;
 use crate::intake::Intake;
@@ -31,6 +32,7 @@ pub(crate) fn take_line(
     alloc: Global,
     settings: &Settings,
     intake: &Intake,
+    counts: &mut Counts,
     line: &mut Vec<u8>,
     identity: &mut Identity,
     mux: &mut Mux,
@@ -61,6 +63,7 @@ pub(crate) fn take_line(
         alloc,
         settings,
         intake,
+        counts,
         identity,
         mux,
         who,
@@ -93,6 +96,7 @@ fn carry_out_line(
     alloc: Global,
     settings: &Settings,
     intake: &Intake,
+    counts: &mut Counts,
     identity: &mut Identity,
     mux: &mut Mux,
     who: ClientId,
@@ -117,6 +121,7 @@ fn carry_out_line(
         alloc,
         settings,
         intake,
+        counts,
         identity,
         mux,
         who,
@@ -129,6 +134,7 @@ fn carry_out_words(
     alloc: Global,
     settings: &Settings,
     intake: &Intake,
+    counts: &mut Counts,
     identity: &mut Identity,
     mux: &mut Mux,
     who: ClientId,
@@ -151,7 +157,9 @@ fn carry_out_words(
         Err(_) => return Err(ClientError::OverLimits),
     }
     match command_of_piece(text.as_slice(), &limits) {
-        Some(command) => carry_out(alloc, settings, intake, identity, mux, who, &command),
+        Some(command) => carry_out(
+            alloc, settings, intake, counts, identity, mux, who, &command,
+        ),
         None => Err(ClientError::OverLimits),
     }
 }

@@ -84,7 +84,7 @@ fn section_of(alloc: Global, counts: &Counts, mux: &Mux) -> Result<String, Alloc
     let mut text = format!(in alloc;
         "# Proxy\r\nclients:{clients}\r\nclients_accepted:{accepted}\r\nclients_rejected:{rejected}\r\nclients_own:{own}\r\ncommands:{commands}\r\ncommands_waiting:{waiting}\r\ncommands_failed:{failed}\r\nbytes_unsent:{unsent}\r\nserver_connections:{connections}\r\nserver_lines:{lines}\r\nreply_us_p50:{median}\r\nreply_us_p99:{percentile_99}\r\nreply_us_max:{most}\r\n"
     )?;
-    counts.add_error_lines(alloc, &mut text)?;
+    counts.add_lines(alloc, &mut text)?;
     Ok(text)
 }
 

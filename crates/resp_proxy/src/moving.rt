@@ -151,7 +151,7 @@ impl Proxy {
             self.mux.close(id);
             return Err(OpenError::OutOfMemory);
         }
-        self.intake.counts.add(Counted::Entered);
+        self.counts.add(Counted::Entered);
         let Departed { identity, rest } = departed;
         let mut client = Client::new(self.alloc, id);
         client.identity = identity;

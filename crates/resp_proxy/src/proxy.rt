@@ -20,7 +20,7 @@ ghost use Rattle.resp_proxy.specs.Leaving.{LeavesRightly};
 ghost use Rattle.resp_proxy.specs.Proxies.{HasBegunBy, HasNoClient, HasRoomFor, WhereBegunBy, WhereHeld, expected_of, lost_text, out_of_step_text, prober_of, admits_own, mux_of, replied_to, reply_rules_of, terms_of, server_begun, settings_of, with_own_admitted, with_replied, with_terms};
 
 use crate::client::Client;
-use crate::counts::{Counted, Numbers};
+use crate::counts::{Counted, Counts, Numbers};
 use crate::error::{ClientError, ServerError};
 use crate::giving::{Written, give, has_no_bytes, has_no_command, send};
 use crate::intake::Intake;
@@ -52,6 +52,7 @@ pub struct Proxy {
     pub(crate) mux: Mux,
     /// The commands of all clients.
     pub(crate) intake: Intake,
+    pub(crate) counts: Counts,
     /// Finds the replies of the server.
     replies: Frames,
     /// The reply that the server has begun.
@@ -111,6 +112,7 @@ impl Proxy {
             settings,
             mux: Mux::new(alloc, bounds),
             intake,
+            counts: Counts::new(alloc)?,
             replies,
             begun: Begun::new(),
             replied: VecDeque::new(alloc),
@@ -172,7 +174,7 @@ impl Proxy {
             Ok(who) => {
                 self.prober = Prober::none(self.alloc);
                 self.prober.who = Some(who);
-                self.intake.counts.hide_client();
+                self.counts.hide_client();
                 Ok(())
             }
             Err(error) => Err(error),
@@ -304,6 +306,7 @@ impl Proxy {
             self.alloc,
             &self.settings,
             &mut self.intake,
+            &mut self.counts,
             &mut self.mux,
             client,
             piece,
@@ -353,17 +356,17 @@ impl Proxy {
     pub fn count(&mut self, counted: Counted)
         ensures same_state { self.new ≡ self.old }
     {
-        self.intake.counts.add(counted);
+        self.counts.add(counted);
     }
 
     /// Returns what was counted.
     pub fn numbers(&self) -> Numbers {
-        self.intake.counts.numbers(&self.mux)
+        self.counts.numbers(&self.mux)
     }
 
     /// Returns what was counted here and in the other proxies of the program.
     pub fn all_numbers(&self) -> Numbers {
-        self.intake.counts.all(&self.mux)
+        self.counts.all(&self.mux)
     }
 
     /// Sets the numbers of the other proxies of the program, which `INFO proxy` adds, and the times that it
@@ -371,7 +374,7 @@ impl Proxy {
     pub fn set_others(&mut self, others: Numbers, times: Option<Times>)
         ensures same_state { self.new ≡ self.old }
     {
-        self.intake.counts.set_others(others, times);
+        self.counts.set_others(others, times);
     }
 
     /// Counts how long replies of another proxy took here, and no longer there.
@@ -379,41 +382,37 @@ impl Proxy {
         ensures same_state { self.new ≡ self.old }
         ensures other_state { other.new ≡ other.old }
     {
-        self.intake.counts.take_times(&mut other.intake.counts);
+        self.counts.take_times(&mut other.counts);
     }
 
-    /// Counts the error replies of another proxy here, and no longer there.
-    pub fn take_errors(&mut self, other: &mut Proxy)
+    /// Counts the commands by name and the error replies of another proxy here, and no longer there.
+    pub fn take_counts(&mut self, other: &mut Proxy)
         ensures same_state { self.new ≡ self.old }
         ensures other_state { other.new ≡ other.old }
     {
-        self.intake
-            .counts
-            .errors
-            .take(&mut other.intake.counts.errors);
+        self.counts.take(&mut other.counts);
     }
 
-    /// Returns the lines of `INFO proxy` about error replies: for each first word of their texts how many
-    /// there were.
+    /// Returns the lines of `INFO proxy` about commands by name and about error replies.
     ///
     /// # Errors
     ///
     /// `AllocError` if an allocation fails.
-    pub fn error_lines(&self) -> Result<String, AllocError> {
-        self.intake.counts.errors.lines(self.alloc)
+    pub fn count_lines(&self) -> Result<String, AllocError> {
+        self.counts.lines(self.alloc)
     }
 
-    /// Sets the lines about error replies that `INFO proxy` prints, if those of this proxy are counted
-    /// elsewhere.
-    pub fn set_error_lines(&mut self, lines: String)
+    /// Sets the lines about commands by name and error replies that `INFO proxy` prints, if those of this
+    /// proxy are counted elsewhere.
+    pub fn set_count_lines(&mut self, lines: String)
         ensures same_state { self.new ≡ self.old }
     {
-        self.intake.counts.error_lines = Some(lines);
+        self.counts.count_lines = Some(lines);
     }
 
     /// Returns how long the replies of the last one to two minutes took, as it was counted.
     pub fn times(&self) -> Times {
-        self.intake.counts.times()
+        self.counts.times()
     }
 
     /// Takes nothing more from a client. The bytes that it holds are lost.
@@ -457,7 +456,7 @@ impl Proxy {
             &mut self.mux,
             &mut self.replied,
             &self.prober,
-            &mut self.intake.counts.errors,
+            &mut self.counts.errors,
             piece,
         );
         match taken {

@@ -15,6 +15,7 @@ use crate::answer::protocol_error;
 use crate::carrying::own;
 use crate::client::Client;
 use crate::commands::take_commands;
+use crate::counts::Counts;
 use crate::error::ClientError;
 use crate::intake::Intake;
 use crate::settings::Settings;
@@ -29,6 +30,7 @@ pub(crate) fn take_in(
     alloc: Global,
     settings: &Settings,
     intake: &mut Intake,
+    counts: &mut Counts,
     mux: &mut Mux,
     client: &mut Client,
     piece: &[u8],
@@ -54,7 +56,7 @@ pub(crate) fn take_in(
     ensures ready { IsReady intake.old.frames → IsReady intake.new.frames }
     ensures same_terms { terms_of intake.new ≡ terms_of intake.old }
 {
-    let taken = take_held(alloc, settings, intake, mux, client, piece);
+    let taken = take_held(alloc, settings, intake, counts, mux, client, piece);
     if let Err(error) = taken {
         shut(alloc, client);
         say_last(alloc, mux, client.id, error);
@@ -67,6 +69,7 @@ fn take_held(
     alloc: Global,
     settings: &Settings,
     intake: &mut Intake,
+    counts: &mut Counts,
     mux: &mut Mux,
     client: &mut Client,
     piece: &[u8],
@@ -102,9 +105,9 @@ fn take_held(
         return keep(client, piece);
     }
     if client.rest.is_empty() {
-        take_piece(alloc, settings, intake, mux, client, piece)
+        take_piece(alloc, settings, intake, counts, mux, client, piece)
     } else {
-        take_rest(alloc, settings, intake, mux, client, piece)
+        take_rest(alloc, settings, intake, counts, mux, client, piece)
     }
 }
 
@@ -113,6 +116,7 @@ fn take_piece(
     alloc: Global,
     settings: &Settings,
     intake: &mut Intake,
+    counts: &mut Counts,
     mux: &mut Mux,
     client: &mut Client,
     piece: &[u8],
@@ -139,6 +143,7 @@ fn take_piece(
         alloc,
         settings,
         intake,
+        counts,
         &mut client.unfinished,
         &mut client.identity,
         mux,
@@ -173,6 +178,7 @@ fn take_rest(
     alloc: Global,
     settings: &Settings,
     intake: &mut Intake,
+    counts: &mut Counts,
     mux: &mut Mux,
     client: &mut Client,
     piece: &[u8],
@@ -201,6 +207,7 @@ fn take_rest(
         alloc,
         settings,
         intake,
+        counts,
         &mut client.unfinished,
         &mut client.identity,
         mux,

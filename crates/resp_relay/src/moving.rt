@@ -437,7 +437,7 @@ impl Relay {
             return Ok(None);
         };
         let channel = self.new_channel(number, setting, from)?;
-        self.share_errors();
+        self.share_counts();
         match self.channels.get_mut(number) {
             Some(place) => {
                 let numbers = place.proxy.numbers();

@@ -378,7 +378,7 @@ impl Relay {
         if self.summed <= self.now() && self.settings.lines > 1 {
             self.summed = self.now().saturating_add(Duration::from_millis(SUMMED));
             self.times = times_of(&mut self.channels);
-            self.share_errors();
+            self.share_counts();
         }
         let times = self.times;
         for channel in &mut self.channels {
@@ -387,13 +387,13 @@ impl Relay {
         }
     }
 
-    /// Counts the error replies of all settings in the first one, and shows them to the others. Without memory
-    /// the others show what they showed before.
-    pub(crate) fn share_errors(&mut self) {
+    /// Counts the commands by name and the error replies of all settings in the first one, and shows them to
+    /// the others. Without memory the others show what they showed before.
+    pub(crate) fn share_counts(&mut self) {
         if let Some((first, others)) = self.channels.split_first_mut() {
-            take_errors(first, others);
-            if let Ok(lines) = first.proxy.error_lines() {
-                show_errors(&lines, others);
+            take_counts(first, others);
+            if let Ok(lines) = first.proxy.count_lines() {
+                show_lines(&lines, others);
             }
         }
     }
@@ -420,18 +420,18 @@ fn sum_times(first: &mut Channel, others: &mut [Channel]) -> Times {
     first.proxy.times()
 }
 
-/// Counts the error replies of other settings in this one.
-fn take_errors(first: &mut Channel, others: &mut [Channel]) {
+/// Counts the commands by name and the error replies of other settings in this one.
+fn take_counts(first: &mut Channel, others: &mut [Channel]) {
     for channel in others {
-        first.proxy.take_errors(&mut channel.proxy);
+        first.proxy.take_counts(&mut channel.proxy);
     }
 }
 
-/// Sets the lines about error replies that settings show.
-fn show_errors(lines: &String, channels: &mut [Channel]) {
+/// Sets the lines about commands by name and error replies that settings show.
+fn show_lines(lines: &String, channels: &mut [Channel]) {
     for channel in channels {
         if let Ok(copy) = lines.clone() {
-            channel.proxy.set_error_lines(copy);
+            channel.proxy.set_count_lines(copy);
         }
     }
 }

@@ -7,13 +7,14 @@ use Rattle.std.proofs.lemmas.List.{at_drop_all, drop_more}
 use Rattle.std.specs.Bool.{MatchBool}
 use Rattle.std.specs.Borrow.{Bor}
 use Rattle.resp_value.specs.Numbers.{IsNumber}
-use Rattle.resp_commands.specs.Keys.{HasCount, IsAmong, IsAmongAny, IsCountedKey, IsFixedKey, IsFurtherKey, IsKey}
+use Rattle.resp_commands.specs.Keys.{HasCount, IsAmong, IsCountedKey}
 use Rattle.resp_commands.specs.Rows.{HasRow}
 use Rattle.resp_commands.specs.declared.command.Command.{Command}
-use Rattle.resp_commands.specs.declared.command.Keys.{Keys}
 use Rattle.resp_commands.specs.declared.keys.Places.{Places}
 use Rattle.resp_tap.specs.Keyed.{HasKeyLike, IsFirstArgument, IsKeyed, IsUnkeyed, name_in}
 use Rattle.resp_commands.specs.Sorts.{StoresAfter, StoresLast, sort_argument_count}
+use Rattle.resp_commands.specs.Migrates.{HasKeysAfter, migrate_argument_count}
+use Rattle.resp_commands.proofs.Migrated.{Passed, all_passed, keys_found, option_passed}
 use Rattle.resp_commands.proofs.Sorted.{Read, all_read, nothing_read, option_read}
 
 -- ---- the number of keys
@@ -112,30 +113,6 @@ counted_start start skipped arguments place same =
 
 -- ---- all keys
 
--- keys at fixed places, and further ones of one kind
-pub two_kinds : (keys : Keys) (arguments : List (List ℕ)) (fixed further : Places) (count place : ℕ) → count ≡ length arguments →
-    ((IsAmong fixed place → IsFixedKey keys count place) × (IsFixedKey keys count place → IsAmong fixed place)) →
-    ((IsAmong further place → IsFurtherKey keys.search keys.start arguments place) ×
-    (IsFurtherKey keys.search keys.start arguments place → IsAmong further place)) →
-    (IsAmongAny (record { fixed = fixed; further = further; other = record { after = 0; last = 0; step = 1 } }) place → IsKey keys arguments place) ×
-    (IsKey keys arguments place → IsAmongAny (record { fixed = fixed; further = further; other = record { after = 0; last = 0; step = 1 } }) place)
-two_kinds keys arguments fixed further count place number at_fixed at_further = (
-  λ here.
-      elim here [
-        | inl f ↦ inl (subst (λ n. IsFixedKey keys n place) number (at_fixed.0 f))
-        | inr rest ↦
-            elim rest [
-              | inl f ↦ inr (at_further.0 f)
-              | inr other ↦ absurd (omega (arith, other.above, other.within))
-            ]
-      ],
-  λ key.
-      elim key [
-        | inl f ↦ inl (at_fixed.1 (subst (λ n. IsFixedKey keys n place) (sym number) f))
-        | inr f ↦ inr (inl (at_further.1 f))
-      ],
-)
-
 -- a glob matches one of the keys by the row of the command, or none
 pub by_row : (glob : List ℕ) (words : List (List ℕ)) (name : List ℕ) (first : Option (Bor (List ℕ))) (row : Command) (result : Bool) → name ≡ name_in words →
     IsFirstArgument words first → HasRow name first row →
@@ -153,7 +130,7 @@ by_row glob words name first row false named is_first has unlike = record {
   none = inr (record { row = row; has = subst (λ n. HasRow n first row) named has; unlike = unlike });
 }
 
--- ---- the options of SORT
+-- ---- the options of SORT and MIGRATE
 
 pub both_some : (P Q : ℕ → Type 0) (l : Option ℕ) → IfSome l P → IfSome l Q → IfSome l (λ x. P x × Q x)
 both_some P Q None p q = tt
@@ -217,3 +194,36 @@ all_options words skipped place (Some l) over read =
     let r : Read (drop (skipped + 1) words) [] (Some (before skipped l)) =
     subst (λ ws. Read (drop (skipped + 1) words) ws (Some (before skipped l))) (at_drop_all (λ ws. ws) words place over) read in
     all_read (drop (skipped + 1) words) (Some (before skipped l)) r
+
+abbrev pub PassedTo : List (List ℕ) → ℕ → ℕ → Type 0
+PassedTo words skipped place = Passed (drop (skipped + 1) words) (drop place words)
+
+-- KEYS is at this place
+pub keys_here : (words : List (List ℕ)) (skipped place : ℕ) (word : List ℕ) → skipped < place → place < length words → word ≡ get_or words place [] →
+    str_eq_ignore_ascii_case word (codes "keys") ≡ true → PassedTo words skipped place → HasKeysAfter (drop (skipped + 1) words) (before skipped place)
+keys_here words skipped place word after below is named passed =
+    subst (HasKeysAfter (drop (skipped + 1) words)) (sym (number_here words skipped place after below))
+    (keys_found (drop (skipped + 1) words) (drop place words) (drop (place + 1) words) word
+    (drop_more words place [] below ∙ ap (λ w. w ∷ drop (place + 1) words) (sym is)) named passed)
+
+-- one option more is passed
+pub pass_more : (words : List (List ℕ)) (skipped place place' n : ℕ) (word : List ℕ) → place < length words → word ≡ get_or words place [] →
+    n ≡ migrate_argument_count word → drop place' words ≡ drop n (drop (place + 1) words) →
+    str_eq_ignore_ascii_case word (codes "keys") ≡ false → PassedTo words skipped place → PassedTo words skipped place'
+pass_more words skipped place place' n word below is number onwards other passed =
+    option_passed (drop (skipped + 1) words) (drop place words) (drop (place + 1) words) (drop place' words) word n
+    (drop_more words place [] below ∙ ap (λ w. w ∷ drop (place + 1) words) (sym is)) other number onwards passed
+
+pub no_keys : (words : List (List ℕ)) (skipped place : ℕ) → length words ≤ place → PassedTo words skipped place → (count : ℕ) →
+    HasKeysAfter (drop (skipped + 1) words) count → ⊥
+no_keys words skipped place over passed =
+    all_passed (drop (skipped + 1) words) (drop place words) (at_drop_all (λ ws. ws) words place over) passed
+
+-- the words that are left out are the name and other words
+pub words_left : (skipped : ℕ) (words : List (List ℕ)) → drop (skipped + 1) words ≡ drop skipped (drop 1 words)
+words_left skipped words =
+    sym (drop-drop skipped 1 words ∙ ap (λ n. drop n words) (let e : 1 + skipped ≡ skipped + 1 = omega arith in e))
+
+-- the third word after the name
+pub third_word : (words : List (List ℕ)) (word : List ℕ) → 3 < length words → word ≡ get_or words 3 [] → drop 2 (drop 1 words) ≡ word ∷ drop 4 words
+third_word words word below is = drop-drop 2 1 words ∙ drop_more words 3 [] below ∙ ap (λ w. w ∷ drop 4 words) (sym is)

@@ -8,12 +8,13 @@ ghost use Rattle.resp_commands.specs.Sorts.{IsSortedKey, StoresAfter, StoresLast
 ghost use Rattle.resp_value.specs.Numbers.{IsNumber};
 ghost use Rattle.resp_tap.specs.Keyed.{HasKeyLike, IsFirstArgument, IsKeyed, IsUnkeyed, name_in};
 
+use crate::migrate::migrate_places;
 use resp_commands::{KeyPlaces, Keys, Places, Search, row_of};
 use resp_glob::matches;
 use resp_session::words::Words;
 
 /// No places.
-const NOWHERE: Places = Places {
+pub(crate) const NOWHERE: Places = Places {
     after: 0,
     last: 0,
     step: 1,
@@ -68,7 +69,7 @@ fn places_of(keys: &Keys, words: &Words) -> KeyPlaces
     let fixed = fixed_places(keys, words.len().saturating_sub(1));
     let skipped = keys.start.saturating_sub(1);
     match keys.search {
-        Search::Nothing | Search::Unknown => KeyPlaces {
+        Search::Nothing => KeyPlaces {
             fixed,
             further: NOWHERE,
             other: NOWHERE,
@@ -86,6 +87,11 @@ fn places_of(keys: &Keys, words: &Words) -> KeyPlaces
         Search::Sort => KeyPlaces {
             fixed,
             further: sort_place(words, skipped),
+            other: NOWHERE,
+        },
+        Search::Migrate => KeyPlaces {
+            fixed,
+            further: migrate_places(words, skipped),
             other: NOWHERE,
         },
         Search::Stores => KeyPlaces {
@@ -133,7 +139,7 @@ fn place_of(words: &Words, skipped: u8, wanted: &[u8]) -> usize
 }
 
 /// Returns whether a word is this one, in upper, lower or mixed case.
-fn is_word(word: &[u8], wanted: &[u8]) -> bool
+pub(crate) fn is_word(word: &[u8], wanted: &[u8]) -> bool
     ensures { result ≡ str_eq_ignore_ascii_case word.now wanted.now }
 {
     word.eq_ignore_ascii_case(wanted)

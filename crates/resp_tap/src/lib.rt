@@ -21,6 +21,7 @@ pub mod kind;
 pub mod laws;
 mod line;
 mod lines;
+mod migrate;
 pub mod moment;
 mod note;
 mod notice;

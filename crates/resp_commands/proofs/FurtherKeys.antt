@@ -1,0 +1,41 @@
+-- Keys at fixed places, and further keys.
+use Rattle.std.proofs.Common.{◌≡◌, ℕ, List, length, inl, inr, sym, subst, arith}
+use Rattle.resp_commands.specs.declared.command.Keys.{Keys}
+use Rattle.resp_commands.specs.declared.command.Search.{Search}
+use Rattle.resp_commands.specs.declared.keys.Places.{Places}
+use Rattle.resp_commands.specs.Keys.{IsAmong, IsAmongAny, IsFixedKey, IsFurtherKey, IsKey}
+
+-- keys at fixed places, and further ones of one kind
+pub two_kinds : (keys : Keys) (arguments : List (List ℕ)) (fixed further : Places) (count place : ℕ) → count ≡ length arguments →
+    ((IsAmong fixed place → IsFixedKey keys count place) × (IsFixedKey keys count place → IsAmong fixed place)) →
+    ((IsAmong further place → IsFurtherKey keys.search keys.start arguments place) ×
+    (IsFurtherKey keys.search keys.start arguments place → IsAmong further place)) →
+    (IsAmongAny (record { fixed = fixed; further = further; other = record { after = 0; last = 0; step = 1 } }) place → IsKey keys arguments place) ×
+    (IsKey keys arguments place → IsAmongAny (record { fixed = fixed; further = further; other = record { after = 0; last = 0; step = 1 } }) place)
+two_kinds keys arguments fixed further count place number at_fixed at_further = (
+  λ here.
+      elim here [
+        | inl f ↦ inl (subst (λ n. IsFixedKey keys n place) number (at_fixed.0 f))
+        | inr rest ↦
+            elim rest [
+              | inl f ↦ inr (at_further.0 f)
+              | inr other ↦ absurd (omega (arith, other.above, other.within))
+            ]
+      ],
+  λ key.
+      elim key [
+        | inl f ↦ inl (at_fixed.1 (subst (λ n. IsFixedKey keys n place) (sym number) f))
+        | inr f ↦ inr (inl (at_further.1 f))
+      ],
+)
+
+-- places of further keys are those of the search that the row names
+pub by_search : (keys : Keys) (search : Search) (arguments : List (List ℕ)) (further : Places) (place : ℕ) → keys.search ≡ search →
+    ((IsAmong further place → IsFurtherKey search keys.start arguments place) ×
+    (IsFurtherKey search keys.start arguments place → IsAmong further place)) →
+    (IsAmong further place → IsFurtherKey keys.search keys.start arguments place) ×
+    (IsFurtherKey keys.search keys.start arguments place → IsAmong further place)
+by_search keys search arguments further place is at = (
+  λ here. subst (λ s. IsFurtherKey s keys.start arguments place) (sym is) (at.0 here),
+  λ key. at.1 (subst (λ s. IsFurtherKey s keys.start arguments place) is key),
+)
