@@ -92,11 +92,20 @@ pub record HasAllBytes (format : Format) (bytes : List ℕ) (reason : Reason) : 
   pub all : size ≤ length bytes
   pub reason_is : reason ≡ WrongLength
 
--- Bytes of the block were read, and then memory was out, or the block has a fault. What was read of the file before is kept.
+-- The next bytes, as many as this, are bytes of the block that begins with these bytes. The block has at least so many bytes as
+-- its head says, or as its head has while that is not whole.
+pub record AreOfBlock (format : Format) (bytes : List ℕ) (count : ℕ) : Type 0 where
+  pub size : ℕ
+  pub said : size_of format bytes ≡ Ok size
+  pub within : length bytes + count ≤ size
+
+-- Bytes of the block were read, and then memory was out, or the block has a fault. No byte after the block was read. What was read
+-- of the file before is kept.
 pub record StopsAt (old new : Capture) (piece : List ℕ) (reason : Reason) : Type 0 where
   pub count : ℕ
   pub within : count ≤ length piece
   pub bytes : new.held.items ≡ begun_bytes old ++ take count piece
+  pub of_block : (count ≡ 0) ⊎ AreOfBlock old.format (begun_bytes old) count
   pub not_whole : new.is_whole ≡ false
   pub same_format : new.format ≡ old.format
   pub same_interfaces : new.interfaces.items ≡ old.interfaces.items
