@@ -1,6 +1,6 @@
 -- Why a file is not read on after some bytes of a block.
-use Rattle.std.proofs.Common.{◌≡◌, ◌⊎◌, ◌∙◌, ℕ, ◌<◌, ◌≤◌, Bool, true, false, List, [], ◌++◌, Option, None, Some, Result, Ok, Err, ap, append-nil, arith, cond, eqb, inl, inr, length, refl, subst, sym}
-use Rattle.std.specs.Prelude.{if◌then◌else◌, ltb, take}
+use Rattle.std.proofs.Common.{◌≡◌, ◌⊎◌, ◌∙◌, ℕ, ◌<◌, ◌≤◌, Bool, false, List, [], ◌++◌, None, Some, Result, Ok, Err, ap, append-nil, arith, cond, eqb, inl, inr, length, refl, subst, sym}
+use Rattle.std.specs.Prelude.{if◌then◌else◌, take}
 use Rattle.std.proofs.lemmas.Bool.{eq-eqb, le-ltb, lt-ltb, ne_eqb}
 use Rattle.resp_capture.specs.Blocks.{size_of}
 use Rattle.resp_capture.specs.Reading.{AreOfBlock, HasAllBytes, StopsAt, begun_bytes, fault_of, fault_of_block, fault_of_sized}
