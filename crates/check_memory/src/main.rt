@@ -67,8 +67,8 @@ fn print(rt: &impl Print, parts: &[Part]) -> Result<()> {
     Ok(())
 }
 
-/// Runs each part, and returns their outcomes in order.
-fn parts(alloc: Global) -> [Part; 58] {
+/// Runs the parts of values, of the client and of the server, and returns their outcomes in order.
+fn parts_of_values(alloc: Global) -> [Part; 24] {
     [
         ("decode a piece", decoding::of_one_piece(alloc)),
         ("decode bytes", decoding::of_single_bytes(alloc)),
@@ -94,6 +94,12 @@ fn parts(alloc: Global) -> [Part; 58] {
         ("hub hello", serving::of_hello(alloc)),
         ("hub protocol error", serving::of_protocol_error(alloc)),
         ("hub push", serving::of_push(alloc)),
+    ]
+}
+
+/// Runs the parts of the programs that serve or forward, and returns their outcomes in order.
+fn parts_of_connections(alloc: Global) -> [Part; 34] {
+    [
         ("databases new", hosting::of_new(alloc)),
         ("databases lines", hosting::of_lines(alloc)),
         ("databases arrays", hosting::of_arrays(alloc)),
@@ -134,5 +140,6 @@ fn parts(alloc: Global) -> [Part; 58] {
 fn main(rt: HostRuntime) -> Result<()> {
     let alloc = rt.alloc();
     allocate(alloc, count_input(&mut rt.stdin())?)?;
-    print(&rt, &parts(alloc))
+    print(&rt, &parts_of_values(alloc))?;
+    print(&rt, &parts_of_connections(alloc))
 }

@@ -2,6 +2,7 @@
 //! for `count` repetitions of a text. Any other brace is written `\x7b` or `\x7d`.
 
 use anyhow::{Context, Result, bail};
+use memchr::memchr2;
 use resp_value::{Command, Version};
 use std::alloc::Global;
 
@@ -62,13 +63,23 @@ pub(crate) fn command(alloc: Global, text: &str) -> Result<Command> {
     Ok(Command::new(words(alloc, text)?)?)
 }
 
-/// Adds the repetitions written as `text*count`.
+/// Adds the repetitions written as `text*count`. The text is doubled once for each bit of the
+/// count, because a program that is checked at run time is slow at copies of a single byte.
 fn add_run(alloc: Global, all: &mut Vec<u8>, run: &str) -> Result<()> {
     let (text, count) = run.rsplit_once('*').context("a run without its count")?;
-    let mut once = Vec::new(alloc);
-    add_escaped(&mut once, text)?;
-    for _ in 0..number(count)? {
-        all.extend_from_slice(once.as_slice())?;
+    let mut count = number(count)?;
+    let mut part = Vec::new(alloc);
+    add_escaped(&mut part, text)?;
+    for _ in 0..u64::BITS {
+        if count % 2 == 1 {
+            all.extend_from_slice(part.as_slice())?;
+        }
+        count /= 2;
+        if count == 0 {
+            break;
+        }
+        let same = Vec::from_slice(alloc, part.as_slice())?;
+        part.extend_from_slice(same.as_slice())?;
     }
     Ok(())
 }
@@ -76,18 +87,16 @@ fn add_run(alloc: Global, all: &mut Vec<u8>, run: &str) -> Result<()> {
 /// Adds a text that has escapes and no repetitions.
 fn add_escaped(all: &mut Vec<u8>, text: &str) -> Result<()> {
     let mut rest = text.as_bytes();
-    for _ in 0..text.len() {
-        let Some((first, others)) = rest.split_first() else {
+    for _ in 0..=text.len() {
+        let plain = memchr2(b'\\', b'}', rest).unwrap_or(rest.len());
+        all.extend_from_slice(&rest[..plain])?;
+        let Some((first, others)) = rest[plain..].split_first() else {
             break;
         };
-        rest = match *first {
-            b'\\' => add_escape(all, others)?,
-            b'}' => bail!("a brace that ends no run"),
-            byte => {
-                all.push(byte)?;
-                others
-            }
-        };
+        if *first == b'}' {
+            bail!("a brace that ends no run");
+        }
+        rest = add_escape(all, others)?;
     }
     Ok(())
 }

@@ -1,3 +1,4 @@
+pub mod FrameLemmas
 pub mod HeaderLemmas
 pub mod HistoryLemmas
 pub mod Lists

@@ -1,9 +1,9 @@
 -- Why a file is not read on after some bytes of a block.
-use Rattle.std.proofs.Common.{◌≡◌, ◌⊎◌, ◌∙◌, ℕ, ◌<◌, ◌≤◌, Bool, true, false, List, [], ◌++◌, Option, None, Some, Result, Ok, Err, ap, append-nil, arith, cond, eqb, inl, inr, length, refl, subst, sym}
-use Rattle.std.specs.Prelude.{if◌then◌else◌, ltb, take}
+use Rattle.std.proofs.Common.{◌≡◌, ◌⊎◌, ◌∙◌, ℕ, ◌<◌, ◌≤◌, Bool, false, List, [], ◌++◌, None, Some, Result, Ok, Err, ap, append-nil, arith, cond, eqb, inl, inr, length, refl, subst, sym}
+use Rattle.std.specs.Prelude.{if◌then◌else◌, take}
 use Rattle.std.proofs.lemmas.Bool.{eq-eqb, le-ltb, lt-ltb, ne_eqb}
 use Rattle.resp_capture.specs.Blocks.{size_of}
-use Rattle.resp_capture.specs.Reading.{HasAllBytes, StopsAt, begun_bytes, fault_of, fault_of_block, fault_of_sized}
+use Rattle.resp_capture.specs.Reading.{AreOfBlock, HasAllBytes, StopsAt, begun_bytes, fault_of, fault_of_block, fault_of_sized}
 use Rattle.resp_capture.specs.declared.block.Format.{Format}
 use Rattle.resp_capture.specs.declared.error.Reason.{Reason}
 use Rattle.resp_capture.specs.declared.error.Reason.TheVariants.{OutOfMemory, WrongLength}
@@ -42,14 +42,15 @@ still_begun capture begun = sym (ap (λ (b : Bool). cond b [] capture.held.items
 
 -- bytes of the block were read, and then it has a fault or memory is out
 pub stops : (old new : Capture) (piece : List ℕ) (count : ℕ) (reason : Reason) → old.is_whole ≡ false → count ≤ length piece →
-    new.held.items ≡ old.held.items ++ take count piece → new.is_whole ≡ false → new.format ≡ old.format →
-    new.interfaces.items ≡ old.interfaces.items →
+    new.held.items ≡ old.held.items ++ take count piece → (count ≡ 0) ⊎ AreOfBlock old.format old.held.items count →
+    new.is_whole ≡ false → new.format ≡ old.format → new.interfaces.items ≡ old.interfaces.items →
     (reason ≡ OutOfMemory) ⊎ (fault_of old.format new.held.items ≡ Some reason) ⊎ HasAllBytes old.format old.held.items reason →
     StopsAt old new piece reason
-stops old new piece count reason begun within bytes not_whole same_format same_interfaces why = record {
+stops old new piece count reason begun within bytes of_block not_whole same_format same_interfaces why = record {
   count = count;
   within = within;
   bytes = bytes ∙ ap (λ (held : List ℕ). held ++ take count piece) (still_begun old begun);
+  of_block = subst (λ (held : List ℕ). (count ≡ 0) ⊎ AreOfBlock old.format held count) (still_begun old begun) of_block;
   not_whole = not_whole;
   same_format = same_format;
   same_interfaces = same_interfaces;
@@ -66,4 +67,4 @@ pub nothing_read : (old new : Capture) (piece : List ℕ) (reason : Reason) → 
     (reason ≡ OutOfMemory) ⊎ (fault_of old.format new.held.items ≡ Some reason) ⊎ HasAllBytes old.format old.held.items reason →
     StopsAt old new piece reason
 nothing_read old new piece reason begun same =
-    stops old new piece 0 reason begun (omega arith) (same ∙ sym (append-nil old.held.items))
+    stops old new piece 0 reason begun (omega arith) (same ∙ sym (append-nil old.held.items)) (inl refl)

@@ -49,11 +49,18 @@ pub record IsTime (seconds ticks per_second : ℕ) (time : Time) : Type 0 where
 
 -- the packet of a record of the format pcap, whose packets have this link and this many ticks of a second
 pub record IsRecord (order : ByteOrder) (interface : Interface) (block : List ℕ) (frame : Frame) : Type 0 where
+  pub whole : 16 ≤ length block
+  pub has_ticks : 0 < interface.per_second
   pub time : Time
   pub has_time : frame.time ≡ Some time
   pub time_is : IsTime (number32 order 0 block) (number32 order 4 block) interface.per_second time
   pub link_is : interface.link ≡ Some frame.link
   pub bytes_are : frame.bytes.now ≡ drop 16 block
+
+-- the packet of a record of the format pcap, whose packets are those of the first of these interfaces
+abbrev pub HasRecord : ByteOrder → List Interface → List ℕ → Frame → Type 0
+HasRecord order interfaces block frame = (interface : Interface) × (slice_get interfaces 0 ≡ Some interface) ×
+    IsRecord order interface block frame
 
 -- the ticks at which the packet of an enhanced packet block was captured
 abbrev pub ticks_in : ByteOrder → List ℕ → ℕ
@@ -64,6 +71,7 @@ pub record IsEnhanced (order : ByteOrder) (interfaces : List Interface) (block :
   pub kind : number32 order 0 block ≡ 6
   pub interface : Interface
   pub has_interface : slice_get interfaces (number32 order 8 block) ≡ Some interface
+  pub has_ticks : 0 < interface.per_second
   pub time : Time
   pub has_time : frame.time ≡ Some time
   pub time_is : IsTime 0 (ticks_in order block) interface.per_second time
@@ -79,6 +87,7 @@ simple_count order most block = min (if most == 0 then number32 order 8 block el
 -- the packet of a simple packet block, of the first of these interfaces. It has no time.
 pub record IsSimple (order : ByteOrder) (interfaces : List Interface) (block : List ℕ) (frame : Frame) : Type 0 where
   pub kind : number32 order 0 block ≡ 3
+  pub whole : 16 ≤ length block
   pub interface : Interface
   pub has_interface : slice_get interfaces 0 ≡ Some interface
   pub no_time : frame.time ≡ None
@@ -88,3 +97,7 @@ pub record IsSimple (order : ByteOrder) (interfaces : List Interface) (block : L
 -- the packet of a block of the format pcapng
 abbrev pub IsFrame : ByteOrder → List Interface → List ℕ → Frame → Type 0
 IsFrame order interfaces block frame = IsEnhanced order interfaces block frame ⊎ IsSimple order interfaces block frame
+
+-- no packet is one of these
+abbrev pub HasNo : (Frame → Type 0) → Type 0
+HasNo IsOne = (frame : Frame) → IsOne frame → ⊥

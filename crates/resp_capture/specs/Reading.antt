@@ -1,20 +1,18 @@
 -- How a capture is read: one block after another.
-use Rattle.std.specs.Prelude.{◌≡◌, ◌⊎◌, ℕ, ◌+◌, ◌%◌, ◌<◌, ◌≤◌, ◌==◌, ◌&&◌, true, false, List, [], ◌++◌, Option, None, Some, Result, Ok, Err, cond, if◌then◌else◌, length, ltb, min, slice_get, take}
+use Rattle.std.specs.Prelude.{◌≡◌, ◌⊎◌, ℕ, ◌+◌, ◌%◌, ◌<◌, ◌≤◌, ◌==◌, ◌&&◌, true, false, List, [], ◌++◌, Option, None, Some, Result, Ok, Err, cond, if◌then◌else◌, length, ltb, min, take}
 use Rattle.resp_capture.specs.Blocks.{magic_of, size_of}
 use Rattle.resp_capture.specs.Headers.{link_of}
 use Rattle.resp_capture.specs.Numbers.{number32}
-use Rattle.resp_capture.specs.Frames.{IsFrame, IsRecord}
+use Rattle.resp_capture.specs.Frames.{HasRecord, IsFrame}
 use Rattle.resp_capture.specs.declared.block.Format.{Format}
 use Rattle.resp_capture.specs.declared.block.Format.TheVariants as format
 use Rattle.resp_capture.specs.declared.block.Magic.{Magic}
-use Rattle.resp_capture.specs.declared.error.CaptureError.{CaptureError}
 use Rattle.resp_capture.specs.declared.error.Reason.{Reason}
 use Rattle.resp_capture.specs.declared.error.Reason.TheVariants.{NotACapture, OutOfMemory, UnknownLink, WrongLength}
 use Rattle.resp_capture.specs.declared.link.Link.{Link}
 use Rattle.resp_capture.specs.declared.number.ByteOrder.{ByteOrder}
 use Rattle.resp_capture.specs.declared.number.ByteOrder.TheVariants.{Big}
 use Rattle.resp_capture.specs.declared.capture.Frame.{Frame}
-use Rattle.resp_capture.specs.declared.interface.Interface.{Interface}
 use Rattle.resp_capture.specs.declared.capture.Capture.{Capture}
 
 -- the bytes of the block that is read next
@@ -92,11 +90,20 @@ pub record HasAllBytes (format : Format) (bytes : List ℕ) (reason : Reason) : 
   pub all : size ≤ length bytes
   pub reason_is : reason ≡ WrongLength
 
--- Bytes of the block were read, and then memory was out, or the block has a fault. What was read of the file before is kept.
+-- The next bytes, as many as this, are bytes of the block that begins with these bytes. The block has at least so many bytes as
+-- its head says, or as its head has while that is not whole.
+pub record AreOfBlock (format : Format) (bytes : List ℕ) (count : ℕ) : Type 0 where
+  pub size : ℕ
+  pub said : size_of format bytes ≡ Ok size
+  pub within : length bytes + count ≤ size
+
+-- Bytes of the block were read, and then memory was out, or the block has a fault. No byte after the block was read. What was read
+-- of the file before is kept.
 pub record StopsAt (old new : Capture) (piece : List ℕ) (reason : Reason) : Type 0 where
   pub count : ℕ
   pub within : count ≤ length piece
   pub bytes : new.held.items ≡ begun_bytes old ++ take count piece
+  pub of_block : (count ≡ 0) ⊎ AreOfBlock old.format (begun_bytes old) count
   pub not_whole : new.is_whole ≡ false
   pub same_format : new.format ≡ old.format
   pub same_interfaces : new.interfaces.items ≡ old.interfaces.items
@@ -119,8 +126,7 @@ IsAtEnd capture = capture.is_whole ≡ true
 -- the packet of this block, by the format of the file; the first block of the format pcap has no packet
 abbrev pub HasFrameIn : Format → Capture → Frame → Type 0
 HasFrameIn format.Unknown capture frame = ⊥
-HasFrameIn (format.Pcap order) capture frame = (0 < capture.at) × (interface : Interface) ×
-    (slice_get capture.interfaces.items 0 ≡ Some interface) × IsRecord order interface capture.held.items frame
+HasFrameIn (format.Pcap order) capture frame = (0 < capture.at) × HasRecord order capture.interfaces.items capture.held.items frame
 HasFrameIn (format.Pcapng order) capture frame = IsFrame order capture.interfaces.items capture.held.items frame
 
 -- the last block that was read is whole, and has this packet

@@ -1,11 +1,10 @@
 //! The packets of a capture that comes in pieces.
 
-ghost use Rattle.std.specs.Prelude.{◌≡◌, ◌+◌, ◌<◌, ◌≤◌, ◌++◌, [], ◌∷◌, true, false, length, IfErr, IfOk, OnOk};
-ghost use Rattle.std.specs.Prelude.{◌⊎◌, None, Some, IfSome, OnErr, slice_get};
-ghost use Rattle.resp_capture.specs.Frames.{IsEnhanced, IsFrame, IsRecord, IsSimple, IsTime, simple_count, ticks_in};
+ghost use Rattle.std.specs.Prelude.{◌≡◌, ◌+◌, ◌<◌, ◌≤◌, ◌++◌, [], ◌∷◌, true, false, length, IfErr, IfNone, IfOk, OnOk};
+ghost use Rattle.std.specs.Prelude.{◌⊎◌, None, Some, IfSome, OnErr};
+ghost use Rattle.resp_capture.specs.Frames.{HasNo, HasRecord, IsEnhanced, IsFrame, IsSimple, IsTime, simple_count, ticks_in};
 ghost use Rattle.resp_capture.specs.Numbers.{number32};
 ghost use Rattle.resp_capture.specs.Reading.{HasFrame, HasNoFault, IsAtEnd, IsNotReadOn, ReadsBlock, StopsAt, begun_bytes, failure_of, fault_of, fault_of_block, fault_of_pcapng, next_at};
-ghost use Rattle.resp_capture.specs.declared.interface.Interface.{Interface};
 ghost use Rattle.resp_capture.specs.declared.time.Time.{Time};
 
 use crate::block::{Format, SECTION, block_size, magic_of, section_order};
@@ -279,9 +278,12 @@ impl Capture {
     ///
     /// # Errors
     ///
-    /// Why the file is not read on. Do not use the capture afterwards.
+    /// Why the file is not read on: the block has a fault, so it has no packet. Do not use the
+    /// capture afterwards.
     pub fn frame(&self) -> Result<Option<Frame<'_>>, CaptureError>
-        ensures frame { IfOk result (λ found. IfSome found (λ frame. HasFrame self.now frame)) }
+        ensures frame { IfOk result (λ found. IfSome found (HasFrame self.now)) }
+        ensures none { IfOk result (λ found. IfNone found (HasNo (HasFrame self.now))) }
+        ensures fault { OnErr result (HasNo (HasFrame self.now)) }
         ensures error_at { IfErr result (λ error. error.at ≡ self.now.at) }
     {
         if !self.is_whole {
@@ -325,9 +327,10 @@ fn record_of<'a>(
     interfaces: &[Interface],
     block: &'a [u8],
 ) -> Result<Option<Frame<'a>>, Reason>
-    ensures { IfOk result (λ found. IfSome found (λ frame. (interface : Interface) ×
-        (slice_get interfaces.now 0 ≡ Some interface) ×
-        IsRecord order interface block.now frame)) }
+    ensures frame { IfOk result (λ found. IfSome found (HasRecord order interfaces.now block.now)) }
+    ensures none { IfOk result (λ found. IfNone found
+        (HasNo (HasRecord order interfaces.now block.now))) }
+    ensures fault { OnErr result (HasNo (HasRecord order interfaces.now block.now)) }
 {
     let Some(interface) = interfaces.first() else {
         return Err(Reason::UnknownInterface);
@@ -357,8 +360,10 @@ fn frame_of<'a>(
     interfaces: &[Interface],
     block: &'a [u8],
 ) -> Result<Option<Frame<'a>>, Reason>
-    ensures { IfOk result (λ found. IfSome found (λ frame.
-        IsFrame order interfaces.now block.now frame)) }
+    ensures frame { IfOk result (λ found. IfSome found (IsFrame order interfaces.now block.now)) }
+    ensures none { IfOk result (λ found. IfNone found
+        (HasNo (IsFrame order interfaces.now block.now))) }
+    ensures fault { OnErr result (HasNo (IsFrame order interfaces.now block.now)) }
 {
     if block.len() < 12 {
         return Err(Reason::WrongLength);
@@ -377,8 +382,10 @@ fn enhanced_of<'a>(
     block: &'a [u8],
 ) -> Result<Option<Frame<'a>>, Reason>
     requires { number32 order 0 block.now ≡ 6 }
-    ensures { IfOk result (λ found. IfSome found (λ frame.
-        IsEnhanced order interfaces.now block.now frame)) }
+    ensures frame { IfOk result (λ found. IfSome found (IsEnhanced order interfaces.now block.now)) }
+    ensures none { IfOk result (λ found. IfNone found
+        (HasNo (IsEnhanced order interfaces.now block.now))) }
+    ensures fault { OnErr result (HasNo (IsEnhanced order interfaces.now block.now)) }
 {
     if block.len() < 32 {
         return Err(Reason::WrongLength);
@@ -405,7 +412,8 @@ fn with_time<'a>(
 ) -> Option<Frame<'a>>
     requires whole { 32 ≤ length block.now }
     requires ticks { 0 < interface.per_second }
-    ensures { IfSome result (λ frame. (time : Time) × (frame.time ≡ Some time) ×
+    ensures none { IfNone result (interface.link ≡ None) }
+    ensures frame { IfSome result (λ frame. (time : Time) × (frame.time ≡ Some time) ×
         IsTime 0 (ticks_in order block.now) interface.per_second time ×
         (interface.link ≡ Some frame.link) × (frame.bytes.now ≡ bytes.now)) }
 {
@@ -426,8 +434,10 @@ fn simple_of<'a>(
     block: &'a [u8],
 ) -> Result<Option<Frame<'a>>, Reason>
     requires { number32 order 0 block.now ≡ 3 }
-    ensures { IfOk result (λ found. IfSome found (λ frame.
-        IsSimple order interfaces.now block.now frame)) }
+    ensures frame { IfOk result (λ found. IfSome found (IsSimple order interfaces.now block.now)) }
+    ensures none { IfOk result (λ found. IfNone found
+        (HasNo (IsSimple order interfaces.now block.now))) }
+    ensures fault { OnErr result (HasNo (IsSimple order interfaces.now block.now)) }
 {
     if block.len() < 16 {
         return Err(Reason::WrongLength);

@@ -1,8 +1,8 @@
 //! A connection of a capture, with both sides.
 
-ghost use Rattle.std.specs.Prelude.{◌≡◌, ◌≢◌, ◌↔◌, ℕ, ◌≤◌, [], None, Some, false, not, true, IfOk, IfSome, IfNone, IsTrue, OnErr};
+ghost use Rattle.std.specs.Prelude.{◌≡◌, ◌≢◌, ◌↔◌, ℕ, ◌≤◌, [], None, Some, false, not, true, IfOk, IfSome, IfNone, IsTrue, OnErr, OnSome};
 ghost use Rattle.resp_capture.specs.Connections.{HasEnded, HasSameEnds, IsFrom, IsNewSide, LacksToEnd, TakesInSide, begun_stream, first_number, other, side_of};
-ghost use Rattle.resp_capture.specs.Streams.{Skips, TakesHeld, WaitsForOthers};
+ghost use Rattle.resp_capture.specs.Streams.{HasReadyPart, Skips, TakesHeld, WaitsForOthers};
 
 use crate::address::Endpoint;
 use crate::error::StreamError;
@@ -210,7 +210,9 @@ impl Connection {
     pub fn skip(&mut self, end: End) -> Option<u64>
         ensures skips { IfSome result (λ missing. Skips (side_of self.old end).stream
             (side_of self.new end).stream missing) }
-        ensures none { IfNone result ((side_of self.old end).stream.held ≡ []) }
+        ensures ready { OnSome result (HasReadyPart (side_of self.new end).stream) }
+        ensures none { IfNone result (((side_of self.old end).stream.held ≡ []) ×
+            ((side_of self.new end).stream ≡ (side_of self.old end).stream)) }
         ensures other_side { side_of self.new (other end) ≡ side_of self.old (other end) }
         ensures same_ends { HasSameEnds self.old self.new }
     {
