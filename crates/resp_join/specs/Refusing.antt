@@ -31,10 +31,11 @@ pub record EndsCommand (limits : Bounds) (front piece : List ℕ) (P : List ℕ 
   pub command : IsCommand limits (front ++ take used piece)
   pub holds : P (front ++ take used piece)
 
--- a byte of the piece is the first that cannot follow the bytes before it; or a value has ended that is no command; or a
--- command has ended that is not queued; or memory ran out
+-- a byte of the piece is the first that cannot follow the bytes before it; or a value has ended that is no command; or
+-- a command has ended that is not queued; or memory ran out
 abbrev pub RefusesCommand : Rules → Bounds → Multiplexed → ClientId → List ℕ → List ℕ → CommandError → Type 0
 RefusesCommand rules limits mux who front piece (command.Frame (frame.Fault fault)) = RejectsByte rules front piece fault
 RefusesCommand rules limits mux who front piece (command.Frame frame.NotACommand) = EndsOther rules limits front piece
 RefusesCommand rules limits mux who front piece (command.Frame frame.OutOfMemory) = Unit {0}
-RefusesCommand rules limits mux who front piece (command.Forward error) = EndsCommand limits front piece (IsNotQueued mux who error)
+RefusesCommand rules limits mux who front piece (command.Forward error) =
+    EndsCommand limits front piece (IsNotQueued mux who error)
