@@ -1,1 +1,2 @@
 pub mod Rejectings
+pub mod Refusings

@@ -1,2 +1,3 @@
 -- The definitions that callers read.
 pub mod Rejecting
+pub mod Refusing

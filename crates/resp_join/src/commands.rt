@@ -1,9 +1,10 @@
 //! Bytes that a client sent.
 
-ghost use Rattle.std.specs.Prelude.{◌≡◌, ◌++◌, ◌≤◌, Some, [], length, take, IfNone, IfOk, IfSome, OnErr};
+ghost use Rattle.std.specs.Prelude.{◌≡◌, ◌++◌, ◌≤◌, Some, [], length, take, IfErr, IfNone, IfOk, IfSome, OnErr};
 ghost use Rattle.resp_frames.specs.Framing.{HasBegun, IsReady, WhereBegun, frame_limits, frame_rules};
 ghost use Rattle.resp_frames.specs.Commands.{IsCommand};
 ghost use Rattle.resp_frames.specs.Texts.{text_of, used_of};
+ghost use Rattle.resp_join.specs.Refusing.{FailsToQueue, RefusesCommand};
 ghost use Rattle.resp_mux.specs.Multiplexing.{HasPassed, KeepsClients, KeepsPassed, WherePassed};
 ghost use Rattle.resp_mux.specs.Passing.{with_command};
 ghost use Rattle.resp_scan.specs.Reading.{HasNoValue};
@@ -39,6 +40,9 @@ pub fn take_command(
     ensures more { WhereBegun frames.old begun.old (λ front. WherePassed mux.old (λ p.
         IfOk result (λ found. IfNone found (HasNoValue (front ++ piece.now) ×
         HasBegun (frame_rules frames.old) begun.new (front ++ piece.now) × HasPassed mux.new p)))) }
+    // The error has its cause in the bytes that came since the last command, or in the bounds.
+    ensures refused { WhereBegun frames.old begun.old (λ front. IfErr result (RefusesCommand
+        (frame_rules frames.old) (frame_limits frames.old) mux.old who front piece.now)) }
     ensures unchanged { OnErr result (KeepsPassed mux.old mux.new) }
     ensures within_piece { IfOk result (λ found. IfSome found (λ used. used ≤ length piece.now)) }
     ensures ready { IsReady frames.old → IsReady frames.new }
@@ -60,6 +64,7 @@ fn queue(mux: &mut Mux, who: ClientId, frame: &Frame) -> Result<Option<usize>, C
     ensures queued { WherePassed mux.old (λ p. IfOk result (λ found.
         HasPassed mux.new (with_command who (text_of frame.now) p))) }
     ensures used { IfOk result (λ found. found ≡ Some (used_of frame.now)) }
+    ensures refused { IfErr result (FailsToQueue mux.old who (text_of frame.now)) }
     ensures unchanged { OnErr result (KeepsPassed mux.old mux.new) }
     ensures same_clients { KeepsClients mux.old mux.new }
 {
