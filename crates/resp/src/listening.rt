@@ -79,18 +79,13 @@ pub fn run_serve<W: LiveSink, F: Sink>(
     writer: &mut W,
     faults: &mut F,
 ) -> Result<u8, AllocError> {
-    let served = if serving.is_test_server {
-        serve_tests(rt, serving, writer)
-    } else {
-        serve(rt, serving, writer)
-    };
-    match served {
+    match serve(rt, serving, writer) {
         Ok(()) => Ok(0),
         Err(error) => refuse(rt.alloc(), serving.address_text, &error, faults),
     }
 }
 
-/// Serves clients until that fails.
+/// Serves clients until that fails. A server for tests has 16 databases.
 fn serve<W: LiveSink>(
     rt: &HostRuntime,
     serving: &Serving<'_>,
@@ -102,47 +97,14 @@ fn serve<W: LiveSink>(
     };
     let most = most_clients(rt, serving.clients, SERVE);
     let address = listening_on(alloc, &serving.address)?;
-    let mut server = Server::listen(
-        rt,
-        alloc,
-        &address,
-        serving.limits,
-        most,
-        serving.held,
-        hasher,
-    )?;
-    write_listening(alloc, &server.address()?, writer)?;
-    if writer.flush().is_err() {
-        return Err(ToolError::Write.into());
+    let (limits, held) = (serving.limits, serving.held);
+    if serving.is_test_server {
+        let mut server = TestServer::listen(rt, alloc, &address, limits, most, held, hasher)?;
+        announce(alloc, &server.address()?, writer)?;
+        return Ok(server.run()?);
     }
-    Ok(server.run()?)
-}
-
-/// Serves clients with 16 databases until that fails.
-fn serve_tests<W: LiveSink>(
-    rt: &HostRuntime,
-    serving: &Serving<'_>,
-    writer: &mut W,
-) -> Result<(), ListenError> {
-    let alloc = rt.alloc();
-    let Ok(hasher) = RandomState::new(rt) else {
-        return Err(ToolError::Read.into());
-    };
-    let most = most_clients(rt, serving.clients, SERVE);
-    let address = listening_on(alloc, &serving.address)?;
-    let mut server = TestServer::listen(
-        rt,
-        alloc,
-        &address,
-        serving.limits,
-        most,
-        serving.held,
-        hasher,
-    )?;
-    write_listening(alloc, &server.address()?, writer)?;
-    if writer.flush().is_err() {
-        return Err(ToolError::Write.into());
-    }
+    let mut server = Server::listen(rt, alloc, &address, limits, most, held, hasher)?;
+    announce(alloc, &server.address()?, writer)?;
     Ok(server.run()?)
 }
 
@@ -377,10 +339,7 @@ fn proxy<W: LiveSink>(
     if admit(&mut server, proxying.also).is_err() {
         return Err(ToolError::Memory.into());
     }
-    write_listening(alloc, &server.address()?, writer)?;
-    if writer.flush().is_err() {
-        return Err(ToolError::Write.into());
-    }
+    announce(alloc, &server.address()?, writer)?;
     Ok(server.run(rt, rt.stdin(), writer)?)
 }
 
@@ -436,6 +395,19 @@ fn settings_of(rt: &HostRuntime, options: &ProxyOptions) -> ProxySettings {
         report: report_of(options.report),
         drains: options.drains,
         check_every: options.check_every,
+    }
+}
+
+/// Shows the address on which the program listens.
+fn announce<W: LiveSink>(
+    alloc: Global,
+    address: &Address,
+    writer: &mut W,
+) -> Result<(), ToolError> {
+    write_listening(alloc, address, writer)?;
+    match writer.flush() {
+        Ok(()) => Ok(()),
+        Err(_) => Err(ToolError::Write),
     }
 }
 

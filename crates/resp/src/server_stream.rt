@@ -39,8 +39,8 @@ impl ServerStream {
         ensures { ReadsAtMost result into.new }
     {
         match self {
-            ServerStream::Tcp(stream) => read_tcp(stream, into),
-            ServerStream::Unix(stream) => read_unix(stream, into),
+            ServerStream::Tcp(stream) => (&*stream).read(into),
+            ServerStream::Unix(stream) => (&*stream).read(into),
         }
     }
 
@@ -49,8 +49,8 @@ impl ServerStream {
         ensures { WritesAtMost result from.now }
     {
         match self {
-            ServerStream::Tcp(stream) => write_tcp(stream, from),
-            ServerStream::Unix(stream) => write_unix(stream, from),
+            ServerStream::Tcp(stream) => (&*stream).write(from),
+            ServerStream::Unix(stream) => (&*stream).write(from),
         }
     }
 }
@@ -81,36 +81,4 @@ impl Write for &ServerStream {
     fn flush(&mut self) -> io::Result<()> {
         Ok(())
     }
-}
-
-/// Reads some bytes of a connection over TCP.
-fn read_tcp(stream: &TcpStream, into: &mut [u8]) -> io::Result<usize>
-    ensures { ReadsAtMost result into.new }
-{
-    let mut reader = stream;
-    reader.read(into)
-}
-
-/// Reads some bytes of a connection over a Unix socket.
-fn read_unix(stream: &UnixStream, into: &mut [u8]) -> io::Result<usize>
-    ensures { ReadsAtMost result into.new }
-{
-    let mut reader = stream;
-    reader.read(into)
-}
-
-/// Writes some bytes to a connection over TCP.
-fn write_tcp(stream: &TcpStream, from: &[u8]) -> io::Result<usize>
-    ensures { WritesAtMost result from.now }
-{
-    let mut writer = stream;
-    writer.write(from)
-}
-
-/// Writes some bytes to a connection over a Unix socket.
-fn write_unix(stream: &UnixStream, from: &[u8]) -> io::Result<usize>
-    ensures { WritesAtMost result from.now }
-{
-    let mut writer = stream;
-    writer.write(from)
 }

@@ -76,8 +76,8 @@ impl Stream {
         ensures { ReadsAtMost result into.new }
     {
         match self {
-            Stream::Tcp(stream) => read_tcp(stream, into),
-            Stream::Unix(stream) => read_unix(stream, into),
+            Stream::Tcp(stream) => (&*stream).read(into),
+            Stream::Unix(stream) => (&*stream).read(into),
         }
     }
 
@@ -86,8 +86,8 @@ impl Stream {
         ensures { WritesAtMost result from.now }
     {
         match self {
-            Stream::Tcp(stream) => write_tcp(stream, from),
-            Stream::Unix(stream) => write_unix(stream, from),
+            Stream::Tcp(stream) => (&*stream).write(from),
+            Stream::Unix(stream) => (&*stream).write(from),
         }
     }
 
@@ -151,36 +151,4 @@ impl Source for Stream {
             Stream::Unix(stream) => stream.deregister(registry),
         }
     }
-}
-
-/// Reads some bytes of a connection over TCP.
-fn read_tcp(stream: &TcpStream, into: &mut [u8]) -> io::Result<usize>
-    ensures { ReadsAtMost result into.new }
-{
-    let mut reader = stream;
-    reader.read(into)
-}
-
-/// Reads some bytes of a connection over a Unix socket.
-fn read_unix(stream: &UnixStream, into: &mut [u8]) -> io::Result<usize>
-    ensures { ReadsAtMost result into.new }
-{
-    let mut reader = stream;
-    reader.read(into)
-}
-
-/// Writes some bytes to a connection over TCP.
-fn write_tcp(stream: &TcpStream, from: &[u8]) -> io::Result<usize>
-    ensures { WritesAtMost result from.now }
-{
-    let mut writer = stream;
-    writer.write(from)
-}
-
-/// Writes some bytes to a connection over a Unix socket.
-fn write_unix(stream: &UnixStream, from: &[u8]) -> io::Result<usize>
-    ensures { WritesAtMost result from.now }
-{
-    let mut writer = stream;
-    writer.write(from)
 }
