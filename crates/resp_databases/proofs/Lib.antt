@@ -1,2 +1,4 @@
 mod Replies
 mod OfClients
+mod Again
+mod InSessions

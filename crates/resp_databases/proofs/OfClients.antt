@@ -3,7 +3,8 @@ use Rattle.std.proofs.Common.{◌≡◌, refl}
 use Rattle.resp_session.specs.Operations.{Operation}
 use Rattle.resp_session.specs.Operations as one
 use Rattle.resp_databases.specs.Deeds.{asked_by}
-use Rattle.resp_databases.specs.Running.{IsOfClient, IsOfClientAlone, KeepsVersion}
+use Rattle.resp_databases.specs.Running.{IsOfClient, IsOfClientAlone}
+use Rattle.resp_databases.specs.Serving.{KeepsVersion}
 use Rattle.resp_databases.specs.Deeds.{Request}
 use Rattle.resp_databases.specs.declared.deed.Deed.{Deed}
 use Rattle.resp_databases.specs.declared.deed.Deed.TheVariants as deed

@@ -4,7 +4,6 @@ use Rattle.resp_value.specs.Bounds.{Bounds}
 use Rattle.resp_value.specs.Canonical.{canonical_text}
 use Rattle.resp_value.specs.Words.{command_of}
 use Rattle.resp_scan.specs.Whole.{BeginsWith}
-use Rattle.resp_session.specs.Operations.{Operation}
 use Rattle.resp_session.specs.Operations as one
 use Rattle.resp_session.specs.Stores.{Store}
 use Rattle.resp_databases.specs.Deeds.{Asked, Asks, Request, Exists, DbSize, FlushDb, FlushAll}
@@ -20,11 +19,6 @@ standing_of c = record { id = c.id; version = c.version; database = c.database; 
 -- the bytes that wait to be written to a client
 abbrev pub waiting_of : Client → List ℕ
 waiting_of c = c.out.items
-
--- the request does not change the version of its client
-abbrev pub KeepsVersion : Operation → Type 0
-KeepsVersion (one.Hello asked) = ⊥
-KeepsVersion _ = Unit {0}
 
 -- it is done of the client alone, and no database is read or changed
 abbrev pub IsOfClient : Deed → Type 0

@@ -1,83 +1,118 @@
-//! A database: a store, and the run of a command on it.
+//! A database, which is a hub without a session, and the run of a command on it.
+
+ghost use Rattle.std.specs.Prelude.{◌≡◌, ◌≤◌, length, IfSome, OnErr, OnOk};
+ghost use Rattle.resp_session.specs.Operations.{Operation};
+ghost use Rattle.resp_databases.specs.Outcomes.{keys_in};
+ghost use Rattle.resp_databases.specs.Serving.{HasServed, IsFresh, IsSent};
+ghost use Rattle.resp_databases.specs.States.{IsWithin};
 
 use crate::reply::reply_again;
 use bytes::BytesMut;
 use resp_scan::whole::Words;
 use resp_server::Hub;
+use resp_session::laws as sessions;
+use resp_value::laws as grammar;
 use resp_value::limits::Limits;
 use resp_value::version::Version;
-use std::alloc::{AllocError, Global};
+use std::alloc::AllocError;
 use std::hash::BuildHasher;
 
 /// The most bytes of a reply to a command that changes the store.
 const ROOM: usize = 64;
 
-/// A database. A command is run in a session that is open only meanwhile.
-#[derive(Drop)]
-pub(crate) struct Database<S: BuildHasher> {
-    hub: Hub<S>,
-}
-
-impl<S: BuildHasher> Database<S> {
-    /// Makes a database without a key. Does not allocate.
-    pub(crate) fn new(alloc: Global, limits: Limits, hasher: S) -> Database<S> {
-        Database {
-            hub: Hub::new(alloc, limits, hasher),
-        }
-    }
-
-    /// Runs a command, whose bytes these are, and appends its reply in a version. The command is
-    /// not a HELLO that would change the version. When out of memory, or after 2^63 - 1 commands,
-    /// nothing is changed.
-    pub(crate) fn run(
-        &mut self,
-        version: Version,
-        command: &[u8],
-        out: &mut BytesMut,
-    ) -> Result<(), AllocError> {
-        out.reserve(ROOM)?;
-        let Ok(id) = self.hub.open() else {
-            return Err(AllocError);
-        };
-        let ran = run_in(&mut self.hub, id, version, command, out);
-        let _ = self.hub.close(id);
-        ran
-    }
-
-    /// Returns how many of these keys exist. A key that is named twice is counted twice.
-    pub(crate) fn count(&self, keys: Words<'_>) -> u64 {
-        let mut count = 0_u64;
-        for key in keys {
-            if self.hub.get(key).is_some() {
-                count = count.saturating_add(1);
-            }
-        }
-        count
-    }
-
-    /// Returns the number of keys. Takes time for each of them.
-    pub(crate) fn size(&self) -> u64 {
-        let mut count = 0_u64;
-        for _ in self.hub.entries() {
-            count = count.saturating_add(1);
-        }
-        count
-    }
+/// Runs a command, whose bytes these are, in a session that is open only meanwhile, and appends its
+/// reply in a version. The command is not a HELLO that would change the version.
+///
+/// # Errors
+///
+/// `AllocError` when out of memory, and after 2^63 - 1 commands. Then nothing is changed.
+pub(crate) fn run<S: BuildHasher>(
+    hub: &mut Hub<S>,
+    limits: &Limits,
+    version: Version,
+    command: &[u8],
+    out: &mut BytesMut,
+) -> Result<(), AllocError>
+    ensures done { IsWithin limits.now hub.old → (request : Operation) →
+        IsSent limits.now command.now request →
+        OnOk result (HasServed request version hub.old hub.new out.old.items out.new.items) }
+    ensures failed { IsWithin limits.now hub.old → (request : Operation) →
+        IsSent limits.now command.now request →
+        OnErr result (hub.new.store ≡ hub.old.store) }
+    ensures no_reply { OnErr result (out.new.items ≡ out.old.items) }
+    ensures within { IsWithin limits.now hub.old → (request : Operation) →
+        IsSent limits.now command.now request →
+        IsWithin limits.now hub.new }
+{
+    out.reserve(ROOM)?;
+    let Ok(id) = hub.open() else {
+        return Err(AllocError);
+    };
+    let ran = run_in(hub, limits, id, version, command, out);
+    let _ = hub.close(id);
+    ran
 }
 
 /// Runs a command in a new session, and appends its reply in a version.
 fn run_in<S: BuildHasher>(
     hub: &mut Hub<S>,
+    limits: &Limits,
     id: u64,
     version: Version,
     command: &[u8],
     out: &mut BytesMut,
-) -> Result<(), AllocError> {
-    if hub.bytes(id, command).is_err() {
+) -> Result<(), AllocError>
+    requires fresh { IsFresh hub.old id }
+    requires room { 64 ≤ out.old.spare }
+    ensures done { IsWithin limits.now hub.old → (request : Operation) →
+        IsSent limits.now command.now request →
+        OnOk result (HasServed request version hub.old hub.new out.old.items out.new.items) }
+    ensures failed { IsWithin limits.now hub.old → (request : Operation) →
+        IsSent limits.now command.now request →
+        OnErr result (hub.new.store ≡ hub.old.store) }
+    ensures no_reply { OnErr result (out.new.items ≡ out.old.items) }
+    ensures within { IsWithin limits.now hub.old → (request : Operation) →
+        IsSent limits.now command.now request →
+        IsWithin limits.now hub.new }
+{
+    limits.are_in_range();
+    grammar::no_spelling_is_empty();
+    grammar::no_spelling_begins_another();
+    grammar::fronts_of_spellings_are_viable();
+    grammar::the_empty_text_is_viable();
+    sessions::a_command_is_its_words();
+    sessions::a_text_has_one_answer();
+    sessions::effects_fit();
+    sessions::numbers_are_short();
+    let Ok(_) = hub.bytes(id, command) else {
         return Err(AllocError);
-    }
+    };
     match hub.out(id) {
         Ok(reply) => reply_again(out, version, reply),
         Err(_) => Err(AllocError),
     }
+}
+
+/// Returns how many of these keys exist. A key that is named twice is counted twice.
+pub(crate) fn count<S: BuildHasher>(hub: &Hub<S>, keys: Words<'_>) -> Option<u64>
+    ensures { IfSome result (λ count. count ≡ length (keys_in hub.now.store keys.entry)) }
+{
+    let mut count = 0_u64;
+    for key in keys {
+        if hub.get(key).is_some() {
+            count = count.checked_add(1)?;
+        }
+    }
+    Some(count)
+}
+
+/// Returns the number of keys. Takes time for each of them.
+pub(crate) fn size<S: BuildHasher>(hub: &Hub<S>) -> Option<u64>
+    ensures { IfSome result (λ count. count ≡ length hub.now.store) }
+{
+    let mut count = 0_u64;
+    for _ in hub.entries() {
+        count = count.checked_add(1)?;
+    }
+    Some(count)
 }

@@ -1,9 +1,9 @@
 //! The databases of a server, and its clients' ids.
 
 use crate::client::Client;
-use crate::database::Database;
 use crate::index::DATABASES;
 use resp_frames::Frames;
+use resp_server::Hub;
 use resp_value::limits::Limits;
 use resp_value::version::Version;
 use std::alloc::{AllocError, Global};
@@ -18,7 +18,8 @@ pub struct Databases<S: BuildHasher> {
     hasher: S,
     /// Finds the commands of the clients.
     pub(crate) frames: Frames,
-    pub(crate) list: Vec<Database<S>>,
+    /// The databases. Each is a hub, in which a session is open only while a command is run.
+    pub(crate) list: Vec<Hub<S>>,
     /// The last id that was given.
     last: u64,
 }
@@ -33,7 +34,7 @@ impl<S: BuildHasher + Copy> Databases<S> {
     pub fn new(alloc: Global, limits: Limits, hasher: S) -> Result<Self, AllocError> {
         let mut list = Vec::new(alloc);
         for _ in 0..DATABASES {
-            list.push(Database::new(alloc, limits, hasher))?;
+            list.push(Hub::new(alloc, limits, hasher))?;
         }
         Ok(Databases {
             alloc,
@@ -58,9 +59,9 @@ impl<S: BuildHasher + Copy> Databases<S> {
 
     /// Removes all keys of the database of this number.
     pub(crate) fn flush(&mut self, index: usize) {
-        let empty = Database::new(self.alloc, self.limits, self.hasher);
-        if let Some(database) = self.list.get_mut(index) {
-            drop(mem::replace(database, empty));
+        let empty = Hub::new(self.alloc, self.limits, self.hasher);
+        if let Some(hub) = self.list.get_mut(index) {
+            drop(mem::replace(hub, empty));
         }
     }
 }

@@ -6,7 +6,7 @@ ghost use Rattle.resp_session.specs.Operations as spec;
 ghost use Rattle.resp_databases.specs.Deeds.{Asked, Asks, SelectAsks, alone_asks, asked_by, client_asks, exists_asks, flush_asks, set_info_asks, set_name_asks};
 ghost use Rattle.resp_databases.specs.Deeds as asked;
 ghost use Rattle.resp_databases.specs.Names.{is_client_name};
-ghost use Rattle.resp_databases.specs.Running.{KeepsVersion};
+ghost use Rattle.resp_databases.specs.Serving.{KeepsVersion};
 ghost use Rattle.resp_databases.specs.declared.deed.Deed.TheVariants.{Pass};
 ghost use Rattle.resp_databases.specs.declared.refusal.Verb.TheVariants as verb;
 

@@ -1,16 +1,21 @@
 //! Runs a command of a client.
 
-ghost use Rattle.std.specs.Prelude.{◌≡◌, OnErr, OnOk};
+ghost use Rattle.std.specs.Prelude.{◌≡◌, ◌++◌, IfSome, IsSome, OnErr, OnOk};
+ghost use Rattle.resp_value.specs.Canonical.{canonical_text};
+ghost use Rattle.resp_value.specs.declared.version.Version.TheVariants.{Two};
 ghost use Rattle.resp_session.specs.Operations.{Operation};
 ghost use Rattle.resp_session.specs.Operations as one;
+ghost use Rattle.resp_session.specs.Replies.{natural};
 ghost use Rattle.resp_databases.specs.Deeds.{Request, asked_by};
 ghost use Rattle.resp_databases.specs.Running.{HasChanged, IfOfClientAlone, IsOfClient, IsUnchanged};
 
 use crate::client::Client;
+use crate::database;
 use crate::databases::Databases;
 use crate::deed::{Deed, deed_of};
 use crate::index::DATABASES;
 use crate::reply::{reply_greeting, reply_name, reply_number, reply_ok, reply_unknown};
+use bytes::BytesMut;
 use resp_scan::whole;
 use resp_value::version::Version;
 use std::alloc::AllocError;
@@ -53,17 +58,17 @@ impl<S: BuildHasher + Copy> Databases<S> {
             Deed::Pass => self.pass(client, command),
             Deed::Exists(keys) => {
                 let count = match self.list.get(client.database) {
-                    Some(database) => database.count(keys),
-                    None => 0,
+                    Some(hub) => database::count(hub, keys),
+                    None => Some(0),
                 };
-                reply_number(&mut client.out, count)
+                reply_count(&mut client.out, count)
             }
             Deed::DbSize => {
                 let count = match self.list.get(client.database) {
-                    Some(database) => database.size(),
-                    None => 0,
+                    Some(hub) => database::size(hub),
+                    None => Some(0),
                 };
-                reply_number(&mut client.out, count)
+                reply_count(&mut client.out, count)
             }
             Deed::FlushDb => {
                 reply_ok(&mut client.out)?;
@@ -84,9 +89,22 @@ impl<S: BuildHasher + Copy> Databases<S> {
     /// Runs a command in the client's database, and queues the reply.
     fn pass(&mut self, client: &mut Client, command: &[u8]) -> Result<(), AllocError> {
         match self.list.get_mut(client.database) {
-            Some(database) => database.run(client.version, command, &mut client.out),
+            Some(hub) => database::run(hub, &self.limits, client.version, command, &mut client.out),
             None => Err(AllocError),
         }
+    }
+}
+
+/// Appends the reply to a number.
+fn reply_count(out: &mut BytesMut, count: Option<u64>) -> Result<(), AllocError>
+    ensures appended { OnOk result (IfSome count (λ count. out.new.items ≡ out.old.items ++
+        canonical_text Two (natural count))) }
+    ensures some { OnOk result (IsSome count) }
+    ensures unchanged { OnErr result (out.new.items ≡ out.old.items) }
+{
+    match count {
+        Some(count) => reply_number(out, count),
+        None => Err(AllocError),
     }
 }
 

@@ -1,6 +1,6 @@
 //! Writes replies. Each function appends a whole reply, or leaves the buffer unchanged.
 
-ghost use Rattle.std.specs.Prelude.{◌≡◌, ◌+◌, ◌≤◌, ◌++◌, length, codes, decimal, OnOk, OnErr};
+ghost use Rattle.std.specs.Prelude.{◌≡◌, ◌+◌, ◌<◌, ◌≤◌, ◌++◌, length, codes, decimal, OnOk, OnErr};
 ghost use Rattle.resp_value.specs.Canonical.{canonical_text};
 ghost use Rattle.resp_value.specs.declared.version.Version.TheVariants.{Two};
 ghost use Rattle.resp_session.specs.Replies.{error, hello_reply, natural, null};
@@ -77,6 +77,7 @@ pub(crate) fn reply_name(
 fn reply_null(out: &mut BytesMut, version: Version) -> Result<(), AllocError>
     ensures appended { OnOk result (out.new.items ≡ out.old.items ++ canonical_text version null) }
     ensures unchanged { OnErr result (out.new.items ≡ out.old.items) }
+    ensures no_room { OnErr result (out.old.spare < 5) }
 {
     match version {
         Version::Two => out.extend_from_slice(b"$-1\r\n"),
@@ -92,6 +93,7 @@ pub(crate) fn reply_again(
 ) -> Result<(), AllocError>
     ensures appended { OnOk result (out.new.items ≡ out.old.items ++ in_version version reply.now) }
     ensures unchanged { OnErr result (out.new.items ≡ out.old.items) }
+    ensures no_room { OnErr result (out.old.spare < length reply.now) }
 {
     if reply == b"$-1\r\n".as_slice() {
         return reply_null(out, version);
