@@ -580,7 +580,7 @@ def ping_of_the_proxy():
                    "commands_waiting": 0, "commands_failed": 0, "bytes_unsent": 0, "server_connections": 0, "server_lines": 1,
                    "reply_us_p50": 0, "reply_us_p99": 0, "reply_us_max": 0}
         lines = "".join(f"{name}:{number}\r\n" for name, number in counted.items())
-        ask(client, command(b"INFO", b"proxy"), bulk(b"# Proxy\r\n" + lines.encode()))
+        ask(client, command(b"INFO", b"proxy"), bulk(b"# Proxy\r\n" + lines.encode() + b"cmdstat_info:calls=1\r\ncmdstat_ping:calls=2\r\n"))
         client.sendall(get(b"a"))
         assert line_of(client).startswith(NOT_CONNECTED)
 
