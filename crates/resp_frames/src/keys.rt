@@ -16,8 +16,8 @@ impl Frames {
     /// Returns the words of a command that are keys, by its row in the table of commands. They are
     /// borrowed from the bytes of the command, and nothing is allocated.
     ///
-    /// Returns `None` if the table has no such command or subcommand, or if the number of its keys
-    /// is no decimal number or greater than the number of words after it.
+    /// Returns `None` if the table has no such command or subcommand, or if the number of its keys is
+    /// no decimal number or greater than the number of words after it.
     pub fn keys<'a>(&self, found: &'a CommandFrame<'_>) -> Option<KeyWords<'a>>
         // The words at exactly the places that the row names.
         ensures keys { (name : List ℕ) (arguments : List (List ℕ)) →
