@@ -1,6 +1,6 @@
 //! A database, which is a hub without a session, and the run of a command on it.
 
-ghost use Rattle.std.specs.Prelude.{◌≡◌, ◌≤◌, length, IfSome, OnErr, OnOk};
+ghost use Rattle.std.specs.Prelude.{◌≡◌, ◌≤◌, ◌^◌, length, IfNone, IfSome, OnErr, OnOk};
 ghost use Rattle.resp_session.specs.Operations.{Operation};
 ghost use Rattle.resp_databases.specs.Outcomes.{keys_in};
 ghost use Rattle.resp_databases.specs.Serving.{HasServed, IsFresh, IsSent};
@@ -93,9 +93,11 @@ fn run_in<S: BuildHasher>(
     }
 }
 
-/// Returns how many of these keys exist. A key that is named twice is counted twice.
+/// Returns how many of these keys exist, or `None` if there are 2^64 or more. A key that is named twice is
+/// counted twice.
 pub(crate) fn count<S: BuildHasher>(hub: &Hub<S>, keys: Words<'_>) -> Option<u64>
-    ensures { IfSome result (λ count. count ≡ length (keys_in hub.now.store keys.entry)) }
+    ensures some { IfSome result (λ count. count ≡ length (keys_in hub.now.store keys.entry)) }
+    ensures none { IfNone result (2 ^ 64 ≤ length (keys_in hub.now.store keys.entry)) }
 {
     let mut count = 0_u64;
     for key in keys {
@@ -106,9 +108,10 @@ pub(crate) fn count<S: BuildHasher>(hub: &Hub<S>, keys: Words<'_>) -> Option<u64
     Some(count)
 }
 
-/// Returns the number of keys. Takes time for each of them.
+/// Returns the number of keys, or `None` if there are 2^64 or more. Takes time for each of them.
 pub(crate) fn size<S: BuildHasher>(hub: &Hub<S>) -> Option<u64>
-    ensures { IfSome result (λ count. count ≡ length hub.now.store) }
+    ensures some { IfSome result (λ count. count ≡ length hub.now.store) }
+    ensures none { IfNone result (2 ^ 64 ≤ length hub.now.store) }
 {
     let mut count = 0_u64;
     for _ in hub.entries() {
