@@ -98,7 +98,10 @@ waiting.join()
 assert popped == [(b"blocking list", b"value")], popped
 
 # Other databases and users: clients in the same setting share a connection, and none gets another's own.
-before = client.info("proxy")["clients_own"]
+before = 2
+# The connection of BLPOP is closed, and those of the transaction and of the subscription are left.
+while client.info("proxy")["clients_own"] != before:
+    pass
 others = [(redis.Redis(port=port, db=db, username=user, password=user and "secret"), db, user)
           for db in (0, 3, 5) for user in (None, "bea") for _ in range(4)]
 for number, (other, db, user) in enumerate(others):
