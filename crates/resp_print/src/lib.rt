@@ -5,5 +5,6 @@
 
 pub mod live;
 pub mod print_error;
+mod quote;
 pub mod text;
 pub mod value;

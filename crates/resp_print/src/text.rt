@@ -1,14 +1,18 @@
 //! Parts of lines: plain text, numbers, and bytes in quotes.
 
-ghost use Rattle.std.specs.Prelude.{◌≡◌, ◌++◌, ◌<◌, ◌≤◌, false, true, length, drop, take, slice_index};
-ghost use Rattle.resp_print.specs.Shown.{escape_of, hex_digit, indentation, is_cut, is_plain, quoted_text, shown_part};
+ghost use Rattle.std.specs.Prelude.{◌≡◌, ◌++◌, ◌≤◌, false, true, length, drop, take};
+ghost use Rattle.resp_print.specs.Shown.{indentation, is_cut, quoted_text, shown_part};
 ghost use Rattle.resp_print.specs.Written.{WritesText};
 
+use crate::quote::{BLOCK, is_plain, quote_block};
 use itoa::{Buffer, Integer};
 use resp_value::device::{DeviceFault, Sink, write_all};
 
 /// The number of bytes that are tested together.
 const RUN: usize = 64;
+
+/// The number of plain bytes that are worth a write of their own.
+const LONG: usize = 16;
 
 /// The indentation of 128 levels.
 const SPACES: [u8; 256] = [b' '; 256];
@@ -93,39 +97,6 @@ pub fn write_indentation<W: Sink>(writer: &mut W, level: u64) -> Result<(), Devi
     write_text(writer, &SPACES[..2 * left as usize])
 }
 
-/// Returns whether a byte is printed unchanged inside quotes: printable ASCII except `"` and `\`.
-fn is_plain(byte: u8) -> bool
-    ensures { result ≡ is_plain byte }
-{
-    32 <= byte && byte <= 126 && byte != b'"' && byte != b'\\'
-}
-
-/// Returns the hexadecimal digit of a number below 16, in lower case.
-fn hex_digit(n: u8) -> u8
-    requires { n < 16 }
-    ensures { result ≡ hex_digit n }
-{
-    if n < 10 { n + b'0' } else { n - 10 + b'a' }
-}
-
-/// Writes a byte that is escaped inside quotes.
-fn write_escaped<W: Sink>(writer: &mut W, byte: u8) -> Result<(), DeviceFault>
-    ensures { WritesText (W.written writer.old) (W.written writer.new) (W.failures writer.old)
-        (W.failures writer.new) result (escape_of byte) }
-{
-    match byte {
-        b'"' => write_text(writer, b"\\\""),
-        b'\\' => write_text(writer, b"\\\\"),
-        b'\r' => write_text(writer, b"\\r"),
-        b'\n' => write_text(writer, b"\\n"),
-        b'\t' => write_text(writer, b"\\t"),
-        _ => write_text(
-            writer,
-            &[b'\\', b'x', hex_digit(byte / 16), hex_digit(byte % 16)],
-        ),
-    }
-}
-
 /// Returns whether all bytes are printed unchanged inside quotes. It tests every byte without
 /// stopping early, so that many are tested together.
 pub fn is_all_plain(text: &[u8]) -> bool
@@ -142,7 +113,6 @@ pub fn is_all_plain(text: &[u8]) -> bool
 fn plain_length(text: &[u8]) -> usize
     ensures within { result ≤ length text.now }
     ensures plain { quoted_text (take result text.now) ≡ take result text.now }
-    ensures whole { result < length text.now → is_plain (slice_index text.now result) ≡ false }
 {
     let mut length = 0;
     while text.len() - length >= RUN && is_all_plain(&text[length..length + RUN]) {
@@ -164,20 +134,25 @@ pub fn write_quoted<W: Sink>(writer: &mut W, text: &[u8]) -> Result<(), DeviceFa
         (W.failures writer.new) result (quoted_text text.now) }
 {
     let mut rest = text;
-    while let Some((byte, beyond)) = rest.split_first() {
-        let (plain, other) = rest.split_at(plain_length(rest));
-        if plain.is_empty() {
-            write_escaped(writer, *byte)?;
-            rest = beyond;
+    while !rest.is_empty() {
+        let plain = plain_length(rest);
+        if plain >= LONG || plain == rest.len() {
+            let (front, other) = rest.split_at(plain);
+            write_text(writer, front)?;
+            rest = other;
         } else {
-            write_text(writer, plain)?;
+            let (front, other) = rest.split_at(rest.len().min(BLOCK));
+            let mut quoted = [0; 4 * BLOCK];
+            let length = quote_block(front, &mut quoted);
+            write_text(writer, &quoted[..length])?;
             rest = other;
         }
     }
     Ok(())
 }
 
-/// Returns the part of a text that is printed: at most its first `most` bytes, if there is a most.
+/// Returns the part of a text that is printed: at most its first `most` bytes, or all if `most` is
+/// `None`.
 pub fn shown_part(text: &[u8], most: Option<usize>) -> &[u8]
     ensures { result.now ≡ shown_part most text.now }
 {
