@@ -15,7 +15,8 @@ HERE = os.path.dirname(os.path.realpath(__file__))
 TOP = os.path.dirname(HERE)
 SONAME = "libresp.so.0"
 ABOUT = "share/doc/resp"
-PROCESSOR = "x86-64"
+# The processors that the program and the library are compiled for: all 64-bit x86 processors. The gate names those of `rt ci`.
+PROCESSOR = os.environ.get("RESP_PROCESSOR") or "x86-64"
 # The crates that are installed, with the file that each is built as.
 MADE = {"resp": "resp", "resp_c": "libresp_c.a"}
 EXPORTS = "RESP_0 { global: resp_*; local: *; };\n"
