@@ -296,6 +296,12 @@ def reply_that_nobody_waits_for():
         assert b"\nserver lost: no command waits for this reply\n" in proxy.printed(), proxy.printed()
 
 
+def numbers_of(client):
+    """Returns the numbers that the proxy replies with to INFO proxy."""
+    client.sendall(command(b"INFO", b"proxy"))
+    return {name: int(number) for name, number in re.findall(rb"(\w+):(\d+)\r\n", hear_section(client))}
+
+
 def line_of(stream):
     """Reads one line."""
     heard = b""
@@ -472,6 +478,23 @@ def client_that_does_not_read():
     peer.listener.close()
 
 
+def client_that_never_reads():
+    """A client for which more bytes wait than --unread says is closed, and no other one."""
+    value = b"v" * 102_400
+    peer = Answering(lambda words: bulk(value if words[-1] == b"large" else words[-1]))
+    with running("proxy", "127.0.0.1:0", peer.address, "--unread", "10M") as proxy, connect(proxy.port) as other:
+        with connect(proxy.port) as slow, connect(proxy.port) as greedy:
+            # (102 replies are less than 10 MiB)
+            slow.sendall(get(b"large") * 102)
+            greedy.sendall(get(b"large") * 400)
+            until(lambda: numbers_of(other)[b"clients_unread"] == 1, "a client that never reads is not closed")
+            assert numbers_of(other)[b"clients"] == 2
+            for _ in range(102):
+                hear(slow, bulk(value))
+            ask(slow, get(b"small"), bulk(b"small"))
+    peer.listener.close()
+
+
 def server_that_does_not_read():
     """No client is read while more bytes wait for the server than --unsent says, and nothing is lost by that."""
     with proxied("--unsent", "100000") as (proxy, _, server), contextlib.ExitStack() as streams:
@@ -576,7 +599,7 @@ def ping_of_the_proxy():
     with running("proxy", "127.0.0.1:0", f"127.0.0.1:{port}", "--local-ping") as proxy, connect(proxy.port) as client:
         ask(client, PING, PONG)
         ask(client, command(b"PING", b"word"), bulk(b"word"))
-        counted = {"clients": 1, "clients_accepted": 1, "clients_rejected": 0, "clients_own": 0, "commands": 0,
+        counted = {"clients": 1, "clients_accepted": 1, "clients_rejected": 0, "clients_unread": 0, "clients_own": 0, "commands": 0,
                    "commands_waiting": 0, "commands_failed": 0, "bytes_unsent": 0, "server_connections": 0, "server_lines": 1,
                    "reply_us_p50": 0, "reply_us_p99": 0, "reply_us_max": 0}
         lines = "".join(f"{name}:{number}\r\n" for name, number in counted.items())
@@ -592,11 +615,11 @@ def reports():
         hear(server, PING + PING)
         server.sendall(PONG)
         hear(client, PONG)
-        wanted = b"\nclients 1 accepted 1 rejected 0 own 0 commands 2 waiting 1 failed 0 unsent 0 connections 1 lines 1 p50 "
+        wanted = b"\nclients 1 accepted 1 rejected 0 unread 0 own 0 commands 2 waiting 1 failed 0 unsent 0 connections 1 lines 1 p50 "
         until(lambda: wanted in proxy.printed(), "no line has the numbers")
         server.close()
         hear(client, LOST)
-        wanted = b"\nclients 1 accepted 1 rejected 0 own 0 commands 2 waiting 0 failed 1 unsent 0 connections 2 lines 1 p50 "
+        wanted = b"\nclients 1 accepted 1 rejected 0 unread 0 own 0 commands 2 waiting 0 failed 1 unsent 0 connections 2 lines 1 p50 "
         until(lambda: wanted in proxy.printed(), "no line has the numbers after the loss")
         before = proxy.printed().count(b"\nclients ")
         time.sleep(2.5)
@@ -613,10 +636,7 @@ def times_of_replies():
                 time.sleep(pause)
                 server.sendall(PONG)
                 hear(client, PONG)
-        client.sendall(command(b"INFO", b"proxy"))
-        head = line_of(client)
-        text = client.recv(int(head[1:]) + 2)
-        found = {name: int(number) for name, number in re.findall(rb"(\w+):(\d+)\r\n", text)}
+        found = numbers_of(client)
         assert found[b"commands"] == 200 and found[b"commands_waiting"] == 0, found
         # 98 of 100 replies take no time, and the proxy reads the clock at each turn.
         assert found[b"reply_us_p50"] < 150_000, found
@@ -962,7 +982,7 @@ sends these too; name only those that have one reply and do not wait
 
 TESTS = [pipelines_cut_at_random, client_that_goes, end_of_input, server_that_closes, server_that_ends_inside_a_reply,
          reply_that_nobody_waits_for, server_that_is_not_there, patience, protocol_error, own_replies, lines,
-         client_that_does_not_read, server_that_does_not_read, one_command_at_a_time, login,
+         client_that_does_not_read, client_that_never_reads, server_that_does_not_read, one_command_at_a_time, login,
          admitted_commands, ping_of_the_proxy, reports, times_of_replies, errors_by_word, end_of_standard_input, most_of_proxy,
          descriptors_of_proxy, busy_clients, own_address_of_proxy, check_of_commands, probes,
          server_out_of_step]

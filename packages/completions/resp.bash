@@ -13,7 +13,7 @@ _resp() {
     --proto) COMPREPLY=($(compgen -W "2 3" -- "$word")) && return ;;
     --color) COMPREPLY=($(compgen -W "auto always never" -- "$word")) && return ;;
     --depth | --length | --total | --items | --piece | --clients | --held | --shown | --user | --window | \
-        --own | --lines | --waiting | --unsent | --patience | --report | --slower | --command | --key | --client | --port) return ;;
+        --own | --lines | --waiting | --unread | --unsent | --patience | --report | --slower | --command | --key | --client | --port) return ;;
     esac
     case $command in
     show | check | canon) options="-2 -3 --proto $limits --doubles --piece --color --utf8 --json --explain --no-explain -h --help" ;;
@@ -23,7 +23,7 @@ _resp() {
         options="$limits --clients --time --errors --slower --command --key --client --connections --stats --stats-every --exit-with-output --keep-going --no-inline --show-passwords --shown --record --replay --port --color --utf8 -h --help"
         ;;
     proxy)
-        options="$limits --clients --own --lines --waiting --held --unsent --patience --report --local-ping --no-inline --drain --also --check-every --check --all -h --help"
+        options="$limits --clients --own --lines --waiting --held --unread --unsent --patience --report --local-ping --no-inline --drain --also --check-every --check --all -h --help"
         ;;
     ask) options="-3 --user --window --raw --count --color --utf8 --json $limits -h --help" ;;
     help) [ "$COMP_CWORD" -ne 2 ] || COMPREPLY=($(compgen -W "$commands" -- "$word")) ;;

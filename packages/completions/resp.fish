@@ -60,6 +60,7 @@ complete -c resp -n '__fish_seen_subcommand_from tap' -l json -d 'Prints each co
 complete -c resp -n '__fish_seen_subcommand_from proxy' -l own -x -d 'Maximum clients with a connection of their own, 0 to 65536'
 complete -c resp -n '__fish_seen_subcommand_from proxy' -l lines -x -d 'Maximum connections that clients share, 1 to 256'
 complete -c resp -n '__fish_seen_subcommand_from proxy' -l waiting -x -d 'Maximum commands of a client that wait, 1 to 1048576'
+complete -c resp -n '__fish_seen_subcommand_from proxy' -l unread -x -d 'Maximum bytes waiting for a client before it is closed, 1 to 1024G'
 complete -c resp -n '__fish_seen_subcommand_from proxy' -l unsent -x -d 'Maximum bytes waiting for the server, 1 to 1024G'
 complete -c resp -n '__fish_seen_subcommand_from proxy' -l patience -x -d 'Milliseconds to wait for a reply, 1 to 3600000'
 complete -c resp -n '__fish_seen_subcommand_from proxy' -l report -x -d 'Prints a line with numbers every N seconds, 0 to 86400'

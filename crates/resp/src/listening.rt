@@ -390,6 +390,7 @@ fn settings_of(rt: &HostRuntime, options: &ProxyOptions) -> ProxySettings {
         },
         most: most_clients(rt, options.clients, descriptors_of_proxy(options)),
         own: options.own,
+        unread: options.unread,
         lines: options.lines,
         patience: Duration::from_millis(options.patience),
         report: report_of(options.report),

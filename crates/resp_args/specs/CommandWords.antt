@@ -223,6 +223,7 @@ pub record HasProxyOptions (given : List Row) (options : ProxyOptions) : Type 0 
   pub alone : HasNumberBetween given (codes "own") 0 65536 options.own
   pub unanswered : HasNumberBetween given (codes "waiting") 1 1048576 options.waiting
   pub for_client : HasSize given (codes "held") 1 1099511627776 options.held
+  pub unread : HasSize given (codes "unread") 1 1099511627776 options.unread
   pub for_server : HasSize given (codes "unsent") 1 1099511627776 options.unsent
   pub times : HasProxyTimes given (options.patience, options.report)
   pub probes : HasNumberBetween given (codes "check-every") 0 1000000000 options.check_every

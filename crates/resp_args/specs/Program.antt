@@ -140,6 +140,7 @@ proxy_options = listening_options
     number_option (codes "lines") 1 256 (codes "16") ∷
     number_option (codes "waiting") 1 1048576 (codes "1024") ∷
     size_option (codes "held") (codes "1M") ∷
+    size_option (codes "unread") (codes "1G") ∷
     size_option (codes "unsent") (codes "1M") ∷
     number_option (codes "patience") 1 3600000 (codes "5000") ∷
     number_option (codes "report") 0 86400 (codes "0") ∷

@@ -196,6 +196,9 @@ pub(crate) fn wrong_options<'a>(given: &ArgMatches<'a>) -> NothingAsked<'a> {
     if let Some(wrong) = wrong_size(given, "shown", 32, MOST_BYTES) {
         return wrong;
     }
+    if let Some(wrong) = wrong_size(given, "unread", 1, MOST_BYTES) {
+        return wrong;
+    }
     wrong_size(given, "unsent", 1, MOST_BYTES).unwrap_or(NothingAsked::OtherWords)
 }
 

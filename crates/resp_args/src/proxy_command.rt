@@ -19,6 +19,7 @@ pub(crate) const PROXY: Subcommand = Subcommand {
         LINES,
         WAITING,
         HELD,
+        UNREAD,
         UNSENT,
         PATIENCE,
         REPORT,
@@ -100,6 +101,13 @@ const HELD: Parameter = Parameter {
     name: "held",
     form: Form::Size { default: "1M" },
     help: "Maximum bytes waiting for a client when its next\ncommand is read, 1 to 1024G",
+};
+
+/// `--unread`: the most bytes that wait for a client before it is closed.
+const UNREAD: Parameter = Parameter {
+    name: "unread",
+    form: Form::Size { default: "1G" },
+    help: "Maximum bytes waiting for a client before it is\nclosed, 1 to 1024G",
 };
 
 /// `--unsent`: the most bytes that wait for the server when a command is taken.

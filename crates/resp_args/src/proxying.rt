@@ -48,6 +48,8 @@ pub struct ProxyOptions {
     pub waiting: u32,
     /// The most bytes that wait to be written to a client when its next command is taken.
     pub held: usize,
+    /// The most bytes that wait to be written to a client; with more it is closed.
+    pub unread: usize,
     /// The most bytes that wait to be written to the server when a command is taken.
     pub unsent: usize,
     /// The milliseconds without a reply, while commands wait, after which the connection to the
@@ -144,6 +146,7 @@ fn options_of(matches: &ArgMatches<'_>) -> Option<ProxyOptions>
         own: number_between(matches, "own", 0, 65_536)? as usize,
         waiting: number_between(matches, "waiting", 1, 1_048_576)? as u32,
         held: bytes_of(matches, "held", 1, MOST_BYTES)? as usize,
+        unread: bytes_of(matches, "unread", 1, MOST_BYTES)? as usize,
         unsent: bytes_of(matches, "unsent", 1, MOST_BYTES)? as usize,
         patience,
         report,

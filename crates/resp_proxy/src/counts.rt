@@ -16,6 +16,8 @@ pub struct Numbers {
     pub accepted: u64,
     /// The clients that were rejected, because the most were open or memory was out.
     pub rejected: u64,
+    /// The clients that were closed, because too many bytes waited for them.
+    pub unread: u64,
     /// The open clients that have a connection of their own.
     pub own: u64,
     /// The commands that were queued for the server.
@@ -39,6 +41,7 @@ impl Numbers {
             clients: self.clients.saturating_add(other.clients),
             accepted: self.accepted.saturating_add(other.accepted),
             rejected: self.rejected.saturating_add(other.rejected),
+            unread: self.unread.saturating_add(other.unread),
             own: self.own.saturating_add(other.own),
             commands: self.commands.saturating_add(other.commands),
             failed: self.failed.saturating_add(other.failed),
@@ -55,6 +58,7 @@ impl Numbers {
             clients: self.clients.saturating_sub(other.clients),
             accepted: self.accepted.saturating_sub(other.accepted),
             rejected: self.rejected.saturating_sub(other.rejected),
+            unread: self.unread.saturating_sub(other.unread),
             own: self.own.saturating_sub(other.own),
             commands: self.commands.saturating_sub(other.commands),
             failed: self.failed.saturating_sub(other.failed),
@@ -71,6 +75,8 @@ impl Numbers {
 pub enum Counted {
     /// A client was rejected.
     Rejected,
+    /// A client was closed, because too many bytes waited for it.
+    Unread,
     /// A client that was opened by [`Proxy::enter`](crate::Proxy::enter) is open. It was accepted
     /// before.
     Entered,
@@ -96,6 +102,7 @@ pub(crate) struct Counts {
     /// The clients that have come from another proxy, or have come back.
     entered: u64,
     rejected: u64,
+    unread: u64,
     own: u64,
     commands: u64,
     failed: u64,
@@ -119,6 +126,7 @@ impl Counts {
             hidden: 0,
             entered: 0,
             rejected: 0,
+            unread: 0,
             own: 0,
             commands: 0,
             failed: 0,
@@ -142,6 +150,7 @@ impl Counts {
                 .saturating_sub(self.hidden)
                 .saturating_sub(self.entered),
             rejected: self.rejected,
+            unread: self.unread,
             own: self.own,
             commands: self.commands,
             failed: self.failed,
@@ -210,6 +219,7 @@ impl Counts {
     pub(crate) fn add(&mut self, counted: Counted) {
         match counted {
             Counted::Rejected => self.rejected = self.rejected.saturating_add(1),
+            Counted::Unread => self.unread = self.unread.saturating_add(1),
             Counted::Entered => self.entered = self.entered.saturating_add(1),
             Counted::OwnOpened => self.own = self.own.saturating_add(1),
             Counted::OwnClosed => self.own = self.own.saturating_sub(1),

@@ -68,6 +68,7 @@ fn section_of(alloc: Global, counts: &Counts, mux: &Mux) -> Result<String, Alloc
         clients,
         accepted,
         rejected,
+        unread,
         own,
         commands,
         failed,
@@ -82,7 +83,7 @@ fn section_of(alloc: Global, counts: &Counts, mux: &Mux) -> Result<String, Alloc
         most,
     } = counts.times();
     let mut text = format!(in alloc;
-        "# Proxy\r\nclients:{clients}\r\nclients_accepted:{accepted}\r\nclients_rejected:{rejected}\r\nclients_own:{own}\r\ncommands:{commands}\r\ncommands_waiting:{waiting}\r\ncommands_failed:{failed}\r\nbytes_unsent:{unsent}\r\nserver_connections:{connections}\r\nserver_lines:{lines}\r\nreply_us_p50:{median}\r\nreply_us_p99:{percentile_99}\r\nreply_us_max:{most}\r\n"
+        "# Proxy\r\nclients:{clients}\r\nclients_accepted:{accepted}\r\nclients_rejected:{rejected}\r\nclients_unread:{unread}\r\nclients_own:{own}\r\ncommands:{commands}\r\ncommands_waiting:{waiting}\r\ncommands_failed:{failed}\r\nbytes_unsent:{unsent}\r\nserver_connections:{connections}\r\nserver_lines:{lines}\r\nreply_us_p50:{median}\r\nreply_us_p99:{percentile_99}\r\nreply_us_max:{most}\r\n"
     )?;
     counts.add_lines(alloc, &mut text)?;
     Ok(text)

@@ -1,6 +1,6 @@
 //! The proxy.
 
-ghost use Rattle.std.specs.Prelude.{◌≡◌, ◌↔◌, ◌⊎◌, ◌++◌, ℕ, List, None, Some, true, false, [], drop, length, slice_get, take, IfOk, IfSome, IsErrOf, IsTrue, OnErr, OnOk};
+ghost use Rattle.std.specs.Prelude.{◌≡◌, ◌↔◌, ◌⊎◌, ◌++◌, ℕ, List, None, Some, true, false, [], drop, length, slice_get, take, unwrap_or, IfOk, IfSome, IsErrOf, IsTrue, OnErr, OnOk};
 ghost use Rattle.resp_frames.specs.Framing.{HasBegun};
 ghost use Rattle.resp_mux.specs.Multiplexing.{HasAnsweredSome, HasClosed, HasNoNumberLeft, HasOpened, HasPassed, KeepsBytes, KeepsClients, KeepsPassed, WherePassed, begun_count, unsent, waiting_clients, waiting_for};
 ghost use Rattle.resp_mux.specs.Passing.{nothing_passed, with_command, with_given, with_loss};
@@ -318,6 +318,17 @@ impl Proxy {
         ensures { result ≡ length (unsent (mux_of self.now)) }
     {
         self.mux.to_server().len()
+    }
+
+    /// Returns the number of bytes that wait to be written to this client, 0 if it is not open.
+    pub fn unread(&self, client: &Client) -> usize
+        ensures { result ≡ length (unwrap_or
+            (waiting_for (mux_of self.now) (client_id client.now)) []) }
+    {
+        match self.mux.to_client(client.id) {
+            Some(text) => text.len(),
+            None => 0,
+        }
     }
 
     /// Returns the number of commands that wait for replies.

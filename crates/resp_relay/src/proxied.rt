@@ -122,6 +122,14 @@ impl Proxied {
         }
     }
 
+    /// Returns the number of bytes that wait for a client that shares a connection.
+    pub(crate) fn unread(&self, proxy: &Proxy) -> usize {
+        match &self.link {
+            Link::Shared(_, client) => proxy.unread(client),
+            _ => 0,
+        }
+    }
+
     /// Reads bytes of the client if there may be some, and writes bytes that wait for it, with at
     /// most one read and one write.
     pub(crate) fn visit(&mut self, proxy: &mut Proxy, buffer: &mut [u8]) -> Next

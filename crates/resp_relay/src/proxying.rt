@@ -44,6 +44,8 @@ pub struct ProxySettings {
     pub most: usize,
     /// The most clients at once that have a connection of their own.
     pub own: usize,
+    /// A client that shares a connection is closed when more bytes than this wait for it.
+    pub unread: usize,
     /// The most connections to the server that clients share, one for each setting, from 1 to 256.
     pub lines: usize,
     /// The time without a reply after which the connection to the server is given up, if a command

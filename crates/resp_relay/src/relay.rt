@@ -235,6 +235,10 @@ impl Relay {
         let queued = channel.proxy.waiting().saturating_sub(before);
         channel.note_queued(rt, queued, self.settings.check_every);
         channel.send_eagerly(rt);
+        if connection.unread(&channel.proxy) > self.settings.unread {
+            channel.proxy.count(Counted::Unread);
+            return Next::Close;
+        }
         if connection.leaves(&channel.proxy) {
             return self.leave(rt, connection, registry, number);
         }

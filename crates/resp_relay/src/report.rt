@@ -79,6 +79,7 @@ fn line_of(alloc: Global, numbers: (Numbers, Times)) -> Result<Vec<u8>, AllocErr
         clients,
         accepted,
         rejected,
+        unread,
         own,
         commands,
         failed,
@@ -93,7 +94,7 @@ fn line_of(alloc: Global, numbers: (Numbers, Times)) -> Result<Vec<u8>, AllocErr
         most,
     } = times;
     let line = format!(in alloc;
-        "clients {clients} accepted {accepted} rejected {rejected} own {own} commands {commands} waiting {waiting} failed {failed} unsent {unsent} connections {connections} lines {lines} p50 {median} p99 {percentile_99} max {most}\n"
+        "clients {clients} accepted {accepted} rejected {rejected} unread {unread} own {own} commands {commands} waiting {waiting} failed {failed} unsent {unsent} connections {connections} lines {lines} p50 {median} p99 {percentile_99} max {most}\n"
     )?;
     Ok(line.into_bytes())
 }

@@ -49,7 +49,13 @@ returns-in_err-bytes_of-clause-none c =
 pub returns-in_err-bytes_of-2-clause-none : goal.returns-in_err-bytes_of-2-clause-none
 returns-in_err-bytes_of-2-clause-none c =
     let none : (options : ProxyOptions) → HasProxyOptions (rows_of (found_of c.args.matches.now)) options → ⊥ =
-    λ options has. c.in_err-bytes_of-2.ensures.none _ has.for_server in
+    λ options has. c.in_err-bytes_of-2.ensures.none _ has.unread in
+    if_none _ _ none
+
+pub returns-in_err-bytes_of-3-clause-none : goal.returns-in_err-bytes_of-3-clause-none
+returns-in_err-bytes_of-3-clause-none c =
+    let none : (options : ProxyOptions) → HasProxyOptions (rows_of (found_of c.args.matches.now)) options → ⊥ =
+    λ options has. c.in_err-bytes_of-3.ensures.none _ has.for_server in
     if_none _ _ none
 
 pub returns-in_err-number_between-3-clause-none : goal.returns-in_err-number_between-3-clause-none
