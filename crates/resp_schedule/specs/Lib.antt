@@ -2,3 +2,4 @@ pub mod Places
 pub mod Plans
 pub mod Stands
 pub mod Rounds
+pub mod Attempts

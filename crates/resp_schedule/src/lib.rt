@@ -7,10 +7,14 @@
 //! A round visits each place that is queued when the round begins, once and in order. A place that
 //! is queued again is visited in the next round. A place that is closed is not used again in the
 //! same round, so a late event of its old connection never reaches a new one.
+//!
+//! [`Attempts`] decides when a connection to a server is tried again, and when it is given up.
 #![tactic(auto)]
 
+pub mod attempts;
 pub mod laws;
 mod queue;
 mod schedule;
 
+pub use attempts::{Attempts, Phase, Quiet};
 pub use schedule::{Backlog, OpenError, Schedule, State, Wait};
