@@ -3,6 +3,7 @@
 use std::fmt::Debug;
 use std::process::Abort;
 
+mod attempts;
 mod counts;
 mod failing;
 mod live;
