@@ -15,7 +15,6 @@ mod proxied;
 mod proxying;
 mod relay;
 mod report;
-mod retry;
 mod server_link;
 mod stalled;
 

@@ -3,7 +3,6 @@
 ghost use Rattle.std.specs.Prelude.{◌<◌, length};
 
 use crate::entry::{Entry, Progress};
-use crate::retry::next_pause;
 use mio::{Interest, Registry, Token};
 use resp_loop::backend::{Attempt, Backend};
 use resp_loop::non_blocking::{Input, Output, is_open};
@@ -12,6 +11,7 @@ use resp_loop::service::token_of;
 use resp_loop::spare::Spare;
 use resp_loop::stream::Stream;
 use resp_proxy::{Proxy, ServerError, Setting, Written};
+use resp_schedule::Attempts;
 use resp_value::device::Device;
 use std::alloc::{AllocError, Global};
 use std::io::ErrorKind;
@@ -55,21 +55,12 @@ pub(crate) enum Loss {
 /// The state of the connection to the server.
 #[derive(Drop)]
 enum State {
-    /// There is no connection. The next attempt is made at this time.
-    Down {
-        until: Duration,
-    },
-    /// A connection was begun at this time.
-    Opening {
-        stream: Stream,
-        since: Duration,
-    },
-    /// The proxy logs in over the connection that was begun at this time.
-    Greeting {
-        stream: Stream,
-        since: Duration,
-        entry: Entry,
-    },
+    /// There is no connection.
+    Down,
+    /// A connection was begun.
+    Opening(Stream),
+    /// The proxy logs in over the connection.
+    Greeting(Stream, Entry),
     /// The connection is open.
     Open(Line),
 }
@@ -95,14 +86,6 @@ struct Line {
     may_read: bool,
     /// Whether the input may have ended.
     is_at_end: bool,
-    /// Whether a reply has come over this connection, and whether one has come since the last look
-    /// at the time.
-    has_replied: bool,
-    replied: bool,
-    /// Whether a command waited at the last look at the time.
-    waited: bool,
-    /// The last time at which no command waited or a reply came.
-    quiet_since: Duration,
 }
 
 /// The connection to the server, and when it is tried again.
@@ -120,13 +103,10 @@ pub(crate) struct ServerLink {
     login: Vec<u8>,
     /// The reply of the server to HELLO, or no byte.
     hello: Vec<u8>,
-    patience: Duration,
     spare: Spare,
     state: State,
-    /// The pause before the last attempt, in milliseconds.
-    pause: u64,
-    /// The current time.
-    now: Duration,
+    /// When the connection is tried again, and when it is given up.
+    attempts: Attempts,
 }
 
 impl ServerLink {
@@ -150,13 +130,9 @@ impl ServerLink {
             setting,
             login,
             hello: Vec::new(alloc),
-            patience,
             spare,
-            state: State::Down {
-                until: Duration::from_millis(0),
-            },
-            pause: 0,
-            now: Duration::from_millis(0),
+            state: State::Down,
+            attempts: Attempts::new(patience),
         }
     }
 
@@ -168,7 +144,7 @@ impl ServerLink {
     /// Sets the setting with which the next connection is opened. It differs by its password at
     /// most.
     pub(crate) fn set_setting(&mut self, setting: Setting) {
-        self.setting = setting;
+        drop(mem::replace(&mut self.setting, setting));
     }
 
     /// Returns the reply of the server to HELLO, or no byte.
@@ -178,7 +154,7 @@ impl ServerLink {
 
     /// Returns whether the connection is open.
     pub(crate) fn is_open(&self) -> bool {
-        matches!(self.state, State::Open(_))
+        self.attempts.is_open()
     }
 
     /// Uses a connection that another opened in this setting, if none is open. `hello` is the reply
@@ -197,14 +173,25 @@ impl ServerLink {
         let interests = Interest::READABLE | Interest::WRITABLE;
         registry.reregister(&mut stream, token_of(self.number), interests)?;
         self.hello = hello;
-        self.state = State::Open(Line::new(stream, self.now));
+        self.attempts.open();
+        self.set_state(State::Open(Line::new(stream)));
         Ok(())
+    }
+
+    /// Sets the state, and drops the one before it.
+    fn set_state(&mut self, state: State) {
+        drop(mem::replace(&mut self.state, state));
+    }
+
+    /// Returns the state. There is no connection from now on.
+    fn take_state(&mut self) -> State {
+        mem::replace(&mut self.state, State::Down)
     }
 
     /// Closes the connection, and opens none again before [`ServerLink::connect`].
     pub(crate) fn close(&mut self) {
-        self.pause = 0;
-        self.state = State::Down { until: self.now };
+        self.attempts.stop();
+        self.set_state(State::Down);
     }
 
     /// Returns the entry of a new connection into the setting.
@@ -228,12 +215,12 @@ impl ServerLink {
 
     /// Notes the current time.
     pub(crate) fn set_now(&mut self, now: Duration) {
-        self.now = now;
+        self.attempts.time = now;
     }
 
     /// Returns the current time.
     pub(crate) fn now(&self) -> Duration {
-        self.now
+        self.attempts.time
     }
 
     /// Opens the spare descriptor again, if it is closed and one is left.
@@ -243,21 +230,16 @@ impl ServerLink {
 
     /// Returns whether no connection is open or begun.
     pub(crate) fn is_down(&self) -> bool {
-        matches!(self.state, State::Down { .. })
+        self.attempts.is_down()
     }
 
     /// Returns the time until the link has work to do although its socket is not ready. `waits`
     /// says whether a command waits for a reply.
     pub(crate) fn patience(&self, waits: bool) -> Option<Duration> {
-        let until = match &self.state {
-            State::Down { until } => *until,
-            State::Opening { since, .. } => since.saturating_add(self.patience),
-            State::Greeting { since, .. } => since.saturating_add(self.patience),
-            State::Open(line) if line.may_read => return Some(Duration::from_millis(0)),
-            State::Open(line) if waits => line.quiet_since.saturating_add(self.patience),
-            State::Open(_) => return None,
-        };
-        Some(until.saturating_sub(self.now))
+        match &self.state {
+            State::Open(line) if line.may_read => Some(Duration::from_millis(0)),
+            _ => self.attempts.time_left(waits),
+        }
     }
 
     /// Notes that the socket is ready.
@@ -274,10 +256,7 @@ impl ServerLink {
     ///
     /// The error of the system. The next attempt is made after a pause.
     pub(crate) fn connect(&mut self, net: &impl Net, registry: &Registry) -> io::Result<()> {
-        let State::Down { until } = self.state else {
-            return Ok(());
-        };
-        if until > self.now {
+        if !self.attempts.may_begin() {
             return Ok(());
         }
         let token = token_of(self.number);
@@ -291,8 +270,8 @@ impl ServerLink {
         ) {
             Ok((stream, attempt)) => {
                 self.attempt = attempt;
-                let since = self.now;
-                self.state = State::Opening { stream, since };
+                self.attempts.begin();
+                self.set_state(State::Opening(stream));
                 Ok(())
             }
             Err(error) => {
@@ -328,11 +307,12 @@ impl ServerLink {
     ///
     /// The error that the attempt failed with. The next attempt is made after a pause.
     fn try_next(&mut self, error: io::Error) -> io::Result<bool> {
-        let was_opening = matches!(self.state, State::Opening { .. });
+        let was_opening = matches!(self.state, State::Opening(_));
         match self.backend.after(self.attempt) {
             Some(next) if was_opening => {
                 self.attempt = next;
-                self.state = State::Down { until: self.now };
+                self.attempts.begin_again();
+                self.set_state(State::Down);
                 Ok(false)
             }
             _ => {
@@ -345,24 +325,24 @@ impl ServerLink {
     /// Returns how far the connection is.
     fn stage(&self) -> io::Result<Stage> {
         match &self.state {
-            State::Opening { stream, since } => {
+            State::Opening(stream) => {
                 if is_open(stream)? {
                     return Ok(Stage::Connected);
                 }
-                self.in_time(*since)?;
+                self.in_time()?;
                 Ok(Stage::Waits)
             }
-            State::Greeting { since, .. } => {
-                self.in_time(*since)?;
+            State::Greeting(..) => {
+                self.in_time()?;
                 Ok(Stage::LogsIn)
             }
             _ => Ok(Stage::Closed),
         }
     }
 
-    /// Fails if a connection that was begun at this time is not open in time.
-    fn in_time(&self, since: Duration) -> io::Result<()> {
-        if self.now.saturating_sub(since) > self.patience {
+    /// Fails if a connection that was begun is not open in time.
+    fn in_time(&self) -> io::Result<()> {
+        if self.attempts.is_late() {
             return Err(ErrorKind::TimedOut.into());
         }
         Ok(())
@@ -370,7 +350,7 @@ impl ServerLink {
 
     /// Goes on to log in. Returns whether the connection is open since this call.
     fn finish_login(&mut self) -> io::Result<bool> {
-        let State::Greeting { stream, entry, .. } = &mut self.state else {
+        let State::Greeting(stream, entry) = &mut self.state else {
             return Ok(false);
         };
         match entry.go_on(stream) {
@@ -402,28 +382,34 @@ impl ServerLink {
             self.pause();
             return Err(ErrorKind::OutOfMemory.into());
         };
-        let until = self.now;
-        let state = mem::replace(&mut self.state, State::Down { until });
-        if let State::Opening { stream, since } = state {
-            self.state = State::Greeting {
-                stream,
-                since,
-                entry,
-            };
+        match self.take_state() {
+            State::Opening(stream) => self.set_state(State::Greeting(stream, entry)),
+            state => {
+                drop(state);
+                drop(entry);
+            }
         }
         Ok(())
     }
 
     /// Makes the connection that was begun an open one.
     fn start(&mut self) {
-        let until = self.now;
-        let state = mem::replace(&mut self.state, State::Down { until });
-        if let State::Greeting { stream, entry, .. } = state {
-            self.backend.prefer(self.attempt);
-            if let Ok(hello) = entry.hello().to_vec(self.alloc) {
-                self.hello = hello;
+        match self.take_state() {
+            State::Greeting(stream, entry) => {
+                self.backend.prefer(self.attempt);
+                self.keep_hello(&entry);
+                drop(entry);
+                self.attempts.open();
+                self.set_state(State::Open(Line::new(stream)));
             }
-            self.state = State::Open(Line::new(stream, self.now));
+            state => drop(state),
+        }
+    }
+
+    /// Keeps the reply to HELLO, if there is memory for it.
+    fn keep_hello(&mut self, entry: &Entry) {
+        if let Ok(hello) = entry.hello().to_vec(self.alloc) {
+            self.hello = hello;
         }
     }
 
@@ -431,14 +417,8 @@ impl ServerLink {
     /// over this connection. It begins with the address that was connected last.
     fn pause(&mut self) {
         self.attempt = self.backend.first();
-        let has_replied = matches!(&self.state, State::Open(line) if line.has_replied);
-        self.pause = if has_replied {
-            0
-        } else {
-            next_pause(self.pause)
-        };
-        let until = self.now.saturating_add(Duration::from_millis(self.pause));
-        self.state = State::Down { until };
+        self.attempts.lose();
+        self.set_state(State::Down);
     }
 
     /// Reads replies and writes commands until each call would block, or 16 of each were made.
@@ -452,7 +432,11 @@ impl ServerLink {
         let State::Open(line) = &mut self.state else {
             return Ok(());
         };
+        let before = proxy.waiting();
         let exchanged = line.exchange(proxy, buffer);
+        if proxy.waiting() < before {
+            self.attempts.note_replies();
+        }
         if exchanged.is_err() {
             self.pause();
         }
@@ -466,11 +450,7 @@ impl ServerLink {
     ///
     /// `Silence` if the connection was given up.
     pub(crate) fn judge(&mut self, waits: bool) -> Result<(), Loss> {
-        let State::Open(line) = &mut self.state else {
-            return Ok(());
-        };
-        line.look_at_time(self.now, waits);
-        if waits && self.now.saturating_sub(line.quiet_since) > self.patience {
+        if self.attempts.gives_up(waits) {
             self.pause();
             return Err(Loss::Silence);
         }
@@ -496,15 +476,11 @@ impl ServerLink {
 
 impl Line {
     /// Returns a connection over which no command was sent.
-    fn new(stream: Stream, now: Duration) -> Self {
+    fn new(stream: Stream) -> Self {
         Line {
             stream,
             may_read: true,
             is_at_end: true,
-            has_replied: false,
-            replied: false,
-            waited: false,
-            quiet_since: now,
         }
     }
 
@@ -512,16 +488,11 @@ impl Line {
     fn exchange(&mut self, proxy: &mut Proxy, buffer: &mut [u8]) -> Result<(), Loss>
         requires { 0 < length buffer.old }
     {
-        let before = proxy.waiting();
         for _ in 0..TURNS {
             if !self.may_read {
                 break;
             }
             self.visit(proxy, buffer)?;
-        }
-        if proxy.waiting() < before {
-            self.has_replied = true;
-            self.replied = true;
         }
         self.send(proxy)
     }
@@ -533,15 +504,6 @@ impl Line {
         let stream = &self.stream;
         self.may_read = exchange(proxy, stream, stream, self.is_at_end, buffer)?;
         Ok(())
-    }
-
-    /// Notes the time if a reply has come since the last look at it, or no command waited then.
-    fn look_at_time(&mut self, now: Duration, waits: bool) {
-        if self.replied || !self.waited {
-            self.quiet_since = now;
-        }
-        self.replied = false;
-        self.waited = waits;
     }
 
     /// Writes commands until a write would block, or 16 were made.

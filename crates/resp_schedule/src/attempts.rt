@@ -189,13 +189,23 @@ impl Attempts {
         self.phase = Phase::Down { until };
     }
 
-    /// Notes that the connection is closed on purpose, or that another address of the server is
-    /// tried at once.
+    /// Notes that another address of the server is tried at once.
     pub fn begin_again(&mut self)
         ensures may_begin { MayBegin self.new }
-        ensures same { (self.new.patience ≡ self.old.patience) × (self.new.time ≡ self.old.time) ×
-            (self.new.pause ≡ self.old.pause) }
+        ensures rest { self.new ≡ record self.old { phase = self.new.phase } }
     {
+        self.phase = Phase::Down { until: self.time };
+    }
+
+    /// Notes that the connection is closed on purpose. The next attempt may begin at once, and
+    /// pauses begin anew.
+    pub fn stop(&mut self)
+        ensures may_begin { MayBegin self.new }
+        ensures no_pause { self.new.pause ≡ 0 }
+        ensures rest { self.new ≡
+            record self.old { phase = self.new.phase; pause = self.new.pause } }
+    {
+        self.pause = 0;
         self.phase = Phase::Down { until: self.time };
     }
 
