@@ -1,4 +1,5 @@
 mod Replies
-mod OfClients
 mod Again
 mod InSessions
+pub mod Lists
+pub mod Doings

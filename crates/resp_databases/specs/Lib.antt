@@ -5,4 +5,5 @@ pub mod Outcomes
 pub mod Replying
 pub mod States
 pub mod Serving
+pub mod Servers
 pub mod Running

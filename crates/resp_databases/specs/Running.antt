@@ -1,13 +1,17 @@
--- The state of a client, and requests.
+-- The state of a client, and the effect of a command on a server and on its client.
 use Rattle.std.specs.Prelude.{◌≡◌, ℕ, List, ◌∷◌, ◌++◌}
 use Rattle.resp_value.specs.Bounds.{Bounds}
 use Rattle.resp_value.specs.Canonical.{canonical_text}
+use Rattle.resp_value.specs.Rules.{rules_under}
+use Rattle.resp_value.specs.Spellings.{IsSpelling}
 use Rattle.resp_value.specs.Words.{command_of}
-use Rattle.resp_scan.specs.Whole.{BeginsWith}
-use Rattle.resp_session.specs.Operations as one
+use Rattle.resp_value.specs.declared.version.Version.TheVariants.{Two}
+use Rattle.resp_session.specs.Operations.{Operation}
 use Rattle.resp_session.specs.Stores.{Store}
-use Rattle.resp_databases.specs.Deeds.{Asked, Asks, Request, Exists, DbSize, FlushDb, FlushAll}
+use Rattle.resp_databases.specs.Deeds.{Asked, Asks}
 use Rattle.resp_databases.specs.Outcomes.{Standing, outcome_of}
+use Rattle.resp_databases.specs.Servers.{ServerState}
+use Rattle.resp_databases.specs.Serving.{IsSent}
 use Rattle.resp_databases.specs.declared.deed.Deed.{Deed}
 use Rattle.resp_databases.specs.declared.deed.Deed.TheVariants as deed
 use Rattle.resp_databases.specs.declared.client.Client.{Client}
@@ -19,6 +23,11 @@ standing_of c = record { id = c.id; version = c.version; database = c.database; 
 -- the bytes that wait to be written to a client
 abbrev pub waiting_of : Client → List ℕ
 waiting_of c = c.out.items
+
+-- the client has begun the same array and the same line
+pub record KeepsBegun (before after : Client) : Type 0 where
+  pub array : after.begun ≡ before.begun
+  pub line : after.line.items ≡ before.line.items
 
 -- it is done of the client alone, and no database is read or changed
 abbrev pub IsOfClient : Deed → Type 0
@@ -40,22 +49,29 @@ pub record IsUnchanged (before after : Client) : Type 0 where
   pub client : standing_of after ≡ standing_of before
   pub replied : waiting_of after ≡ waiting_of before
 
--- what was asked for concerns the client alone
-abbrev pub IsOfClientAlone : Asked → Type 0
-IsOfClientAlone (Request (one.Hello asked)) = Unit {0}
-IsOfClientAlone (Request _) = ⊥
-IsOfClientAlone (Exists keys) = ⊥
-IsOfClientAlone DbSize = ⊥
-IsOfClientAlone FlushDb = ⊥
-IsOfClientAlone FlushAll = ⊥
-IsOfClientAlone _ = Unit {0}
+-- the text is a command that makes a request of the client's database
+pub record SendsRequest (limits : Bounds) (text : List ℕ) : Type 0 where
+  pub request : Operation
+  pub sent : IsSent limits text request
 
--- what is asked for by the command that the text begins with; if it concerns the client alone, this holds of it
-pub record IfOfClientAlone (limits : Bounds) (text : List ℕ) (P : Asked → Type 0) : Type 0 where
+-- The stores and the client are those of the outcome of what was asked for. Its reply, in the client's version, follows
+-- the bytes that waited.
+pub record HasDone (asked : Asked) (old new : ServerState) (before after : Client) : Type 0 where
+  pub state : new ≡ record old { stores = (outcome_of old.stores (standing_of before) asked).stores }
+  pub client : standing_of after ≡ (outcome_of old.stores (standing_of before) asked).client
+  pub replied : waiting_of after ≡ waiting_of before ++
+      canonical_text after.version (outcome_of old.stores (standing_of before) asked).reply
+
+-- no store is changed, and no client
+pub record HasDoneNothing (old new : ServerState) (before after : Client) : Type 0 where
+  pub state : new ≡ old
+  pub client : IsUnchanged before after
+
+-- the text is a command, and it was done
+pub record HasRun (text : List ℕ) (old new : ServerState) (before after : Client) : Type 0 where
   pub name : List ℕ
   pub arguments : List (List ℕ)
-  pub rest : List ℕ
-  pub begins : BeginsWith limits text (command_of (name ∷ arguments)) rest
+  pub spelled : IsSpelling (rules_under Two old.limits) (command_of (name ∷ arguments)) text
   pub asked : Asked
   pub asks : Asks name arguments asked
-  pub holds : IsOfClientAlone asked → P asked
+  pub done : HasDone asked old new before after

@@ -1,5 +1,8 @@
 //! The databases of a server, and its clients' ids.
 
+ghost use Rattle.std.specs.Prelude.{◌≡◌, ◌+◌, ◌≤◌, ◌↔◌, [], map, replicate, set, false, IfNone, IfOk, IfSome, IsNone};
+ghost use Rattle.resp_value.specs.declared.version.Version.TheVariants.{Two};
+
 use crate::client::Client;
 use crate::index::DATABASES;
 use resp_frames::Frames;
@@ -8,6 +11,7 @@ use resp_value::limits::Limits;
 use resp_value::version::Version;
 use std::alloc::{AllocError, Global};
 use std::hash::BuildHasher;
+use std::marker::Model;
 use std::mem;
 
 /// 16 databases. `S` hashes the keys of their stores.
@@ -24,14 +28,36 @@ pub struct Databases<S: BuildHasher> {
     last: u64,
 }
 
+impl<S: BuildHasher> Model for Databases<S> {
+    ghost use Rattle.resp_databases.specs.Servers.{ServerIsSound, ServerState, stores_in};
+
+    ghost Value = { ServerState };
+
+    ghost view = { λ server. record {
+      limits = server.limits;
+      stores = stores_in server.list.items;
+      last = server.last;
+    } };
+
+    ghost invariant = { λ server. ServerIsSound server.limits server.list.items server.frames };
+}
+
 impl<S: BuildHasher + Copy> Databases<S> {
+    ghost use Rattle.resp_databases.specs.Running.{standing_of, waiting_of};
+
     /// Makes 16 databases without a key. Commands are read and replies are written within these
     /// limits.
     ///
     /// # Errors
     ///
     /// `AllocError` if an allocation fails.
-    pub fn new(alloc: Global, limits: Limits, hasher: S) -> Result<Self, AllocError> {
+    pub fn new(alloc: Global, limits: Limits, hasher: S) -> Result<Self, AllocError>
+        ensures empty { IfOk result (λ server. server ≡ record {
+          limits = limits;
+          stores = replicate 16 [];
+          last = 0;
+        }) }
+    {
         let mut list = Vec::new(alloc);
         for _ in 0..DATABASES {
             list.push(Hub::new(alloc, limits, hasher))?;
@@ -49,7 +75,20 @@ impl<S: BuildHasher + Copy> Databases<S> {
     /// Makes a client of version 2 in database 0, without a name. The ids are 1, 2, 3 and so on,
     /// and no id is given twice. Returns `None` after 9,223,372,036,854,775,807 clients. Does not
     /// allocate.
-    pub fn open(&mut self) -> Option<Client> {
+    pub fn open(&mut self) -> Option<Client>
+        ensures client { IfSome result (λ client. standing_of client ≡ record {
+          id = self.old.last + 1;
+          version = Two;
+          database = 0;
+          name = [];
+          closing = false;
+        }) }
+        ensures nothing_waits { IfSome result (λ client. waiting_of client ≡ []) }
+        ensures given { IfSome result (λ client.
+            self.new ≡ record self.old { last = self.old.last + 1 }) }
+        ensures used_up { IsNone result ↔ (9223372036854775807 ≤ self.old.last) }
+        ensures unchanged { IfNone result (self.new ≡ self.old) }
+    {
         if self.last >= 9_223_372_036_854_775_807 {
             return None;
         }
@@ -58,10 +97,23 @@ impl<S: BuildHasher + Copy> Databases<S> {
     }
 
     /// Removes all keys of the database of this number.
-    pub(crate) fn flush(&mut self, index: usize) {
+    pub(crate) fn flush(&mut self, index: usize)
+        ensures { self.new ≡ record self.old { stores = set self.old.stores index [] } }
+    {
         let empty = Hub::new(self.alloc, self.limits, self.hasher);
-        if let Some(hub) = self.list.get_mut(index) {
-            drop(mem::replace(hub, empty));
+        let Some(hub) = self.list.get_mut(index) else {
+            return;
+        };
+        drop(mem::replace(hub, empty));
+    }
+
+    /// Removes all keys of all databases.
+    pub(crate) fn flush_all(&mut self)
+        ensures { self.new ≡ record self.old { stores = map (λ store. []) self.old.stores } }
+    {
+        let count = self.list.len();
+        for index in 0..count {
+            self.flush(index);
         }
     }
 }

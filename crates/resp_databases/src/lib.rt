@@ -6,10 +6,9 @@
 //! them.
 //!
 //! It is proved which effect or error a command asks for, given its words, and the text of each kind
-//! of reply. It is also proved that a SELECT, CLIENT, QUIT or HELLO, and a command with an error of
-//! this crate, once it is found, has its effect and its reply. The commands of `resp_server`, EXISTS
-//! and DBSIZE are proved for a single database. That it is the client's, and the effects of FLUSHDB
-//! and FLUSHALL, are tested, and not proved.
+//! of reply. It is also proved that a command that is run has its outcome: the stores of all
+//! databases, the state of its client, and its reply. That [`Databases::take`] runs the commands in
+//! the bytes of a client is tested, and not proved.
 #![tactic(auto)]
 
 mod client;

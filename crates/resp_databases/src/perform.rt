@@ -6,17 +6,19 @@ ghost use Rattle.resp_value.specs.declared.version.Version.TheVariants.{Two};
 ghost use Rattle.resp_session.specs.Operations.{Operation};
 ghost use Rattle.resp_session.specs.Operations as one;
 ghost use Rattle.resp_session.specs.Replies.{natural};
-ghost use Rattle.resp_databases.specs.Deeds.{Request, asked_by};
-ghost use Rattle.resp_databases.specs.Running.{HasChanged, IfOfClientAlone, IsOfClient, IsUnchanged};
+ghost use Rattle.resp_databases.specs.Deeds.{DbSize, Exists, Request, asked_by};
+ghost use Rattle.resp_databases.specs.Running.{HasChanged, HasDone, HasDoneNothing, HasRun, IsOfClient, IsUnchanged, KeepsBegun, SendsRequest};
+ghost use Rattle.resp_databases.specs.Serving.{IsSent};
+ghost use Rattle.resp_databases.specs.declared.deed.Deed.TheVariants.{Pass};
 
 use crate::client::Client;
 use crate::database;
 use crate::databases::Databases;
 use crate::deed::{Deed, deed_of};
-use crate::index::DATABASES;
 use crate::reply::{reply_greeting, reply_name, reply_number, reply_ok, reply_unknown};
 use bytes::BytesMut;
 use resp_scan::whole;
+use resp_scan::whole::Words;
 use resp_value::version::Version;
 use std::alloc::AllocError;
 use std::hash::BuildHasher;
@@ -29,13 +31,18 @@ impl<S: BuildHasher + Copy> Databases<S> {
     /// `AllocError` if an allocation fails, after 2^63 - 1 commands of a database, or if the bytes
     /// are no command within the limits. Then nothing is changed.
     pub(crate) fn run(&mut self, client: &mut Client, command: &[u8]) -> Result<(), AllocError>
-        // A command that concerns the client alone is done, and the databases are the same.
-        ensures done { OnOk result (IfOfClientAlone self.old.limits command.now (λ asked.
-            HasChanged asked client.old client.new × (self.new.list ≡ self.old.list))) }
+        ensures done { OnOk result
+            (HasRun command.now self.old self.new client.old client.new) }
+        ensures failed { OnErr result
+            (HasDoneNothing self.old self.new client.old client.new) }
+        ensures same_begun { KeepsBegun client.old client.new }
     {
         let Some(words) = whole::command(command, &self.limits) else {
             return Err(AllocError);
         };
+        if !words.rest.is_empty() {
+            return Err(AllocError);
+        }
         let deed = deed_of(words.name, words.arguments);
         self.perform(client, command, deed)
     }
@@ -47,29 +54,18 @@ impl<S: BuildHasher + Copy> Databases<S> {
         command: &[u8],
         deed: Deed<'_>,
     ) -> Result<(), AllocError>
-        // A command that reads and changes no database is done of the client.
-        ensures done { (request : Operation) → IsOfClient deed.entry →
-            OnOk result (HasChanged (asked_by request deed.entry) client.old client.new) }
-        ensures failed { IsOfClient deed.entry →
-            OnErr result (IsUnchanged client.old client.new) }
-        ensures same { IsOfClient deed.entry → self.new.list ≡ self.old.list }
+        requires sent { deed ≡ Pass → SendsRequest self.old.limits command.now }
+        ensures done { (request : Operation) →
+            (deed.entry ≡ Pass → IsSent self.old.limits command.now request) → OnOk result
+            (HasDone (asked_by request deed.entry) self.old self.new client.old client.new) }
+        ensures failed { OnErr result
+            (HasDoneNothing self.old self.new client.old client.new) }
+        ensures same_begun { KeepsBegun client.old client.new }
     {
         match deed {
             Deed::Pass => self.pass(client, command),
-            Deed::Exists(keys) => {
-                let count = match self.list.get(client.database) {
-                    Some(hub) => database::count(hub, keys),
-                    None => Some(0),
-                };
-                reply_count(&mut client.out, count)
-            }
-            Deed::DbSize => {
-                let count = match self.list.get(client.database) {
-                    Some(hub) => database::size(hub),
-                    None => Some(0),
-                };
-                reply_count(&mut client.out, count)
-            }
+            Deed::Exists(keys) => self.count(client, keys),
+            Deed::DbSize => self.size(client),
             Deed::FlushDb => {
                 reply_ok(&mut client.out)?;
                 self.flush(client.database);
@@ -77,9 +73,7 @@ impl<S: BuildHasher + Copy> Databases<S> {
             }
             Deed::FlushAll => {
                 reply_ok(&mut client.out)?;
-                for index in 0..DATABASES {
-                    self.flush(index);
-                }
+                self.flush_all();
                 Ok(())
             }
             deed => change(client, deed),
@@ -87,10 +81,42 @@ impl<S: BuildHasher + Copy> Databases<S> {
     }
 
     /// Runs a command in the client's database, and queues the reply.
-    fn pass(&mut self, client: &mut Client, command: &[u8]) -> Result<(), AllocError> {
-        match self.list.get_mut(client.database) {
-            Some(hub) => database::run(hub, &self.limits, client.version, command, &mut client.out),
-            None => Err(AllocError),
+    fn pass(&mut self, client: &mut Client, command: &[u8]) -> Result<(), AllocError>
+        requires sent { SendsRequest self.old.limits command.now }
+        ensures done { (request : Operation) → IsSent self.old.limits command.now request →
+            OnOk result (HasDone (Request request) self.old self.new client.old client.new) }
+        ensures failed { OnErr result
+            (HasDoneNothing self.old self.new client.old client.new) }
+        ensures same_begun { KeepsBegun client.old client.new }
+    {
+        let Some(hub) = self.list.get_mut(client.database) else {
+            return Err(AllocError);
+        };
+        database::run(hub, &self.limits, client.version, command, &mut client.out)
+    }
+
+    /// Queues the number of those of these keys that the client's database has.
+    fn count(&self, client: &mut Client, keys: Words<'_>) -> Result<(), AllocError>
+        ensures done { OnOk result
+            (HasDone (Exists keys.entry) self.now self.now client.old client.new) }
+        ensures failed { OnErr result (IsUnchanged client.old client.new) }
+        ensures same_begun { KeepsBegun client.old client.new }
+    {
+        match self.list.get(client.database) {
+            Some(hub) => reply_count(&mut client.out, database::count(hub, keys)),
+            None => reply_number(&mut client.out, 0),
+        }
+    }
+
+    /// Queues the number of keys of the client's database.
+    fn size(&self, client: &mut Client) -> Result<(), AllocError>
+        ensures done { OnOk result (HasDone DbSize self.now self.now client.old client.new) }
+        ensures failed { OnErr result (IsUnchanged client.old client.new) }
+        ensures same_begun { KeepsBegun client.old client.new }
+    {
+        match self.list.get(client.database) {
+            Some(hub) => reply_count(&mut client.out, database::size(hub)),
+            None => reply_number(&mut client.out, 0),
         }
     }
 }
@@ -113,6 +139,7 @@ fn change(client: &mut Client, deed: Deed<'_>) -> Result<(), AllocError>
     ensures done { (request : Operation) → IsOfClient deed.entry →
         OnOk result (HasChanged (asked_by request deed.entry) client.old client.new) }
     ensures failed { OnErr result (IsUnchanged client.old client.new) }
+    ensures same_begun { KeepsBegun client.old client.new }
 {
     match deed {
         Deed::Hello(asked) => greet(client, asked),
@@ -146,6 +173,7 @@ fn greet(client: &mut Client, asked: Option<Version>) -> Result<(), AllocError>
     ensures done { OnOk result
         (HasChanged (Request (one.Hello asked)) client.old client.new) }
     ensures failed { OnErr result (IsUnchanged client.old client.new) }
+    ensures same_begun { KeepsBegun client.old client.new }
 {
     let version = asked.unwrap_or(client.version);
     reply_greeting(&mut client.out, version, client.id)?;

@@ -1,28 +1,52 @@
-use Rattle.std.proofs.Common.{Result, Ok, Err, OnOk}
+use Rattle.std.proofs.Common.{◌∷◌, length, refl, sym, ap, ◌∙◌}
+use Rattle.std.proofs.lemmas.Bool.{eqb-true}
+use Rattle.std.proofs.lemmas.List.{nil_from_length}
+use Rattle.std.proofs.lemmas.Result.{on_ok_weaker}
+use Rattle.resp_value.specs.Words.{command_of}
 use Rattle.resp_session.specs.Operations.{operation_of}
 use Rattle.resp_databases.specs.Deeds.{asked_by}
-use Rattle.resp_databases.specs.Running.{IsOfClientAlone}
-use Rattle.resp_databases.proofs.OfClients.{of_client}
+use Rattle.resp_databases.specs.Servers.{ServerState}
+use Rattle.resp_databases.proofs.Doings.{alone}
 use Rattle.resp_databases.proofs.databases.Databases.run.Goals as goal
 
--- from a fact of each success under a condition
-on_ok : {T E : Type 0} (r : Result T E) (K Q P : Type 0) → (K → OnOk r Q) → ((K → Q) → P) → OnOk r P
-on_ok (Ok x) K Q P f made = made f
-on_ok (Err e) K Q P f made = tt
-
-pub returns : goal.returns
-returns g c =
-    let request = operation_of c.in-Some.words.name.now c.in-Some.words.arguments in
-    let deed = c.deed_of-deed.result in
-    let of = of_client request deed c.deed_of-deed.ensures.keeps in
+pub perform-requires : goal.perform-requires
+perform-requires g c =
+    let w = c.in-Some.words in
+    let none = nil_from_length w.rest.now (eqb-true (length w.rest.now) 0 (sym c.is_empty.ensures ∙ c.if-not-is_empty.false)) in
     record {
-      done = on_ok c.perform.result (IsOfClientAlone (asked_by request deed)) _ _ (λ alone. c.perform.ensures.done request (of alone)) (λ all. record {
-        name = c.in-Some.words.name.now;
-        arguments = c.in-Some.words.arguments;
-        rest = c.in-Some.words.rest.now;
-        begins = c.in-Some.ensures.begins;
-        asked = asked_by request deed;
-        asks = c.deed_of-deed.ensures.asks;
-        holds = λ alone. (all alone, c.perform.ensures.same (of alone));
-      });
+      sent = λ is. record {
+        request = operation_of w.name.now w.arguments;
+        sent = record {
+          name = w.name.now;
+          arguments = w.arguments;
+          spelled = alone c.self.inside.limits c.args.self.now.limits c.args.command.now w.rest.now (command_of (w.name.now ∷ w.arguments))
+              c.in-Some.ensures.begins none (ap (λ (v : ServerState). v.limits) c.self.view_is);
+          same = refl;
+          keeps = c.deed_of-deed.ensures.keeps is;
+        };
+      };
     }
+
+pub returns-clause-done : goal.returns-clause-done
+returns-clause-done g c =
+    let w = c.in-Some.words in
+    let none = nil_from_length w.rest.now (eqb-true (length w.rest.now) 0 (sym c.is_empty.ensures ∙ c.if-not-is_empty.false)) in
+    let request = operation_of w.name.now w.arguments in
+    let spelled = alone c.self.inside.limits c.args.self.now.limits c.args.command.now w.rest.now (command_of (w.name.now ∷ w.arguments))
+    c.in-Some.ensures.begins none (ap (λ (v : ServerState). v.limits) c.self.view_is) in
+    on_ok_weaker c.perform.result
+    (λ done. record {
+      name = w.name.now;
+      arguments = w.arguments;
+      spelled = spelled;
+      asked = asked_by request c.deed_of-deed.result;
+      asks = c.deed_of-deed.ensures.asks;
+      done = done;
+    })
+    (c.perform.ensures.done request (λ is. record {
+      name = w.name.now;
+      arguments = w.arguments;
+      spelled = spelled;
+      same = refl;
+      keeps = c.deed_of-deed.ensures.keeps is;
+    }))
