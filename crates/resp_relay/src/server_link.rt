@@ -168,7 +168,7 @@ impl ServerLink {
     /// Sets the setting with which the next connection is opened. It differs by its password at
     /// most.
     pub(crate) fn set_setting(&mut self, setting: Setting) {
-        self.setting = setting;
+        drop(mem::replace(&mut self.setting, setting));
     }
 
     /// Returns the reply of the server to HELLO, or no byte.
@@ -197,14 +197,25 @@ impl ServerLink {
         let interests = Interest::READABLE | Interest::WRITABLE;
         registry.reregister(&mut stream, token_of(self.number), interests)?;
         self.hello = hello;
-        self.state = State::Open(Line::new(stream, self.now));
+        self.set_state(State::Open(Line::new(stream, self.now)));
         Ok(())
+    }
+
+    /// Sets the state, and drops the one before it.
+    fn set_state(&mut self, state: State) {
+        drop(mem::replace(&mut self.state, state));
+    }
+
+    /// Returns the state. There is no connection from now on.
+    fn take_state(&mut self) -> State {
+        let until = self.now;
+        mem::replace(&mut self.state, State::Down { until })
     }
 
     /// Closes the connection, and opens none again before [`ServerLink::connect`].
     pub(crate) fn close(&mut self) {
         self.pause = 0;
-        self.state = State::Down { until: self.now };
+        self.set_state(State::Down { until: self.now });
     }
 
     /// Returns the entry of a new connection into the setting.
@@ -292,7 +303,7 @@ impl ServerLink {
             Ok((stream, attempt)) => {
                 self.attempt = attempt;
                 let since = self.now;
-                self.state = State::Opening { stream, since };
+                self.set_state(State::Opening { stream, since });
                 Ok(())
             }
             Err(error) => {
@@ -332,7 +343,7 @@ impl ServerLink {
         match self.backend.after(self.attempt) {
             Some(next) if was_opening => {
                 self.attempt = next;
-                self.state = State::Down { until: self.now };
+                self.set_state(State::Down { until: self.now });
                 Ok(false)
             }
             _ => {
@@ -402,28 +413,39 @@ impl ServerLink {
             self.pause();
             return Err(ErrorKind::OutOfMemory.into());
         };
-        let until = self.now;
-        let state = mem::replace(&mut self.state, State::Down { until });
-        if let State::Opening { stream, since } = state {
-            self.state = State::Greeting {
-                stream,
-                since,
-                entry,
-            };
+        match self.take_state() {
+            State::Opening { stream, since } => {
+                self.set_state(State::Greeting {
+                    stream,
+                    since,
+                    entry,
+                });
+            }
+            state => {
+                drop(state);
+                drop(entry);
+            }
         }
         Ok(())
     }
 
     /// Makes the connection that was begun an open one.
     fn start(&mut self) {
-        let until = self.now;
-        let state = mem::replace(&mut self.state, State::Down { until });
-        if let State::Greeting { stream, entry, .. } = state {
-            self.backend.prefer(self.attempt);
-            if let Ok(hello) = entry.hello().to_vec(self.alloc) {
-                self.hello = hello;
+        match self.take_state() {
+            State::Greeting { stream, entry, .. } => {
+                self.backend.prefer(self.attempt);
+                self.keep_hello(&entry);
+                drop(entry);
+                self.set_state(State::Open(Line::new(stream, self.now)));
             }
-            self.state = State::Open(Line::new(stream, self.now));
+            state => drop(state),
+        }
+    }
+
+    /// Keeps the reply to HELLO, if there is memory for it.
+    fn keep_hello(&mut self, entry: &Entry) {
+        if let Ok(hello) = entry.hello().to_vec(self.alloc) {
+            self.hello = hello;
         }
     }
 
@@ -438,7 +460,7 @@ impl ServerLink {
             next_pause(self.pause)
         };
         let until = self.now.saturating_add(Duration::from_millis(self.pause));
-        self.state = State::Down { until };
+        self.set_state(State::Down { until });
     }
 
     /// Reads replies and writes commands until each call would block, or 16 of each were made.
