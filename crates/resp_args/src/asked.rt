@@ -33,7 +33,7 @@ const NEEDS_ADDRESSES: &[u8] = b"  <SERVER>\n\nUsage: resp tap [OPTIONS] <LISTEN
     resp tap [OPTIONS] --replay <FILE>\n\nFor more information, try '--help'.\n";
 
 /// What a command line asks for.
-#[derive(Debug, Drop)]
+#[derive(Drop)]
 pub enum Asked<'a> {
     /// Read a stream: `show`, `check` or `canon`.
     Stream(Options<'a>),

@@ -13,7 +13,7 @@ use resp_value::limits::Limits;
 use std::alloc::{AllocError, Global};
 
 /// The options of `resp ask`.
-#[derive(Debug, Drop)]
+#[derive(Drop)]
 pub struct Asking<'a> {
     /// The address of the server.
     pub server: ServerAddress<'a>,
@@ -26,7 +26,7 @@ pub struct Asking<'a> {
 }
 
 /// The options of `resp ask` that are neither the address nor the words.
-#[derive(Clone, Copy, Debug)]
+#[derive(Clone, Copy)]
 pub struct AskOptions<'a> {
     /// Whether HELLO 3 is sent first.
     pub is_three: bool,

@@ -9,7 +9,7 @@ use crate::server_address::is_path;
 use std::net::SocketAddr;
 
 /// The address of a listener, as it was given.
-#[derive(Clone, Copy, Debug, PartialEq, Eq)]
+#[derive(Clone, Copy)]
 pub enum ListenAddress<'a> {
     /// An IP address and a port.
     Socket(SocketAddr),

@@ -21,7 +21,7 @@ pub const STANDARD_INPUT: &str = "-";
 pub(crate) const MOST_BYTES: u64 = 1_099_511_627_776;
 
 /// What is done with the values of a stream.
-#[derive(Clone, Copy, Debug, PartialEq, Eq)]
+#[derive(Clone, Copy, PartialEq, Eq)]
 pub enum Task {
     /// Write them as lines of text.
     Show,
@@ -32,7 +32,7 @@ pub enum Task {
 }
 
 /// The options of `show`, `check` and `canon`.
-#[derive(Clone, Copy, Debug)]
+#[derive(Clone, Copy)]
 pub struct Options<'a> {
     /// What to do with the values of the stream.
     pub task: Task,

@@ -14,7 +14,7 @@ use clap::ArgMatches;
 use resp_value::limits::Limits;
 
 /// The options of `resp proxy`.
-#[derive(Clone, Copy, Debug)]
+#[derive(Clone, Copy)]
 pub struct Proxying<'a> {
     /// The address to listen on.
     pub address: ListenAddress<'a>,
@@ -34,7 +34,7 @@ pub struct Proxying<'a> {
 }
 
 /// The options of `resp proxy` that are no address.
-#[derive(Clone, Copy, Debug)]
+#[derive(Clone, Copy)]
 pub struct ProxyOptions {
     /// The limits of commands and replies.
     pub limits: Limits,

@@ -11,7 +11,7 @@ use std::net::SocketAddr;
 const USUAL_PORT: u16 = 6_379;
 
 /// The address of a server, as it was given.
-#[derive(Clone, Copy, Debug, PartialEq, Eq)]
+#[derive(Clone, Copy)]
 pub enum ServerAddress<'a> {
     /// An IP address and a port.
     Socket(SocketAddr),

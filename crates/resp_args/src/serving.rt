@@ -12,7 +12,7 @@ use clap::ArgMatches;
 use resp_value::limits::Limits;
 
 /// The options of `resp serve`.
-#[derive(Clone, Copy, Debug)]
+#[derive(Clone, Copy)]
 pub struct Serving<'a> {
     /// The address to listen on.
     pub address: ListenAddress<'a>,

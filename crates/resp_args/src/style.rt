@@ -8,7 +8,7 @@ use crate::options::text_of;
 use clap::ArgMatches;
 
 /// The options that say how text is printed.
-#[derive(Clone, Copy, Debug)]
+#[derive(Clone, Copy)]
 pub struct StyleOptions<'a> {
     /// When text is printed in color, as it was given, or `None` if it was not given.
     pub color: Option<&'a str>,

@@ -12,7 +12,7 @@ use clap::ArgMatches;
 use resp_value::limits::Limits;
 
 /// The options of `resp tap`.
-#[derive(Clone, Copy, Debug)]
+#[derive(Clone, Copy)]
 pub struct Tapping<'a> {
     /// Where the traffic comes from.
     pub traffic: Traffic<'a>,
@@ -41,7 +41,7 @@ pub struct Tapping<'a> {
 }
 
 /// The options that say that commands are counted.
-#[derive(Clone, Copy, Debug)]
+#[derive(Clone, Copy)]
 pub struct StatsOptions {
     /// Whether `--stats` is given.
     pub is_on: bool,
@@ -51,7 +51,7 @@ pub struct StatsOptions {
 }
 
 /// The options that say which commands are printed.
-#[derive(Clone, Copy, Debug)]
+#[derive(Clone, Copy)]
 pub struct FilterOptions<'a> {
     /// Whether only commands are printed whose reply is an error.
     pub errors: bool,

@@ -15,7 +15,7 @@ use crate::server_address::ServerAddress;
 use clap::ArgMatches;
 
 /// Where the traffic of `resp tap` comes from.
-#[derive(Clone, Copy, Debug)]
+#[derive(Clone, Copy)]
 pub enum Traffic<'a> {
     /// It passes between clients and a server.
     Live(Route<'a>),
@@ -24,7 +24,7 @@ pub enum Traffic<'a> {
 }
 
 /// The addresses between which traffic passes.
-#[derive(Clone, Copy, Debug)]
+#[derive(Clone, Copy)]
 pub struct Route<'a> {
     /// The address to listen on.
     pub address: ListenAddress<'a>,
@@ -37,7 +37,7 @@ pub struct Route<'a> {
 }
 
 /// A capture.
-#[derive(Clone, Copy, Debug)]
+#[derive(Clone, Copy)]
 pub struct Captured<'a> {
     /// The name of the file to read, or [`STANDARD_INPUT`](crate::options::STANDARD_INPUT).
     pub file: &'a str,

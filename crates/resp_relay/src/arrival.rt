@@ -21,7 +21,7 @@ pub(crate) struct Arrival {
 }
 
 /// How far the arrival is.
-#[derive(Clone, Copy, Debug, PartialEq, Eq)]
+#[derive(Clone, Copy)]
 pub(crate) enum Arrived {
     /// It waits for the server.
     No,

@@ -65,30 +65,29 @@ impl Channel {
         shown: String,
         settings: &ProxySettings,
     ) -> Result<Self, AllocError> {
-        let mut own = settings.proxy;
-        own.version = link.setting().version;
-        own.limits = own.limits.with_doubles(own.version == Version::Three);
-        own.answers_settings = shown.is_empty();
-        let mut proxy = Proxy::new(alloc, own)?;
-        if settings.check_every > 0 && proxy.open_prober().is_err() {
-            return Err(AllocError);
+        match new_proxy(alloc, link.setting().version, shown.is_empty(), settings) {
+            Ok(proxy) => Ok(Channel {
+                alloc,
+                proxy,
+                link,
+                shown,
+                places: Vec::new(alloc),
+                stalled: Stalled::new(alloc),
+                clients: 0,
+                next: None,
+                condemned: None,
+                named: None,
+                is_losing: false,
+                is_out_of_step: false,
+                unprobed: 0,
+                failure: Vec::new(alloc),
+            }),
+            Err(AllocError) => {
+                drop(link);
+                drop(shown);
+                Err(AllocError)
+            }
         }
-        Ok(Channel {
-            alloc,
-            proxy,
-            link,
-            shown,
-            places: Vec::new(alloc),
-            stalled: Stalled::new(alloc),
-            clients: 0,
-            next: None,
-            condemned: None,
-            named: None,
-            is_losing: false,
-            is_out_of_step: false,
-            unprobed: 0,
-            failure: Vec::new(alloc),
-        })
     }
 
     /// Returns whether clients of this setting may enter now: its connection is open, or it is the
@@ -457,6 +456,26 @@ impl Channel {
         self.condemned = self.proxy.next_client();
         self.named = self.condemned;
     }
+}
+
+/// Returns the proxy of a setting with this version. That of the first setting answers the commands
+/// that concern settings.
+fn new_proxy(
+    alloc: Global,
+    version: Version,
+    is_first: bool,
+    settings: &ProxySettings,
+) -> Result<Proxy, AllocError> {
+    let mut own = settings.proxy;
+    own.version = version;
+    own.limits = own.limits.with_doubles(version == Version::Three);
+    own.answers_settings = is_first;
+    let mut proxy = Proxy::new(alloc, own)?;
+    if settings.check_every > 0 && proxy.open_prober().is_err() {
+        drop(proxy);
+        return Err(AllocError);
+    }
+    Ok(proxy)
 }
 
 /// Returns the reply to commands that wait while there is no connection.

@@ -19,7 +19,7 @@ const ACCEPTED: &[u8] = b"+OK\r\n";
 const PIECE: usize = 1_024;
 
 /// How far the entry is.
-#[derive(Clone, Copy, Debug, PartialEq, Eq)]
+#[derive(Clone, Copy)]
 pub(crate) enum Progress {
     /// A reply has not arrived.
     Waits,

@@ -6,17 +6,29 @@ use crate::entry::Entry;
 use crate::own::Own;
 use crate::plan::{Plan, skip};
 use crate::proxied::{Move, Proxied};
-use crate::relay::Relay;
+use crate::relay::{Relay, add};
 use crate::server_link::ServerLink;
 use mio::Registry;
 use resp_loop::service::Next;
 use resp_loop::spare::Spare;
+use resp_loop::stream::Stream;
 use resp_proxy::{Counted, Departed, Numbers, Setting, next_wish, no_more};
 use std::alloc::AllocError;
-use std::io;
 use std::io::ErrorKind;
 use std::net::Net;
 use std::time::Duration;
+use std::{io, mem};
+
+/// How a client gets to the setting that it wants.
+#[derive(Clone, Copy)]
+enum Way {
+    /// Over a connection of its own.
+    Own,
+    /// Over the connection of the setting of this number, which is open.
+    Open(usize),
+    /// Over a connection that is opened for it.
+    New,
+}
 
 impl Relay {
     /// Gives a client the connection that its next command needs.
@@ -34,13 +46,10 @@ impl Relay {
         let Some(departed) = connection.leave(&mut channel.proxy) else {
             return Next::Wait;
         };
-        let Ok(plan) = Plan::of(self.alloc, &departed, channel.link.setting(), &limits) else {
-            self.note_left(from);
-            return Next::Close;
-        };
-        let next = match plan {
-            Some(plan) => self.follow(rt, connection, registry, from, departed, plan),
-            None => self.give_own(rt, connection, registry, from, departed),
+        let next = match Plan::of(self.alloc, &departed, channel.link.setting(), &limits) {
+            Ok(Some(plan)) => self.follow(rt, connection, registry, from, departed, plan),
+            Ok(None) => self.give_own(rt, connection, registry, from, departed),
+            Err(AllocError) => close(departed),
         };
         // Until now the setting could not be taken by another.
         self.note_left(from);
@@ -64,31 +73,45 @@ impl Relay {
         departed: Departed,
         plan: Plan,
     ) -> Next {
-        if self.settings.lines <= 1 {
-            return self.give_own(rt, connection, registry, from, departed);
-        }
-        if let Some(setting) = &plan.setting {
-            let found = self.find(setting);
-            if let Some(number) = found {
-                if !plan.has_password && self.is_ready(number) {
-                    return self.enter(connection, number, departed, plan);
-                }
-            } else if self.free_number().is_none() {
-                return self.give_own(rt, connection, registry, from, departed);
+        match self.way_of(&plan) {
+            Way::Own => {
+                drop(plan);
+                self.give_own(rt, connection, registry, from, departed)
             }
-        }
-        let arrival = self.begin(rt, connection, registry, from, &departed, &plan);
-        let moving = match arrival {
-            Ok(arrival) => Move {
-                departed,
-                plan,
-                from,
-                arrival,
-                since: self.now(),
+            Way::Open(number) => self.enter(connection, number, departed, plan),
+            Way::New => match self.begin(rt, connection, registry, from, &departed, &plan) {
+                Ok(arrival) => {
+                    let since = self.now();
+                    self.wait(
+                        connection,
+                        Move {
+                            departed,
+                            plan,
+                            from,
+                            arrival,
+                            since,
+                        },
+                    )
+                }
+                Err(error) => self.stay(connection, from, departed, used_by(plan), &error),
             },
-            Err(error) => return self.stay(connection, from, departed, plan.used, &error),
+        }
+    }
+
+    /// Returns how a client gets to the setting that it wants.
+    fn way_of(&self, plan: &Plan) -> Way {
+        if self.settings.lines <= 1 {
+            return Way::Own;
+        }
+        let Some(setting) = &plan.setting else {
+            return Way::New;
         };
-        self.wait(connection, moving)
+        match self.find(setting) {
+            Some(number) if !plan.has_password && self.is_ready(number) => Way::Open(number),
+            Some(_) => Way::New,
+            None if self.free_number().is_none() => Way::Own,
+            None => Way::New,
+        }
     }
 
     /// Begins a connection in the setting that a client wants, or in its present one if only the
@@ -126,7 +149,7 @@ impl Relay {
     fn wait(&mut self, connection: &mut Proxied, moving: Move) -> Next {
         let until = moving.since.saturating_add(self.settings.patience);
         if self.moves.push_back((until, connection.place())).is_err() {
-            return Next::Close;
+            return close(moving);
         }
         self.begin_move(moving.from);
         connection.wait(moving);
@@ -178,7 +201,7 @@ impl Relay {
     /// Those of [`Arrival::go_on`], and an error of kind `TimedOut` if it is given up.
     fn arrived(&self, moving: &mut Move) -> io::Result<Arrived> {
         let arrived = moving.arrival.go_on()?;
-        if arrived == Arrived::No && self.is_late(moving.since) {
+        if matches!(arrived, Arrived::No) && self.is_late(moving.since) {
             return Err(ErrorKind::TimedOut.into());
         }
         Ok(arrived)
@@ -190,9 +213,12 @@ impl Relay {
             departed,
             plan,
             from,
+            arrival,
             ..
         } = moving;
-        self.stay(connection, from, departed, plan.used, error)
+        let next = self.stay(connection, from, departed, used_by(plan), error);
+        drop(arrival);
+        next
     }
 
     /// Lets a client go on in the setting that it has left, with the error of the server.
@@ -204,8 +230,15 @@ impl Relay {
             arrival,
             ..
         } = moving;
-        let reply = arrival.entry().refusal();
-        self.answer(connection, from, departed, plan.used, reply)
+        let next = self.answer(
+            connection,
+            from,
+            departed,
+            used_by(plan),
+            arrival.entry().refusal(),
+        );
+        drop(arrival);
+        next
     }
 
     /// Returns whether a connection that was begun at this time is given up.
@@ -229,21 +262,49 @@ impl Relay {
             arrival,
             ..
         } = moving;
-        let copy = match &plan.setting {
-            Some(setting) => setting.copy(self.alloc),
-            None => return self.give_own(rt, connection, registry, from, departed),
+        match self.place_of(&plan, from) {
+            Ok(Some((number, setting))) => {
+                match self.use_arrival(rt, registry, number, setting, arrival) {
+                    Ok(()) => self.enter(connection, number, departed, plan),
+                    Err(error) => self.stay(connection, from, departed, used_by(plan), &error),
+                }
+            }
+            Ok(None) => {
+                let next = self.give_own(rt, connection, registry, from, departed);
+                drop(arrival);
+                drop(plan);
+                next
+            }
+            Err(AllocError) => {
+                drop(arrival);
+                drop(plan);
+                close(departed)
+            }
+        }
+    }
+
+    /// Returns a copy of the setting that a client wants, with its number, which is in use from now
+    /// on. Returns `None` if only the server knows what the client wants, or too many settings are
+    /// in use.
+    fn place_of(
+        &mut self,
+        plan: &Plan,
+        from: usize,
+    ) -> Result<Option<(usize, Setting)>, AllocError> {
+        let Some(wanted) = &plan.setting else {
+            return Ok(None);
         };
-        let Ok(setting) = copy else {
-            return Next::Close;
-        };
-        let number = match self.place_for(&setting, from) {
-            Ok(Some(number)) => number,
-            Ok(None) => return self.give_own(rt, connection, registry, from, departed),
-            Err(AllocError) => return Next::Close,
-        };
-        match self.use_arrival(rt, registry, number, setting, arrival) {
-            Ok(()) => self.enter(connection, number, departed, plan),
-            Err(error) => self.stay(connection, from, departed, plan.used, &error),
+        let setting = wanted.copy(self.alloc)?;
+        match self.place_for(&setting, from) {
+            Ok(Some(number)) => Ok(Some((number, setting))),
+            Ok(None) => {
+                drop(setting);
+                Ok(None)
+            }
+            Err(AllocError) => {
+                drop(setting);
+                Err(AllocError)
+            }
         }
     }
 
@@ -257,22 +318,56 @@ impl Relay {
         setting: Setting,
         arrival: Arrival,
     ) -> io::Result<()> {
+        if !self.renew(number, setting) {
+            drop(arrival);
+            return Ok(());
+        }
+        let (stream, entry) = arrival.into_parts();
+        let hello = entry.hello().to_vec(self.alloc);
+        drop(entry);
+        match hello {
+            Ok(hello) => self.adopt(rt, registry, number, stream, hello),
+            Err(_) => {
+                drop(stream);
+                Err(ErrorKind::OutOfMemory.into())
+            }
+        }
+    }
+
+    /// Sets the setting of this number to one that differs by its password at most. Returns whether
+    /// it has no connection.
+    fn renew(&mut self, number: usize, setting: Setting) -> bool {
         let now = self.now();
         let Some(channel) = self.channels.get_mut(number) else {
-            return Err(ErrorKind::NotConnected.into());
+            drop(setting);
+            return true;
         };
         channel.link.set_now(now);
         if number > 0 {
             channel.link.set_setting(setting);
+        } else {
+            drop(setting);
         }
-        if channel.link.is_open() {
-            return Ok(());
+        !channel.link.is_open()
+    }
+
+    /// Uses a connection in the setting of this number. `hello` is the reply to HELLO over it.
+    fn adopt<R: Net + Eprint>(
+        &mut self,
+        rt: &R,
+        registry: &Registry,
+        number: usize,
+        stream: Stream,
+        hello: Vec<u8>,
+    ) -> io::Result<()> {
+        match self.channels.get_mut(number) {
+            Some(channel) => channel.adopt(stream, hello, registry, rt),
+            None => {
+                drop(stream);
+                drop(hello);
+                Err(ErrorKind::NotConnected.into())
+            }
         }
-        let (stream, entry) = arrival.into_parts();
-        let Ok(hello) = entry.hello().to_vec(self.alloc) else {
-            return Err(ErrorKind::OutOfMemory.into());
-        };
-        channel.adopt(stream, hello, registry, rt)
     }
 
     /// Opens a client in the setting of this number, in which its connection to the server is open.
@@ -285,12 +380,13 @@ impl Relay {
     ) -> Next {
         let mut departed = departed;
         let Some(channel) = self.channels.get_mut(number) else {
-            return Next::Close;
+            drop(plan);
+            return close(departed);
         };
         let link = &channel.link;
         match plan.carry_out(self.alloc, &mut departed, link.setting(), link.hello()) {
             Ok(reply) => self.seat(connection, number, departed, &reply),
-            Err(AllocError) => Next::Close,
+            Err(AllocError) => close(departed),
         }
     }
 
@@ -303,7 +399,7 @@ impl Relay {
         reply: &[u8],
     ) -> Next {
         let Some(channel) = self.channels.get_mut(number) else {
-            return Next::Close;
+            return close(departed);
         };
         match channel.enter(departed, reply, connection.place()) {
             Some(client) => {
@@ -359,11 +455,11 @@ impl Relay {
             return self.refuse_own(connection, from, departed);
         }
         let Some(channel) = self.channels.get(from) else {
-            return Next::Close;
+            return close(departed);
         };
         let link = &channel.link;
         let Ok(entry) = link.entry() else {
-            return Next::Close;
+            return close(departed);
         };
         let token = connection.server_token();
         match Arrival::begin(rt, link.backend(), registry, token, entry) {
@@ -373,7 +469,10 @@ impl Relay {
                 self.count(Counted::OwnOpened);
                 Next::Wait
             }
-            Err(error) => self.give_up(connection, &error),
+            Err(error) => {
+                drop(departed);
+                self.give_up(connection, &error)
+            }
         }
     }
 
@@ -384,11 +483,11 @@ impl Relay {
                 departed.rest().len().saturating_sub(asking.rest.len()),
                 no_more(self.alloc, asking.name),
             ),
-            None => return Next::Close,
+            None => return close(departed),
         };
         match reply {
             Ok(reply) => self.answer(connection, from, departed, used, &reply),
-            Err(AllocError) => Next::Close,
+            Err(AllocError) => close(departed),
         }
     }
 
@@ -438,6 +537,12 @@ impl Relay {
         };
         let channel = self.new_channel(number, setting, from)?;
         self.share_counts();
+        self.put(number, channel)?;
+        Ok(Some(number))
+    }
+
+    /// Puts a channel in the place of the one with this number, or behind the others.
+    fn put(&mut self, number: usize, channel: Channel) -> Result<(), AllocError> {
         match self.channels.get_mut(number) {
             Some(place) => {
                 let numbers = place.proxy.numbers();
@@ -445,15 +550,11 @@ impl Relay {
                     lines: 0,
                     ..numbers
                 });
-                *place = channel;
+                drop(mem::replace(place, channel));
+                Ok(())
             }
-            None => {
-                if self.channels.push(channel).is_err() {
-                    return Err(AllocError);
-                }
-            }
+            None => add(&mut self.channels, channel),
         }
-        Ok(Some(number))
     }
 
     /// Returns a channel in a setting, whose connection is not open.
@@ -466,23 +567,60 @@ impl Relay {
         let Some(channel) = self.channels.get(from) else {
             return Err(AllocError);
         };
-        let old = &channel.link;
         let shown = setting.shown(self.alloc)?;
-        let link = ServerLink::new(
-            self.alloc,
-            old.backend().copy(self.alloc)?,
-            number,
-            setting.copy(self.alloc)?,
-            old.login().to_vec(self.alloc)?,
-            self.settings.patience,
-            Spare::none(),
-        );
+        let link = self.new_link(number, setting, &channel.link)?;
         let mut channel = Channel::new(self.alloc, link, shown, &self.settings)?;
+        match self.admit_all(&mut channel) {
+            Ok(()) => Ok(channel),
+            Err(AllocError) => {
+                drop(channel);
+                Err(AllocError)
+            }
+        }
+    }
+
+    /// Returns a link in a setting to the server of another link.
+    fn new_link(
+        &self,
+        number: usize,
+        setting: &Setting,
+        old: &ServerLink,
+    ) -> Result<ServerLink, AllocError> {
+        let backend = old.backend().copy(self.alloc)?;
+        let login = old.login().to_vec(self.alloc)?;
+        let setting = setting.copy(self.alloc)?;
+        let patience = self.settings.patience;
+        Ok(ServerLink::new(
+            self.alloc,
+            backend,
+            number,
+            setting,
+            login,
+            patience,
+            Spare::none(),
+        ))
+    }
+
+    /// Admits in a channel the commands that the others admit.
+    fn admit_all(&self, channel: &mut Channel) -> Result<(), AllocError> {
         for name in &self.also {
             channel.proxy.admit(name)?;
         }
-        Ok(channel)
+        Ok(())
     }
+}
+
+/// Closes a connection whose client had this.
+fn close<T: Drop>(departed: T) -> Next {
+    drop(departed);
+    Next::Close
+}
+
+/// Returns the number of bytes of the command of a plan.
+fn used_by(plan: Plan) -> usize {
+    let used = plan.used;
+    drop(plan);
+    used
 }
 
 /// Returns the entry into the setting of a link, with a command of a client after it.

@@ -5,7 +5,7 @@ use resp_value::limits::Limits;
 use std::alloc::{AllocError, Global};
 
 /// The reply to a command that moves a client to a setting.
-#[derive(Clone, Copy, Debug, PartialEq, Eq)]
+#[derive(Clone, Copy)]
 enum Kind {
     /// That of AUTH and SELECT.
     Okay,
@@ -85,11 +85,13 @@ impl Plan {
         hello: &[u8],
     ) -> Result<Vec<u8>, AllocError> {
         let Plan {
+            setting: wanted,
             kind,
             name,
             used,
             ..
         } = self;
+        drop(wanted);
         if let Some(name) = name {
             departed.set_name(name);
         }

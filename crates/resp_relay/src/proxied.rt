@@ -163,11 +163,22 @@ impl Proxied {
 
     /// Closes the client in this proxy, which it shares, if it may leave. Returns what it keeps.
     pub(crate) fn leave(&mut self, proxy: &mut Proxy) -> Option<Departed> {
-        let link = mem::replace(&mut self.link, Link::Closed);
-        let Link::Shared(number, client) = link else {
-            self.set_link(link);
-            return None;
-        };
+        match self.take_link() {
+            Link::Shared(number, client) => self.leave_shared(proxy, number, client),
+            link => {
+                self.set_link(link);
+                None
+            }
+        }
+    }
+
+    /// Closes a client that this proxy shares, if it may leave. Otherwise it goes on as before.
+    fn leave_shared(
+        &mut self,
+        proxy: &mut Proxy,
+        number: usize,
+        client: Client,
+    ) -> Option<Departed> {
         match proxy.leave(client) {
             Ok(departed) => Some(departed),
             Err(client) => {
@@ -197,8 +208,7 @@ impl Proxied {
     /// Returns what the client waits for, if it waits for a connection in another setting. Put it
     /// back, or enter a setting.
     pub(crate) fn take_move(&mut self) -> Option<Move> {
-        let link = mem::replace(&mut self.link, Link::Closed);
-        match link {
+        match self.take_link() {
             Link::Moving(moving) => Some(moving),
             link => {
                 self.set_link(link);

@@ -36,7 +36,7 @@ pub struct ProxyServer {
 }
 
 /// How a [`ProxyServer`] works.
-#[derive(Clone, Copy, Debug)]
+#[derive(Clone, Copy)]
 pub struct ProxySettings {
     /// The limits and bounds of the proxy.
     pub proxy: resp_proxy::Settings,
@@ -88,10 +88,12 @@ impl ProxyServer {
         settings: ProxySettings,
     ) -> io::Result<Self> {
         let connections = Loop::listen(rt, alloc, address, settings.most)?;
-        backend.check(rt, connections.address())?;
-        match Relay::new(rt, alloc, backend, login, settings) {
+        match relay_of(rt, alloc, connections.address(), backend, login, settings) {
             Ok(relay) => Ok(ProxyServer { connections, relay }),
-            Err(_) => Err(ErrorKind::OutOfMemory.into()),
+            Err(error) => {
+                drop(connections);
+                Err(error)
+            }
         }
     }
 
@@ -143,6 +145,22 @@ impl ProxyServer {
             out,
         };
         self.connections.run(&mut relaying, &mut events)
+    }
+}
+
+/// Returns the relay of a proxy that listens on this address.
+fn relay_of<R: Net + Files>(
+    rt: &R,
+    alloc: Global,
+    listening: io::Result<Address>,
+    backend: Backend,
+    login: Vec<u8>,
+    settings: ProxySettings,
+) -> io::Result<Relay> {
+    backend.check(rt, listening)?;
+    match Relay::new(rt, alloc, backend, login, settings) {
+        Ok(relay) => Ok(relay),
+        Err(AllocError) => Err(ErrorKind::OutOfMemory.into()),
     }
 }
 

@@ -85,11 +85,10 @@ impl Relay {
         let setting = Setting::first(alloc)?;
         let spare = Spare::new(net);
         let link = ServerLink::new(alloc, backend, 0, setting, login, settings.patience, spare);
-        let first = Channel::new(alloc, link, String::new(alloc), &settings)?;
-        let mut channels = Vec::new(alloc);
-        if channels.push(first).is_err() {
-            return Err(AllocError);
-        }
+        let channels = only(
+            alloc,
+            Channel::new(alloc, link, String::new(alloc), &settings)?,
+        )?;
         Ok(Relay {
             alloc,
             settings,
@@ -134,8 +133,14 @@ impl Relay {
     fn end(&mut self, link: Link) {
         match link {
             Link::Shared(number, client) => self.close_shared(number, client),
-            Link::Moving(moving) => self.end_move(moving.from),
-            Link::Own(_own) => self.count(Counted::OwnClosed),
+            Link::Moving(moving) => {
+                self.end_move(moving.from);
+                drop(moving);
+            }
+            Link::Own(own) => {
+                self.count(Counted::OwnClosed);
+                drop(own);
+            }
             Link::Closed => {}
         }
     }
@@ -406,6 +411,21 @@ impl Relay {
     pub(crate) fn reject(&mut self) {
         self.count(Counted::Rejected);
     }
+}
+
+/// Returns a list of this channel.
+fn only(alloc: Global, channel: Channel) -> Result<Vec<Channel>, AllocError> {
+    let mut channels = Vec::new(alloc);
+    add(&mut channels, channel)?;
+    Ok(channels)
+}
+
+/// Adds a channel behind the others. It is dropped if there is no memory for it.
+pub(crate) fn add(channels: &mut Vec<Channel>, channel: Channel) -> Result<(), AllocError> {
+    let pushed = channels.push(channel);
+    let is_pushed = pushed.is_ok();
+    drop(pushed);
+    if is_pushed { Ok(()) } else { Err(AllocError) }
 }
 
 /// Counts the times of all settings in the first one, and returns them.

@@ -53,13 +53,22 @@ impl OpenConnections {
     pub(crate) fn add(&mut self, replayed: Replayed) -> Result<(), AllocError> {
         let (number, ends) = (replayed.number(), replayed.ends());
         if self.numbers.insert(ends, number).is_err() {
+            drop(replayed);
             return Err(AllocError);
         }
-        if self.by_number.insert(number, replayed).is_err() {
-            let _ = self.numbers.remove(&ends);
-            return Err(AllocError);
+        if self.put(number, replayed) {
+            return Ok(());
         }
-        Ok(())
+        let _ = self.numbers.remove(&ends);
+        Err(AllocError)
+    }
+
+    /// Puts the connection of this number with the others. Returns whether there is memory for it.
+    fn put(&mut self, number: u64, replayed: Replayed) -> bool {
+        let inserted = self.by_number.insert(number, replayed);
+        let is_put = inserted.is_ok();
+        drop(inserted);
+        is_put
     }
 
     /// Removes the connection of this number, and returns it.

@@ -1,7 +1,7 @@
 //! The lines about connections of clients, apart from those about their ends.
 
 /// A line about a client's connection. Some have a text, such as an address.
-#[derive(Clone, Copy, Debug, PartialEq, Eq)]
+#[derive(Clone, Copy)]
 pub(crate) enum Remark {
     /// The client is connected from the address in the text.
     ConnectedFrom,

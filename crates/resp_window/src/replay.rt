@@ -28,7 +28,7 @@ const MOST_READS: u64 = 1 << 40;
 const MOST_CLOSED: usize = 256;
 
 /// How a capture is printed.
-#[derive(Clone, Copy, Debug)]
+#[derive(Clone, Copy)]
 pub struct ReplaySettings {
     /// The limits within which both sides are read.
     pub limits: Limits,
@@ -49,7 +49,7 @@ pub struct ReplaySettings {
 }
 
 /// Why a capture is not printed to its end. The traffic before was printed.
-#[derive(Clone, Copy, Debug, PartialEq, Eq, Error)]
+#[derive(Clone, Copy, Debug, Error)]
 pub enum ReplayError {
     /// The file is no capture, or it is cut off.
     #[error("{0}")]
@@ -286,6 +286,17 @@ impl Replay {
         let Some(mut replayed) = self.open.remove(number) else {
             return Ok(());
         };
+        let closed = self.finish_one(&mut replayed, out);
+        drop(replayed);
+        closed
+    }
+
+    /// Prints that a connection, which was removed, has gone.
+    fn finish_one<W: Sink>(
+        &mut self,
+        replayed: &mut Replayed,
+        out: &mut W,
+    ) -> Result<(), AllocError> {
         replayed.finish(&mut self.view, out)?;
         replayed.print_gone(&mut self.view, out);
         if self.closed.len() >= MOST_CLOSED {

@@ -5,7 +5,7 @@ use crate::printer::Printer;
 use crate::remark::Remark;
 use crate::replay::ReplaySettings;
 use crate::shown::Shown;
-use crate::stats::Stats;
+use crate::stats::{Stats, counted_from};
 use crate::timing::Timing;
 use crate::watcher::Watcher;
 use resp_capture::{Address, Endpoint, Time};
@@ -56,22 +56,24 @@ impl ReplayView {
         filter: Filter,
     ) -> io::Result<ReplayView> {
         let clock = PacketClock::default();
-        let timing = Timing::new(&clock, settings.tells_time || settings.tables.is_some())?;
-        let stats = match settings.tables {
-            Some(tables) => Some(Stats::new(alloc, tables)?),
-            None => None,
-        };
-        Ok(ReplayView {
-            alloc,
-            clock,
-            timing,
-            stats,
-            shown: Shown {
-                filter,
-                json: settings.json,
-            },
-            has_failed: false,
-        })
+        let is_timed = settings.tells_time || settings.tables.is_some();
+        match counted_from(&clock, alloc, is_timed, settings.tables) {
+            Ok((timing, stats)) => Ok(ReplayView {
+                alloc,
+                clock,
+                timing,
+                stats,
+                shown: Shown {
+                    filter,
+                    json: settings.json,
+                },
+                has_failed: false,
+            }),
+            Err(error) => {
+                drop(filter);
+                Err(error)
+            }
+        }
     }
 
     /// Returns whether a write has failed.

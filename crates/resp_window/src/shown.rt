@@ -3,7 +3,7 @@
 use resp_tap::Filter;
 
 /// Which lines are printed, and whether they are JSON.
-#[derive(Debug, Drop)]
+#[derive(Drop)]
 pub(crate) struct Shown {
     pub(crate) filter: Filter,
     pub(crate) json: bool,

@@ -1,11 +1,14 @@
 //! The counts of a window, and when they are printed.
 
+use crate::timing::Timing;
 use resp_counts::Counts;
 use std::alloc::{AllocError, Global};
+use std::io;
+use std::rt::Clock;
 use std::time::Duration;
 
 /// When the table of the counts is printed.
-#[derive(Clone, Copy, Debug, PartialEq, Eq)]
+#[derive(Clone, Copy)]
 pub enum Tables {
     /// When the last connection closes.
     AtEnd,
@@ -86,5 +89,25 @@ impl Stats {
     pub(crate) fn printed(&mut self, now: u64) {
         self.next = now.saturating_add(self.every.unwrap_or(0));
         self.has_news = false;
+    }
+}
+
+/// Returns the times, which are read if `is_timed` is true, and the counts of commands if tables are
+/// printed.
+///
+/// # Errors
+///
+/// The error of the system if a clock can't be read, or an error of kind `OutOfMemory` if an
+/// allocation fails.
+pub(crate) fn counted_from(
+    clock: &impl Clock,
+    alloc: Global,
+    is_timed: bool,
+    tables: Option<Tables>,
+) -> io::Result<(Timing, Option<Stats>)> {
+    let timing = Timing::new(clock, is_timed)?;
+    match tables {
+        Some(tables) => Ok((timing, Some(Stats::new(alloc, tables)?))),
+        None => Ok((timing, None)),
     }
 }

@@ -4,7 +4,7 @@ use crate::printer::Printer;
 use crate::recording::{Recording, endpoint_of};
 use crate::remark::Remark;
 use crate::shown::Shown;
-use crate::stats::{Stats, Tables};
+use crate::stats::{Stats, Tables, counted_from};
 use crate::tapped::{Opening, Sockets, Tapped};
 use crate::timing::Timing;
 use crate::watcher::Watcher;
@@ -26,11 +26,11 @@ use resp_value::device::Sink;
 use resp_value::limits::Limits;
 use std::alloc::{AllocError, Global};
 use std::fs::{File, Files};
-use std::io;
 use std::io::ErrorKind;
 use std::net::Net;
 use std::rt::Clock;
 use std::time::Duration;
+use std::{io, mem};
 
 /// The most bytes of text that wait to be printed.
 const SCREEN: usize = 1_048_576;
@@ -66,7 +66,7 @@ pub struct Window {
 }
 
 /// What a [`Window`] does after a write to standard output has failed.
-#[derive(Clone, Copy, Debug, PartialEq, Eq)]
+#[derive(Clone, Copy)]
 pub enum AfterFailure {
     /// It ends, and closes all connections.
     End,
@@ -77,7 +77,7 @@ pub enum AfterFailure {
 }
 
 /// How a [`Window`] works.
-#[derive(Clone, Copy, Debug)]
+#[derive(Clone, Copy)]
 pub struct Settings {
     /// The limits within which both sides are read.
     pub limits: Limits,
@@ -153,9 +153,13 @@ impl Window {
         filter: Filter,
     ) -> io::Result<Self> {
         let connections = Loop::listen(rt, alloc, address, settings.most)?;
-        backend.check(rt, connections.address())?;
-        let view = View::new(rt, alloc, backend, settings, filter)?;
-        Ok(Window { connections, view })
+        match view_of(rt, alloc, connections.address(), backend, settings, filter) {
+            Ok(view) => Ok(Window { connections, view }),
+            Err(error) => {
+                drop(connections);
+                Err(error)
+            }
+        }
     }
 
     /// Returns the address that the window listens on.
@@ -176,7 +180,8 @@ impl Window {
     /// The error of the system if the file can't be created. Its kind is `AlreadyExists` if there is
     /// a file of this name, which is left unchanged.
     pub fn record<R: Files<File = File>>(&mut self, rt: &R, path: &str) -> io::Result<()> {
-        self.view.recording = Recording::create(rt, path)?;
+        let recording = Recording::create(rt, path)?;
+        drop(mem::replace(&mut self.view.recording, recording));
         Ok(())
     }
 
@@ -203,7 +208,7 @@ impl Window {
         let mut events = self.connections.events()?;
         let view = &mut self.view;
         if out.flush().is_err() {
-            if view.settings.after_failure == AfterFailure::Finish {
+            if matches!(view.settings.after_failure, AfterFailure::Finish) {
                 return Err(ErrorKind::WriteZero.into());
             }
             view.fail(rt)?;
@@ -213,31 +218,69 @@ impl Window {
     }
 }
 
+/// Returns the view of a window that listens on this address.
+fn view_of<R: Net + Clock + Files<File = File>>(
+    rt: &R,
+    alloc: Global,
+    listening: io::Result<Address>,
+    backend: Backend,
+    settings: Settings,
+    filter: Filter,
+) -> io::Result<View> {
+    match parts_of(rt, alloc, listening, &backend, &settings) {
+        Ok((terminal, timing, stats)) => Ok(View::new(
+            rt, alloc, backend, settings, filter, terminal, timing, stats,
+        )),
+        Err(error) => {
+            drop(backend);
+            drop(filter);
+            Err(error)
+        }
+    }
+}
+
+/// Returns what a view needs of the system, if the window may listen on this address.
+fn parts_of<R: Net + Clock + Files<File = File>>(
+    rt: &R,
+    alloc: Global,
+    listening: io::Result<Address>,
+    backend: &Backend,
+    settings: &Settings,
+) -> io::Result<(Terminal, Timing, Option<Stats>)> {
+    backend.check(rt, listening)?;
+    let terminal = Terminal::new(rt, alloc)?;
+    let is_timed = settings.tells_time || settings.tables.is_some();
+    match counted_from(rt, alloc, is_timed, settings.tables) {
+        Ok((timing, stats)) => Ok((terminal, timing, stats)),
+        Err(error) => {
+            drop(terminal);
+            Err(error)
+        }
+    }
+}
+
 impl View {
     /// Returns a view of a server, before any client is accepted.
-    fn new<R: Net + Clock + Files<File = File>>(
-        rt: &R,
+    fn new(
+        net: &impl Net,
         alloc: Global,
         backend: Backend,
         settings: Settings,
         filter: Filter,
-    ) -> io::Result<View> {
-        let terminal = Terminal::new(rt, alloc)?;
+        terminal: Terminal,
+        timing: Timing,
+        stats: Option<Stats>,
+    ) -> View {
         let json = settings.json;
         let mut screen = Painted::new(Screen::new(alloc, SCREEN).with_json(json));
         screen.set_style(settings.style);
-        let timing = Timing::new(rt, settings.tells_time || settings.tables.is_some())?;
-        let stats = match settings.tables {
-            Some(tables) => Some(Stats::new(alloc, tables)?),
-            None => None,
-        };
-        Ok(View {
+        View {
             alloc,
             backend,
             settings,
             shown: Shown { filter, json },
             count: 0,
-            spare: Spare::new(rt),
+            spare: Spare::new(net),
             screen,
             terminal,
             has_failed: false,
@@ -246,7 +289,7 @@ impl View {
             stats,
             recording: Recording::none(),
             buffer: [0; PIECE],
-        })
+        }
     }
 
     /// Prints waiting text, as far as standard output accepts it without blocking. A file accepts
@@ -286,9 +329,14 @@ impl View {
         };
         self.is_silent = true;
         // The text that waits is never printed.
-        self.screen = Painted::new(Screen::new(self.alloc, 0));
+        drop(mem::replace(&mut self.screen, Painted::new(Screen::new(self.alloc, 0))));
         let _ = rt.eprintln(notice);
         Ok(())
+    }
+
+    /// Returns whether clients are accepted after a write has failed.
+    fn goes_on_accepting(&self) -> bool {
+        matches!(self.settings.after_failure, AfterFailure::KeepGoing)
     }
 
     /// Returns the number of the next client.
@@ -635,7 +683,7 @@ impl<R: Net + Clock + Eprint, W: LiveSink> Service<Tapped> for Watching<'_, R, W
     }
 
     fn accepts(&self) -> bool {
-        !self.view.is_silent || self.view.settings.after_failure == AfterFailure::KeepGoing
+        !self.view.is_silent || self.view.goes_on_accepting()
     }
 
     fn patience(&self) -> Option<Duration> {
