@@ -64,7 +64,7 @@ impl Text {
             self.bytes.reserve(FIRST)?;
         }
         self.bytes.extend_from_slice(first)?;
-        if self.bytes.extend_from_slice(second).is_err() {
+        if !second.is_empty() && self.bytes.extend_from_slice(second).is_err() {
             self.bytes.truncate(before);
             return Err(AllocError);
         }
