@@ -16,7 +16,7 @@ use crate::counts::Counts;
 use crate::error::ClientError;
 use crate::identity::Identity;
 use crate::intake::Intake;
-use crate::local::local_answer;
+use crate::local::{local_answer, may_be_answered};
 use crate::settings::Settings;
 use resp_commands::Class;
 use resp_frames::CommandFrame;
@@ -26,6 +26,7 @@ use std::alloc::{AllocError, Global};
 
 /// Queues a command for the server if clients may share a connection for it, and the proxy does not reply
 /// to it although they may. Otherwise the proxy itself replies.
+#[inline(always)]
 pub(crate) fn carry_out(
     alloc: Global,
     settings: &Settings,
@@ -46,8 +47,35 @@ pub(crate) fn carry_out(
     ensures unchanged { OnErr result (KeepsPassed mux.old mux.new) }
     ensures same_clients { KeepsClients mux.old mux.new }
 {
-    no_spelling_begins_another();
     counts.commands_by_name.add(command.words.place);
+    if is_sent(command) {
+        return forward(mux, who, command.frame.text());
+    }
+    answer_or_send(alloc, settings, intake, counts, identity, mux, who, command)
+}
+
+/// Does what `carry_out` does, after the command was counted.
+#[inline(never)]
+fn answer_or_send(
+    alloc: Global,
+    settings: &Settings,
+    intake: &Intake,
+    counts: &Counts,
+    identity: &mut Identity,
+    mux: &mut Mux,
+    who: ClientId,
+    command: &CommandFrame,
+) -> Result<(), ClientError>
+    ensures carried { (front piece : List ℕ) →
+        IsFrameOfWords (terms_of intake.now).rules.limits front piece command.now →
+        OnOk result (Carries (terms_of intake.now) who (text_of command.now.frame) mux.old mux.new) }
+    ensures refused { IfErr result
+        (RefusesArray (terms_of intake.now).rules.limits (text_of command.now.frame)) }
+    ensures open { (waiting_for mux.old who ≡ None → ⊥) → IfErr result IsOfBytes }
+    ensures unchanged { OnErr result (KeepsPassed mux.old mux.new) }
+    ensures same_clients { KeepsClients mux.old mux.new }
+{
+    no_spelling_begins_another();
     if is_shared(command) {
         return match local_answer(alloc, settings, counts, mux, command) {
             Ok(Some(answer)) => own(mux, who, &answer),
@@ -64,6 +92,15 @@ pub(crate) fn carry_out(
         Ok(Answer::Http) => Err(ClientError::Http),
         Err(AllocError) => Err(ClientError::OutOfMemory),
     }
+}
+
+/// Returns whether a command is sent although nobody has read its words: clients may share a connection
+/// for it, and by its name it is one to which the proxy does not reply.
+#[inline(always)]
+fn is_sent(command: &CommandFrame) -> bool
+    ensures { IsTrue result → command.now.words.class ≡ Some Class.Shared }
+{
+    is_shared(command) && !may_be_answered(command)
 }
 
 /// Returns whether clients may share a connection for a command.

@@ -13,7 +13,6 @@ const NAME: usize = 8;
 
 /// Returns the reply of the proxy to `INFO proxy`, and to PING if the settings ask for it. Returns `None` if
 /// the command is for the server.
-#[inline(always)]
 pub(crate) fn local_answer(
     alloc: Global,
     settings: &Settings,
@@ -21,7 +20,7 @@ pub(crate) fn local_answer(
     mux: &Mux,
     command: &CommandFrame,
 ) -> Result<Option<Vec<u8>>, AllocError> {
-    if command.words.arguments > 1 || !may_be_local(command.frame.text()) {
+    if !may_be_answered(command) {
         return Ok(None);
     }
     let Some(name) = command.frame.text().get(NAME..NAME + 4) else {
@@ -36,10 +35,15 @@ pub(crate) fn local_answer(
     Ok(None)
 }
 
-/// Returns whether the name of a command may be INFO or PING, by its first letter. Most commands are neither.
+/// Returns whether a command may be INFO or PING, by its number of words and the first letter of its name.
+/// Most commands are neither.
 #[inline(always)]
-fn may_be_local(text: &[u8]) -> bool {
-    matches!(text.get(NAME), Some(b'I' | b'i' | b'P' | b'p'))
+pub(crate) fn may_be_answered(command: &CommandFrame) -> bool {
+    command.words.arguments <= 1
+        && matches!(
+            command.frame.text().get(NAME),
+            Some(b'I' | b'i' | b'P' | b'p')
+        )
 }
 
 /// Returns the reply to INFO if its word is `proxy`.

@@ -10,7 +10,7 @@ ghost use Rattle.resp_proxy.specs.Telling.{Tells};
 use crate::error::ServerError;
 use crate::error_counts::ErrorCounts;
 use crate::probing::Prober;
-use crate::told::note;
+use crate::told::{make_room, note};
 use resp_frames::{Begun, Frames};
 use resp_join::{ReplyError, take_reply};
 use resp_mux::{AnswerError, ClientId, Mux};
@@ -42,7 +42,7 @@ pub(crate) fn take_replies(
     }
     let mut used = 0;
     while used < piece.len() {
-        if queued.reserve(1).is_err() {
+        if make_room(queued).is_err() {
             return Err(out_of_memory());
         }
         let is_begun = !begun.is_empty();

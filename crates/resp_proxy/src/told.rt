@@ -1,6 +1,6 @@
 //! The clients that were replied to.
 
-ghost use Rattle.std.specs.Prelude.{◌<◌, OnOk};
+ghost use Rattle.std.specs.Prelude.{◌≡◌, ◌<◌, OnOk};
 ghost use Rattle.std.specs.VecDeque.{deque_capacity, deque_len};
 ghost use Rattle.resp_mux.specs.Multiplexing.{begun_clients, waiting_clients};
 ghost use Rattle.resp_proxy.specs.Telling.{Covers, Notes, NotesSome};
@@ -8,6 +8,18 @@ ghost use Rattle.resp_proxy.specs.Telling.{Covers, Notes, NotesSome};
 use resp_mux::{ClientId, Mux};
 use std::alloc::AllocError;
 use std::collections::VecDeque;
+
+/// Makes room for one more client. There nearly always is.
+#[inline(always)]
+pub(crate) fn make_room(queued: &mut VecDeque<ClientId>) -> Result<(), AllocError>
+    ensures room { OnOk result (deque_len queued.new < deque_capacity queued.new) }
+    ensures same { queued.new.items ≡ queued.old.items }
+{
+    if queued.len() < queued.capacity() {
+        return Ok(());
+    }
+    queued.reserve(1)
+}
 
 /// Queues a client, for which there is memory. It is not queued twice in a row.
 pub(crate) fn note(queued: &mut VecDeque<ClientId>, who: ClientId)

@@ -39,7 +39,7 @@ returns-then-reply-eq0-clause-told c =
     let l = c.loop-used in
     let one = c.take_reply in
     let queued = c.note.new.queued.items in
-    let noted = subst (λ q. Notes c.in-Some.reply.client q queued) c.reserve.ensures.items c.note.ensures in
+    let noted = subst (λ q. Notes c.in-Some.reply.client q queued) c.make_room.ensures.same c.note.ensures in
     (more-replied c.args.frames.now l.frames one.new.frames c.args.begun.now l.begun one.new.begun c.args.mux.now l.mux one.new.mux c.args.queued.now.items
     l.queued.items queued c.args.piece.now l.used c.in-Ok.found c.in-Some.reply l.invariant.0 (grind arith) (grind arith)
     one.ensures.same_clients one.ensures.ready one.ensures.same_rules c.in-Ok.ensures.client noted c.in-Ok.ensures.answered).tells
@@ -49,7 +49,7 @@ loop-used-preserved c =
     let l = c.loop-used in
     let one = c.take_reply in
     let queued = c.note.new.queued.items in
-    let noted = subst (λ q. Notes c.in-Some.reply.client q queued) c.reserve.ensures.items c.note.ensures in (
+    let noted = subst (λ q. Notes c.in-Some.reply.client q queued) c.make_room.ensures.same c.note.ensures in (
       more-replied c.args.frames.now l.frames one.new.frames c.args.begun.now l.begun one.new.begun c.args.mux.now l.mux one.new.mux c.args.queued.now.items
           l.queued.items queued c.args.piece.now l.used c.in-Ok.found c.in-Some.reply l.invariant.0 (grind arith) (grind arith)
           one.ensures.same_clients one.ensures.ready one.ensures.same_rules c.in-Ok.ensures.client noted c.in-Ok.ensures.answered,
@@ -62,7 +62,7 @@ returns-then-not-stays_in_step-clause-taken c =
     let l = c.loop-used in
     let one = c.take_reply in
     let queued = c.note.new.queued.items in
-    let noted = subst (λ q. Notes c.in-Some.reply.client q queued) c.reserve.ensures.items c.note.ensures in
+    let noted = subst (λ q. Notes c.in-Some.reply.client q queued) c.make_room.ensures.same c.note.ensures in
     let next =
     more-replied c.args.frames.now l.frames one.new.frames c.args.begun.now l.begun one.new.begun c.args.mux.now l.mux one.new.mux c.args.queued.now.items
     l.queued.items queued c.args.piece.now l.used c.in-Ok.found c.in-Some.reply l.invariant.0 (grind arith) (grind arith)
@@ -75,7 +75,7 @@ returns-then-not-stays_in_step-clause-told c =
     let l = c.loop-used in
     let one = c.take_reply in
     let queued = c.note.new.queued.items in
-    let noted = subst (λ q. Notes c.in-Some.reply.client q queued) c.reserve.ensures.items c.note.ensures in
+    let noted = subst (λ q. Notes c.in-Some.reply.client q queued) c.make_room.ensures.same c.note.ensures in
     (more-replied c.args.frames.now l.frames one.new.frames c.args.begun.now l.begun one.new.begun c.args.mux.now l.mux one.new.mux c.args.queued.now.items
     l.queued.items queued c.args.piece.now l.used c.in-Ok.found c.in-Some.reply l.invariant.0 (grind arith) (grind arith)
     one.ensures.same_clients one.ensures.ready one.ensures.same_rules c.in-Ok.ensures.client noted c.in-Ok.ensures.answered).tells
