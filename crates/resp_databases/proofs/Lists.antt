@@ -65,12 +65,13 @@ empty_hub limits = record { limits = limits; sessions = []; store = []; last = 0
 -- databases without a key are within the limits
 pub all_empty : (limits : Bounds) (n : ℕ) → AllByRecursion (IsWithin limits) (replicate n (empty_hub limits))
 all_empty limits zero = tt
-all_empty limits (suc n) = (record { same_limits = refl; fits = record { distinct = IsDistinct-from_apart bytes_eq [] (λ i j d before within. absurd (omega (arith, within))); values = tt } }, all_empty limits n)
-
--- the stores of databases without a key
-pub stores_empty : (limits : Bounds) (n : ℕ) → stores_in (replicate n (empty_hub limits)) ≡ replicate n []
-stores_empty limits zero = refl
-stores_empty limits (suc n) = ap (λ stores. [] ∷ stores) (stores_empty limits n)
+all_empty limits (suc n) = (
+  record {
+    same_limits = refl;
+    fits = record { distinct = IsDistinct-from_apart bytes_eq [] (λ i j d before within. absurd (omega (arith, within))); values = tt };
+  },
+  all_empty limits n,
+)
 
 -- an empty store has none of these keys
 pub no_keys : (keys : List (List ℕ)) → keys_in [] keys ≡ []

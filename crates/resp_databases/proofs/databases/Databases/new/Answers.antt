@@ -1,7 +1,6 @@
-use Rattle.std.proofs.Common.{◌≡◌, [], length, replicate, ap, sym, subst, ◌∙◌, arith}
+use Rattle.std.proofs.Common.{◌≡◌, length, replicate, ap, sym, subst, ◌∙◌, arith}
 use Rattle.std.specs.List.{AllByRecursion}
 use Rattle.std.proofs.lemmas.List.{length-replicate}
-use Rattle.resp_server.specs.Hubs.{HubState}
 use Rattle.resp_databases.specs.States.{IsWithin}
 use Rattle.resp_databases.proofs.Lists.{all_empty, empty_hub}
 use Rattle.resp_databases.proofs.databases.Databases.new.Goals as goal
