@@ -89,11 +89,14 @@ fn ask_over<R: Source, W: Sink, O: LiveSink, F: Sink>(
         false => Form::Alone,
     };
     let mut talk = Talk::new(rt.alloc(), &asking.options.limits, reader, writer);
-    match ask_with(rt, &mut talk, asking, password, form, failures, output) {
-        Ok(()) if talk.errors() == 0 => Ok(0),
+    let asked = ask_with(rt, &mut talk, asking, password, form, failures, output);
+    let (errors, next_reply) = (talk.errors(), talk.next_reply());
+    drop(talk);
+    match asked {
+        Ok(()) if errors == 0 => Ok(0),
         Ok(()) => Ok(ERROR),
         Err(failure) => {
-            let _ = failure.write(talk.next_reply(), faults);
+            let _ = failure.write(next_reply, faults);
             write_why(rt.alloc(), &failure, failures, faults)?;
             Ok(failure.status())
         }

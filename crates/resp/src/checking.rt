@@ -89,11 +89,25 @@ pub fn run_check<O: LiveSink, F: Sink>(
     );
     match checked {
         Ok(status) => Ok(status),
-        Err(CheckError::Reply(reply)) => {
+        Err(error) => refuse(alloc, server, error, failures, faults),
+    }
+}
+
+/// Reports why there is no table, and returns the exit status.
+fn refuse<F: Sink>(
+    alloc: Global,
+    server: &str,
+    error: CheckError,
+    failures: &Failures,
+    faults: &mut F,
+) -> Result<u8, AllocError> {
+    match error {
+        CheckError::Reply(reply) => {
             let _ = write_reply(server, &reply, faults);
+            drop(reply);
             Ok(UNKNOWN)
         }
-        Err(CheckError::Ask(error)) => {
+        CheckError::Ask(error) => {
             let failure = Failure::Ask(error);
             let _ = failure.write(1, faults);
             write_why(alloc, &failure, failures, faults)?;
@@ -113,18 +127,60 @@ fn check<R: Source, W: Sink, O: Sink>(
     output: &mut O,
 ) -> Result<u8, CheckError> {
     let mut client = Client::new(alloc, &Limits::standard());
+    let reply = commands(alloc, &mut client, password, reader, writer);
+    drop(client);
+    let survey = survey_of(alloc, reply?, proxying)?;
+    let printed = print(&survey, proxying, server, output);
+    drop(survey);
+    printed
+}
+
+/// Sends AUTH if there is a password, and returns the reply to COMMAND.
+fn commands<R: Source, W: Sink>(
+    alloc: Global,
+    client: &mut Client,
+    password: Option<&str>,
+    reader: &mut R,
+    writer: &mut W,
+) -> Result<Value, CheckError> {
     if let Some(password) = password {
-        let reply = ask(alloc, &mut client, &["AUTH", password], reader, writer)?;
-        if let Value::Error(_) = reply {
-            return Err(CheckError::Reply(reply));
+        let reply = ask(alloc, client, &["AUTH", password], reader, writer)?;
+        accept(reply)?;
+    }
+    Ok(ask(alloc, client, &["COMMAND"], reader, writer)?)
+}
+
+/// Fails if a reply is an error.
+fn accept(reply: Value) -> Result<(), CheckError> {
+    if let Value::Error(_) = &reply {
+        return Err(CheckError::Reply(reply));
+    }
+    drop(reply);
+    Ok(())
+}
+
+/// Returns the survey of a server that sent this reply to COMMAND.
+fn survey_of(alloc: Global, reply: Value, proxying: &Proxying<'_>) -> Result<Survey, CheckError> {
+    match Survey::of_reply(alloc, &reply, proxying) {
+        Ok(survey) => {
+            drop(reply);
+            Ok(survey)
+        }
+        Err(SurveyError::NoList) => Err(CheckError::Reply(reply)),
+        Err(SurveyError::Memory) => {
+            drop(reply);
+            Err(AskError::Memory.into())
         }
     }
-    let reply = ask(alloc, &mut client, &["COMMAND"], reader, writer)?;
-    let survey = match Survey::of_reply(alloc, &reply, proxying) {
-        Ok(survey) => survey,
-        Err(SurveyError::NoList) => return Err(CheckError::Reply(reply)),
-        Err(SurveyError::Memory) => return Err(AskError::Memory.into()),
-    };
+}
+
+/// Prints a survey. Returns the exit status.
+fn print<O: Sink>(
+    survey: &Survey,
+    proxying: &Proxying<'_>,
+    server: &str,
+    output: &mut O,
+) -> Result<u8, CheckError> {
     let printed = if proxying.all {
         survey.print_all(output)
     } else {
@@ -181,8 +237,9 @@ fn read_reply<R: Source>(
                 Err(fault) => return Err(AskError::Fault(fault)),
             };
             rest = &rest[heard.used..];
-            if let What::Reply { value, .. } = heard.what {
-                return Ok(value);
+            match heard.what {
+                What::Reply { value, .. } => return Ok(value),
+                other => drop(other),
             }
         }
     }

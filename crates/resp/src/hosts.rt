@@ -32,18 +32,40 @@ pub fn addresses_of(
     server: &ServerAddress<'_>,
 ) -> io::Result<Vec<Address>> {
     let mut addresses = Vec::new(alloc);
-    match *server {
-        ServerAddress::Socket(address) => addresses.push(Address::Socket(address))?,
-        ServerAddress::Named { host, port } => {
-            for address in (host, port).to_socket_addrs(net)? {
-                addresses.push(Address::Socket(address))?;
-            }
-        }
-        ServerAddress::Path(path) => {
-            addresses.push(Address::Path(String::from_str(alloc, path)?))?;
+    match add_addresses(net, alloc, server, &mut addresses) {
+        Ok(()) => Ok(addresses),
+        Err(error) => {
+            drop(addresses);
+            Err(error)
         }
     }
-    Ok(addresses)
+}
+
+/// Adds the addresses of a server behind others.
+fn add_addresses(
+    net: &impl Net,
+    alloc: Global,
+    server: &ServerAddress<'_>,
+    addresses: &mut Vec<Address>,
+) -> io::Result<()> {
+    match *server {
+        ServerAddress::Socket(address) => add(addresses, Address::Socket(address)),
+        ServerAddress::Named { host, port } => {
+            for address in (host, port).to_socket_addrs(net)? {
+                add(addresses, Address::Socket(address))?;
+            }
+            Ok(())
+        }
+        ServerAddress::Path(path) => {
+            add(addresses, Address::Path(String::from_str(alloc, path)?))
+        }
+    }
+}
+
+/// Adds an address behind others.
+fn add(addresses: &mut Vec<Address>, address: Address) -> io::Result<()> {
+    addresses.push(address)?;
+    Ok(())
 }
 
 /// Returns the name of a server for lines about it: the host and the port.

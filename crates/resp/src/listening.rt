@@ -100,10 +100,32 @@ fn serve<W: LiveSink>(
     let (limits, held) = (serving.limits, serving.held);
     if serving.is_test_server {
         let mut server = TestServer::listen(rt, alloc, &address, limits, most, held, hasher)?;
-        announce(alloc, &server.address()?, writer)?;
-        return Ok(server.run()?);
+        let ended = run_test_server(alloc, &mut server, writer);
+        drop(server);
+        return ended;
     }
     let mut server = Server::listen(rt, alloc, &address, limits, most, held, hasher)?;
+    let ended = run_server(alloc, &mut server, writer);
+    drop(server);
+    ended
+}
+
+/// Shows the address of a server, and runs it.
+fn run_server<W: LiveSink>(
+    alloc: Global,
+    server: &mut Server<RandomState>,
+    writer: &mut W,
+) -> Result<(), ListenError> {
+    announce(alloc, &server.address()?, writer)?;
+    Ok(server.run()?)
+}
+
+/// Shows the address of a server of 16 databases, and runs it.
+fn run_test_server<W: LiveSink>(
+    alloc: Global,
+    server: &mut TestServer<RandomState>,
+    writer: &mut W,
+) -> Result<(), ListenError> {
     announce(alloc, &server.address()?, writer)?;
     Ok(server.run()?)
 }
@@ -250,14 +272,41 @@ fn tap<W: LiveSink>(
     style: Style,
     writer: &mut Painted<W>,
 ) -> Result<(), ListenError> {
+    let mut window = window_of(rt, tapping, route, backend, slower, style)?;
+    let ended = watch(rt, tapping, route, style, &mut window, writer);
+    drop(window);
+    ended
+}
+
+/// Returns a window that listens on the address in the words.
+fn window_of(
+    rt: &HostRuntime,
+    tapping: &Tapping<'_>,
+    route: &Route<'_>,
+    backend: Backend,
+    slower: Option<u64>,
+    style: Style,
+) -> Result<Window, ListenError> {
     let alloc = rt.alloc();
     let Ok(filter) = filter_of(alloc, &tapping.filter, slower) else {
         return Err(ToolError::Memory.into());
     };
-    let settings = Settings {
+    let settings = settings_of_window(rt, tapping, slower.is_some(), style);
+    let address = listening_on(alloc, &route.address)?;
+    Ok(Window::listen(rt, alloc, &address, backend, settings, filter)?)
+}
+
+/// Returns the settings that the options of `tap` ask for.
+fn settings_of_window(
+    rt: &HostRuntime,
+    tapping: &Tapping<'_>,
+    is_slow: bool,
+    style: Style,
+) -> Settings {
+    Settings {
         limits: tapping.limits,
         most: most_clients(rt, tapping.clients, TAP),
-        tells_time: tapping.tells_time || slower.is_some() || tapping.style.json,
+        tells_time: tapping.tells_time || is_slow || tapping.style.json,
         after_failure: after_failure(tapping),
         reads_lines: !tapping.refuses_lines,
         shows_passwords: tapping.shows_passwords,
@@ -265,14 +314,23 @@ fn tap<W: LiveSink>(
         json: tapping.style.json,
         tables: tables_of(tapping.stats),
         style,
-    };
-    let address = listening_on(alloc, &route.address)?;
-    let mut window = Window::listen(rt, alloc, &address, backend, settings, filter)?;
-    record(rt, &mut window, route.record)?;
+    }
+}
+
+/// Runs a window until that fails, or until its output has failed and all connections are closed.
+fn watch<W: LiveSink>(
+    rt: &HostRuntime,
+    tapping: &Tapping<'_>,
+    route: &Route<'_>,
+    style: Style,
+    window: &mut Window,
+    writer: &mut Painted<W>,
+) -> Result<(), ListenError> {
+    record(rt, window, route.record)?;
     if !window.may_wait() {
         writer.set_style(style);
     }
-    write_tapping(alloc, &window.address()?, tapping.style.json, writer)?;
+    write_tapping(rt.alloc(), &window.address()?, tapping.style.json, writer)?;
     match window.run(rt, writer) {
         Err(error) if error.kind() == ErrorKind::WriteZero => Err(ToolError::Write.into()),
         ended => Ok(ended?),
@@ -329,17 +387,38 @@ fn proxy<W: LiveSink>(
     backend: Backend,
     writer: &mut W,
 ) -> Result<(), ListenError> {
+    let mut server = proxy_of(rt, proxying, backend)?;
+    let ended = share(rt, proxying, &mut server, writer);
+    drop(server);
+    ended
+}
+
+/// Returns a proxy that listens on the address in the words.
+fn proxy_of(
+    rt: &HostRuntime,
+    proxying: &Proxying<'_>,
+    backend: Backend,
+) -> Result<ProxyServer, ListenError> {
     let alloc = rt.alloc();
     let settings = settings_of(rt, &proxying.options);
     let Ok(login) = login_of(rt) else {
         return Err(ToolError::Memory.into());
     };
     let address = listening_on(alloc, &proxying.address)?;
-    let mut server = ProxyServer::listen(rt, alloc, &address, backend, login, settings)?;
-    if admit(&mut server, proxying.also).is_err() {
+    Ok(ProxyServer::listen(rt, alloc, &address, backend, login, settings)?)
+}
+
+/// Runs a proxy until that fails.
+fn share<W: LiveSink>(
+    rt: &HostRuntime,
+    proxying: &Proxying<'_>,
+    server: &mut ProxyServer,
+    writer: &mut W,
+) -> Result<(), ListenError> {
+    if admit(server, proxying.also).is_err() {
         return Err(ToolError::Memory.into());
     }
-    announce(alloc, &server.address()?, writer)?;
+    announce(rt.alloc(), &server.address()?, writer)?;
     Ok(server.run(rt, rt.stdin(), writer)?)
 }
 

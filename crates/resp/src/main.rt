@@ -27,7 +27,7 @@ use resp_args::style::StyleOptions;
 use resp_args::tool_error::ToolError;
 use resp_args::words::{read_words, refuse_file, refuse_words, stop};
 use resp_paint::Painted;
-use resp_print::live::{Gathering, LiveSink};
+use resp_print::live::{Gathering, LiveSink, LiveSource};
 use resp_script::play::{PlayError, play, write_no_connection};
 use resp_script::script::{Script, read_script};
 use resp_tool::command_line::{perform, run_options};
@@ -68,27 +68,55 @@ fn main(rt: HostRuntime) -> ExitCode {
 /// Runs the command line and returns the status. Error messages are printed after the output, and
 /// not printed if the reader of the output has closed it.
 fn run(rt: &HostRuntime) -> Result<u8, AllocError> {
-    let alloc = rt.alloc();
-    let mut faults = MemorySink::new(alloc, MOST_FAULTS, MOST_FAULTS)?;
-    let words: Vec<String> = match env::args(rt) {
-        Ok(words) => words.collect(alloc)?,
-        Err(error) => {
-            let status = refuse_words(error.kind(), &mut faults);
-            let _ = rt.stderr().write_all(faults.bytes());
-            return Ok(status);
+    let mut faults = MemorySink::new(rt.alloc(), MOST_FAULTS, MOST_FAULTS)?;
+    let done = run_with(rt, &mut faults);
+    drop(faults);
+    done
+}
+
+/// Runs the command line and returns the status. Error messages are collected in `faults`.
+fn run_with(rt: &HostRuntime, faults: &mut MemorySink) -> Result<u8, AllocError> {
+    match env::args(rt) {
+        Ok(words) => {
+            let words: Vec<String> = words.collect(rt.alloc())?;
+            let done = run_line(rt, words.as_slice(), faults);
+            drop(words);
+            done
         }
-    };
+        Err(error) => {
+            let status = refuse_words(error.kind(), faults);
+            let _ = rt.stderr().write_all(faults.bytes());
+            Ok(status)
+        }
+    }
+}
+
+/// Runs the command line of these words over standard output, and returns the status.
+fn run_line(rt: &HostRuntime, words: &[String], faults: &mut MemorySink) -> Result<u8, AllocError> {
     let failures = Failures::new();
     let output = StandardOutput::new(rt.stdout(), &failures);
-    let mut writer = Painted::new(Gathering::new(alloc, Device::new(output))?);
-    let status = run_words(rt, words.as_slice(), &mut writer, &failures, &mut faults)?;
+    let mut writer = Painted::new(Gathering::new(rt.alloc(), Device::new(output))?);
+    let done = run_over(rt, words, &mut writer, &failures, faults);
+    drop(writer);
+    done
+}
+
+/// Runs the command line of these words, and prints the error messages after the output.
+fn run_over<W: LiveSink>(
+    rt: &HostRuntime,
+    words: &[String],
+    writer: &mut Painted<W>,
+    failures: &Failures,
+    faults: &mut MemorySink,
+) -> Result<u8, AllocError> {
+    let status = run_words(rt, words, writer, failures, faults)?;
     let is_written = writer.flush().is_ok();
     if failures.is_output_closed() {
         return Ok(DEVICE_FAILED);
     }
     // If a device failed before, that was already reported.
     if !is_written && status != DEVICE_FAILED {
-        return refuse_output(rt, &failures);
+        return refuse_output(rt, failures);
     }
     let _ = rt.stderr().write_all(faults.bytes());
     Ok(status)
@@ -208,11 +236,28 @@ fn run_stream<R: Read + Drop, W: LiveSink, F: Sink>(
         return Ok(run_options(alloc, options, &mut reader, writer, faults));
     }
     let mut watched = Watched::new(alloc, reader, options.version, &options.limits);
-    match perform(alloc, options, &mut watched, writer) {
+    let done = run_watched(alloc, options, &mut watched, writer, failures, faults);
+    drop(watched);
+    done
+}
+
+/// Runs the command on a stream and returns the status. Prints an explanation after the line of a
+/// fault.
+fn run_watched<R: LiveSource<W>, W: LiveSink, F: Sink>(
+    alloc: Global,
+    options: &Options<'_>,
+    watched: &mut Watched<R>,
+    writer: &mut W,
+    failures: &Failures,
+    faults: &mut F,
+) -> Result<u8, AllocError>
+    requires { (1 ≤ options.now.piece) × (options.now.piece ≤ 65536) }
+{
+    match perform(alloc, options, watched, writer) {
         Ok(()) => Ok(0),
         Err(error) => {
             let status = stop(&error, faults);
-            let _ = explain(alloc, &error, options, &mut watched, faults);
+            let _ = explain(alloc, &error, options, watched, faults);
             failures.write_why(alloc, &error, faults)?;
             Ok(status)
         }
@@ -280,14 +325,8 @@ fn play_script<W: Sink, F: Sink>(
 ) -> Result<u8, AllocError> {
     let alloc = rt.alloc();
     let mut links = Vec::new(alloc);
-    for index in 0..script.clients {
-        match TcpLink::connect(rt) {
-            Ok(link) => links.push(link)?,
-            Err(error) => {
-                let client = index as u64 + 1;
-                return refuse_connection(alloc, client, &error, failures, faults);
-            }
-        }
+    if let Some(status) = connect(rt, script, &mut links, failures, faults)? {
+        return Ok(status);
     }
     let Ok(hasher) = RandomState::new(rt) else {
         return Ok(stop(&ToolError::Read, faults));
@@ -295,7 +334,42 @@ fn play_script<W: Sink, F: Sink>(
     let Ok(mut world) = World::over(alloc, links, Limits::standard(), hasher) else {
         return Err(AllocError);
     };
-    match play(alloc, script, &mut world, writer) {
+    let done = play_in(alloc, script, &mut world, writer, failures, faults);
+    drop(world);
+    done
+}
+
+/// Opens the connections of a script. Returns the status if one of them cannot be opened.
+fn connect<F: Sink>(
+    rt: &HostRuntime,
+    script: &Script,
+    links: &mut Vec<TcpLink>,
+    failures: &Failures,
+    faults: &mut F,
+) -> Result<Option<u8>, AllocError> {
+    for index in 0..script.clients {
+        match TcpLink::connect(rt) {
+            Ok(link) => links.push(link)?,
+            Err(error) => {
+                let client = index as u64 + 1;
+                let status = refuse_connection(rt.alloc(), client, &error, failures, faults)?;
+                return Ok(Some(status));
+            }
+        }
+    }
+    Ok(None)
+}
+
+/// Plays a script in a world and returns the status.
+fn play_in<W: Sink, F: Sink>(
+    alloc: Global,
+    script: &Script,
+    world: &mut World<TcpLink, RandomState>,
+    writer: &mut W,
+    failures: &Failures,
+    faults: &mut F,
+) -> Result<u8, AllocError> {
+    match play(alloc, script, world, writer) {
         Ok(()) => Ok(0),
         Err(error) => {
             let _ = error.line(faults);

@@ -89,6 +89,17 @@ fn replay<R: Read + Drop, W: LiveSink, F: Sink>(
     };
     let ended = replay.run(&mut reader, writer);
     let fragments = replay.fragments();
+    drop(replay);
+    status_of(alloc, ended, fragments, faults)
+}
+
+/// Reports how a replay has ended, and returns the status.
+fn status_of<F: Sink>(
+    alloc: Global,
+    ended: Result<(), ReplayError>,
+    fragments: u64,
+    faults: &mut F,
+) -> Result<u8, AllocError> {
     if fragments > 0 {
         let line = format!(in alloc; "fragments of packets that are not read: {fragments}\n")?;
         let _ = faults.write(line.as_str().as_bytes());

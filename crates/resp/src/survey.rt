@@ -22,7 +22,7 @@ const WIDTH: usize = 78;
 const POWERS: [u64; 4] = [10, 100, 1_000, 10_000];
 
 /// What the proxy does with a command. They are printed in this order.
-#[derive(Clone, Copy, Debug, PartialEq, Eq, PartialOrd, Ord)]
+#[derive(Clone, Copy, PartialEq, Eq, PartialOrd, Ord)]
 enum Treatment {
     /// It sends the command over the connection that clients share.
     Shared,
@@ -93,7 +93,7 @@ pub struct Survey {
 }
 
 /// Why there is no survey.
-#[derive(Clone, Copy, Debug, PartialEq, Eq)]
+#[derive(Clone, Copy)]
 pub enum SurveyError {
     /// The value is not a list of commands.
     NoList,
