@@ -160,7 +160,7 @@ def password_of_own_connections():
 def own_connection_that_is_refused():
     """The client gets the reason and is closed; the others go on."""
     with proxied() as (proxy, peer, server), connect(proxy.port) as client, connect(proxy.port) as other:
-        peer.listener.close()
+        peer.close()
         client.sendall(MULTI)
         assert line_of(client).startswith(NOT_CONNECTED + b"Connection refused")
         assert hear_end(client) == b""
@@ -239,7 +239,7 @@ def many_own_connections():
             thread.join()
         assert not wrong, wrong
         until(lambda: proxy.descriptors() == before, "descriptors of clients that have gone are open")
-    peer.listener.close()
+    peer.close()
 
 
 TESTS = [own_connection, own_connection_at_any_cut, ends_of_own_connections, password_of_own_connections,

@@ -158,7 +158,7 @@ def pipelines_cut_at_random():
                 thread.join()
             assert not wrong, (seed, wrong)
             until(lambda: proxy.descriptors() == before, "descriptors of clients that have gone are open")
-        peer.listener.close()
+        peer.close()
 
 
 def client_that_goes():
@@ -475,7 +475,7 @@ def client_that_does_not_read():
             ask(greedy, get(b"small"), bulk(b"small"))
             assert peak(proxy.process) < 35_000_000, f"{peak(proxy.process)} bytes while the replies are read"
             ask(other, get(b"last"), bulk(b"last"))
-    peer.listener.close()
+    peer.close()
 
 
 def client_that_never_reads():
@@ -492,7 +492,7 @@ def client_that_never_reads():
             for _ in range(102):
                 hear(slow, bulk(value))
             ask(slow, get(b"small"), bulk(b"small"))
-    peer.listener.close()
+    peer.close()
 
 
 def server_that_does_not_read():
@@ -717,7 +717,7 @@ def most_of_proxy():
         for stream in streams:
             ask(stream, PING, PONG)
             stream.close()
-    peer.listener.close()
+    peer.close()
 
 
 def heard_in_a_moment(stream):
@@ -905,7 +905,7 @@ def server_out_of_step():
                 thread.join()
             assert not wrong, (seed, wrong[:5])
             assert counts[b"own"] > 50 and counts[b"error"] > 5, counts
-        peer.listener.close()
+        peer.close()
 
 
 def listed(name, *flags, subcommands=()):

@@ -252,7 +252,7 @@ def server_that_opens_no_setting():
         hear(server, PING)
         server.sendall(PONG)
         hear(client, PONG)
-        peer.listener.close()
+        peer.close()
         client.sendall(select(b"3") + PING)
         assert line_of(client).startswith(NOT_CONNECTED + b"Connection refused")
         hear(server, PING)
@@ -506,7 +506,7 @@ def settings_at_random():
             for thread in threads:
                 thread.join()
             assert not wrong, (seed, wrong[0])
-        peer.listener.close()
+        peer.close()
 
 
 def journey(number, source):

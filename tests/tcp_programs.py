@@ -194,3 +194,10 @@ class Peer:
         stream, _ = self.listener.accept()
         stream.settimeout(LIMIT)
         return stream
+
+    def close(self):
+        """Closes the listener. A thread that waits in `accept` ends: otherwise it would keep the port open, and accept
+        connections of another listener if its system call begins again once the descriptor has a new use."""
+        with contextlib.suppress(OSError):
+            self.listener.shutdown(socket.SHUT_RDWR)
+        self.listener.close()
