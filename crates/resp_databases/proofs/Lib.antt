@@ -1,5 +1,8 @@
 mod Replies
 mod Again
 mod InSessions
+mod LineEnds
 pub mod Lists
 pub mod Doings
+pub mod Runs
+pub mod Takings

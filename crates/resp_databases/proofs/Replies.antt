@@ -1,10 +1,13 @@
 -- The texts of replies, as they are appended.
-use Rattle.std.proofs.Common.{◌≡◌, ℕ, ◌^◌, ◌<◌, ◌++◌, List, [], ◌∷◌, length, refl, ap, ◌∙◌, arith, append_assoc, codes, decimal}
+use Rattle.std.proofs.Common.{◌≡◌, ℕ, ◌^◌, ◌<◌, ◌++◌, List, [], ◌∷◌, length, refl, sym, ap, ◌∙◌, arith, append_assoc, codes, decimal}
 use Rattle.resp_value.specs.Canonical.{canonical_text}
 use Rattle.resp_value.specs.declared.version.Version.{Version}
-use Rattle.resp_session.specs.Replies.{bulk_string, natural}
+use Rattle.resp_value.specs.Numbers as number
+use Rattle.resp_value.specs.declared.version.Version.TheVariants.{Two}
+use Rattle.resp_session.specs.Replies.{bulk_string, error, natural}
 use Rattle.resp_encode.proofs.Decimals.{decimal-std}
 use Rattle.resp_databases.specs.Outcomes.{name_reply}
+use Rattle.resp_databases.specs.Rejections.{fault_text}
 
 -- a number
 pub number_text : (old : List ℕ) (version : Version) (n : ℕ) → n < 2 ^ 64 →
@@ -27,3 +30,16 @@ bulk_text old version s fits =
 pub some_name : (name : List ℕ) → 0 < length name → bulk_string name ≡ name_reply name
 some_name [] some = absurd (omega (arith, some))
 some_name (b ∷ bs) some = refl
+
+-- the error reply to a protocol error
+pub fault_line : (old name : List ℕ) (at : ℕ) → at < 2 ^ 64 →
+    ((((old ++ codes "-ERR Protocol error: ") ++ name) ++ codes " at byte ") ++ decimal at) ++ codes "\r\n" ≡ old ++ canonical_text Two (error (fault_text name at))
+fault_line old name at fits =
+    let A = codes "-ERR Protocol error: " in
+    let B = codes " at byte " in
+    let end = codes "\r\n" in
+    let digits = number.decimal at in
+    append_assoc (((old ++ A) ++ name) ++ B) (decimal at) end ∙ append_assoc ((old ++ A) ++ name) B (decimal at ++ end) ∙
+    append_assoc (old ++ A) name (B ++ (decimal at ++ end)) ∙ append_assoc old A (name ++ (B ++ (decimal at ++ end))) ∙
+    ap (λ n. old ++ (A ++ (name ++ (B ++ (n ++ end))))) (decimal-std at fits) ∙
+    ap (λ l. old ++ (A ++ l)) (sym (append_assoc (name ++ B) digits end ∙ append_assoc name B (digits ++ end)))

@@ -7,3 +7,6 @@ pub mod States
 pub mod Serving
 pub mod Servers
 pub mod Running
+pub mod Parts
+pub mod Rejections
+pub mod Taking

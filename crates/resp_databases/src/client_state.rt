@@ -1,8 +1,10 @@
 //! The state of a client.
 
 ghost use Rattle.std.specs.Prelude.{◌≡◌, ◌≤◌, [], drop, length, true, false};
+ghost use Rattle.resp_value.specs.Bounds.{Bounds};
 ghost use Rattle.resp_value.specs.declared.version.Version.TheVariants.{Two};
 ghost use Rattle.resp_databases.specs.Running.{standing_of, waiting_of};
+ghost use Rattle.resp_databases.specs.Taking.{HasUnfinished, KeepsUnfinished};
 
 use crate::client::Client;
 use bytes::BytesMut;
@@ -22,6 +24,7 @@ impl Client {
           closing = false;
         } }
         ensures nothing_waits { waiting_of result ≡ [] }
+        ensures nothing_begun { (limits : Bounds) → HasUnfinished limits result [] }
     {
         Client {
             alloc,
@@ -56,6 +59,8 @@ impl Client {
         requires { count ≤ length (waiting_of self.old) }
         ensures sent { waiting_of self.new ≡ drop count (waiting_of self.old) }
         ensures same_standing { standing_of self.new ≡ standing_of self.old }
+        // A request that has begun goes on.
+        ensures same_begun { KeepsUnfinished self.old self.new }
     {
         self.out.advance(count);
     }
@@ -72,6 +77,7 @@ impl Client {
     pub(crate) fn shut(&mut self)
         ensures closing { standing_of self.new ≡ record (standing_of self.old) { closing = true } }
         ensures same_waiting { waiting_of self.new ≡ waiting_of self.old }
+        ensures nothing_begun { (limits : Bounds) → HasUnfinished limits self.new [] }
     {
         self.begun = Begun::new();
         self.line = Vec::new(self.alloc);

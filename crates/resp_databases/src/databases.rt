@@ -44,6 +44,7 @@ impl<S: BuildHasher> Model for Databases<S> {
 
 impl<S: BuildHasher + Copy> Databases<S> {
     ghost use Rattle.resp_databases.specs.Running.{standing_of, waiting_of};
+    ghost use Rattle.resp_databases.specs.Taking.{HasUnfinished};
 
     /// Makes 16 databases without a key. Commands are read and replies are written within these
     /// limits.
@@ -84,6 +85,8 @@ impl<S: BuildHasher + Copy> Databases<S> {
           closing = false;
         }) }
         ensures nothing_waits { IfSome result (λ client. waiting_of client ≡ []) }
+        ensures nothing_begun { IfSome result (λ client.
+            HasUnfinished self.old.limits client []) }
         ensures given { IfSome result (λ client.
             self.new ≡ record self.old { last = self.old.last + 1 }) }
         ensures used_up { IsNone result ↔ (9223372036854775807 ≤ self.old.last) }

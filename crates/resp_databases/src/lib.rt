@@ -7,8 +7,8 @@
 //!
 //! It is proved which effect or error a command asks for, given its words, and the text of each kind
 //! of reply. It is also proved that a command that is run has its outcome: the stores of all
-//! databases, the state of its client, and its reply. That [`Databases::take`] runs the commands in
-//! the bytes of a client is tested, and not proved.
+//! databases, the state of its client, and its reply. [`Databases::take`] runs the commands in the
+//! bytes of a client, each once and in order, cut anywhere.
 #![tactic(auto)]
 
 mod client;
@@ -22,6 +22,7 @@ mod index;
 mod line;
 mod perform;
 mod refusal;
+mod rejection;
 mod reply;
 mod take;
 

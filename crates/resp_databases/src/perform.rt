@@ -1,12 +1,14 @@
 //! Runs a command of a client.
 
-ghost use Rattle.std.specs.Prelude.{◌≡◌, ◌++◌, IfSome, IsSome, OnErr, OnOk};
+ghost use Rattle.std.specs.Prelude.{◌≡◌, ◌++◌, IfErr, IfSome, IsSome, OnErr, OnOk};
 ghost use Rattle.resp_value.specs.Canonical.{canonical_text};
 ghost use Rattle.resp_value.specs.declared.version.Version.TheVariants.{Two};
 ghost use Rattle.resp_session.specs.Operations.{Operation};
 ghost use Rattle.resp_session.specs.Operations as one;
 ghost use Rattle.resp_session.specs.Replies.{natural};
+ghost use Rattle.resp_frames.specs.Commands.{IsCommand};
 ghost use Rattle.resp_databases.specs.Deeds.{DbSize, Exists, Request, asked_by};
+ghost use Rattle.resp_databases.specs.Rejections.{OnRejection};
 ghost use Rattle.resp_databases.specs.Running.{HasChanged, HasDone, HasDoneNothing, HasRun, IsOfClient, IsUnchanged, KeepsBegun, SendsRequest};
 ghost use Rattle.resp_databases.specs.Serving.{IsSent};
 ghost use Rattle.resp_databases.specs.declared.deed.Deed.TheVariants.{Pass};
@@ -15,10 +17,12 @@ use crate::client::Client;
 use crate::database;
 use crate::databases::Databases;
 use crate::deed::{Deed, deed_of};
+use crate::rejection::{Rejection, TakeError};
 use crate::reply::{reply_greeting, reply_name, reply_number, reply_ok, reply_unknown};
 use bytes::BytesMut;
 use resp_scan::whole;
 use resp_scan::whole::Words;
+use resp_value::laws::no_spelling_begins_another;
 use resp_value::version::Version;
 use std::alloc::AllocError;
 use std::hash::BuildHasher;
@@ -28,23 +32,29 @@ impl<S: BuildHasher + Copy> Databases<S> {
     ///
     /// # Errors
     ///
-    /// `AllocError` if an allocation fails, after 2^63 - 1 commands of a database, or if the bytes
-    /// are no command within the limits. Then nothing is changed.
-    pub(crate) fn run(&mut self, client: &mut Client, command: &[u8]) -> Result<(), AllocError>
+    /// `Rejected` if the bytes are no command within the limits, and `OutOfMemory` if an allocation
+    /// fails, or after 2^63 - 1 commands of a database. Then nothing is changed.
+    pub(crate) fn run(&mut self, client: &mut Client, command: &[u8]) -> Result<(), TakeError>
         ensures done { OnOk result
             (HasRun command.now self.old self.new client.old client.new) }
         ensures failed { OnErr result
             (HasDoneNothing self.old self.new client.old client.new) }
+        ensures no_command { IfErr result (OnRejection
+            (λ why. IsCommand self.old.limits command.now → ⊥)) }
         ensures same_begun { KeepsBegun client.old client.new }
     {
+        no_spelling_begins_another();
         let Some(words) = whole::command(command, &self.limits) else {
-            return Err(AllocError);
+            return Err(TakeError::Rejected(Rejection::NoCommand));
         };
         if !words.rest.is_empty() {
-            return Err(AllocError);
+            return Err(TakeError::Rejected(Rejection::NoCommand));
         }
         let deed = deed_of(words.name, words.arguments);
-        self.perform(client, command, deed)
+        match self.perform(client, command, deed) {
+            Ok(()) => Ok(()),
+            Err(AllocError) => Err(TakeError::OutOfMemory),
+        }
     }
 
     /// Does what a command asks for, and queues the reply.

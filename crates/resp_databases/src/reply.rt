@@ -8,6 +8,7 @@ ghost use Rattle.resp_server.specs.Greetings.{greeting_begin, greeting_end};
 ghost use Rattle.resp_databases.specs.Deeds.{unknown_text};
 ghost use Rattle.resp_databases.specs.Names.{shown_word};
 ghost use Rattle.resp_databases.specs.Outcomes.{name_reply, ok_reply};
+ghost use Rattle.resp_databases.specs.Rejections.{fault_text};
 ghost use Rattle.resp_databases.specs.Replying.{in_version};
 
 use bytes::BytesMut;
@@ -20,6 +21,9 @@ const NUMBER_ROOM: usize = 23;
 
 /// The bytes of HELLO's reply beside the number.
 const GREETING_ROOM: usize = 150;
+
+/// The bytes of the error reply to a protocol error beside the name, and the most of its number.
+const FAULT_ROOM: usize = 52;
 
 /// Appends the reply OK.
 pub(crate) fn reply_ok(out: &mut BytesMut) -> Result<(), AllocError>
@@ -139,6 +143,19 @@ fn greeting_end() -> &'static [u8]
     ensures short { length result.now ≤ 70 }
 {
     b"$4\r\nmode\r\n$10\r\nstandalone\r\n$4\r\nrole\r\n$6\r\nmaster\r\n$7\r\nmodules\r\n*0\r\n"
+}
+
+/// Appends the error reply to a protocol error of this name at this byte of a value.
+pub(crate) fn reply_fault(out: &mut BytesMut, name: &[u8], at: u64) -> Result<(), AllocError>
+    ensures appended { OnOk result (out.new.items ≡ out.old.items ++
+        canonical_text Two (error (fault_text name.now at))) }
+    ensures unchanged { OnErr result (out.new.items ≡ out.old.items) }
+{
+    out.reserve(name.len().saturating_add(FAULT_ROOM))?;
+    out.extend_reserved(b"-ERR Protocol error: ");
+    out.extend_reserved(name);
+    append_number(out, b" at byte ", at);
+    Ok(())
 }
 
 /// Appends the error reply to an unknown subcommand of CLIENT, whose bytes are shown as Redis shows

@@ -1,7 +1,15 @@
 //! Takes the bytes of a client.
 
+ghost use Rattle.std.specs.Prelude.{◌≡◌, ◌++◌, ◌<◌, ◌≤◌, ℕ, List, false, length, take, IfErr, IfOk, IfSome, IsTrue, OnErr, OnOk};
+ghost use Rattle.resp_value.specs.Bounds.{Bounds};
+ghost use Rattle.resp_databases.specs.Parts.{BeginsLine};
+ghost use Rattle.resp_databases.specs.Rejections.{OnRejection, Rejects, taking_error};
+ghost use Rattle.resp_databases.specs.Running.{waiting_of};
+ghost use Rattle.resp_databases.specs.Taking.{GoesOn, HasArray, HasBytes, HasUnfinished, IsFull, Takes, TakesFirst, TakesOne, WhereUnfinished, progress_of};
+
 use crate::client::Client;
 use crate::databases::Databases;
+use crate::rejection::{Rejection, TakeError, reject};
 use resp_frames::{FrameError, Request};
 use std::alloc::AllocError;
 use std::hash::BuildHasher;
@@ -18,76 +26,143 @@ impl<S: BuildHasher + Copy> Databases<S> {
     ///
     /// # Errors
     ///
-    /// `AllocError` if an allocation fails. The commands run before keep their effect and their
-    /// replies, nothing after them is done, and the client is closing.
+    /// `AllocError` if an allocation fails, and after 2^63 - 1 commands of a database. The commands
+    /// run before keep their effect and their replies, nothing after them is done, and the client is
+    /// closing.
     pub fn take(
         &mut self,
         client: &mut Client,
         piece: &[u8],
         held: usize,
-    ) -> Result<usize, AllocError> {
-        let mut used = 0_usize;
-        for _ in 0..piece.len() {
-            if used >= piece.len() || client.closing || client.out.len() > held {
-                break;
-            }
-            match self.take_one(client, beyond(piece, used)) {
-                Ok(count) => used = used.saturating_add(count),
-                Err(AllocError) => {
+    ) -> Result<usize, AllocError>
+        // The bytes that came since the last request and those that were used are requests, which
+        // were done in order, each while at most `held` bytes waited. The client has begun the next
+        // one with the rest; or the rest is rejected; or it is ignored, since the client was closing.
+        ensures taken { WhereUnfinished self.old client.old (λ front. IfOk result (λ used.
+            Takes held (front ++ take used piece.now) self.old self.new client.old client.new)) }
+        // Some of the requests were done. Then the client was closed.
+        ensures failed { WhereUnfinished self.old client.old (λ front. OnErr result
+            (TakesFirst held (front ++ piece.now) self.old self.new client.old client.new)) }
+        ensures within { IfOk result (λ used. used ≤ length piece.now) }
+        // Bytes are left only if more than `held` bytes wait.
+        ensures left { IfOk result (λ used. used < length piece.now → IsFull held client.new) }
+        ensures onward { length (waiting_of client.old) ≤ held → 0 < length piece.now →
+            IfOk result (λ used. 0 < used) }
+        // Nothing else of the server is changed.
+        ensures same_server { self.new ≡ record self.old { stores = self.new.stores } }
+    {
+        let mut used = 0;
+        while used < piece.len() && !client.closing && client.out.len() <= held {
+            match self.take_one(client, &piece[used..]) {
+                // This never happens, since a request has a byte. It shows that the loop ends.
+                Ok(Some(0)) => return Ok(piece.len()),
+                Ok(Some(count)) => used += count,
+                Ok(None) => return Ok(piece.len()),
+                Err(TakeError::Rejected(why)) => {
+                    return match reject(client, why) {
+                        Ok(()) => Ok(piece.len()),
+                        Err(AllocError) => Err(AllocError),
+                    };
+                }
+                Err(TakeError::OutOfMemory) => {
                     client.shut();
                     return Err(AllocError);
                 }
             }
         }
         if client.closing {
+            client.shut();
             return Ok(piece.len());
         }
-        Ok(used.min(piece.len()))
+        Ok(used)
     }
 
-    /// Takes bytes up to the end of a command or of the piece, which has at least one byte.
-    fn take_one(&mut self, client: &mut Client, piece: &[u8]) -> Result<usize, AllocError> {
-        let is_array = !client.begun.is_empty()
-            || client.line.is_empty() && piece.first() == Some(&b'*');
-        if is_array {
-            self.take_array(client, piece)
-        } else {
+    /// Takes bytes up to the end of a request, and runs it. Returns the number of bytes, or `None`
+    /// if the request does not end in the piece. Then all bytes of the piece are held.
+    ///
+    /// # Errors
+    ///
+    /// The reason why the bytes are rejected, or `OutOfMemory`. Then nothing was done.
+    fn take_one(&mut self, client: &mut Client, piece: &[u8]) -> Result<Option<usize>, TakeError>
+        ensures taken { WhereUnfinished self.old client.old (λ front. IfOk result (λ found.
+            TakesOne self.old.limits front piece.now found (progress_of self.old client.old)
+            (progress_of self.new client.new) client.new)) }
+        ensures rejected { WhereUnfinished self.old client.old (λ front. IfErr result
+            (OnRejection (Rejects self.old.limits (front ++ piece.now)))) }
+        ensures unchanged { OnErr result (progress_of self.new client.new ≡
+            progress_of self.old client.old) }
+        ensures onward { WhereUnfinished self.old client.old (λ front. IfOk result (λ found.
+            IfSome found (λ used. 0 < used))) }
+        ensures within { IfOk result (λ found. IfSome found (λ used. used ≤ length piece.now)) }
+        ensures same_server { self.new ≡ record self.old { stores = self.new.stores } }
+    {
+        if is_line(client, piece) {
             self.take_line(client, piece)
+        } else {
+            self.take_array(client, piece)
         }
     }
 
-    /// Takes bytes up to the end of an array or of the piece.
-    fn take_array(&mut self, client: &mut Client, piece: &[u8]) -> Result<usize, AllocError> {
-        match self.frames.next_request(&mut client.begun, piece) {
-            Ok(Some(Request::Command(command))) => {
-                self.run(client, command.frame.text())?;
-                Ok(command.frame.used())
-            }
-            Ok(Some(Request::Empty(used))) => Ok(used),
-            Ok(None) => Ok(piece.len()),
-            Err(FrameError::OutOfMemory) => Err(AllocError),
-            Err(FrameError::NotACommand) => {
-                refuse(client, "NotCommand", 0)?;
-                Ok(piece.len())
-            }
-            Err(FrameError::Fault(fault)) => {
-                refuse(client, fault.cause.name(), fault.at)?;
-                Ok(piece.len())
-            }
+    /// Takes bytes up to the end of an array, and runs the command that it is.
+    fn take_array(&mut self, client: &mut Client, piece: &[u8]) -> Result<Option<usize>, TakeError>
+        ensures taken { (front : List ℕ) → HasArray self.old.limits client.old front →
+            IfOk result (λ found. TakesOne self.old.limits front piece.now found
+            (progress_of self.old client.old) (progress_of self.new client.new) client.new) }
+        ensures rejected { (front : List ℕ) → HasArray self.old.limits client.old front →
+            IfErr result (OnRejection (Rejects self.old.limits (front ++ piece.now))) }
+        ensures unchanged { OnErr result (progress_of self.new client.new ≡
+            progress_of self.old client.old) }
+        ensures onward { (front : List ℕ) → HasArray self.old.limits client.old front →
+            IfOk result (λ found. IfSome found (λ used. 0 < used)) }
+        ensures within { IfOk result (λ found. IfSome found (λ used. used ≤ length piece.now)) }
+        ensures same_server { self.new ≡ record self.old { stores = self.new.stores } }
+    {
+        let found = match self.frames.next_request(&mut client.begun, piece) {
+            Ok(found) => found,
+            Err(error) => return Err(rejection_of(error)),
+        };
+        let command = match found {
+            Some(Request::Command(command)) => command,
+            Some(Request::Empty(used)) => return Ok(Some(used)),
+            None => return Ok(None),
+        };
+        match self.run(client, command.frame.text()) {
+            Ok(()) => Ok(Some(command.frame.used())),
+            Err(error) => Err(error),
         }
     }
 }
 
-/// Queues the error reply for a protocol error of this name at this byte of a value, and takes
-/// nothing of the client any more.
-fn refuse(client: &mut Client, name: &str, at: u64) -> Result<(), AllocError> {
-    let line = format!(in client.alloc; "-ERR Protocol error: {name} at byte {at}\r\n")?;
-    client.out.extend_from_slice(line.as_bytes())?;
-    client.shut();
-    Ok(())
+/// Returns why bytes are not taken that are no array of words.
+fn rejection_of(error: FrameError) -> TakeError
+    ensures { result ≡ taking_error error }
+{
+    match error {
+        FrameError::Fault(fault) => TakeError::Rejected(Rejection::Faulty(fault)),
+        FrameError::NotACommand => TakeError::Rejected(Rejection::NoCommand),
+        FrameError::OutOfMemory => TakeError::OutOfMemory,
+    }
 }
 
-/// Returns the bytes of a piece after the first `used` ones.
-fn beyond(piece: &[u8], used: usize) -> &[u8] {
-    &piece[used.min(piece.len())..]
+/// Returns whether the next byte of a client belongs to a line.
+fn is_line(client: &Client, piece: &[u8]) -> bool
+    ensures line { (limits : Bounds) (front : List ℕ) → HasUnfinished limits client.now front →
+        IsTrue result → GoesOn front piece.now × HasBytes limits client.now front }
+    ensures array { (limits : Bounds) (front : List ℕ) → HasUnfinished limits client.now front →
+        result ≡ false → HasArray limits client.now front }
+{
+    if !client.line.is_empty() {
+        return true;
+    }
+    client.begun.is_empty() && begins_line(piece)
+}
+
+/// Returns whether the bytes begin with a byte that begins no array.
+fn begins_line(piece: &[u8]) -> bool
+    ensures { IsTrue result → BeginsLine piece.now }
+{
+    match piece.first() {
+        Some(byte) => *byte != b'*',
+        None => false,
+    }
 }
