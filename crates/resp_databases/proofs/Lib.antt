@@ -6,3 +6,4 @@ pub mod Lists
 pub mod Doings
 pub mod Runs
 pub mod Takings
+pub mod Visits

@@ -10,3 +10,4 @@ pub mod Running
 pub mod Parts
 pub mod Rejections
 pub mod Taking
+pub mod Visiting

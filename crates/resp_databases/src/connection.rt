@@ -1,6 +1,11 @@
 //! The server's end of a connection.
 
-ghost use Rattle.std.specs.Prelude.{◌≡◌, ◌≤◌, length};
+ghost use Rattle.std.specs.Prelude.{◌≡◌, ◌<◌, ◌≤◌, [], length, take, false, true, IfErr, IfOk, IsErrOf, OnErr, OnOk};
+ghost use Rattle.resp_value.specs.Devices.{count_after, failures_after};
+ghost use Rattle.resp_wire.specs.Asking.{SpendsAtMost};
+ghost use Rattle.resp_wire.specs.Turns.{Spends, TellsEnd, WereRead};
+ghost use Rattle.resp_databases.specs.Running.{standing_of, waiting_of};
+ghost use Rattle.resp_databases.specs.Visiting.{Answers, EndsVisit, FailsServing, LeavesRest, ServesPieces, StaysAfter, StopsAnswering, StopsReading, StopsWriting, WritesOut, failed_to_read, failed_to_write, rest_in};
 
 use crate::client::Client;
 use crate::databases::Databases;
@@ -49,24 +54,47 @@ pub fn serve<R: Source, W: Sink, S: BuildHasher + Copy>(
     buffer: &mut [u8],
     held: usize,
 ) -> Visit
+    // The bytes received are pieces, each from one read. Those that were given to the server are
+    // requests, which were done in order, and a rest. The bytes written and the bytes that still
+    // wait, joined, are those that waited before and the replies. Before each read, all replies to
+    // the bytes received before were written.
+    ensures served { ServesPieces (length buffer.old) W.written R.remaining R.calls R.failures
+        writer.old writer.new reader.old reader.new databases.old databases.new client.old
+        client.new result.end (rest_in result buffer.new) }
+    ensures ends { 0 < length buffer.old → EndsVisit (R.remaining reader.old)
+        (R.remaining reader.new) client.new result.end }
+    // Nothing is read of a client that is closing, and its waiting bytes are written.
+    ensures closing { (standing_of client.old).closing ≡ true → (reader.new ≡ reader.old) ×
+        (databases.new ≡ databases.old) ×
+        WritesOut (W.written writer.old) (W.written writer.new) client.old client.new }
+    // Bytes are left only if more than `held` bytes waited and could not all be written.
+    ensures full { (rest_in result buffer.new ≡ [] → ⊥) →
+        LeavesRest held (W.written writer.old) (W.written writer.new) client.new }
     ensures in_buffer { (result.rest.start ≤ result.rest.end) ×
         (result.rest.end ≤ length buffer.new) }
+    ensures refusal { IfErr result.end (FailsServing (W.failures writer.old)
+        (W.failures writer.new) (R.failures reader.old) (R.failures reader.new)) }
+    // A device fails once if the error says so, and otherwise never.
+    ensures write_failures { W.failures writer.new ≡
+        failures_after (failed_to_write result.end) (W.failures writer.old) }
+    ensures read_failures { R.failures reader.new ≡
+        failures_after (failed_to_read result.end) (R.failures reader.old) }
+    ensures turns { SpendsAtMost (W.calls writer.old) (W.calls writer.new) (R.calls reader.old)
+        (R.calls reader.new) turns (IsErrOf result.end ServeError.TooManyTurns) }
+    ensures same_server { databases.new ≡
+        record databases.old { stores = databases.new.stores } }
 {
-    let mut turns = turns;
-    if let Err(error) = write_out(writer, client, &mut turns) {
+    let mut left = turns;
+    if let Err(error) = write_out(writer, client, &mut left) {
         return ended(Err(error));
     }
-    for _ in 0..u64::MAX {
-        if client.closing {
-            return ended(Ok(Served::Closed));
-        }
-        let count = match read_some(reader, buffer, &mut turns) {
+    while !client.closing {
+        let count = match read_some(reader, buffer, &mut left) {
             Ok(0) => return ended(Ok(Served::Ended)),
-            Ok(count) => count.min(buffer.len()),
+            Ok(count) => count,
             Err(error) => return ended(Err(error)),
         };
-        let piece = &buffer[..count];
-        let answered = answer(writer, databases, client, piece, &mut turns, held);
+        let answered = answer(writer, databases, client, &buffer[..count], &mut left, held);
         if let Err(error) = answered.end {
             return Visit {
                 end: Err(error),
@@ -74,12 +102,12 @@ pub fn serve<R: Source, W: Sink, S: BuildHasher + Copy>(
             };
         }
     }
-    ended(Err(ServeError::TooManyTurns))
+    ended(Ok(Served::Closed))
 }
 
 /// Returns a visit after which no byte is left.
 fn ended(end: Result<Served, ServeError>) -> Visit
-    ensures { (result.rest.start ≡ 0) × (result.rest.end ≡ 0) }
+    ensures { result ≡ record { end = end; rest = record { start = 0; end = 0 } } }
 {
     Visit { end, rest: 0..0 }
 }
@@ -92,7 +120,7 @@ struct Answered {
     end: Result<(), ServeError>,
 }
 
-/// Takes a piece, and writes all replies to it.
+/// Takes a piece, and writes all replies to it. No bytes wait before.
 fn answer<W: Sink, S: BuildHasher + Copy>(
     writer: &mut W,
     databases: &mut Databases<S>,
@@ -101,22 +129,34 @@ fn answer<W: Sink, S: BuildHasher + Copy>(
     turns: &mut u64,
     held: usize,
 ) -> Answered
-    ensures { result.used ≤ length piece.now }
+    requires is_open { (standing_of client.old).closing ≡ false }
+    requires none_waits { waiting_of client.old ≡ [] }
+    ensures within { result.used ≤ length piece.now }
+    ensures answered { Answers (W.written writer.old) (W.written writer.new) databases.old
+        databases.new client.old client.new (take result.used piece.now) result.end }
+    ensures whole { OnOk result.end (result.used ≡ length piece.now) }
+    ensures written { OnOk result.end (waiting_of client.new ≡ []) }
+    ensures stopped { IfErr result.end (StaysAfter client.new) }
+    ensures full { result.used < length piece.now →
+        LeavesRest held (W.written writer.old) (W.written writer.new) client.new }
+    ensures failures { W.failures writer.new ≡
+        failures_after (failed_to_write result.end) (W.failures writer.old) }
+    ensures refusal { IfErr result.end (StopsAnswering (W.failures writer.old)
+        (W.failures writer.new) turns.new) }
+    ensures turns { Spends (W.calls writer.old) (W.calls writer.new) turns.old turns.new }
+    ensures same_server { databases.new ≡
+        record databases.old { stores = databases.new.stores } }
 {
-    let mut used = 0_usize;
-    for _ in 0..piece.len() {
-        if used >= piece.len() {
-            break;
-        }
-        match databases.take(client, &piece[used..], held) {
-            Ok(count) => used = used.saturating_add(count).min(piece.len()),
-            Err(_) => {
-                return Answered {
-                    used: piece.len(),
-                    end: Err(ServeError::OutOfMemory),
-                };
-            }
-        }
+    let mut used = 0;
+    while used < piece.len() {
+        let taken = databases.take(client, &piece[used..], held);
+        let Ok(count) = taken else {
+            return Answered {
+                used: piece.len(),
+                end: Err(ServeError::OutOfMemory),
+            };
+        };
+        used += count;
         if let Err(error) = write_out(writer, client, turns) {
             return Answered {
                 used,
@@ -127,12 +167,27 @@ fn answer<W: Sink, S: BuildHasher + Copy>(
     Answered { used, end: Ok(()) }
 }
 
-/// Reads some bytes with one read. The number is 0 only at the end.
+/// Reads some bytes with one read. The number is 0 only at the end, or if there is no room.
 fn read_some<R: Source>(
     reader: &mut R,
     buffer: &mut [u8],
     turns: &mut u64,
-) -> Result<usize, ServeError> {
+) -> Result<usize, ServeError>
+    ensures within { IfOk result (λ count. count ≤ length buffer.new) }
+    ensures same_room { length buffer.new ≡ length buffer.old }
+    ensures read { IfOk result (λ count. WereRead (R.remaining reader.old) (R.remaining reader.new)
+        (take count buffer.new)) }
+    ensures end { 0 < length buffer.old → IfOk result (λ count. count ≡ 0 →
+        TellsEnd (R.remaining reader.old) (R.remaining reader.new)) }
+    ensures unread { OnErr result (WereRead (R.remaining reader.old) (R.remaining reader.new) []) }
+    ensures failures { R.failures reader.new ≡
+        failures_after (failed_to_read result) (R.failures reader.old) }
+    ensures turns { Spends (R.calls reader.old) (R.calls reader.new) turns.old turns.new }
+    ensures once { OnOk result (R.calls reader.new ≡ count_after 1 (R.calls reader.old)) }
+    ensures refusal { IfErr result (StopsReading (R.failures reader.old) (R.failures reader.new)
+        (R.calls reader.old) (R.calls reader.new) reader.old reader.new turns.new) }
+    ensures onward { OnOk result (turns.new < turns.old) }
+{
     if *turns == 0 {
         return Err(ServeError::TooManyTurns);
     }
@@ -148,11 +203,17 @@ fn write_out<W: Sink>(
     writer: &mut W,
     client: &mut Client,
     turns: &mut u64,
-) -> Result<(), ServeError> {
-    for _ in 0..u64::MAX {
-        if client.out.is_empty() {
-            return Ok(());
-        }
+) -> Result<(), ServeError>
+    ensures written { WritesOut (W.written writer.old) (W.written writer.new) client.old client.new }
+    ensures all { OnOk result (waiting_of client.new ≡ []) }
+    ensures part { OnErr result (0 < length (waiting_of client.new)) }
+    ensures failures { W.failures writer.new ≡
+        failures_after (failed_to_write result) (W.failures writer.old) }
+    ensures refusal { IfErr result (StopsWriting (W.failures writer.old) (W.failures writer.new)
+        turns.new) }
+    ensures turns { Spends (W.calls writer.old) (W.calls writer.new) turns.old turns.new }
+{
+    while !client.out.is_empty() {
         if *turns == 0 {
             return Err(ServeError::TooManyTurns);
         }
@@ -162,5 +223,5 @@ fn write_out<W: Sink>(
             Ok(count) => client.out.advance(count),
         }
     }
-    Err(ServeError::TooManyTurns)
+    Ok(())
 }

@@ -1,10 +1,10 @@
 //! Takes the bytes of a client.
 
-ghost use Rattle.std.specs.Prelude.{◌≡◌, ◌++◌, ◌<◌, ◌≤◌, ℕ, List, false, length, take, IfErr, IfOk, IfSome, IsTrue, OnErr, OnOk};
+ghost use Rattle.std.specs.Prelude.{◌≡◌, ◌++◌, ◌<◌, ◌≤◌, ℕ, List, false, true, length, take, IfErr, IfOk, IfSome, IsTrue, OnErr, OnOk};
 ghost use Rattle.resp_value.specs.Bounds.{Bounds};
 ghost use Rattle.resp_databases.specs.Parts.{BeginsLine};
 ghost use Rattle.resp_databases.specs.Rejections.{OnRejection, Rejects, taking_error};
-ghost use Rattle.resp_databases.specs.Running.{waiting_of};
+ghost use Rattle.resp_databases.specs.Running.{standing_of, waiting_of};
 ghost use Rattle.resp_databases.specs.Taking.{GoesOn, HasArray, HasBytes, HasUnfinished, IsFull, Takes, TakesFirst, TakesOne, WhereUnfinished, progress_of};
 
 use crate::client::Client;
@@ -43,6 +43,7 @@ impl<S: BuildHasher + Copy> Databases<S> {
         // Some of the requests were done. Then the client was closed.
         ensures failed { WhereUnfinished self.old client.old (λ front. OnErr result
             (TakesFirst held (front ++ piece.now) self.old self.new client.old client.new)) }
+        ensures closed { OnErr result ((standing_of client.new).closing ≡ true) }
         ensures within { IfOk result (λ used. used ≤ length piece.now) }
         // Bytes are left only if more than `held` bytes wait.
         ensures left { IfOk result (λ used. used < length piece.now → IsFull held client.new) }
