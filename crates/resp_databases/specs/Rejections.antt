@@ -67,8 +67,8 @@ pub record BeginsLongLine (text : List ℕ) : Type 0 where
   pub no_end : AllByRecursion (λ b. b ≢ 10) content
   pub long : 65536 < length content
 
--- The bytes that came since the last request are rejected for this reason: a byte of an array, the whole array, or the line
--- with which they begin.
+-- The bytes that came since the last request are rejected for this reason: a byte of an array, the whole array, or the
+-- line with which they begin.
 abbrev pub Rejects : Bounds → List ℕ → Rejection → Type 0
 Rejects limits text (Faulty fault) = RejectsByte (rules_under Two limits) [] text fault
 Rejects limits text NoCommand = EndsNoRequest (rules_under Two limits) limits [] text

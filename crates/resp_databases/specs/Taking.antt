@@ -46,7 +46,8 @@ WhereUnfinished server c P = (front : List ℕ) → HasUnfinished server.limits 
 
 -- a request that the client has begun goes on
 abbrev pub KeepsUnfinished : Client → Client → Type 0
-KeepsUnfinished before after = (limits : Bounds) (front : List ℕ) → HasUnfinished limits before front → HasUnfinished limits after front
+KeepsUnfinished before after = (limits : Bounds) (front : List ℕ) → HasUnfinished limits before front →
+    HasUnfinished limits after front
 
 -- a line goes on in the piece, or begins with it
 pub record GoesOn (front piece : List ℕ) : Type 0 where
@@ -96,10 +97,12 @@ IsOpenBefore (part ∷ parts) p = (p.client.closing ≡ false) × IsOpenBefore p
 -- at most this many bytes wait before each of these parts
 abbrev pub WaitsFewBefore : ℕ → List Part → Progress → Type 0
 WaitsFewBefore held [] p = Unit {0}
-WaitsFewBefore held (part ∷ parts) p = (length p.waiting ≤ held) × WaitsFewBefore held parts (after_request part.asked p)
+WaitsFewBefore held (part ∷ parts) p =
+    (length p.waiting ≤ held) × WaitsFewBefore held parts (after_request part.asked p)
 
 -- The bytes are these requests and then the rest. The requests were done in order, each while the client was open.
-pub record DoesParts (limits : Bounds) (parts : List Part) (bytes rest : List ℕ) (before after : Progress) : Type 0 where
+pub record DoesParts (limits : Bounds) (parts : List Part) (bytes rest : List ℕ) (before after : Progress) :
+    Type 0 where
   pub whole : bytes ≡ texts_in parts ++ rest
   pub requests : AllByRecursion (IsPart limits) parts
   pub is_open : IsOpenBefore parts before
@@ -125,12 +128,14 @@ pub record IsIgnored (limits : Bounds) (reached after : Progress) (c : Client) :
   pub same : after ≡ reached
   pub begun : HasUnfinished limits c []
 
--- the client has begun a request with the rest; or the rest is rejected; or the client was closing, and the rest is ignored
+-- the client has begun a request with the rest; or the rest is rejected; or the client was closing, and the rest is
+-- ignored
 abbrev pub Ends : Bounds → List ℕ → Progress → Progress → Client → Type 0
-Ends limits rest reached after c = Begins limits rest reached after c ⊎ (IsRejected limits rest reached after c ⊎ IsIgnored limits reached after c)
+Ends limits rest reached after c = Begins limits rest reached after c ⊎
+    (IsRejected limits rest reached after c ⊎ IsIgnored limits reached after c)
 
--- The bytes are requests, which were done in order, and a rest. Before each request, and before the error reply to a rest
--- that is rejected, at most `held` bytes waited.
+-- The bytes are requests, which were done in order, and a rest. Before each request, and before the error reply to a
+-- rest that is rejected, at most `held` bytes waited.
 pub record Takes (held : ℕ) (bytes : List ℕ) (old new : ServerState) (before after : Client) : Type 0 where
   pub parts : List Part
   pub rest : List ℕ

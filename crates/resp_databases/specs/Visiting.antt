@@ -17,14 +17,15 @@ use Rattle.resp_databases.specs.declared.error.ServeError.TheVariants.{OutOfMemo
 
 -- the client is open, and this is true of all bytes with which it has begun a request
 abbrev pub WhereOpen : ServerState → Client → (List ℕ → Type 0) → Type 0
-WhereOpen server c P = (standing_of c).closing ≡ false → (front : List ℕ) → HasUnfinished server.limits c front → P front
+WhereOpen server c P = (standing_of c).closing ≡ false →
+    (front : List ℕ) → HasUnfinished server.limits c front → P front
 
 -- this text was written before the bytes that wait
 abbrev pub with_written : List ℕ → Progress → Progress
 with_written text p = record p { waiting = text ++ p.waiting }
 
--- The bytes are requests, which were done in order, and a rest. The bytes written and the bytes that still wait, joined, are
--- those that waited before and the replies.
+-- The bytes are requests, which were done in order, and a rest. The bytes written and the bytes that still wait, joined,
+-- are those that waited before and the replies.
 pub record Serves (bytes text : List ℕ) (old new : ServerState) (before after : Client) : Type 0 where
   pub parts : List Part
   pub rest : List ℕ
@@ -42,7 +43,8 @@ pub record ServesFirst (bytes text : List ℕ) (old new : ServerState) (before a
   pub begun : HasUnfinished old.limits after []
 
 -- what was done with the bytes that were given to the server: all of them, or the first of them when out of memory
-abbrev pub ServesBy : {T : Type 0} → Result T ServeError → List ℕ → List ℕ → ServerState → ServerState → Client → Client → Type 0
+abbrev pub ServesBy : {T : Type 0} → Result T ServeError → List ℕ → List ℕ → ServerState → ServerState → Client → Client →
+    Type 0
 ServesBy (Err OutOfMemory) bytes text old new before after = ServesFirst bytes text old new before after
 ServesBy _ bytes text old new before after = Serves bytes text old new before after
 
@@ -77,11 +79,11 @@ failed_to_write _ = false
 abbrev pub rest_in : Visit → List ℕ → List ℕ
 rest_in visit bytes = take (visit.rest.end - visit.rest.start) (drop visit.rest.start bytes)
 
--- The bytes received are pieces of at most `most` bytes, each from one read, and the server was given all of them but the
--- rest. Before each read, all replies to the bytes received before were written.
-pub record ServesPieces {W R : Type 0} (most : ℕ) (written : W → Option (List ℕ)) (remaining : R → Option (List ℕ)) (calls failures : R → ℕ)
-    (writer writer' : W) (reader reader' : R) (old new : ServerState) (before after : Client) (end : Result Served ServeError)
-    (rest : List ℕ) : Type 0 where
+-- The bytes received are pieces of at most `most` bytes, each from one read, and the server was given all of them but
+-- the rest. Before each read, all replies to the bytes received before were written.
+pub record ServesPieces {W R : Type 0} (most : ℕ) (written : W → Option (List ℕ)) (remaining : R → Option (List ℕ))
+    (calls failures : R → ℕ) (writer writer' : W) (reader reader' : R) (old new : ServerState) (before after : Client)
+    (end : Result Served ServeError) (rest : List ℕ) : Type 0 where
   pub pieces : List (List ℕ)
   pub given : List ℕ
   pub text : List ℕ
@@ -89,15 +91,16 @@ pub record ServesPieces {W R : Type 0} (most : ℕ) (written : W → Option (Lis
   pub read : ReadsPieces most remaining calls failures reader reader' pieces (ends_by_read end)
   pub appended : Appends (written writer) (written writer') text
   pub served : WhereOpen old before (λ front. ServesBy end (front ++ given) text old new before after)
-  pub before_each : WhereOpen old before (λ front. (k : ℕ) → k < length pieces → HadServed (front ++ concat (take k pieces)) text old before)
+  pub before_each : WhereOpen old before (λ front. (k : ℕ) → k < length pieces →
+      HadServed (front ++ concat (take k pieces)) text old before)
 
 -- After other bytes, the server was given these, and this text was written.
-pub record Answers {T : Type 0} (written written' : Option (List ℕ)) (old new : ServerState) (before after : Client) (given : List ℕ)
-    (end : Result T ServeError) : Type 0 where
+pub record Answers {T : Type 0} (written written' : Option (List ℕ)) (old new : ServerState) (before after : Client)
+    (given : List ℕ) (end : Result T ServeError) : Type 0 where
   pub text : List ℕ
   pub appended : Appends written written' text
-  pub served : (bytes came : List ℕ) (first : ServerState) (c : Client) → old.limits ≡ first.limits → Serves bytes came first old c before →
-      ServesBy end (bytes ++ given) (came ++ text) first new c after
+  pub served : (bytes came : List ℕ) (first : ServerState) (c : Client) → old.limits ≡ first.limits →
+      Serves bytes came first old c before → ServesBy end (bytes ++ given) (came ++ text) first new c after
 
 -- the first of the bytes that waited, or all of them, were written, and nothing else of the client is changed
 pub record WritesOut (written written' : Option (List ℕ)) (before after : Client) : Type 0 where
@@ -107,7 +110,8 @@ pub record WritesOut (written written' : Option (List ℕ)) (before after : Clie
   pub same_standing : standing_of after ≡ standing_of before
   pub same_begun : KeepsUnfinished before after
 
--- The state at each end. After `Write` bytes wait that could not be written. If no turn is left, a write or a read needed one.
+-- The state at each end. After `Write` bytes wait that could not be written. If no turn is left, a write or a read
+-- needed one.
 abbrev pub EndsVisit : Option (List ℕ) → Option (List ℕ) → Client → Result Served ServeError → Type 0
 EndsVisit left left' c (Ok Ended) = TellsEnd left left' × ((standing_of c).closing ≡ false) × (waiting_of c ≡ [])
 EndsVisit left left' c (Ok Closed) = ((standing_of c).closing ≡ true) × (waiting_of c ≡ [])
@@ -140,11 +144,13 @@ StopsAnswering failures failures' left error = StopsWriting failures failures' l
 
 -- why a read stops: it failed, or no turn is left and it was not made
 abbrev pub StopsReading : {R : Type 0} → ℕ → ℕ → ℕ → ℕ → R → R → ℕ → ServeError → Type 0
-StopsReading failures failures' calls calls' reader reader' left Read = HasRisen failures failures' × (calls' ≡ count_after 1 calls)
+StopsReading failures failures' calls calls' reader reader' left Read =
+    HasRisen failures failures' × (calls' ≡ count_after 1 calls)
 StopsReading failures failures' calls calls' reader reader' left TooManyTurns = (left ≡ 0) × (reader' ≡ reader)
 StopsReading failures failures' calls calls' reader reader' left _ = ⊥
 
--- if bytes of a piece are left, they could not be taken since more than `most` bytes waited, and some of these still wait
+-- if bytes of a piece are left, they could not be taken since more than `most` bytes waited, and some of these still
+-- wait
 pub record LeavesRest (most : ℕ) (written written' : Option (List ℕ)) (after : Client) : Type 0 where
   pub between : Option (List ℕ)
   pub first : List ℕ

@@ -204,7 +204,8 @@ fn write_out<W: Sink>(
     client: &mut Client,
     turns: &mut u64,
 ) -> Result<(), ServeError>
-    ensures written { WritesOut (W.written writer.old) (W.written writer.new) client.old client.new }
+    ensures written { WritesOut (W.written writer.old) (W.written writer.new) client.old
+        client.new }
     ensures all { OnOk result (waiting_of client.new ≡ []) }
     ensures part { OnErr result (0 < length (waiting_of client.new)) }
     ensures failures { W.failures writer.new ≡

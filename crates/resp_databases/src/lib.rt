@@ -5,10 +5,11 @@
 //! over devices. The commands of `resp_server` have the replies that a [`resp_server::Hub`] gives
 //! them.
 //!
-//! It is proved which effect or error a command asks for, given its words, and the text of each kind
-//! of reply. It is also proved that a command that is run has its outcome: the stores of all
-//! databases, the state of its client, and its reply. [`Databases::take`] runs the commands in the
-//! bytes of a client, each once and in order, cut anywhere.
+//! It is proved which effect or error a command asks for, given its words, and the text of each
+//! kind of reply. It is also proved that a command that is run has its outcome: the stores of all
+//! databases, the state of its client, and its reply. [`Databases::take`] runs each command in the
+//! bytes of a client once, in order, however these bytes are cut, and [`serve`] writes the replies
+//! in this order.
 #![tactic(auto)]
 
 mod client;

@@ -27,8 +27,8 @@ impl<S: BuildHasher + Copy> Databases<S> {
     /// # Errors
     ///
     /// `AllocError` if an allocation fails, and after 2^63 - 1 commands of a database. The commands
-    /// run before keep their effect and their replies, nothing after them is done, and the client is
-    /// closing.
+    /// run before keep their effect and their replies, nothing after them is done, and the client
+    /// is closing.
     pub fn take(
         &mut self,
         client: &mut Client,
@@ -36,8 +36,9 @@ impl<S: BuildHasher + Copy> Databases<S> {
         held: usize,
     ) -> Result<usize, AllocError>
         // The bytes that came since the last request and those that were used are requests, which
-        // were done in order, each while at most `held` bytes waited. The client has begun the next
-        // one with the rest; or the rest is rejected; or it is ignored, since the client was closing.
+        // were done in order, each while at most `held` bytes waited, and a rest. The client has
+        // begun the next request with the rest; or the rest is rejected; or it is ignored, since
+        // the client was closing.
         ensures taken { WhereUnfinished self.old client.old (λ front. IfOk result (λ used.
             Takes held (front ++ take used piece.now) self.old self.new client.old client.new)) }
         // Some of the requests were done. Then the client was closed.
