@@ -4,7 +4,9 @@ use crate::decoding::values;
 use crate::given::{command, words};
 use crate::outcome::Outcome;
 use bytes::BytesMut;
-use resp_encode::{EncodeError, EncodeToError, encode, encode_push, encode_to, encode_words};
+use resp_encode::{
+    EncodeError, EncodeToError, append, encode, encode_push, encode_to, encode_words,
+};
 use resp_value::command::Command;
 use resp_value::device::MemorySink;
 use resp_value::limits::Limits;
@@ -98,6 +100,19 @@ pub(crate) fn of_words(alloc: Global) -> Outcome {
         Ok(words) => are_written(alloc, words.as_slice()),
         Err(AllocError) => Outcome::OutOfMemory,
     }
+}
+
+/// Appends a bulk string by itself: the whole text, or nothing.
+pub(crate) fn of_bulk(alloc: Global) -> Outcome {
+    let Ok(mut out) = standing(alloc) else {
+        return Outcome::OutOfMemory;
+    };
+    let answer = append::bulk(b"second", &mut out);
+    appended(
+        answer.map_err(|AllocError| EncodeError::OutOfMemory),
+        &out,
+        b"$6\r\nsecond\r\n",
+    )
 }
 
 fn is_sent(alloc: Global, value: &Value, sink: &mut MemorySink) -> Outcome {

@@ -68,7 +68,7 @@ fn print(rt: &impl Print, parts: &[Part]) -> Result<()> {
 }
 
 /// Runs the parts of values, of the client and of the server, and returns their outcomes in order.
-fn parts_of_values(alloc: Global) -> [Part; 24] {
+fn parts_of_values(alloc: Global) -> [Part; 25] {
     [
         ("decode a piece", decoding::of_one_piece(alloc)),
         ("decode bytes", decoding::of_single_bytes(alloc)),
@@ -80,6 +80,7 @@ fn parts_of_values(alloc: Global) -> [Part; 24] {
         ("encode", encoding::of_value(alloc)),
         ("encode_push", encoding::of_push(alloc)),
         ("encode_words", encoding::of_words(alloc)),
+        ("append", encoding::of_bulk(alloc)),
         ("encode_to", encoding::to_writer(alloc)),
         ("command", encoding::of_command(alloc)),
         ("send", pipelining::of_send(alloc)),

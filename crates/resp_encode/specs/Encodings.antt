@@ -1,11 +1,14 @@
 -- The contracts of the functions that encode.
-use Rattle.std.specs.Prelude.{◌≡◌, ◌≢◌, ℕ, ◌+◌, ◌<◌, ◌≤◌, List, ◌++◌, length, take, Option, Result, OnOk, OnErr, IfErr, IsErrOf}
-use Rattle.bytes.specs.Filled.{Filled}
-use Rattle.resp_value.specs.Data.{Datum}
+use Rattle.std.specs.Prelude.{◌≡◌, ◌≢◌, ℕ, ◌+◌, ◌<◌, ◌≤◌, List, [], ◌∷◌, ◌++◌, length, take, Option, Result, OnOk, OnErr, IfErr, IsErrOf}
+use Rattle.bytes.specs.Filled.{Filled, UsesSpare}
+use Rattle.resp_value.specs.Bytes.{crlf}
+use Rattle.resp_value.specs.Data.{Datum, Kind}
+use Rattle.resp_value.specs.Numbers.{decimal}
 use Rattle.resp_value.specs.Rules.{Rules}
 use Rattle.resp_value.specs.Spellings.{IsSpelling}
 use Rattle.resp_value.specs.Canonical.{canonical_text, Fits}
 use Rattle.resp_value.specs.Devices.{Appends, count_after}
+use Rattle.resp_value.specs.Trees.{kind_byte}
 use Rattle.resp_encode.specs.Refusals.{IsFirstFault}
 use Rattle.resp_encode.specs.declared.error.EncodeError.{EncodeError}
 use Rattle.resp_encode.specs.declared.error.EncodeError.TheVariants.{OutOfMemory}
@@ -33,6 +36,16 @@ pub record AppendsWhole (old new : Filled) (text : List ℕ) (result : Result (U
   pub spare_left : OnOk result (old.spare ≤ new.spare + length text)
   -- an error uses no spare room
   pub spare_kept : OnErr result (old.spare ≤ new.spare)
+
+-- the text is appended; or the buffer, whose spare room does not hold it, has its earlier bytes
+pub record AppendsText {E : Type 0} (old new : Filled) (text : List ℕ) (result : Result (Unit {0}) E) : Type 0 where
+  pub appended : OnOk result (new.items ≡ old.items ++ text)
+  pub unchanged : OnErr result (new.items ≡ old.items)
+  pub spare : UsesSpare result old.spare new.spare (length text)
+
+-- the head of an aggregate of this kind, with this number
+abbrev pub head_text : Kind → ℕ → List ℕ
+head_text kind number = kind_byte kind ∷ decimal number ++ crlf []
 
 -- a text of this length was written completely to a device with these bytes and failures before and after
 pub record WritesWhole (held held' : Option (List ℕ)) (failures failures' : ℕ) (text : List ℕ) (written : ℕ) : Type 0

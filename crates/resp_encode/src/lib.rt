@@ -6,6 +6,7 @@
 //! 3.
 #![tactic(auto)]
 
+pub mod append;
 mod attempt;
 mod digits;
 mod error;

@@ -5,9 +5,10 @@ ghost use Rattle.resp_value.specs.Bytes.{IsText};
 ghost use Rattle.resp_value.specs.Numbers.{decimal};
 ghost use Rattle.resp_value.specs.Data.{Datum, scalar, aggregate, items_of, data_of_list, in_turn};
 ghost use Rattle.resp_value.specs.Data as d;
-ghost use Rattle.resp_value.specs.Canonical.{IsValue, AreValues, IsScalarValue};
+ghost use Rattle.resp_value.specs.Canonical.{IsValue, AreValues, IsScalarValue, canonical_text};
 ghost use Rattle.resp_value.specs.Values.{datum_of, pair_data};
 ghost use Rattle.resp_value.specs.declared.version.Version.{Version};
+ghost use Rattle.resp_value.specs.declared.version.Version.TheVariants.{Three};
 ghost use Rattle.resp_value.specs.Kinds.{kind_of};
 ghost use Rattle.resp_encode.specs.Walks.Measures.{Describes, DescribesEach};
 
@@ -17,15 +18,23 @@ use resp_value::kind::OpenKind;
 use resp_value::value::Value;
 use resp_value::version::Version;
 
-/// Returns the measure of Null, whose text depends on the version.
+/// Returns the number of bytes of the text of Null, which depends on the version.
+#[inline]
+pub(crate) fn null_size(version: Version) -> u64
+    ensures { result ≡ length (canonical_text version (scalar d.Null)) }
+{
+    match version {
+        Version::Two => 5,
+        Version::Three => 3,
+    }
+}
+
+/// Returns the measure of Null.
 #[inline]
 pub(crate) fn measure_null(version: Version) -> Measure
     ensures { Describes version (scalar d.Null) result }
 {
-    match version {
-        Version::Two => Measure::scalar(true, 0, 5),
-        Version::Three => Measure::scalar(true, 0, 3),
-    }
+    Measure::scalar(true, 0, null_size(version))
 }
 
 /// Returns the measure of a boolean, which version 2 does not have.
@@ -36,15 +45,22 @@ pub(crate) fn measure_bool(truth: bool) -> Measure
     Measure::scalar(false, 0, 4)
 }
 
+/// Returns the number of bytes of the text of an integer.
+#[inline]
+pub(crate) fn int_size(number: i64) -> u64
+    ensures { result ≡ length (canonical_text Three (scalar (d.Int number))) }
+{
+    let digits = digit_count(number.unsigned_abs());
+    if number < 0 { digits + 4 } else { digits + 3 }
+}
+
 /// Returns the measure of an integer. Its digits do not count for the limit of length.
 #[inline]
 pub(crate) fn measure_int(number: &i64) -> Measure
     ensures found { (version : Version) → Describes version (scalar (d.Int number.now)) result }
     ensures is_value { IsScalarValue (d.Int number.now) }
 {
-    let digits = digit_count(number.unsigned_abs());
-    let size = if *number < 0 { digits + 4 } else { digits + 3 };
-    Measure::scalar(true, 0, size)
+    Measure::scalar(true, 0, int_size(*number))
 }
 
 /// Returns the measure of a simple string or of an error.
@@ -128,15 +144,22 @@ pub(crate) fn measure_verbatim(format: &[u8; 3], text: &[u8]) -> Measure
     Measure::scalar(false, counted, string_size(counted))
 }
 
+/// Returns the number of bytes of the text of a big number.
+#[inline]
+pub(crate) fn big_size(negative: bool, digits: &[u8]) -> u64
+    ensures { result ≡ length (canonical_text Three (scalar (d.Big negative digits.now))) }
+{
+    let length = digits.len() as u64;
+    if negative { length + 4 } else { length + 3 }
+}
+
 /// Returns the measure of a big number. Its digits count for the limit of length, and its sign does
 /// not.
 #[inline]
 pub(crate) fn measure_big(negative: bool, digits: &[u8]) -> Measure
     ensures { (version : Version) → Describes version (scalar (d.Big negative digits.now)) result }
 {
-    let length = digits.len() as u64;
-    let size = if negative { length + 4 } else { length + 3 };
-    Measure::scalar(false, length, size)
+    Measure::scalar(false, digits.len() as u64, big_size(negative, digits))
 }
 
 /// Returns the measure of a value. Each value of this type is a value of the protocol's grammar.

@@ -1,5 +1,5 @@
 -- A draft takes in events: what it has is the canonical text of what they build.
-use Rattle.std.proofs.Common.{◌≡◌, ℕ, ◌+◌, ◌-◌, ◌<◌, ◌≤◌, ◌^◌, Bool, true, false, Option, None, Some, List, [], ◌∷◌, ◌++◌, length, take, drop, get_or, min, reverse, refl, sym, ap, subst, ◌∙◌, append_assoc, append-nil, length-append, arith}
+use Rattle.std.proofs.Common.{◌≡◌, ℕ, ◌+◌, ◌-◌, ◌<◌, Bool, true, false, Option, None, Some, List, [], ◌∷◌, ◌++◌, length, take, drop, get_or, reverse, refl, sym, ap, subst, ◌∙◌, append_assoc, append-nil, length-append, arith}
 use Rattle.std.specs.Prelude.{flat_map}
 use Rattle.std.proofs.Common.{inl, inr}
 use Rattle.std.proofs.lemmas.List.{reverse-append}
@@ -7,7 +7,7 @@ use Rattle.std.proofs.Math.ListN.{set}
 use Rattle.std.proofs.Math.Seq.{drop-append-add, drop-append_seam, set-append_seam, take-append_seam}
 use Rattle.std.proofs.lemmas.Grind.{flat_map-append}
 use Rattle.resp_value.specs.Bytes.{crlf}
-use Rattle.resp_value.specs.Canonical.{canonical_text, canonical_tree, canonical_trees}
+use Rattle.resp_value.specs.Canonical.{canonical_text, canonical_trees}
 use Rattle.resp_value.specs.Data.{Kind, Datum, aggregate, data_of_list, items_of}
 use Rattle.resp_value.specs.Kinds.{kind_of}
 use Rattle.resp_value.specs.declared.kind.OpenKind.{OpenKind}
@@ -15,7 +15,6 @@ use Rattle.resp_value.specs.Numbers.{decimal}
 use Rattle.resp_value.specs.Trees.{kind_byte, texts}
 use Rattle.resp_value.specs.declared.version.Version.{Version}
 use Rattle.resp_value.proofs.DatumOf.{count-data_of_list}
-use Rattle.resp_value.proofs.SpellingLaws.{text_not_empty}
 use Rattle.resp_fronts.specs.Events as e
 use Rattle.resp_scan.specs.Kinds.{content_events, text_kind_of}
 use Rattle.resp_scan.specs.Listening.{Hears, whole_text_events}
@@ -26,7 +25,8 @@ use Rattle.resp_decode.specs.Fits.{IsInText, MayAllCome, MayBegin}
 use Rattle.resp_decode.proofs.Folds.{with_events-append}
 use Rattle.resp_decode.proofs.HeldLemmas.{content_held, last_split}
 use Rattle.resp_decode.proofs.Taking.{room_for, whole_text_builds}
-use Rattle.resp_tool.specs.Drafts.{AppendsKnownHead, StandOpen, CountsOne, DraftsWhereFit, HasDrafted, IsDraftOf, StandsOpen, IsRead, WithHead, head_text, number_of, whole_text}
+use Rattle.resp_tool.specs.Drafts.{AppendsKnownHead, StandOpen, CountsOne, DraftsWhereFit, HasDrafted, IsDraftOf, StandsOpen, IsRead, WithHead, number_of, whole_text}
+use Rattle.resp_encode.specs.Encodings.{head_text}
 use Rattle.resp_tool.specs.declared.draft.Draft.{Draft}
 use Rattle.resp_tool.specs.declared.draft.OpenAggregate.{OpenAggregate}
 
@@ -44,7 +44,7 @@ value_added w (o ∷ os) new [] x b text is none opens counts = absurd opens
 value_added w (o ∷ os) new (g ∷ gs) x b text is none opens counts =
     let (outer, inner, others) = opens in
     let wider : Group = record g { members = g.members ++ x ∷ [] } in
-    let more : OpenAggregate = record o { members = min (o.members + 1) (2 ^ 64 - 1) } in
+    let more : OpenAggregate = record o { members = o.members + 1 } in
     let f = canonical_text w in
     let opened : StandsOpen w more wider outer (text ++ f x) = record {
       kind = inner.kind;
@@ -64,7 +64,7 @@ value_added w (o ∷ os) new (g ∷ gs) x b text is none opens counts =
 
 -- the last aggregate is the innermost
 pub counts_last : (xs : List OpenAggregate) (n : ℕ) (o y : OpenAggregate) → n ≡ length xs → 0 < n → o ≡ get_or xs (n - 1) o →
-    y ≡ record o { members = min (o.members + 1) (2 ^ 64 - 1) } → CountsOne (reverse xs) (reverse (set xs (n - 1) y))
+    y ≡ record o { members = o.members + 1 } → CountsOne (reverse xs) (reverse (set xs (n - 1) y))
 counts_last xs n o y size some is more =
     let (init, e) = last_split xs o (omega arith) in
     let whole : xs ≡ init ++ o ∷ [] = e ∙ ap (λ z. init ++ z ∷ []) (sym (is ∙ ap (λ i. get_or xs (i - 1) o) size)) in
@@ -72,11 +72,6 @@ counts_last xs n o y size some is more =
     let new : set xs (n - 1) y ≡ init ++ y ∷ [] = ap (λ i. set xs i y) at ∙ ap (λ z. set z (length init) y) whole ∙ set-append_seam init o [] y in
     subst (λ zs. CountsOne zs (reverse (set xs (n - 1) y))) (sym (ap reverse whole ∙ reverse-append init (o ∷ [])))
     (ap reverse new ∙ reverse-append init (y ∷ []) ∙ ap (λ z. z ∷ reverse init) more)
-
--- none is open
-pub counts_none : (xs : List OpenAggregate) → (0 < length xs → ⊥) → CountsOne (reverse xs) (reverse xs)
-counts_none [] none = refl
-counts_none (o ∷ os) none = absurd (none (omega arith))
 
 -- a value that ends begins and ends no text
 same_text : (gs : List Group) (x : Datum) (b : Construction) → (with_value_in gs x b).text ≡ b.text
@@ -124,17 +119,6 @@ texts_of_members : (w : Version) (xs : List Datum) → texts (canonical_trees w 
 texts_of_members w [] = refl
 texts_of_members w (x ∷ xs) = ap (λ t. canonical_text w x ++ t) (texts_of_members w xs)
 
--- no text is empty, so that there are no more members than bytes
-few_members : (w : Version) (xs : List Datum) → length xs ≤ length (flat_map (canonical_text w) xs)
-few_members w [] = omega arith
-few_members w (x ∷ xs) =
-    let full = some (canonical_text w x) (text_not_empty (canonical_tree w x)) in
-    omega (arith, few_members w xs, length-append (canonical_text w x) (flat_map (canonical_text w) xs), full)
-  where
-    some : (text : List ℕ) → (text ≡ [] → ⊥) → 1 ≤ length text
-    some [] h = absurd (h refl)
-    some (c ∷ cs) h = omega arith
-
 -- the canonical text of an aggregate is its head and the texts of its members
 aggregate_text : (w : Version) (k : Kind) (xs : List Datum) →
     canonical_text w (aggregate k (data_of_list xs)) ≡ head_text k (items_of k (length xs)) ++ flat_map (canonical_text w) xs
@@ -145,9 +129,9 @@ aggregate_text w k xs =
     ∙ sym (append_assoc (kind_byte k ∷ decimal (items_of k (length xs))) (crlf []) members)
 
 -- the text with an aggregate's head is its canonical text after what is around it
-closed_text : (w : Version) (o : OpenAggregate) (g : Group) (outer text closed : List ℕ) → StandsOpen w o g outer text → length text < 2 ^ 63 →
+closed_text : (w : Version) (o : OpenAggregate) (g : Group) (outer text closed : List ℕ) → StandsOpen w o g outer text →
     WithHead o text closed → closed ≡ outer ++ canonical_text w (aggregate g.kind (data_of_list g.members))
-closed_text w o g outer text closed inner short with_head = whole with_head ∙ ap (λ t. outer ++ t) (sym (aggregate_text w g.kind g.members))
+closed_text w o g outer text closed inner with_head = whole with_head ∙ ap (λ t. outer ++ t) (sym (aggregate_text w g.kind g.members))
   where
     members : List ℕ
     members = flat_map (canonical_text w) g.members
@@ -156,12 +140,7 @@ closed_text w o g outer text closed inner short with_head = whole with_head ∙ 
     n = items_of g.kind (length g.members)
 
     number : number_of o ≡ n
-    number =
-        let few = few_members w g.members in
-        let long = ap length inner.parts ∙ length-append outer (inner.head ++ members) in
-        let inside = length-append inner.head members in
-        let all : o.members ≡ length g.members = omega (arith, few, long, inside, short, inner.members) in
-        ap (λ k. items_of k o.members) inner.kind ∙ ap (items_of g.kind) all
+    number = ap (λ k. items_of k o.members) inner.kind ∙ ap (items_of g.kind) inner.members
 
     before : take o.head_at text ≡ outer
     before = ap (λ m. take m text) inner.head_at ∙ ap (take (length outer)) inner.parts ∙ take-append_seam outer (inner.head ++ members)
@@ -185,13 +164,13 @@ closed_text w o g outer text closed inner short with_head = whole with_head ∙ 
 
 -- the draft of an aggregate that has ended
 pub draft_closed : (w : Version) (o : OpenAggregate) (os : List OpenAggregate) (gs : List Group) (text closed : List ℕ) (new : Draft) (b : Construction) →
-    b.text ≡ None → b.whole ≡ None → StandOpen w (o ∷ os) gs [] text → length text < 2 ^ 63 → WithHead o text closed → new.version ≡ w →
+    b.text ≡ None → b.whole ≡ None → StandOpen w (o ∷ os) gs [] text → WithHead o text closed → new.version ≡ w →
     IsRead new.kind new.content.items None → new.text.items ≡ closed → CountsOne os (reverse new.aggregates.items) → IsDraftOf new (with_group_closed gs b)
-draft_closed w o os [] text closed new b no_text none opens short with_head version read added counts = absurd opens
-draft_closed w o os (g ∷ gs) text closed new b no_text none opens short with_head version read added counts =
+draft_closed w o os [] text closed new b no_text none opens with_head version read added counts = absurd opens
+draft_closed w o os (g ∷ gs) text closed new b no_text none opens with_head version read added counts =
     let (outer, inner, others) = opens in
     draft_value w os outer new (record b { groups = gs }) (aggregate g.kind (data_of_list g.members)) no_text none others version read
-    (added ∙ closed_text w o g outer text closed inner short with_head) counts
+    (added ∙ closed_text w o g outer text closed inner with_head) counts
 
 -- a head that is appended where it is known
 known_head : (kind : Kind) (count : Option ℕ) (before after : List ℕ) → AppendsKnownHead kind count before after →

@@ -12,8 +12,6 @@ pub mod PageLemmas
 pub mod Showing
 pub mod BegunLemmas
 pub mod CauseTexts
-pub mod CanonicalFrontLemmas
-pub mod FrontsTaken
 pub mod SameBytes
 pub mod RunWords
 pub mod Failures

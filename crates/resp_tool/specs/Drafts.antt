@@ -1,13 +1,11 @@
 -- The canonical text of a value that is being read, from the value that its events have built.
-use Rattle.std.specs.Prelude.{◌≡◌, ◌⊎◌, ℕ, ◌+◌, ◌-◌, ◌^◌, Bool, true, Option, None, Some, List, [], ◌∷◌, ◌++◌, flat_map}
-use Rattle.std.specs.Prelude.{drop, length, min, reverse, take}
-use Rattle.resp_value.specs.Bytes.{crlf}
+use Rattle.std.specs.Prelude.{◌≡◌, ◌⊎◌, ℕ, ◌+◌, Bool, true, Option, None, Some, List, [], ◌∷◌, ◌++◌, flat_map}
+use Rattle.std.specs.Prelude.{drop, length, reverse, take}
 use Rattle.resp_value.specs.Canonical.{canonical_text}
 use Rattle.resp_value.specs.Data.{Kind, Datum, items_of}
 use Rattle.resp_value.specs.Kinds.{kind_of}
-use Rattle.resp_value.specs.Numbers.{decimal}
-use Rattle.resp_value.specs.Trees.{kind_byte}
 use Rattle.resp_value.specs.declared.version.Version.{Version}
+use Rattle.resp_encode.specs.Encodings.{head_text}
 use Rattle.resp_scan.specs.Kinds.{text_kind_of}
 use Rattle.resp_scan.specs.Reading.{Events}
 use Rattle.resp_scan.specs.declared.event.TextKind.{TextKind}
@@ -15,10 +13,6 @@ use Rattle.resp_decode.specs.Builds.{Construction, Group, Text, built_from, with
 use Rattle.resp_decode.specs.Fits.{MayAllCome}
 use Rattle.resp_tool.specs.declared.draft.Draft.{Draft}
 use Rattle.resp_tool.specs.declared.draft.OpenAggregate.{OpenAggregate}
-
--- the head of an aggregate with this number
-abbrev pub head_text : Kind → ℕ → List ℕ
-head_text kind number = kind_byte kind ∷ decimal number ++ crlf []
 
 -- the head is appended if its number is known
 abbrev pub AppendsKnownHead : Kind → Option ℕ → List ℕ → List ℕ → Type 0
@@ -29,7 +23,7 @@ AppendsKnownHead kind (Some number) before after = after ≡ before ++ head_text
 -- texts of its complete members.
 pub record StandsOpen (version : Version) (o : OpenAggregate) (g : Group) (outer text : List ℕ) : Type 0 where
   pub kind : kind_of o.kind ≡ g.kind
-  pub members : o.members ≡ min (length g.members) (2 ^ 64 - 1)
+  pub members : o.members ≡ length g.members
   pub head : List ℕ
   pub head_at : o.head_at ≡ length outer
   pub members_at : o.members_at ≡ length outer + length head
@@ -73,7 +67,7 @@ DraftsWhereFit old new more goes_on = (b : Construction) → MayAllCome more b �
 -- the innermost aggregate has one more complete member
 abbrev pub CountsOne : List OpenAggregate → List OpenAggregate → Type 0
 CountsOne [] new = new ≡ []
-CountsOne (o ∷ os) new = new ≡ record o { members = min (o.members + 1) (2 ^ 64 - 1) } ∷ os
+CountsOne (o ∷ os) new = new ≡ record o { members = o.members + 1 } ∷ os
 
 -- the number for the head of an aggregate that ends
 abbrev pub number_of : OpenAggregate → ℕ

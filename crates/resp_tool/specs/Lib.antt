@@ -13,7 +13,6 @@ pub mod Runs
 pub mod Begun
 pub mod Explained
 pub mod Valid
-pub mod CanonicalFronts
 pub mod Drafts
 pub mod Hints
 pub mod Decoded

@@ -13,7 +13,6 @@ ghost use Rattle.resp_value.specs.Data.{Datum};
 ghost use Rattle.resp_value.specs.Devices.{failures_after};
 ghost use Rattle.resp_value.specs.Rules.{rules_under};
 
-use crate::canonical_front::canonical_front;
 use crate::draft::Draft;
 use crate::rendering::{Rendering, Stop, Taken};
 use crate::stream::{MOST_READS, render_stream};
@@ -64,14 +63,7 @@ impl Rendering for Canonical<'_> {
     ghost writes = { Unit {0} };
 
     fn take<W: Sink>(&mut self, piece: &[u8], writer: &mut W) -> Result<Taken, Stop> {
-        laws::canonical_text_spells_what_fits();
         laws::what_was_read_can_be_written();
-        // Most values without members are already canonical and are copied.
-        if self.scanner.taken() == 0 {
-            if let Some(size) = canonical_front(piece, self.limits) {
-                return write_front(&piece[..size], writer);
-            }
-        }
         let scanned = match self.scanner.scan(piece, &mut self.draft) {
             Ok(scanned) => scanned,
             Err(ScanError::Fault(fault)) => return Err(Stop::Fault(fault)),
@@ -108,24 +100,6 @@ impl Rendering for Canonical<'_> {
             Ok(()) => Ok(()),
             Err(fault) => Err(Stop::Fault(fault)),
         }
-    }
-}
-
-/// Copies the text of a complete value.
-#[inline(always)]
-fn write_front<W: Sink>(text: &[u8], writer: &mut W) -> Result<Taken, Stop>
-    ensures writes { WritesText (W.written writer.old) (W.written writer.new)
-        (W.failures writer.old) (W.failures writer.new) result text.now }
-    ensures whole { IfOk result (λ taken.
-        taken ≡ record { used = length text.now; is_whole = true }) }
-    ensures stops { IfErr result (λ stop. stop ≡ Stop.Write) }
-{
-    match write_text(writer, text) {
-        Ok(()) => Ok(Taken {
-            used: text.len(),
-            is_whole: true,
-        }),
-        Err(_) => Err(Stop::Write),
     }
 }
 

@@ -1,20 +1,20 @@
 //! Builds the canonical text of a value from its events, without holding the value.
 
-ghost use Rattle.std.specs.Prelude.{◌≡◌, ◌∷◌, ◌++◌, [], Some, drop, is_ok, length, reverse, take, OnOk};
+ghost use Rattle.std.specs.Prelude.{◌≡◌, ◌∷◌, ◌+◌, ◌++◌, [], Some, drop, is_ok, reverse, take, true, OnOk};
 ghost use Rattle.resp_decode.specs.Builds.{text_value};
 ghost use Rattle.resp_fronts.specs.Events as e;
 ghost use Rattle.resp_scan.specs.Kinds.{text_kind_of};
 ghost use Rattle.resp_scan.specs.Listening.{whole_text_events};
-ghost use Rattle.resp_tool.specs.Drafts.{AppendsKnownHead, CountsOne, WithHead, head_text};
-ghost use Rattle.resp_value.specs.Bytes.{crlf};
+ghost use Rattle.resp_encode.specs.Encodings.{head_text};
+ghost use Rattle.resp_tool.specs.Drafts.{AppendsKnownHead, CountsOne, WithHead};
 ghost use Rattle.resp_value.specs.Canonical.{canonical_text};
-ghost use Rattle.resp_value.specs.Data.{Datum, items_of, scalar};
-ghost use Rattle.resp_value.specs.Data as d;
+ghost use Rattle.resp_value.specs.Data.{Datum, items_of};
 ghost use Rattle.resp_value.specs.Kinds.{kind_of};
-ghost use Rattle.resp_value.specs.Numbers.{decimal};
+ghost use Rattle.resp_value.specs.Numbers.{zero_if_none};
 ghost use Rattle.resp_value.specs.declared.version.Version.{Version};
 
-use itoa::Buffer;
+use bytes::BytesMut;
+use resp_encode::append;
 use resp_scan::event::TextKind;
 use resp_scan::listener::Listener;
 use resp_value::kind::OpenKind;
@@ -45,6 +45,18 @@ impl OpenAggregate {
             OpenKind::Array | OpenKind::Set | OpenKind::Push => self.members,
         }
     }
+
+    /// Counts one more complete member. Returns false if a `u64` does not hold their number.
+    fn count_member(&mut self) -> bool
+        ensures { result ≡ true →
+            self.new ≡ record self.old { members = self.old.members + 1 } }
+    {
+        let Some(members) = self.members.checked_add(1) else {
+            return false;
+        };
+        self.members = members;
+        true
+    }
 }
 
 /// The canonical text of the value that is being read, for the events received so far.
@@ -52,7 +64,7 @@ impl OpenAggregate {
 pub(crate) struct Draft {
     alloc: Global,
     version: Version,
-    text: Vec<u8>,
+    text: BytesMut,
     /// The open aggregates, the innermost last.
     aggregates: Vec<OpenAggregate>,
     /// The kind of the simple or bulk text, or of the big number, that is being read.
@@ -72,7 +84,7 @@ impl Draft {
         Draft {
             alloc,
             version,
-            text: Vec::new(alloc),
+            text: BytesMut::new(alloc),
             aggregates: Vec::new(alloc),
             kind: None,
             content: Vec::new(alloc),
@@ -105,26 +117,26 @@ impl Draft {
         self.text.clear();
     }
 
-    /// Counts a complete value as a member of the innermost aggregate. Returns whether its text was
-    /// written.
+    /// Counts a complete value as a member of the innermost aggregate. Returns whether it did and
+    /// the value's text was written.
     #[inline]
     fn end_value(&mut self, written: Result<(), AllocError>) -> bool
-        ensures counted { CountsOne (reverse self.old.aggregates.items)
+        ensures counted { result ≡ true → CountsOne (reverse self.old.aggregates.items)
             (reverse self.new.aggregates.items) }
         ensures same { self.new ≡ record self.old { aggregates = self.new.aggregates } }
-        ensures result { result ≡ is_ok written }
+        ensures written { result ≡ true → is_ok written ≡ true }
     {
-        if let Some(aggregate) = self.aggregates.last_mut() {
-            aggregate.members = aggregate.members.saturating_add(1);
+        match self.aggregates.last_mut() {
+            Some(aggregate) => aggregate.count_member() && written.is_ok(),
+            None => written.is_ok(),
         }
-        written.is_ok()
     }
 
     /// Appends a complete text of this kind.
     fn add_text(&mut self, kind: TextKind, content: &[u8]) -> bool
         ensures { DraftsWhereFit self.old self.new (whole_text_events kind content.now) result }
     {
-        let written = write_text(&mut self.text, kind, content);
+        let written = append_text(&mut self.text, kind, content);
         self.end_value(written)
     }
 
@@ -136,7 +148,7 @@ impl Draft {
         let Some(kind) = self.kind.take() else {
             return false;
         };
-        let written = write_text(&mut self.text, kind, self.content.as_slice());
+        let written = append_text(&mut self.text, kind, self.content.as_slice());
         self.content.clear();
         self.end_value(written)
     }
@@ -147,7 +159,7 @@ impl Draft {
             (is_ok result) }
     {
         let head_at = self.text.len();
-        write_known_head(&mut self.text, kind, count)?;
+        append_known_head(&mut self.text, kind, count)?;
         let members_at = self.text.len();
         self.aggregates.reserve(1)?;
         self.aggregates.push_reserved(OpenAggregate {
@@ -203,7 +215,7 @@ impl Draft {
         };
         let members = Vec::from_slice(self.alloc, members)?;
         self.text.truncate(aggregate.head_at);
-        write_head(&mut self.text, aggregate.kind.byte(), number)?;
+        append::head(aggregate.kind, number, &mut self.text)?;
         self.text.extend_from_slice(members.as_slice())
     }
 }
@@ -219,22 +231,17 @@ impl Listener for Draft {
     ghost has_stopped = { λ _ _ _. Unit {0} };
 
     fn null(&mut self) -> bool {
-        let text: &[u8] = match self.version {
-            Version::Two => b"$-1\r\n",
-            Version::Three => b"_\r\n",
-        };
-        let written = self.text.extend_from_slice(text);
+        let written = append::null(self.version, &mut self.text);
         self.end_value(written)
     }
 
     fn truth(&mut self, truth: bool) -> bool {
-        let text: &[u8] = if truth { b"#t\r\n" } else { b"#f\r\n" };
-        let written = self.text.extend_from_slice(text);
+        let written = append::boolean(truth, &mut self.text);
         self.end_value(written)
     }
 
     fn int(&mut self, number: i64) -> bool {
-        let written = write_int(&mut self.text, number);
+        let written = append::int(number, &mut self.text);
         self.end_value(written)
     }
 
@@ -265,94 +272,42 @@ impl Listener for Draft {
 }
 
 /// Appends the head of an aggregate if its number is known.
-fn write_known_head(
-    text: &mut Vec<u8>,
+fn append_known_head(
+    text: &mut BytesMut,
     kind: OpenKind,
     count: Option<u64>,
 ) -> Result<(), AllocError>
     ensures { OnOk result (AppendsKnownHead (kind_of kind) count text.old.items text.new.items) }
 {
     match count {
-        Some(number) => write_head(text, kind.byte(), number),
+        Some(number) => append::head(kind, number, text),
         None => Ok(()),
     }
 }
 
-/// Appends the head of an aggregate or a string: its type byte, the number, CR and LF.
-fn write_head(text: &mut Vec<u8>, byte: u8, number: u64) -> Result<(), AllocError>
-    ensures { OnOk result (text.new.items ≡
-        text.old.items ++ (byte ∷ decimal number ++ crlf [])) }
-{
-    let mut buffer = Buffer::new();
-    write_line(text, &[byte], buffer.format(number).as_bytes())
-}
-
-/// Appends a line of the two parts, with CR and LF.
-fn write_line(text: &mut Vec<u8>, first: &[u8], second: &[u8]) -> Result<(), AllocError>
-    ensures { OnOk result (text.new.items ≡
-        text.old.items ++ (first.now ++ (second.now ++ crlf []))) }
-{
-    text.extend_from_slice(first)?;
-    text.extend_from_slice(second)?;
-    text.extend_from_slice(b"\r\n")
-}
-
-/// Appends an integer.
-fn write_int(text: &mut Vec<u8>, number: i64) -> Result<(), AllocError>
-    ensures { (version : Version) → OnOk result (text.new.items ≡
-        text.old.items ++ canonical_text version (scalar (d.Int number))) }
-{
-    if number < 0 {
-        text.extend_from_slice(b":")?;
-        write_head(text, b'-', number.unsigned_abs())
-    } else {
-        write_head(text, b':', number.unsigned_abs())
-    }
-}
-
 /// Appends the text of this kind with this content.
-fn write_text(text: &mut Vec<u8>, kind: TextKind, content: &[u8]) -> Result<(), AllocError>
+#[inline]
+fn append_text(text: &mut BytesMut, kind: TextKind, content: &[u8]) -> Result<(), AllocError>
     ensures { (version : Version) → OnOk result (text.new.items ≡ text.old.items
         ++ canonical_text version (text_value (text_kind_of kind) content.now)) }
 {
     match kind {
-        TextKind::Simple => write_line(text, b"+", content),
-        TextKind::Error => write_line(text, b"-", content),
-        TextKind::Double => write_line(text, b",", content),
-        TextKind::Bulk => write_string(text, b'$', content),
-        TextKind::BulkError => write_string(text, b'!', content),
-        TextKind::Verbatim(format) => write_verbatim(text, &format, content),
-        TextKind::Big { negative } => write_big(text, negative, content),
+        TextKind::Simple => append::simple(content, text),
+        TextKind::Error => append::error(content, text),
+        TextKind::Double => append::double(content, text),
+        TextKind::Bulk => append::bulk(content, text),
+        TextKind::BulkError => append::bulk_error(content, text),
+        TextKind::Verbatim(format) => append::verbatim(&format, content, text),
+        TextKind::Big { negative } => append::big(negative, digits_of(content), text),
     }
 }
 
-/// Appends a string: its head, its content, CR and LF.
-fn write_string(text: &mut Vec<u8>, byte: u8, content: &[u8]) -> Result<(), AllocError>
-    ensures { OnOk result (text.new.items ≡ text.old.items
-        ++ (byte ∷ decimal (length content.now) ++ crlf (content.now ++ crlf []))) }
+/// Returns the digits of a big number. The content of zero has none.
+fn digits_of(content: &[u8]) -> &[u8]
+    ensures { result.now ≡ zero_if_none content.now }
 {
-    write_head(text, byte, content.len() as u64)?;
-    write_line(text, b"", content)
-}
-
-/// Appends a verbatim string.
-fn write_verbatim(text: &mut Vec<u8>, format: &[u8; 3], content: &[u8]) -> Result<(), AllocError>
-    ensures { (version : Version) → OnOk result (text.new.items ≡ text.old.items
-        ++ canonical_text version (scalar (d.Verbatim format.now content.now))) }
-{
-    write_head(text, b'=', (content.len() as u64).saturating_add(4))?;
-    text.extend_from_slice(format)?;
-    write_line(text, b":", content)
-}
-
-/// Appends a big number. If it has no digits, it is zero.
-fn write_big(text: &mut Vec<u8>, negative: bool, digits: &[u8]) -> Result<(), AllocError>
-    ensures { (version : Version) → OnOk result (text.new.items ≡ text.old.items
-        ++ canonical_text version (text_value (e.Big negative) digits.now)) }
-{
-    let head: &[u8] = if negative { b"(-" } else { b"(" };
-    if digits.is_empty() {
-        return write_line(text, head, b"0");
+    if content.is_empty() {
+        return b"0";
     }
-    write_line(text, head, digits)
+    content
 }

@@ -7,7 +7,6 @@
 #![tactic(auto)]
 
 pub mod canon;
-mod canonical_front;
 pub mod check;
 pub mod command_line;
 mod draft;

@@ -2,8 +2,8 @@
 
 use anyhow::Result;
 use bytes::BytesMut;
-use resp_encode::{check_words, encode_push, encode_to, encode_words, size, words_size};
-use resp_value::{Content, Limits, MemorySink, Value, Version};
+use resp_encode::{append, check_words, encode_push, encode_to, encode_words, size, words_size};
+use resp_value::{Content, Limits, MemorySink, OpenKind, Value, Version};
 use std::alloc::Global;
 
 pub(crate) fn run(rt: &impl Print, alloc: Global) -> Result<()> {
@@ -11,7 +11,8 @@ pub(crate) fn run(rt: &impl Print, alloc: Global) -> Result<()> {
     append_command(rt, alloc)?;
     check_command(rt, alloc)?;
     write_value(rt, alloc)?;
-    print_sizes(rt)
+    print_sizes(rt)?;
+    append_array(rt, alloc)
 }
 
 fn append_push(rt: &impl Print, alloc: Global) -> Result<()> {
@@ -56,5 +57,14 @@ fn print_sizes(rt: &impl Print) -> Result<()> {
     println!(rt; "{:?}", size(Version::Three, &Value::Null))?;
     println!(rt; "{:?}", size(Version::Two, &Value::Bool(true)))?;
     println!(rt; "{:?}", words_size(&Limits::standard(), &[3, 4]))?;
+    Ok(())
+}
+
+fn append_array(rt: &impl Print, alloc: Global) -> Result<()> {
+    let mut out = BytesMut::new(alloc);
+    append::head(OpenKind::Array, 2, &mut out)?;
+    append::int(-1, &mut out)?;
+    append::int(42, &mut out)?;
+    println!(rt; "{}", out.escape_ascii())?;
     Ok(())
 }

@@ -1,11 +1,10 @@
-use Rattle.std.proofs.Common.{◌≡◌, ℕ, List, ◌++◌, ◌∷◌, [], ◌/◌, true, length, map, take, sym, ap, ◌∙◌, subst}
+use Rattle.std.proofs.Common.{◌≡◌, ℕ, ◌/◌, true, length, map, take, sym, ap, ◌∙◌, subst}
 use Rattle.std.specs.Bool.{OnTrue}
 use Rattle.resp_value.specs.Data.{data_of_list, in_turn, aggregate, count}
 use Rattle.resp_value.specs.Data as d
 use Rattle.resp_value.specs.Canonical.{IsWhole, HasNoPush}
 use Rattle.resp_value.specs.Values.{datum_of, pair_data, extended}
 use Rattle.resp_value.proofs.DatumOf.{datum_of-Array, datum_of-Set, datum_of-Map, datum_of-Attr, in_turn_is_whole, annotated_is_whole}
-use Rattle.resp_value.specs.declared.value.Value.{Value}
 use Rattle.resp_encode.specs.Walks.Attempts.{Attempt, AttemptEach, AttemptAttributePairs}
 use Rattle.resp_value.specs.Kinds.{kind_of}
 use Rattle.resp_encode.proofs.Attempted.{inside_tried, one_more_tried, attribute_pairs_tried, annotated_tried, is_below, is_whole}

@@ -1,11 +1,10 @@
-use Rattle.std.proofs.Common.{◌≡◌, List, ◌++◌, ◌∷◌, [], map, take, sym, ap, ◌∙◌, subst}
+use Rattle.std.proofs.Common.{◌++◌, ◌∷◌, [], map, take, sym, ap, ◌∙◌, subst}
 use Rattle.std.proofs.lemmas.List.{take_all}
 use Rattle.resp_value.specs.Data.{data_of_list, in_turn, aggregate}
 use Rattle.resp_value.specs.Data as d
 use Rattle.resp_value.specs.Canonical.{IsValue, AreValues}
 use Rattle.resp_value.specs.Values.{datum_of, pair_data, is_negative, extended}
 use Rattle.resp_value.proofs.DatumOf.{datum_of-Array, datum_of-Set, datum_of-Push, datum_of-Map, datum_of-Attr, in_turn_is_whole, annotated_is_whole, are_values_with}
-use Rattle.resp_value.specs.declared.value.Value.{Value}
 use Rattle.resp_encode.specs.Walks.Measures.{Describes, DescribesEach}
 use Rattle.resp_encode.proofs.Counts.{count-map, count-in_turn, count-annotated}
 use Rattle.resp_encode.proofs.Extended.{data_of_list-push, values_with}

@@ -1,4 +1,4 @@
-use Rattle.std.proofs.Common.{◌++◌, [], length, map, take, refl, sym, ap, ◌∙◌, subst, arith, length-append}
+use Rattle.std.proofs.Common.{◌++◌, [], length, map, take, refl, sym, ap, ◌∙◌, subst, arith}
 use Rattle.std.proofs.lemmas.List.{take_all}
 use Rattle.resp_value.specs.Data.{data_of_list, in_turn}
 use Rattle.resp_value.specs.Data as d

@@ -11,18 +11,8 @@ use Rattle.resp_tool.specs.Takings.{Takes}
 use Rattle.resp_tool.specs.declared.rendering.Stop.{Stop}
 use Rattle.resp_tool.specs.declared.rendering.Stop.TheVariants.{OverLimits}
 use Rattle.resp_tool.proofs.Drafted.{declines, drafts_front, drafts_value, no_part, part_of_draft}
-use Rattle.resp_tool.proofs.FrontsTaken.{takes_front}
 use Rattle.resp_tool.proofs.Scanned.{nothing_left}
 use Rattle.resp_tool.proofs.canon.CanonicalRendering.take.Goals as goal
-
-pub returns-in-Some-clause-takes : goal.returns-in-Some-clause-takes
-returns-in-Some-clause-takes g c = λ front so_far w.
-    let self = c.args.self.now in
-    takes_front c.canonical_text_spells_what_fits.ensures self.version self.limits.now self.scanner self.draft front c.args.piece.now so_far
-    (g.W.Sink.written c.args.writer.now) (g.W.Sink.written c.write_front.new.writer) (g.W.Sink.failures c.args.writer.now)
-    (g.W.Sink.failures c.write_front.new.writer) c.in-Some.size c.write_front.result w
-    (sym c.if-taken-eq0.true ∙ c.taken.ensures.length_of_front front w.given w.scanned.reads) c.in-Some.ensures.within c.in-Some.ensures.canonical
-    c.write_front.ensures.writes c.write_front.ensures.whole c.write_front.ensures.stops
 
 pub returns-in-Err-Fault-clause-takes : goal.returns-in-Err-Fault-clause-takes
 returns-in-Err-Fault-clause-takes g c = λ front so_far w.

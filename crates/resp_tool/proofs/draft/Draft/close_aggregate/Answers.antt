@@ -1,4 +1,4 @@
-use Rattle.std.proofs.Common.{rules, ◌≡◌, ◌<◌, ◌^◌, [], ◌∷◌, ◌++◌, length, reverse, ap, subst, ◌∙◌, arith}
+use Rattle.std.proofs.Common.{rules, ◌≡◌, [], ◌∷◌, ◌++◌, reverse, ap, subst, ◌∙◌}
 use Rattle.std.proofs.lemmas.List.{reverse-append}
 use Rattle.resp_tool.specs.Drafts.{StandOpen, CountsOne, WithHead}
 use Rattle.resp_tool.specs.declared.draft.Draft.{Draft}
@@ -17,15 +17,15 @@ returns c = λ b may is goes.
     let split : old.aggregates.items ≡ left.items ++ o ∷ [] = search rules in
     let opened = subst (λ zs. StandOpen old.version zs b.groups [] old.text.items) (ap reverse split ∙ reverse-append left.items (o ∷ []))
     (open_at old b may.0.0.1 is) in
-    let short : length old.text.items < 2 ^ 63 = omega (arith, old.text.ok.0, old.text.ok.1, old.text.small) in
+    let done = c.end_value.ensures.written goes in
     let with_head : WithHead o old.text.items put.text.items = search rules in
     let counts : CountsOne (reverse left.items) (reverse new.aggregates.items) =
-    subst (λ zs. CountsOne (reverse zs.items) (reverse new.aggregates.items)) (ap (λ z. let h : Draft = z in h.aggregates) had) c.end_value.ensures.counted in
+    subst (λ zs. CountsOne (reverse zs.items) (reverse new.aggregates.items)) (ap (λ z. let h : Draft = z in h.aggregates) had) (c.end_value.ensures.counted goes) in
     let version = ap (λ z. let h : Draft = z in h.version) same ∙ ap (λ z. let h : Draft = z in h.version) had in
     let kind = ap (λ z. let h : Draft = z in h.kind) same ∙ ap (λ z. let h : Draft = z in h.kind) had in
     let content = ap (λ z. let h : Draft = z in h.content.items) same ∙ ap (λ z. let h : Draft = z in h.content.items) had in (
       version,
-      draft_closed old.version o (reverse left.items) b.groups old.text.items put.text.items new b may.0.0.0 may.0.0.1 opened short with_head version
+      draft_closed old.version o (reverse left.items) b.groups old.text.items put.text.items new b may.0.0.0 may.0.0.1 opened with_head version
           (still old.kind new.kind old.content.items new.content.items b.text kind content may.0.0.0 is.read)
           (ap (λ z. let h : Draft = z in h.text.items) same) counts,
     )

@@ -12,12 +12,13 @@ returns c = λ b may is goes.
     let new = c.end_value.new.self in
     let same = c.end_value.ensures.same in
     let had : old.kind ≡ Some c.in-Some.kind = search rules in
-    let written = c.write_text-written.ensures old.version in
+    let done = c.end_value.ensures.written goes in
+    let written = c.append_text-written.ensures old.version in
     let added : new.text.items ≡ old.text.items ++ canonical_text old.version (text_value (text_kind_of c.in-Some.kind) old.content.items) = search rules in
     let no_kind : new.kind ≡ None = search rules in
     let empty : new.content.items ≡ [] = search rules in
     let version = ap (λ z. let h : Draft = z in h.version) same in (
       version,
       draft_ended old new b c.in-Some.kind b.text refl may.0.1 is had version no_kind empty added
-          c.end_value.ensures.counted,
+          (c.end_value.ensures.counted goes),
     )

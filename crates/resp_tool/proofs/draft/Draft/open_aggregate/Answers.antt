@@ -1,4 +1,4 @@
-use Rattle.std.proofs.Common.{rules, ◌≡◌, [], ◌∷◌, ◌++◌, length, reverse, refl, ap, ◌∙◌, arith}
+use Rattle.std.proofs.Common.{rules, ◌≡◌, [], ◌∷◌, ◌++◌, length, reverse, refl, ap, ◌∙◌}
 use Rattle.std.proofs.lemmas.List.{reverse-append}
 use Rattle.resp_value.specs.Kinds.{kind_of}
 use Rattle.resp_tool.specs.Drafts.{AppendsKnownHead}
@@ -9,10 +9,10 @@ use Rattle.resp_tool.proofs.draft.Draft.open_aggregate.Goals as goal
 pub returns : goal.returns
 returns c = λ b may is goes.
     let old = c.args.self.now in
-    let new = record old { text = c.write_known_head.new.text; aggregates = c.push_reserved.new.self } in
-    let appended : AppendsKnownHead (kind_of c.args.kind) c.args.count old.text.items new.text.items = c.in_ok-write_known_head.ensures in
-    let before : c.len-head_at.result ≡ length old.text.items = omega (arith, c.len-head_at.ensures, old.text.ok.0) in
-    let after : c.len-members_at.result ≡ length new.text.items = omega (arith, c.len-members_at.ensures, new.text.ok.0) in
+    let new = record old { text = c.append_known_head.new.text; aggregates = c.push_reserved.new.self } in
+    let appended : AppendsKnownHead (kind_of c.args.kind) c.args.count old.text.items new.text.items = c.in_ok-append_known_head.ensures in
+    let before : c.len-head_at.result ≡ length old.text.items = c.len-head_at.ensures.value in
+    let after : c.len-members_at.result ≡ length new.text.items = c.len-members_at.ensures.value in
     let pushed : OpenAggregate = record {
       kind = c.args.kind;
       count = c.args.count;

@@ -13,9 +13,11 @@ returns c =
     let new = c.end_value.new.self in
     let same = c.end_value.ensures.same in
     draft_hears old new (e.Null ∷ []) c.end_value.result (λ b may is goes.
+    let done = c.end_value.ensures.written goes in
+    let written = c.null-written.ensures.appended in
     let added : new.text.items ≡ old.text.items ++ canonical_text old.version (scalar d.Null) = search rules in
     let version = ap (λ z. let h : Draft = z in h.version) same in (
       version,
       draft_scalar old new b (scalar d.Null) may.0 is version (ap (λ z. let h : Draft = z in h.kind) same)
-          (ap (λ z. let h : Draft = z in h.content) same) added c.end_value.ensures.counted,
+          (ap (λ z. let h : Draft = z in h.content) same) added (c.end_value.ensures.counted goes),
     ))
