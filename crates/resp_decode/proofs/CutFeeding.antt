@@ -1,10 +1,10 @@
 -- What a decoder that keeps the first bytes of each text has taken, from what its scanner and its listener say.
-use Rattle.std.proofs.Common.{◌≡◌, ◌⊎◌, inl, inr, ℕ, ◌≤◌, ◌<◌, Option, None, Some, List, [], ◌++◌, length, take, refl, sym, ap, subst, ◌∙◌, arith}
+use Rattle.std.proofs.Common.{◌≡◌, inl, inr, ℕ, ◌≤◌, ◌<◌, Option, None, Some, List, [], ◌++◌, length, take, refl, sym, ap, subst, ◌∙◌, arith}
 use Rattle.std.specs.Prelude.{IfNone, IfSome, IsOk, OnOk, OnErr, ◌↔◌, Result, Ok, Err}
 use Rattle.std.proofs.Math.Bridge.{le_prop}
 use Rattle.std.proofs.Math.Logic.{∥∥₁_elim, ∥∥₁_map}
 use Rattle.std.proofs.lemmas.List.{append-nil, take_all}
-use Rattle.resp_value.specs.Trees.{Tree, Spells}
+use Rattle.resp_value.specs.Trees.{Spells}
 use Rattle.resp_value.specs.TreeValues.{value}
 use Rattle.resp_value.specs.Data.{Datum}
 use Rattle.resp_value.specs.Rules.{Rules, WithinTotal}
@@ -13,7 +13,7 @@ use Rattle.resp_value.specs.Values.{datum_of}
 use Rattle.resp_cut.specs.Cuts.{IsCutOf, cut, cut_lengths}
 use Rattle.resp_cut.specs.declared.cut_value.CutValue.{CutValue}
 use Rattle.resp_scan.specs.Kinds.{rules_of}
-use Rattle.resp_scan.specs.Reading.{AreDue, BeginDue, Events, HasNoValue, HasRead, IsFaulted, MayEnd, WhereRead}
+use Rattle.resp_scan.specs.Reading.{AreDue, BeginDue, HasNoValue, HasRead, IsFaulted, MayEnd, WhereRead}
 use Rattle.resp_scan.specs.Listening.{HearsPiece, HearsValue, WhereHeard}
 use Rattle.resp_scan.specs.Machine.Tokens.{Place}
 use Rattle.resp_scan.specs.declared.event.Fault.{Fault}
@@ -21,7 +21,6 @@ use Rattle.resp_decode.specs.Builds.{Construction, built_from, nothing}
 use Rattle.resp_decode.specs.CutBuilds.{cut_construction, lengths_of}
 use Rattle.resp_decode.specs.Holding.{construction_of, maybe_datum}
 use Rattle.resp_decode.specs.Keeping.{HasKept, KeepsFront, KeepsNothing, KeepsOf, KeepsOrStands}
-use Rattle.resp_decode.specs.Weights.{weight_of}
 use Rattle.resp_decode.specs.declared.kept.Kept.{Kept}
 use Rattle.resp_decode.proofs.Feeding.{given_at_start, no_value_at_start, none_due_at_start}
 use Rattle.resp_decode.proofs.Keeping.{kept_is_lighter}

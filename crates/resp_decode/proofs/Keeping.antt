@@ -1,5 +1,5 @@
 -- What is kept of events: the events that are passed on build the first bytes of what all events build.
-use Rattle.std.proofs.Common.{◌≡◌, ℕ, zero, suc, ◌+◌, ◌-◌, ◌<◌, ◌≤◌, ◌^◌, min, Bool, true, false, cond, Option, None, Some, List, [], ◌∷◌, ◌++◌, length, map, take, refl, sym, ap, subst, ◌∙◌, append_assoc, length-append, arith}
+use Rattle.std.proofs.Common.{◌≡◌, ℕ, zero, suc, ◌-◌, ◌<◌, ◌≤◌, Bool, true, false, cond, Option, None, Some, List, [], ◌∷◌, ◌++◌, length, map, take, refl, sym, ap, subst, ◌∙◌, append_assoc, arith}
 use Rattle.std.proofs.lemmas.List.{append-nil, length-map, length-take, map-append}
 use Rattle.std.proofs.Math.Seq.{take-nil}
 use Rattle.resp_value.specs.Bytes.{IsLine}
@@ -7,18 +7,16 @@ use Rattle.resp_value.specs.Data.{Kind, Scalar, Datum, Data, scalar, aggregate, 
 use Rattle.resp_value.specs.Data as d
 use Rattle.resp_fronts.specs.Events.{Event, TextKind}
 use Rattle.resp_fronts.specs.Events as e
-use Rattle.resp_cut.specs.Cuts.{cut, cut_each, cut_lengths, cut_scalar, kept_part, lengths_of_each, longer, scalar_lengths}
+use Rattle.resp_cut.specs.Cuts.{cut, cut_each, cut_lengths, cut_scalar, kept_part, lengths_of_each, longer}
 use Rattle.resp_cut.proofs.Cutting.{longer-none}
 use Rattle.resp_scan.specs.Kinds.{content_events, text_kind_of}
 use Rattle.resp_scan.specs.Listening.{IsTextOf}
 use Rattle.resp_scan.specs.declared.event.TextKind.{TextKind as ReadKind}
 use Rattle.resp_scan.specs.declared.event.TextKind.TheVariants as read
-use Rattle.resp_decode.specs.Builds.{Construction, Group, Text, scalar_of, text_value, with_byte, with_bytes, with_event, with_events, with_group_closed, with_text_ended, with_value, with_value_in}
+use Rattle.resp_decode.specs.Builds.{Construction, Group, Text, text_value, with_byte, with_event, with_events, with_group_closed, with_text_ended, with_value, with_value_in}
 use Rattle.resp_decode.specs.CutBuilds.{cut_construction, cut_group, cut_text, cut_whole, kept_content, lengths_of, lengths_of_all, lengths_of_groups, lengths_of_whole, may_cut}
 use Rattle.resp_decode.specs.Fits.{IsContentOf, IsInText, IsMemberCount, MayAllCome, MayBegin, MayClose, MayCome, MayEndText}
 use Rattle.resp_decode.specs.Weights.{content_size, weight, weight_of, weight_of_all, weight_of_each, weight_of_groups, weight_of_text, weight_of_whole}
-use Rattle.resp_decode.proofs.Folds.{with_events-append}
-use Rattle.resp_decode.proofs.HeldLemmas.{content_held}
 
 -- The first bytes of a text.
 

@@ -1,19 +1,17 @@
 -- What each call of a listener that keeps the first bytes of texts has kept.
 use Rattle.std.proofs.Common.{Vec, Global, ◌≡◌, ℕ, suc, ◌+◌, ◌-◌, ◌<◌, ◌≤◌, ◌^◌, min, Bool, true, false, cond, Option, None, Some, List, [], ◌∷◌, ◌++◌, length, map, take, refl, sym, ap, subst, ◌∙◌, length-append, arith}
 use Rattle.std.proofs.lemmas.List.{append-nil}
-use Rattle.resp_value.specs.Data.{Datum, scalar}
-use Rattle.resp_value.specs.Data as d
 use Rattle.resp_value.specs.Rules.{WithinTotal}
 use Rattle.resp_value.specs.Trees.{text}
 use Rattle.resp_fronts.specs.Events.{Event, TextKind}
 use Rattle.resp_fronts.specs.Events as e
-use Rattle.resp_cut.specs.Cuts.{cut, cut_lengths, kept_part, longer}
+use Rattle.resp_cut.specs.Cuts.{kept_part, longer}
 use Rattle.resp_scan.specs.Kinds.{content_events, text_kind_of}
 use Rattle.resp_scan.specs.Listening.{Hears, IsTextOf, MayBeGiven, whole_text_events}
 use Rattle.resp_scan.specs.Reading.{Events}
 use Rattle.resp_scan.specs.declared.event.TextKind.{TextKind as ReadKind}
 use Rattle.resp_decode.specs.Brief.{AreBrief, WantMemory}
-use Rattle.resp_decode.specs.Builds.{Construction, Group, Text, built_from, nothing, scalar_of, text_value, with_bytes, with_event, with_events, with_text_ended, with_value}
+use Rattle.resp_decode.specs.Builds.{Construction, Group, Text, built_from, nothing, text_value, with_bytes, with_event, with_events, with_text_ended, with_value}
 use Rattle.resp_decode.specs.CutBuilds.{cut_construction, cut_group, cut_text, cut_whole, kept_content, lengths_of, may_cut}
 use Rattle.resp_decode.specs.Fits.{IsContentOf, IsInText, MayAllCome, MayBegin, MayCome, MayEndText, events_weight}
 use Rattle.resp_decode.specs.Hearing.{TakesInWhereFit}
@@ -23,7 +21,7 @@ use Rattle.resp_decode.specs.Weights.{weight_of, weight_of_text}
 use Rattle.resp_decode.specs.declared.held.Held.{Held}
 use Rattle.resp_decode.specs.declared.kept.Kept.{Kept}
 use Rattle.resp_decode.proofs.Counted.{events_weigh}
-use Rattle.resp_decode.proofs.Folds.{with_events-append, without_text}
+use Rattle.resp_decode.proofs.Folds.{with_events-append}
 use Rattle.resp_decode.proofs.HeldLemmas.{content_held}
 use Rattle.resp_decode.proofs.Keeping.{IsNoByte, IsNoText, all_may_come, content_is_in_text, content_is_kept, content_may_come, event_kept, kept_is_lighter, kept_more, may_come_kept, next_kept, no_byte, put_is_cut, put_leaves_text, put_lengths, same_lengths, same_text, text_is_content, text_is_cut, text_lengths, text_may_be_cut}
 use Rattle.resp_decode.proofs.Taking.{room_for, whole_text_builds}

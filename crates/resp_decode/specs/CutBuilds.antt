@@ -1,5 +1,5 @@
 -- The partial value of whose texts only the first bytes are kept, and the lengths of its longer texts.
-use Rattle.std.specs.Prelude.{ℕ, Bool, true, false, if◌then◌else◌, Option, None, Some, List, [], ◌∷◌, ◌++◌, length, map}
+use Rattle.std.specs.Prelude.{ℕ, Bool, true, false, if◌then◌else◌, Option, None, Some, List, [], ◌∷◌, ◌++◌, map}
 use Rattle.resp_value.specs.Data.{Datum}
 use Rattle.resp_fronts.specs.Events.{TextKind}
 use Rattle.resp_fronts.specs.Events as e

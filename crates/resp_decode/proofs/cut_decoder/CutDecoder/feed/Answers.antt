@@ -1,4 +1,4 @@
-use Rattle.std.proofs.Common.{arith, rules, true, false, ◌≡◌, ◌⊎◌, ◌++◌, take, Some, None, inr, refl, subst, sym, ap, ◌∙◌}
+use Rattle.std.proofs.Common.{arith, rules, true, false, ◌≡◌, ◌⊎◌, ◌++◌, take, Some, None, inr, refl, subst, sym, ◌∙◌}
 use Rattle.resp_value.specs.Rules.{WithinTotal}
 use Rattle.resp_value.specs.Spellings.{IsViable}
 use Rattle.resp_scan.specs.Kinds.{rules_of}

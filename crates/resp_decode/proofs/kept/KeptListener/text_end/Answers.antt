@@ -1,4 +1,4 @@
-use Rattle.std.proofs.Common.{[], ◌∷◌, refl, sym}
+use Rattle.std.proofs.Common.{[], ◌∷◌, refl}
 use Rattle.resp_fronts.specs.Events as e
 use Rattle.resp_decode.proofs.Keeps.{keeps_text_end, kept_hears, kept_stops}
 use Rattle.resp_decode.proofs.kept.KeptListener.text_end.Goals as goal

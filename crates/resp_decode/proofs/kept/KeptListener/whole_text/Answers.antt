@@ -1,6 +1,5 @@
 use Rattle.std.proofs.Common.{refl}
 use Rattle.resp_scan.specs.Listening.{whole_text_events}
-use Rattle.resp_decode.proofs.Keeping.{front_is_text}
 use Rattle.resp_decode.proofs.Keeps.{keeps_whole_text, kept_hears, kept_stops}
 use Rattle.resp_decode.proofs.kept.KeptListener.whole_text.Goals as goal
 
