@@ -280,7 +280,8 @@ event_kept shown e.Null b h = put_is_cut shown (scalar d.Null) b
 event_kept shown (e.Bool truth) b h = put_is_cut shown (scalar (d.Bool truth)) b
 event_kept shown (e.Int number) b h = put_is_cut shown (scalar (d.Int number)) b
 event_kept shown (e.Text kind) b h =
-    ap (λ s. let c : Construction = record (cut_construction shown b) { text = Some (record { kind = kind; content = s }) } in c) (sym (kept_nothing shown kind))
+    ap (λ s. let c : Construction = record (cut_construction shown b) { text = Some (record { kind = kind; content = s }) } in c)
+    (sym (kept_nothing shown kind))
 event_kept shown (e.Byte byte) b h = absurd h
 event_kept shown e.TextEnd b h = ended_kept shown b.text b
 event_kept shown (e.Open kind members) b h = refl
@@ -306,7 +307,8 @@ no_byte e.Close h = tt
 no_byte e.Done h = tt
 
 closed_lengths : (shown : ℕ) (gs : List Group) (text : Option Text) →
-    lengths_of shown (with_group_closed gs (record { groups = gs; text = text; whole = None })) ≡ lengths_of shown (record { groups = gs; text = text; whole = None })
+    lengths_of shown (with_group_closed gs (record { groups = gs; text = text; whole = None })) ≡
+    lengths_of shown (record { groups = gs; text = text; whole = None })
 closed_lengths shown [] text = refl
 closed_lengths shown (g ∷ gs) text =
     put_lengths shown (aggregate g.kind (data_of_list g.members)) (record { groups = gs; text = text; whole = None }) refl

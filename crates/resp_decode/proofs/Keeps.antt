@@ -43,7 +43,8 @@ pub holds_kept : (shown : ℕ) (old new : Held) (passed more : Events) (b : Cons
     HoldsKept shown new (with_events more b)
 holds_kept shown old new passed more b goes_on h takes p small goes =
     let may : MayAllCome passed (construction_of old) = subst (MayAllCome passed) (sym h.holds) p.may in
-    let adds : weight_of (with_events passed (cut_construction shown b)) ≡ weight_of (cut_construction shown b) + events_weight passed (cut_construction shown b) =
+    let adds : weight_of (with_events passed (cut_construction shown b)) ≡
+    weight_of (cut_construction shown b) + events_weight passed (cut_construction shown b) =
     events_weigh passed (cut_construction shown b) p.may in
     let same : weight_of (with_events passed (cut_construction shown b)) ≡ weight_of (cut_construction shown (with_events more b)) = ap weight_of p.builds in
     let added : events_weight passed (construction_of old) ≡ events_weight passed (cut_construction shown b) = ap (events_weight passed) h.holds in
@@ -129,7 +130,8 @@ kept_hears_scalar old held event goes_on h takes outside within =
     kept_hears_or_stops old (record old { held = held }) (event ∷ []) goes_on refl (keeps_event old held event goes_on h takes outside)
     (λ given k stop brief.
     let none : (built_from given).groups ≡ [] = brief_groups given nothing (brief_first given (event ∷ []) brief) refl in
-    let same : (construction_of old.held).groups ≡ [] = ap (λ b. let c : Construction = b in c.groups) k.holds ∙ no_groups old.shown (built_from given).groups none in
+    let same : (construction_of old.held).groups ≡ [] =
+    ap (λ b. let c : Construction = b in c.groups) k.holds ∙ no_groups old.shown (built_from given).groups none in
     within stop same)
 
 -- a call over the head or the end of an aggregate hears it
@@ -200,7 +202,8 @@ keeps_part old held part kept count goes_on full takes is_kept counted b k may s
         let passes = part_passes shown part kept b.text b refl h unended (λ u same_text.
         let other : t ≡ u = same_texts t u (sym is ∙ same_text) in
         subst (λ (z : Text). kept ≡ next_kept shown z.kind (length z.content) part) other next) in
-        let holds = holds_kept shown old.held held (content_events kept) (content_events part) b goes_on (record { holds = k.holds; weighs = k.weighs }) takes passes
+        let holds = holds_kept shown old.held held (content_events kept) (content_events part) b goes_on
+        (record { holds = k.holds; weighs = k.weighs }) takes passes
         small goes in
         let built : with_events (content_events part) b ≡ record b { text = with_bytes b.text part } = part_builds part b in
         let now : (with_events (content_events part) b).text ≡ Some (record t { content = t.content ++ part }) =

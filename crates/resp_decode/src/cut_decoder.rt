@@ -69,12 +69,10 @@ impl CutDecoder {
     /// let mut decoder = CutDecoder::new(alloc, Version::Two, &Limits::standard(), 5);
     /// decoder.feed(b"$12\r\nhello, wo")?;
     /// println!(rt; "{}", decoder.weight())?;
-    /// match &decoder.feed(b"rld\r\n")?.value {
-    ///     Some(CutValue {
-    ///         value: Value::Bulk(content),
-    ///         lengths,
-    ///     }) => println!(rt; "{} {lengths:?}", content.list().escape_ascii())?,
-    ///     _ => {}
+    /// if let Some(CutValue { value, lengths }) = &decoder.feed(b"rld\r\n")?.value {
+    ///     if let Value::Bulk(content) = value {
+    ///         println!(rt; "{} {lengths:?}", content.list().escape_ascii())?;
+    ///     }
     /// }
     /// ```
     ///
@@ -174,7 +172,8 @@ impl CutDecoder {
     /// most, which counts nothing. The measure is never more than the number of bytes read, and it
     /// is 0 after a fault.
     pub fn weight(&self) -> u64
-        ensures weight_of_front { WhereTaken self.now (WeighsWhatIsKept (shown_of self.now) result) }
+        ensures weight_of_front { WhereTaken self.now
+            (WeighsWhatIsKept (shown_of self.now) result) }
         ensures at_most_taken { WhereTaken self.now (λ front. result ≤ length front) }
         ensures nothing_after_a_fault { (fault : Fault) → HasFault self.now fault → result ≡ 0 }
     {

@@ -3,8 +3,8 @@
 //!
 //! A [`decoder::Decoder`] builds one value after another from the events of a scanner. It rejects
 //! the same byte with the same error as the scanner, and it holds no more than the value that is
-//! being read. A [`cut_decoder::CutDecoder`] keeps only the first bytes of each text, for values that
-//! are shown.
+//! being read. A [`cut_decoder::CutDecoder`] keeps only the first bytes of each text, for values
+//! that are shown.
 #![tactic(auto)]
 
 pub mod all;

@@ -169,7 +169,8 @@ pub scalar_for : (most : Option ℕ) (lengths : List ℕ) (s : Scalar) (x : Datu
 scalar_for most lengths s x rest (inl (a, b, same)) = (s, sym same, inl (a, b, refl))
 scalar_for most lengths s x rest (inr (shown, is, same, ls)) = case x same ls
   where
-    case : (y : Datum) → scalar s ≡ cut shown y → lengths ≡ cut_lengths shown y ++ rest → (whole : Scalar) × (y ≡ scalar whole) × ScalarFor most lengths s whole rest
+    case : (y : Datum) → scalar s ≡ cut shown y → lengths ≡ cut_lengths shown y ++ rest →
+        (whole : Scalar) × (y ≡ scalar whole) × ScalarFor most lengths s whole rest
     case (scalar w) e n = (w, refl, inr (shown, is, of_scalar e, n))
       where
         of_scalar : scalar s ≡ scalar (cut_scalar shown w) → s ≡ cut_scalar shown w
@@ -184,7 +185,8 @@ pub members_for : (most : Option ℕ) (lengths : List ℕ) (k : Kind) (ys : Data
 members_for most lengths k ys x rest (inl (a, b, same)) = (ys, sym same, inl (a, b, refl))
 members_for most lengths k ys x rest (inr (shown, is, same, ls)) = case x same ls
   where
-    case : (z : Datum) → aggregate k ys ≡ cut shown z → lengths ≡ cut_lengths shown z ++ rest → (xs : Data) × (z ≡ aggregate k xs) × MembersFor most lengths ys xs rest
+    case : (z : Datum) → aggregate k ys ≡ cut shown z → lengths ≡ cut_lengths shown z ++ rest →
+        (xs : Data) × (z ≡ aggregate k xs) × MembersFor most lengths ys xs rest
     case (scalar w) e n = let wrong : aggregate k ys ≡ scalar (cut_scalar shown w) = e in absurd (cc)
     case (aggregate k' zs) e n = (zs, same_kind e, inr (shown, is, same_members e, n))
       where

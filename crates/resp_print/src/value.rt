@@ -63,10 +63,10 @@ pub fn write_value<W: Sink>(
     write_lines(value, level, most, &[], &mut 0, writer)
 }
 
-/// Writes the lines of a value of which `shown + 1` bytes of each text were kept, as [`write_value`]
-/// writes those of the whole value with at most `shown` bytes of each text. `lengths` are the numbers
-/// of bytes of the texts that have more than `shown` bytes, in order. A `CutDecoder` of `resp_decode`
-/// returns both.
+/// Writes the lines of a value of which `shown + 1` bytes of each text were kept. They are the lines
+/// that [`write_value`] writes of the whole value with at most `shown` bytes of each text. `lengths`
+/// are the numbers of bytes of the texts that have more than `shown` bytes, in order. A `CutDecoder`
+/// of `resp_decode` returns both.
 ///
 /// # Errors
 ///

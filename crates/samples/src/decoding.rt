@@ -56,12 +56,10 @@ fn keep_first_bytes(rt: &impl Print, alloc: Global) -> Result<()> {
     let mut decoder = CutDecoder::new(alloc, Version::Two, &Limits::standard(), 5);
     decoder.feed(b"$12\r\nhello, wo")?;
     println!(rt; "{}", decoder.weight())?;
-    match &decoder.feed(b"rld\r\n")?.value {
-        Some(CutValue {
-            value: Value::Bulk(content),
-            lengths,
-        }) => println!(rt; "{} {lengths:?}", content.list().escape_ascii())?,
-        _ => {}
+    if let Some(CutValue { value, lengths }) = &decoder.feed(b"rld\r\n")?.value {
+        if let Value::Bulk(content) = value {
+            println!(rt; "{} {lengths:?}", content.list().escape_ascii())?;
+        }
     }
     Ok(())
 }

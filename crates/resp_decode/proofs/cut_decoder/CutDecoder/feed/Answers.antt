@@ -43,7 +43,8 @@ returns-clause-value_whole c = λ front w x is.
     record {
       whole = k.whole;
       spelling = k.spelling;
-      is_cut = gives_cut r c.scan.new.listener kept.shown written x k (where_some c.take_whole-value.result (λ y. maybe_datum (Some y.value) ≡ (construction_of c.scan.new.listener.held).whole) x is
+      is_cut = gives_cut r c.scan.new.listener kept.shown written x k
+          (where_some c.take_whole-value.result (λ y. maybe_datum (Some y.value) ≡ (construction_of c.scan.new.listener.held).whole) x is
           c.take_whole-value.ensures.value)
           (where_some c.take_whole-value.result (λ y. y.lengths.items ≡ c.scan.new.listener.lengths.items) x is c.take_whole-value.ensures.lengths);
       takes = keeps_no_front c.scan.new.self left heard.reads

@@ -8,7 +8,8 @@ returns-then-keep_length c =
     let old = c.args.self.now in
     let new = record old { held = c.end_text.new.self; lengths = c.keep_length.new.lengths } in
     kept_hears old new (e.TextEnd ∷ []) c.end_text.result refl
-    (keeps_text_end old c.end_text.new.self c.keep_length.new.lengths c.end_text.result (λ goes. c.keep_length.ensures c.if-keep_length.true) c.end_text.ensures)
+    (keeps_text_end old c.end_text.new.self c.keep_length.new.lengths c.end_text.result
+    (λ goes. c.keep_length.ensures c.if-keep_length.true) c.end_text.ensures)
     (λ brief. brief.0)
 
 pub returns-else-keep_length : goal.returns-else-keep_length

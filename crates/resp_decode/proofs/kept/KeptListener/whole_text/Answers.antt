@@ -15,5 +15,6 @@ returns-then-keep_length c =
 pub returns-else-keep_length : goal.returns-else-keep_length
 returns-else-keep_length c =
     let old = c.args.self.now in
-    kept_stops old (record old { lengths = c.keep_length.new.lengths }) (whole_text_events c.args.kind c.args.bytes.now) c.keep_length.result c.if-keep_length.false
+    kept_stops old (record old { lengths = c.keep_length.new.lengths }) (whole_text_events c.args.kind c.args.bytes.now) c.keep_length.result
+    c.if-keep_length.false
     (λ brief. brief.0)
