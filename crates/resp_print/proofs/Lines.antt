@@ -11,7 +11,7 @@ use Rattle.resp_value.specs.declared.value.Value.{Value}
 use Rattle.resp_print.specs.declared.print_error.PrintError.{PrintError}
 use Rattle.resp_print.proofs.Printing.{prints_as}
 use Rattle.resp_print.specs.Kept.{MembersFor, ValueFor}
-use Rattle.resp_print.proofs.Kept.{LastFor, NextFor, as_many, last_for, members_for, next_for}
+use Rattle.resp_print.proofs.Kept.{NextFor, as_many, last_for, members_for, next_for}
 use Rattle.resp_print.specs.Printed.{Prints, annotating_front, end_line, first_line, group_lines}
 use Rattle.resp_print.specs.Shown.{indentation, kind_word, lines_within, member_lines_within, annotating_lines_within}
 

@@ -1,4 +1,4 @@
-use Rattle.std.proofs.Common.{◌≡◌, ◌++◌, drop, codes, length, ap, subst, ◌∙◌}
+use Rattle.std.proofs.Common.{◌≡◌, ◌++◌, drop, codes, ap, subst, ◌∙◌}
 use Rattle.resp_print.specs.Shown.{count_text, quoted_text, shown_part}
 use Rattle.resp_print.specs.Written.{WritesText}
 use Rattle.resp_print.proofs.Kept.{same_front, when_ok}

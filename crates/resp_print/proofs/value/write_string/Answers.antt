@@ -1,4 +1,4 @@
-use Rattle.std.proofs.Common.{◌++◌, ap, codes, length, subst}
+use Rattle.std.proofs.Common.{◌++◌, ap, codes, subst}
 use Rattle.resp_print.specs.Shown.{count_text, quoted_text}
 use Rattle.resp_print.specs.Written.{WritesText}
 use Rattle.resp_print.proofs.WrittenLemmas.{writes_next, writes_part}

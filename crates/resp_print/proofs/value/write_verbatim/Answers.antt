@@ -1,4 +1,4 @@
-use Rattle.std.proofs.Common.{◌≡◌, List, ℕ, Option, ◌++◌, codes, drop, length}
+use Rattle.std.proofs.Common.{List, ℕ, Option, ◌++◌, codes, length}
 use Rattle.resp_print.specs.Shown.{count_text, quoted_text, shown_part}
 use Rattle.resp_print.proofs.Kept.{when_err}
 use Rattle.resp_print.proofs.WrittenLemmas.{writes_next, writes_part}
