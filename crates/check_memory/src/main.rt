@@ -7,6 +7,7 @@
 
 mod asking;
 mod capturing;
+mod cutting;
 mod decoding;
 mod encoding;
 mod engines;
@@ -68,7 +69,7 @@ fn print(rt: &impl Print, parts: &[Part]) -> Result<()> {
 }
 
 /// Runs the parts of values, of the client and of the server, and returns their outcomes in order.
-fn parts_of_values(alloc: Global) -> [Part; 25] {
+fn parts_of_values(alloc: Global) -> [Part; 27] {
     [
         ("decode a piece", decoding::of_one_piece(alloc)),
         ("decode bytes", decoding::of_single_bytes(alloc)),
@@ -76,6 +77,8 @@ fn parts_of_values(alloc: Global) -> [Part; 25] {
         ("decode scalars", decoding::of_scalars(alloc)),
         ("decode heads", decoding::of_heads(alloc)),
         ("decode_all", decoding::of_all(alloc)),
+        ("cut a piece", cutting::of_one_piece(alloc)),
+        ("cut bytes", cutting::of_single_bytes(alloc)),
         ("try_clone", encoding::of_clone(alloc)),
         ("encode", encoding::of_value(alloc)),
         ("encode_push", encoding::of_push(alloc)),

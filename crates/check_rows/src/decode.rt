@@ -1,6 +1,7 @@
 //! Rows that run on a decoder.
 
 mod calls;
+mod cutting;
 
 use self::calls::Says;
 use crate::bounds;
@@ -8,15 +9,16 @@ use crate::cut::Cut;
 use crate::subject::Subject;
 use crate::text::{split, version};
 use anyhow::{Result, bail};
-use resp_decode::Decoder;
+use resp_decode::{CutDecoder, Decoder};
 use resp_value::{Limits, Version};
 use std::alloc::Global;
 
-/// A decoder.
+/// A decoder, and a decoder that keeps the first bytes of each text.
 #[derive(Drop)]
 pub(crate) struct Reader {
     alloc: Global,
     decoder: Decoder,
+    cutter: CutDecoder,
 }
 
 impl Subject for Reader {
@@ -24,11 +26,12 @@ impl Subject for Reader {
         Ok(Reader {
             alloc,
             decoder: Decoder::new(alloc, Version::Two, &Limits::standard()),
+            cutter: CutDecoder::new(alloc, Version::Two, &Limits::standard(), 32),
         })
     }
 
     fn is_cut(name: &str) -> bool {
-        name == "decode" || name == "decode_size"
+        name == "decode" || name == "decode_size" || name == "cut"
     }
 
     fn run(&mut self, name: &str, given: &str, cut: Cut, said: &mut String) -> Result<()> {
@@ -44,6 +47,14 @@ impl Subject for Reader {
             "held" => calls::held(decoder, said),
             "version" => calls::set_version(decoder, given, said),
             "all" => calls::all(alloc, given, said),
+            "cutter" => {
+                self.cutter = cutting::renewed(alloc, given)?;
+                Ok(())
+            }
+            "cut" => cutting::cut(alloc, &mut self.cutter, given, cut, said),
+            "cut_finish" => cutting::finish(&self.cutter, said),
+            "cut_held" => cutting::held(&self.cutter, said),
+            "cut_version" => cutting::set_version(&mut self.cutter, given, said),
             _ => bail!("an unknown row"),
         }
     }

@@ -8,6 +8,7 @@ mod build;
 mod cause;
 mod command;
 mod content;
+mod cut;
 mod device;
 mod digits;
 mod framed;

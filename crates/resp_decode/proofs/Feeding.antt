@@ -42,7 +42,7 @@ due_at_start (x ∷ xs) = case (ltb x.at 0) refl (due_at_start xs)
     case true is others = let early : x.at < 0 = ltb-true x.at 0 is in absurd (omega arith)
     case false is others = others
 
-none_due_at_start : AreDue [] []
+pub none_due_at_start : AreDue [] []
 none_due_at_start rest whole spells = due_at_start (all_events whole)
 
 -- no text has no value

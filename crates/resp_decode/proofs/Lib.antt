@@ -9,3 +9,7 @@ pub mod ReadingInputs
 pub mod EventsElsewhere
 pub mod EqualEvents
 pub mod OneSpelling
+-- Of the decoder that keeps the first bytes of each text.
+pub mod Keeping
+pub mod Keeps
+pub mod CutFeeding

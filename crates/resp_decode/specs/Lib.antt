@@ -6,5 +6,9 @@ pub mod Holding
 pub mod Hearing
 pub mod Standing
 pub mod Decoding
+-- The decoder that keeps the first bytes of each text.
+pub mod CutBuilds
+pub mod Keeping
+pub mod CutDecoding
 pub mod Inputs
 pub mod Laws

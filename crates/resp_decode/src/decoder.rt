@@ -207,7 +207,7 @@ impl Decoder {
 
 /// Returns the fault for the scanner's error.
 #[inline]
-fn fault_of(stop: ScanError) -> Fault
+pub(crate) fn fault_of(stop: ScanError) -> Fault
     ensures { result ≡ fault_of stop }
 {
     match stop {

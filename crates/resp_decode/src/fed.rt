@@ -1,5 +1,6 @@
-//! The result of feeding a piece to a decoder.
+//! The results of feeding a piece to a decoder.
 
+use resp_cut::CutValue;
 use resp_value::value::Value;
 
 /// The result of feeding a piece to a decoder.
@@ -10,4 +11,14 @@ pub struct Fed {
     pub used: usize,
     /// The value that ends with these bytes, if a value ends.
     pub value: Option<Value>,
+}
+
+/// The result of feeding a piece to a decoder that keeps the first bytes of each text.
+#[derive(Debug, PartialEq, Eq, Drop)]
+pub struct CutFed {
+    /// The number of bytes of the piece that were used. This is the whole piece if there is no
+    /// value.
+    pub used: usize,
+    /// The value that ends with these bytes, if a value ends.
+    pub value: Option<CutValue>,
 }

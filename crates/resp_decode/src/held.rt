@@ -108,7 +108,7 @@ impl Held {
 
     /// Adds a scalar with `content` bytes of content.
     #[inline(always)]
-    fn put_scalar(&mut self, value: Value, content: usize) -> bool
+    pub(crate) fn put_scalar(&mut self, value: Value, content: usize) -> bool
         ensures holds { result ≡ true → construction_of self.new ≡
             with_value (datum_of value) (construction_of self.old) }
         ensures weighs { self.new.weight ≡ min (self.old.weight + (content + 3)) (2 ^ 64 - 1) }
@@ -120,7 +120,7 @@ impl Held {
 
     /// Begins a text of this kind, without content. Does not allocate.
     #[inline]
-    fn begin_text(&mut self, kind: TextKind)
+    pub(crate) fn begin_text(&mut self, kind: TextKind)
         ensures { TakesInWhereFit self.old self.new (e.Text (text_kind_of kind) ∷ []) true }
     {
         self.add_weight(format_weight(kind));
@@ -130,7 +130,7 @@ impl Held {
     /// Adds a part to the text that is being read. Returns false if no text is being read or an
     /// allocation fails.
     #[inline]
-    fn extend_text(&mut self, part: &[u8]) -> bool
+    pub(crate) fn extend_text(&mut self, part: &[u8]) -> bool
         ensures { TakesInWhereFit self.old self.new (content_events part.now) result }
     {
         self.add_weight(part.len() as u64);
@@ -143,7 +143,7 @@ impl Held {
     /// Ends the text and adds its value. Returns false if no text is being read, if its content
     /// does not fit its kind, or if an allocation fails.
     #[inline]
-    fn end_text(&mut self) -> bool
+    pub(crate) fn end_text(&mut self) -> bool
         ensures { TakesInWhereFit self.old self.new (e.TextEnd ∷ []) result }
     {
         let Some(text) = self.text.take() else {
@@ -158,7 +158,7 @@ impl Held {
 
     /// Opens an aggregate, with room for its first members. Returns false if an allocation fails.
     #[inline]
-    fn open_group(&mut self, kind: OpenKind, count: Option<u64>) -> bool
+    pub(crate) fn open_group(&mut self, kind: OpenKind, count: Option<u64>) -> bool
         ensures { TakesInWhereFit self.old self.new (e.Open (kind_of kind) count ∷ []) result }
     {
         self.add_weight(3);
@@ -171,7 +171,7 @@ impl Held {
     /// Closes the innermost aggregate and adds its value. Returns false if no aggregate is open, if
     /// an attribute annotates nothing, or if an allocation fails.
     #[inline]
-    fn close_group(&mut self) -> bool
+    pub(crate) fn close_group(&mut self) -> bool
         ensures { TakesInWhereFit self.old self.new (e.Close ∷ []) result }
     {
         let Some(group) = self.groups.pop() else {
@@ -185,7 +185,7 @@ impl Held {
 
     /// Adds a complete text.
     #[inline]
-    fn take_text(&mut self, kind: TextKind, bytes: &[u8]) -> bool
+    pub(crate) fn take_text(&mut self, kind: TextKind, bytes: &[u8]) -> bool
         requires { IsTextOf kind bytes.now }
         ensures { TakesInWhereFit self.old self.new (whole_text_events kind bytes.now) result }
     {

@@ -1,5 +1,6 @@
 pub mod Shown
 pub mod Written
 pub mod Printed
+pub mod Kept
 pub mod Live
 pub mod Headings

@@ -1,12 +1,14 @@
 //! The lines of a value, as `resp show` prints them.
 
-ghost use Rattle.std.specs.Prelude.{◌≡◌, ◌+◌, ◌++◌, ℕ, List, Option, suc, length, map, codes, decimal};
-ghost use Rattle.resp_value.specs.Data.{data_of_list, depth, greatest_depth, in_turn};
+ghost use Rattle.std.specs.Prelude.{◌≡◌, ◌+◌, ◌++◌, ℕ, IsOk, List, OnOk, Option, Some, suc, drop, length, map, codes, decimal};
+ghost use Rattle.resp_cut.specs.Cuts.{cut, cut_lengths};
+ghost use Rattle.resp_value.specs.Data.{Data, Datum, data_of_list, depth, greatest_depth, in_turn};
 ghost use Rattle.resp_value.specs.Data as d;
 ghost use Rattle.resp_value.specs.Values.{datum_of, digits_text, is_negative, pair_data};
 ghost use Rattle.resp_value.specs.declared.value.Value.TheVariants as value;
+ghost use Rattle.resp_print.specs.Kept.{MembersFor, ScalarFor, TextFor, ValueFor};
 ghost use Rattle.resp_print.specs.Printed.{IsScalar, Prints, annotating_front, big_word, end_line, first_line, group_lines};
-ghost use Rattle.resp_print.specs.Shown.{count_text, lines_within, member_lines_within, quoted_text, scalar_line_within, shown_part};
+ghost use Rattle.resp_print.specs.Shown.{count_text, is_cut, lines_within, member_lines_within, quoted_text, scalar_line_within, shown_part, truth_word};
 ghost use Rattle.resp_print.specs.Written.{WritesText};
 
 use crate::print_error::PrintError;
@@ -48,7 +50,6 @@ use resp_value::value::{Members, Value};
 ///   int 7
 /// end 2
 /// ```
-#[cycle(lines)]
 pub fn write_value<W: Sink>(
     value: &Value,
     level: u64,
@@ -59,25 +60,98 @@ pub fn write_value<W: Sink>(
         (W.failures writer.new) result (lines_within most level (datum_of value.now))
         (level + depth (datum_of value.now)) }
 {
+    write_lines(value, level, most, &[], &mut 0, writer)
+}
+
+/// Writes the lines of a value of which `shown + 1` bytes of each text were kept. They are the lines
+/// that [`write_value`] writes of the whole value with at most `shown` bytes of each text. `lengths`
+/// are the numbers of bytes of the texts that have more than `shown` bytes, in order. A `CutDecoder`
+/// of `resp_decode` returns both.
+///
+/// # Errors
+///
+/// The errors of [`write_value`].
+///
+/// # Examples
+///
+/// From [samples](../../samples/src/printing.rt):
+///
+/// ```rust
+/// let mut decoder = CutDecoder::new(alloc, Version::Two, &Limits::standard(), 5);
+/// let fed = decoder.feed(b"*2\r\n$12\r\nhello, world\r\n+OK\r\n")?;
+/// if let Some(CutValue { value, lengths }) = &fed.value {
+///     let mut text = MemorySink::new(alloc, 4_096, 4_096)?;
+///     write_cut_value(value, lengths.as_slice(), 0, 5, &mut text)?;
+///     print!(rt; "{}", str::from_utf8(text.bytes())?)?;
+/// }
+/// ```
+///
+/// This prints:
+///
+/// ```text
+/// array
+///   bulk "hello" .. 12
+///   simple "OK" 2
+/// end 2
+/// ```
+pub fn write_cut_value<W: Sink>(
+    value: &Value,
+    lengths: &[u64],
+    level: u64,
+    shown: usize,
+    writer: &mut W,
+) -> Result<(), PrintError>
+    ensures { (whole : Datum) → datum_of value.now ≡ cut shown whole →
+        lengths.now ≡ cut_lengths shown whole →
+        Prints (W.written writer.old) (W.written writer.new) (W.failures writer.old)
+        (W.failures writer.new) result (lines_within (Some shown) level whole)
+        (level + depth (datum_of value.now)) }
+{
+    write_lines(value, level, Some(shown), lengths, &mut 0, writer)
+}
+
+/// Writes the lines of a value. The lengths from `at` on are those of its texts and of texts after
+/// it; or there are none.
+#[cycle(lines)]
+fn write_lines<W: Sink>(
+    value: &Value,
+    level: u64,
+    most: Option<usize>,
+    lengths: &[u64],
+    at: &mut usize,
+    writer: &mut W,
+) -> Result<(), PrintError>
+    ensures { (x : Datum) (rest : List ℕ) →
+        ValueFor most (drop at.old lengths.now) (datum_of value.now) x rest →
+        Prints (W.written writer.old) (W.written writer.new) (W.failures writer.old)
+        (W.failures writer.new) result (lines_within most level x)
+        (level + depth (datum_of value.now)) × OnOk result (drop at.new lengths.now ≡ rest) }
+{
     match value {
-        Value::Array(members) => write_group(b"array\n", members.list(), level, most, writer),
-        Value::Set(members) => write_group(b"set\n", members.list(), level, most, writer),
-        Value::Push(members) => write_group(b"push\n", members.list(), level, most, writer),
-        Value::Map(pairs) => write_map(pairs.list(), level, most, writer),
+        Value::Array(members) => {
+            write_group(b"array\n", members.list(), level, most, lengths, at, writer)
+        }
+        Value::Set(members) => {
+            write_group(b"set\n", members.list(), level, most, lengths, at, writer)
+        }
+        Value::Push(members) => {
+            write_group(b"push\n", members.list(), level, most, lengths, at, writer)
+        }
+        Value::Map(pairs) => write_map(pairs.list(), level, most, lengths, at, writer),
         Value::Attr(pairs, annotated) => {
             let pairs = pairs.list();
             let Some(deeper) = level.checked_add(1) else {
                 return Err(PrintError::TooDeep);
             };
-            if let Err(error) = write_annotating(pairs, level, deeper, most, writer) {
+            if let Err(error) = write_annotating(pairs, level, deeper, most, lengths, at, writer) {
                 return Err(error);
             }
-            if let Err(error) = write_value(annotated, deeper, most, writer) {
+            if let Err(error) = write_lines(annotated, deeper, most, lengths, at, writer) {
                 return Err(error);
             }
             write_end_line(level, pairs.len() as u64, writer)
         }
-        _ => printed(write_scalar(value, level, most, writer)),
+        _ => write_leaf(value, level, most, lengths, at, writer),
     }
 }
 
@@ -97,7 +171,37 @@ pub fn write_push_value<W: Sink>(
         (lines_within most level (datum_of (value.Push members.now)))
         (level + depth (datum_of (value.Push members.now))) }
 {
-    write_group(b"push\n", members.list(), level, most, writer)
+    write_group(b"push\n", members.list(), level, most, &[], &mut 0, writer)
+}
+
+/// Writes the lines of a push of which `shown + 1` bytes of each text were kept, as
+/// [`write_cut_value`] writes those of a value.
+///
+/// # Errors
+///
+/// The errors of [`write_value`].
+pub fn write_cut_push_value<W: Sink>(
+    members: &Members,
+    lengths: &[u64],
+    level: u64,
+    shown: usize,
+    writer: &mut W,
+) -> Result<(), PrintError>
+    ensures { (whole : Datum) → datum_of (value.Push members.now) ≡ cut shown whole →
+        lengths.now ≡ cut_lengths shown whole →
+        Prints (W.written writer.old) (W.written writer.new) (W.failures writer.old)
+        (W.failures writer.new) result (lines_within (Some shown) level whole)
+        (level + depth (datum_of (value.Push members.now))) }
+{
+    write_group(
+        b"push\n",
+        members.list(),
+        level,
+        Some(shown),
+        lengths,
+        &mut 0,
+        writer,
+    )
 }
 
 /// Writes the lines of an aggregate with members: its first line, the lines of the members, and its
@@ -108,14 +212,19 @@ fn write_group<W: Sink>(
     members: &[Value],
     level: u64,
     most: Option<usize>,
+    lengths: &[u64],
+    at: &mut usize,
     writer: &mut W,
 ) -> Result<(), PrintError>
-    ensures { Prints (W.written writer.old) (W.written writer.new) (W.failures writer.old)
+    ensures { (xs : Data) (rest : List ℕ) →
+        MembersFor most (drop at.old lengths.now) (data_of_list (map datum_of members.now)) xs
+        rest →
+        Prints (W.written writer.old) (W.written writer.new) (W.failures writer.old)
         (W.failures writer.new) result
-        (group_lines level words.now
-        (member_lines_within most (suc level) (data_of_list (map datum_of members.now)))
+        (group_lines level words.now (member_lines_within most (suc level) xs)
         (length members.now))
-        (level + (greatest_depth (data_of_list (map datum_of members.now)) + 1)) }
+        (level + (greatest_depth (data_of_list (map datum_of members.now)) + 1)) ×
+        OnOk result (drop at.new lengths.now ≡ rest) }
 {
     let Some(deeper) = level.checked_add(1) else {
         return Err(PrintError::TooDeep);
@@ -123,7 +232,7 @@ fn write_group<W: Sink>(
     if let Err(error) = write_first_line(level, words, writer) {
         return Err(error);
     }
-    if let Err(error) = write_members(members, deeper, most, writer) {
+    if let Err(error) = write_members(members, deeper, most, lengths, at, writer) {
         return Err(error);
     }
     write_end_line(level, members.len() as u64, writer)
@@ -135,14 +244,19 @@ fn write_map<W: Sink>(
     pairs: &[(Value, Value)],
     level: u64,
     most: Option<usize>,
+    lengths: &[u64],
+    at: &mut usize,
     writer: &mut W,
 ) -> Result<(), PrintError>
-    ensures { Prints (W.written writer.old) (W.written writer.new) (W.failures writer.old)
+    ensures { (xs : Data) (rest : List ℕ) →
+        MembersFor most (drop at.old lengths.now)
+        (data_of_list (in_turn (map pair_data pairs.now))) xs rest →
+        Prints (W.written writer.old) (W.written writer.new) (W.failures writer.old)
         (W.failures writer.new) result
-        (group_lines level (codes "map\n")
-        (member_lines_within most (suc level) (data_of_list (in_turn (map pair_data pairs.now))))
+        (group_lines level (codes "map\n") (member_lines_within most (suc level) xs)
         (length pairs.now))
-        (level + (greatest_depth (data_of_list (in_turn (map pair_data pairs.now))) + 1)) }
+        (level + (greatest_depth (data_of_list (in_turn (map pair_data pairs.now))) + 1)) ×
+        OnOk result (drop at.new lengths.now ≡ rest) }
 {
     let Some(deeper) = level.checked_add(1) else {
         return Err(PrintError::TooDeep);
@@ -150,7 +264,7 @@ fn write_map<W: Sink>(
     if let Err(error) = write_first_line(level, b"map\n", writer) {
         return Err(error);
     }
-    if let Err(error) = write_pairs(pairs, deeper, most, writer) {
+    if let Err(error) = write_pairs(pairs, deeper, most, lengths, at, writer) {
         return Err(error);
     }
     write_end_line(level, pairs.len() as u64, writer)
@@ -163,18 +277,23 @@ fn write_annotating<W: Sink>(
     level: u64,
     deeper: u64,
     most: Option<usize>,
+    lengths: &[u64],
+    at: &mut usize,
     writer: &mut W,
 ) -> Result<(), PrintError>
-    ensures { Prints (W.written writer.old) (W.written writer.new) (W.failures writer.old)
+    ensures { (xs : Data) (rest : List ℕ) →
+        MembersFor most (drop at.old lengths.now)
+        (data_of_list (in_turn (map pair_data pairs.now))) xs rest →
+        Prints (W.written writer.old) (W.written writer.new) (W.failures writer.old)
         (W.failures writer.new) result
-        (annotating_front level (member_lines_within most deeper
-        (data_of_list (in_turn (map pair_data pairs.now)))))
-        (deeper + greatest_depth (data_of_list (in_turn (map pair_data pairs.now)))) }
+        (annotating_front level (member_lines_within most deeper xs))
+        (deeper + greatest_depth (data_of_list (in_turn (map pair_data pairs.now)))) ×
+        OnOk result (drop at.new lengths.now ≡ rest) }
 {
     if let Err(error) = write_first_line(level, b"attr\n", writer) {
         return Err(error);
     }
-    if let Err(error) = write_pairs(pairs, deeper, most, writer) {
+    if let Err(error) = write_pairs(pairs, deeper, most, lengths, at, writer) {
         return Err(error);
     }
     write_first_line(level, b"of\n", writer)
@@ -186,15 +305,20 @@ fn write_members<W: Sink>(
     members: &[Value],
     level: u64,
     most: Option<usize>,
+    lengths: &[u64],
+    at: &mut usize,
     writer: &mut W,
 ) -> Result<(), PrintError>
-    ensures { Prints (W.written writer.old) (W.written writer.new) (W.failures writer.old)
-        (W.failures writer.new) result
-        (member_lines_within most level (data_of_list (map datum_of members.now)))
-        (level + greatest_depth (data_of_list (map datum_of members.now))) }
+    ensures { (xs : Data) (rest : List ℕ) →
+        MembersFor most (drop at.old lengths.now) (data_of_list (map datum_of members.now)) xs
+        rest →
+        Prints (W.written writer.old) (W.written writer.new) (W.failures writer.old)
+        (W.failures writer.new) result (member_lines_within most level xs)
+        (level + greatest_depth (data_of_list (map datum_of members.now))) ×
+        OnOk result (drop at.new lengths.now ≡ rest) }
 {
     for member in members {
-        if let Err(error) = write_value(member, level, most, writer) {
+        if let Err(error) = write_lines(member, level, most, lengths, at, writer) {
             return Err(error);
         }
     }
@@ -207,18 +331,23 @@ fn write_pairs<W: Sink>(
     pairs: &[(Value, Value)],
     level: u64,
     most: Option<usize>,
+    lengths: &[u64],
+    at: &mut usize,
     writer: &mut W,
 ) -> Result<(), PrintError>
-    ensures { Prints (W.written writer.old) (W.written writer.new) (W.failures writer.old)
-        (W.failures writer.new) result
-        (member_lines_within most level (data_of_list (in_turn (map pair_data pairs.now))))
-        (level + greatest_depth (data_of_list (in_turn (map pair_data pairs.now)))) }
+    ensures { (xs : Data) (rest : List ℕ) →
+        MembersFor most (drop at.old lengths.now)
+        (data_of_list (in_turn (map pair_data pairs.now))) xs rest →
+        Prints (W.written writer.old) (W.written writer.new) (W.failures writer.old)
+        (W.failures writer.new) result (member_lines_within most level xs)
+        (level + greatest_depth (data_of_list (in_turn (map pair_data pairs.now)))) ×
+        OnOk result (drop at.new lengths.now ≡ rest) }
 {
     for pair in pairs {
-        if let Err(error) = write_value(&pair.0, level, most, writer) {
+        if let Err(error) = write_lines(&pair.0, level, most, lengths, at, writer) {
             return Err(error);
         }
-        if let Err(error) = write_value(&pair.1, level, most, writer) {
+        if let Err(error) = write_lines(&pair.1, level, most, lengths, at, writer) {
             return Err(error);
         }
     }
@@ -227,9 +356,10 @@ fn write_pairs<W: Sink>(
 
 /// Returns the result of a write as the result of printing.
 fn printed(written: Result<(), DeviceFault>) -> Result<(), PrintError>
-    ensures { (before after : Option (List ℕ)) (failures failures' : ℕ) (text : List ℕ)
+    ensures prints { (before after : Option (List ℕ)) (failures failures' : ℕ) (text : List ℕ)
         (levels : ℕ) → WritesText before after failures failures' written text →
         Prints before after failures failures' result text levels }
+    ensures ok { IsOk result → IsOk written }
 {
     match written {
         Ok(()) => Ok(()),
@@ -271,75 +401,164 @@ fn write_end<W: Sink>(level: u64, items: u64, writer: &mut W) -> Result<(), Devi
     write_number(writer, b"end ", items, b"\n")
 }
 
+/// Writes the line of a value without members, as a part of printing. For another value it writes
+/// no line.
+fn write_leaf<W: Sink>(
+    value: &Value,
+    level: u64,
+    most: Option<usize>,
+    lengths: &[u64],
+    at: &mut usize,
+    writer: &mut W,
+) -> Result<(), PrintError>
+    ensures { IsScalar (datum_of value.now) → (x : Datum) (rest : List ℕ) →
+        ValueFor most (drop at.old lengths.now) (datum_of value.now) x rest →
+        Prints (W.written writer.old) (W.written writer.new) (W.failures writer.old)
+        (W.failures writer.new) result (lines_within most level x)
+        (level + depth (datum_of value.now)) × OnOk result (drop at.new lengths.now ≡ rest) }
+{
+    printed(write_scalar(value, level, most, lengths, at, writer))
+}
+
 /// Writes the line of a value without members. For another value it writes no line.
 fn write_scalar<W: Sink>(
     value: &Value,
     level: u64,
     most: Option<usize>,
+    lengths: &[u64],
+    at: &mut usize,
     writer: &mut W,
 ) -> Result<(), DeviceFault>
-    ensures { IsScalar (datum_of value.now) →
+    ensures { IsScalar (datum_of value.now) → (x : Datum) (rest : List ℕ) →
+        ValueFor most (drop at.old lengths.now) (datum_of value.now) x rest →
         WritesText (W.written writer.old) (W.written writer.new) (W.failures writer.old)
-        (W.failures writer.new) result (lines_within most level (datum_of value.now)) }
+        (W.failures writer.new) result (lines_within most level x) ×
+        OnOk result (drop at.new lengths.now ≡ rest) }
 {
     write_indentation(writer, level)?;
-    write_scalar_line(value, most, writer)
+    write_scalar_line(value, most, lengths, at, writer)
 }
 
 /// Writes the line of a value without members, on level 0.
 fn write_scalar_line<W: Sink>(
     value: &Value,
     most: Option<usize>,
+    lengths: &[u64],
+    at: &mut usize,
     writer: &mut W,
 ) -> Result<(), DeviceFault>
-    ensures { (s : d.Scalar) → datum_of value.now ≡ d.scalar s →
+    ensures { (s : d.Scalar) → datum_of value.now ≡ d.scalar s → (whole : d.Scalar)
+        (rest : List ℕ) → ScalarFor most (drop at.old lengths.now) s whole rest →
         WritesText (W.written writer.old) (W.written writer.new) (W.failures writer.old)
-        (W.failures writer.new) result (scalar_line_within most s) }
+        (W.failures writer.new) result (scalar_line_within most whole) ×
+        OnOk result (drop at.new lengths.now ≡ rest) }
 {
     match value {
         Value::Null => write_text(writer, b"null\n"),
-        Value::Bool(true) => write_text(writer, b"true\n"),
-        Value::Bool(false) => write_text(writer, b"false\n"),
+        Value::Bool(truth) => write_text(writer, truth_line(*truth)),
         Value::Int(number) => write_number(writer, b"int ", *number, b"\n"),
-        Value::Simple(line) => write_string(b"simple \"", line.text(), most, writer),
-        Value::Error(line) => write_string(b"error \"", line.text(), most, writer),
-        Value::Double(text) => write_string(b"double \"", text.text(), most, writer),
-        Value::Bulk(content) => write_string(b"bulk \"", content.list(), most, writer),
-        Value::BulkError(content) => write_string(b"bulkerror \"", content.list(), most, writer),
-        Value::Verbatim(format, text) => write_verbatim(format, text.list(), most, writer),
+        Value::Simple(line) => {
+            write_kept_string(b"simple \"", line.text(), most, lengths, at, writer)
+        }
+        Value::Error(line) => {
+            write_kept_string(b"error \"", line.text(), most, lengths, at, writer)
+        }
+        Value::Double(text) => {
+            write_kept_string(b"double \"", text.text(), most, lengths, at, writer)
+        }
+        Value::Bulk(content) => {
+            write_kept_string(b"bulk \"", content.list(), most, lengths, at, writer)
+        }
+        Value::BulkError(content) => {
+            write_kept_string(b"bulkerror \"", content.list(), most, lengths, at, writer)
+        }
+        Value::Verbatim(format, text) => {
+            write_verbatim(format, text.list(), most, lengths, at, writer)
+        }
         Value::Big(digits) => write_big(digits, writer),
         _ => Ok(()),
     }
 }
 
-/// Writes a word and a quote, the part of a text that is printed, and the number of its bytes.
+/// Returns the line of a boolean.
+fn truth_line(truth: bool) -> &'static [u8]
+    ensures { result.now ≡ truth_word truth ++ codes "\n" }
+{
+    if truth { b"true\n" } else { b"false\n" }
+}
+
+/// Returns the number of bytes that a text had: the next of the lengths if only the first bytes of
+/// the text were kept.
+fn full_length(text: &[u8], most: Option<usize>, lengths: &[u64], at: &mut usize) -> u64
+    ensures { (whole rest : List ℕ) → TextFor most (drop at.old lengths.now) text.now whole rest →
+        (result ≡ length whole) × (drop at.new lengths.now ≡ rest) }
+{
+    if !is_cut(text, most) || *at >= lengths.len() {
+        return text.len() as u64;
+    }
+    let length = lengths[*at];
+    *at += 1;
+    length
+}
+
+/// Writes a word and a quote, the part of a text that is printed, and the number of bytes that the
+/// text had.
+fn write_kept_string<W: Sink>(
+    word: &[u8],
+    text: &[u8],
+    most: Option<usize>,
+    lengths: &[u64],
+    at: &mut usize,
+    writer: &mut W,
+) -> Result<(), DeviceFault>
+    ensures { (whole rest : List ℕ) → TextFor most (drop at.old lengths.now) text.now whole rest →
+        WritesText (W.written writer.old) (W.written writer.new) (W.failures writer.old)
+        (W.failures writer.new) result (word.now ++ (quoted_text (shown_part most whole) ++
+        (codes "\" " ++ count_text most (length whole) ++ codes "\n"))) ×
+        OnOk result (drop at.new lengths.now ≡ rest) }
+{
+    let count = full_length(text, most, lengths, at);
+    write_string(word, text, most, count, writer)
+}
+
+/// Writes a word and a quote, the part of a text that is printed, and a number of bytes.
 fn write_string<W: Sink>(
     word: &[u8],
     text: &[u8],
     most: Option<usize>,
+    count: u64,
     writer: &mut W,
 ) -> Result<(), DeviceFault>
     ensures { WritesText (W.written writer.old) (W.written writer.new) (W.failures writer.old)
         (W.failures writer.new) result (word.now ++ (quoted_text (shown_part most text.now) ++
-        (codes "\" " ++ count_text most (length text.now) ++ codes "\n"))) }
+        (codes "\" " ++ count_text most count ++ codes "\n"))) }
 {
     write_text(writer, word)?;
     write_quoted(writer, shown_part(text, most))?;
-    write_count(text, most, writer)
+    write_count(count, most, writer)
 }
 
 /// Writes the quote after a text, the number of the text's bytes, and LF. If not all of them were
 /// printed, `..` stands before the number.
-fn write_count<W: Sink>(text: &[u8], most: Option<usize>, writer: &mut W) -> Result<(), DeviceFault>
+fn write_count<W: Sink>(count: u64, most: Option<usize>, writer: &mut W) -> Result<(), DeviceFault>
     ensures { WritesText (W.written writer.old) (W.written writer.new) (W.failures writer.old)
         (W.failures writer.new) result
-        (codes "\" " ++ count_text most (length text.now) ++ codes "\n") }
+        (codes "\" " ++ count_text most count ++ codes "\n") }
 {
-    let count = text.len() as u64;
-    if is_cut(text, most) {
+    if is_over(count, most) {
         write_number(writer, b"\" .. ", count, b"\n")
     } else {
         write_number(writer, b"\" ", count, b"\n")
+    }
+}
+
+/// Returns whether a text of this many bytes has more than are printed of it.
+fn is_over(count: u64, most: Option<usize>) -> bool
+    ensures { result ≡ is_cut most count }
+{
+    match most {
+        Some(most) => (most as u64) < count,
+        None => false,
     }
 }
 
@@ -348,16 +567,20 @@ fn write_verbatim<W: Sink>(
     format: &[u8; 3],
     text: &[u8],
     most: Option<usize>,
+    lengths: &[u64],
+    at: &mut usize,
     writer: &mut W,
 ) -> Result<(), DeviceFault>
-    ensures { WritesText (W.written writer.old) (W.written writer.new) (W.failures writer.old)
+    ensures { (whole rest : List ℕ) → TextFor most (drop at.old lengths.now) text.now whole rest →
+        WritesText (W.written writer.old) (W.written writer.new) (W.failures writer.old)
         (W.failures writer.new) result (codes "verbatim \"" ++ (quoted_text format.now ++
-        (codes "\" \"" ++ (quoted_text (shown_part most text.now) ++
-        (codes "\" " ++ count_text most (length text.now) ++ codes "\n"))))) }
+        (codes "\" \"" ++ (quoted_text (shown_part most whole) ++
+        (codes "\" " ++ count_text most (length whole) ++ codes "\n"))))) ×
+        OnOk result (drop at.new lengths.now ≡ rest) }
 {
     write_text(writer, b"verbatim \"")?;
     write_quoted(writer, format)?;
-    write_string(b"\" \"", text, most, writer)
+    write_kept_string(b"\" \"", text, most, lengths, at, writer)
 }
 
 /// Writes the line of a big number.

@@ -1,15 +1,17 @@
 //! Bytes to values.
 
 use anyhow::Result;
-use resp_decode::{Decoder, decode_all};
-use resp_value::{Limits, Version};
+use resp_cut::CutValue;
+use resp_decode::{CutDecoder, Decoder, decode_all};
+use resp_value::{Limits, Value, Version};
 use std::alloc::Global;
 
 pub(crate) fn run(rt: &impl Print, alloc: Global) -> Result<()> {
     decode_pieces(rt, alloc)?;
     end_early(rt, alloc)?;
     reject_doubles(rt, alloc)?;
-    decode_input(rt, alloc)
+    decode_input(rt, alloc)?;
+    keep_first_bytes(rt, alloc)
 }
 
 fn decode_pieces(rt: &impl Print, alloc: Global) -> Result<()> {
@@ -46,6 +48,18 @@ fn decode_input(rt: &impl Print, alloc: Global) -> Result<()> {
     println!(rt; "{}", values.len())?;
     if let Err(error) = decode_all(alloc, Version::Two, &limits, b"+OK\r\n:7x") {
         println!(rt; "{error}")?;
+    }
+    Ok(())
+}
+
+fn keep_first_bytes(rt: &impl Print, alloc: Global) -> Result<()> {
+    let mut decoder = CutDecoder::new(alloc, Version::Two, &Limits::standard(), 5);
+    decoder.feed(b"$12\r\nhello, wo")?;
+    println!(rt; "{}", decoder.weight())?;
+    if let Some(CutValue { value, lengths }) = &decoder.feed(b"rld\r\n")?.value {
+        if let Value::Bulk(content) = value {
+            println!(rt; "{} {lengths:?}", content.list().escape_ascii())?;
+        }
     }
     Ok(())
 }

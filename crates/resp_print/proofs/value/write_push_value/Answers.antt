@@ -1,4 +1,4 @@
-use Rattle.std.proofs.Common.{ap, map, refl, sym, ◌∙◌}
+use Rattle.std.proofs.Common.{inl, [], ap, map, refl, sym, ◌∙◌}
 use Rattle.resp_value.proofs.DatumOf.{datum_of-Push}
 use Rattle.resp_value.specs.Data.{aggregate, data_of_list}
 use Rattle.resp_value.specs.Data as d
@@ -9,5 +9,7 @@ use Rattle.resp_print.proofs.value.write_push_value.Goals as goal
 
 pub returns : goal.returns
 returns g c =
-    group_printed c.args.most c.write_group.result _ _ _ _ c.args.level d.Push (value.Push c.args.members.now) c.list.result.now (λ e. absurd (cc)) (λ n. refl)
-    (ap (λ ms. aggregate d.Push (data_of_list (map datum_of ms))) c.list.ensures ∙ sym (datum_of-Push c.args.members.now)) c.write_group.ensures
+    let push = value.Push c.args.members.now in
+    (group_printed c.args.most c.write_group.result _ _ _ _ c.args.level d.Push push c.list.result.now [] (datum_of push) [] _ (λ e. absurd (cc)) (λ n. refl)
+    (ap (λ ms. aggregate d.Push (data_of_list (map datum_of ms))) c.list.ensures ∙ sym (datum_of-Push c.args.members.now)) (inl (refl, refl, refl))
+    (λ xs kept. c.write_group.ensures xs [] kept)).0

@@ -1,4 +1,4 @@
-use Rattle.std.proofs.Common.{◌++◌, ap, codes, length, subst}
+use Rattle.std.proofs.Common.{◌++◌, ap, codes, subst}
 use Rattle.resp_print.specs.Shown.{count_text, quoted_text}
 use Rattle.resp_print.specs.Written.{WritesText}
 use Rattle.resp_print.proofs.WrittenLemmas.{writes_next, writes_part}
@@ -9,7 +9,7 @@ returns-in_err-write_text g c = writes_part c.from_residual.result _ _ _ _ c.arg
 
 pub returns-in_err-write_quoted : goal.returns-in_err-write_quoted
 returns-in_err-write_quoted g c =
-    let size = codes "\" " ++ count_text c.args.most (length c.args.text.now) ++ codes "\n" in
+    let size = codes "\" " ++ count_text c.args.most c.args.count ++ codes "\n" in
     let shown = c.shown_part.result.now in
     let r = c.from_residual-in_err-write_quoted.result in
     subst (WritesText _ _ _ _ r) (ap (λ part. c.args.word.now ++ (quoted_text part ++ size)) c.shown_part.ensures)
@@ -18,7 +18,7 @@ returns-in_err-write_quoted g c =
 
 pub returns : goal.returns
 returns g c =
-    let size = codes "\" " ++ count_text c.args.most (length c.args.text.now) ++ codes "\n" in
+    let size = codes "\" " ++ count_text c.args.most c.args.count ++ codes "\n" in
     let shown = c.shown_part.result.now in
     let r = c.write_count.result in
     subst (WritesText _ _ _ _ r) (ap (λ part. c.args.word.now ++ (quoted_text part ++ size)) c.shown_part.ensures)
