@@ -1,7 +1,8 @@
 //! An option or an argument of a subcommand.
 
-ghost use Rattle.std.specs.Prelude.{◌≡◌, false};
+ghost use Rattle.std.specs.Prelude.{◌≡◌, Some, false};
 ghost use Rattle.clap.specs.Words.{rule_of};
+ghost use Rattle.resp_args.specs.Program.{numbers_between};
 ghost use Rattle.resp_args.specs.Tables.{parameter_rule};
 
 use clap::{Arg, ArgAction};
@@ -83,16 +84,10 @@ impl Parameter {
                 most,
                 default,
                 hides_default,
-            } => arg
-                .long(self.name)
-                .value_name("N")
-                .value_parser(clap::value_parser!(u64).range(least..=most))
+            } => in_range(arg.long(self.name).value_name("N"), least, most)
                 .default_value(default)
                 .hide_default_value(hides_default),
-            Form::NumberIfGiven { least, most } => arg
-                .long(self.name)
-                .value_name("N")
-                .value_parser(clap::value_parser!(u64).range(least..=most)),
+            Form::NumberIfGiven { least, most } => in_range(arg.long(self.name).value_name("N"), least, most),
             Form::Size { default } => arg.long(self.name).value_name("N").default_value(default),
             Form::Choice {
                 value_name,
@@ -116,4 +111,11 @@ impl Parameter {
                 .trailing_var_arg(true),
         }
     }
+}
+
+/// Returns the argument with a number in this range as its value.
+fn in_range<'a>(arg: Arg<'a>, least: i64, most: i64) -> Arg<'a>
+    ensures { result ≡ record arg.entry { value_parser = Some (numbers_between least most) } }
+{
+    arg.value_parser(clap::value_parser!(u64).range(least..=most))
 }

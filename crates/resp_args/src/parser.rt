@@ -65,14 +65,21 @@ pub(crate) fn matches_of<'a, S: AsStr>(
 fn program<'a>(alloc: Global, subcommands: &[Subcommand]) -> Result<Command<'a>, AllocError>
     ensures { IfOk result (λ command. IsTask command (with_subcommands bare_app subcommands.now)) }
 {
-    let mut program = Command::new(alloc, "resp")
-        .bin_name("resp")?
-        .version("0.2.0")
-        .about("Tools for RESP2 and RESP3, the wire protocol of Redis")
-        .after_help(EXAMPLES)
-        .subcommand_required(true);
+    let mut program = bare_program(alloc)?;
     for subcommand in subcommands {
         program = program.subcommand(subcommand.command(alloc)?)?;
     }
     Ok(program)
+}
+
+/// Returns the parser of the program without subcommands.
+fn bare_program<'a>(alloc: Global) -> Result<Command<'a>, AllocError>
+    ensures { IfOk result (λ command. IsTask command bare_app) }
+{
+    let program = Command::new(alloc, "resp").bin_name("resp")?;
+    Ok(program
+        .version("0.2.0")
+        .about("Tools for RESP2 and RESP3, the wire protocol of Redis")
+        .after_help(EXAMPLES)
+        .subcommand_required(true))
 }
