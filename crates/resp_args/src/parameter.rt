@@ -87,7 +87,11 @@ impl Parameter {
             } => in_range(arg.long(self.name).value_name("N"), least, most)
                 .default_value(default)
                 .hide_default_value(hides_default),
-            Form::NumberIfGiven { least, most } => in_range(arg.long(self.name).value_name("N"), least, most),
+            Form::NumberIfGiven { least, most } => in_range(
+                arg.long(self.name).value_name("N"),
+                least,
+                most,
+            ),
             Form::Size { default } => arg.long(self.name).value_name("N").default_value(default),
             Form::Choice {
                 value_name,

@@ -77,9 +77,11 @@ fn bare_program<'a>(alloc: Global) -> Result<Command<'a>, AllocError>
     ensures { IfOk result (λ command. IsTask command bare_app) }
 {
     let program = Command::new(alloc, "resp").bin_name("resp")?;
-    Ok(program
-        .version("0.2.0")
-        .about("Tools for RESP2 and RESP3, the wire protocol of Redis")
-        .after_help(EXAMPLES)
-        .subcommand_required(true))
+    Ok(
+        program
+            .version("0.2.0")
+            .about("Tools for RESP2 and RESP3, the wire protocol of Redis")
+            .after_help(EXAMPLES)
+            .subcommand_required(true),
+    )
 }
