@@ -1,11 +1,9 @@
 -- What is replied by a number, and HELLO's reply around one.
-use Rattle.std.proofs.Common.{◌≡◌, ℕ, ◌^◌, ◌<◌, ◌≤◌, ◌++◌, length, ℤ, sym, ap, ◌∙◌, arith, append_assoc, append-nil, w64, to_z}
+use Rattle.std.proofs.Common.{◌≡◌, ℕ, ◌^◌, ◌<◌, ◌++◌, ℤ, sym, ap, ◌∙◌, arith, append_assoc, append-nil, w64, to_z}
 use Rattle.std.proofs.lemmas.Int.{to_z_pos}
-use Rattle.resp_value.specs.Bounds.{Bounds}
-use Rattle.resp_value.specs.Canonical.{canonical_text, HasTypes, Fits}
-use Rattle.resp_value.specs.Data.{Datum, scalar}
+use Rattle.resp_value.specs.Canonical.{canonical_text}
+use Rattle.resp_value.specs.Data.{scalar}
 use Rattle.resp_value.specs.Data as d
-use Rattle.resp_value.specs.Rules.{rules_under}
 use Rattle.resp_value.specs.declared.version.Version.{Version}
 use Rattle.resp_value.specs.declared.version.Version.TheVariants.{Two, Three}
 use Rattle.resp_session.specs.Replies.{natural, hello_reply}
@@ -14,23 +12,6 @@ use Rattle.resp_server.specs.Greetings.{greeting_begin, greeting_end}
 -- a number of 63 bits as a signed one
 pub number_datum : (n : ℕ) → n < 2 ^ 63 → scalar (d.Int (to_z w64 n)) ≡ natural n
 number_datum n small = ap (λ (i : ℤ). scalar (d.Int i)) (to_z_pos w64 n (omega (arith, small)))
-
-number_types : (version : Version) (n : ℕ) → HasTypes version (natural n)
-number_types Two n = tt
-number_types Three n = tt
-
--- a number whose text is short is within every limits
-pub number_fits : (limits : Bounds) (version : Version) (n : ℕ) → 256 ≤ limits.total → length (canonical_text version (natural n)) ≤ 22 →
-    Fits (rules_under version limits) (natural n)
-number_fits limits version n least short = record {
-  allows_doubles = λ off. tt;
-  has_types = number_types version n;
-  push_at_top = tt;
-  within_depth = omega arith;
-  within_length = omega arith;
-  within_items = omega arith;
-  within_total = omega (arith, least, short);
-}
 
 -- HELLO's reply is what stands before the number, what is replied by the number, and what stands after it
 pub greeting_text : (version : Version) (n : ℕ) →

@@ -37,7 +37,7 @@ pub(crate) fn append_fault<S: BuildHasher>(
     laws::numbers_are_short();
     let mut number = BytesMut::new(shared.alloc);
     number.reserve(NUMBER_ROOM)?;
-    reply_number(&mut number, session.version, &shared.limits, at);
+    reply_number(&mut number, at);
     // The reply to a number is its type byte, its digits, CR and LF.
     let digits = &number.as_slice()[1..];
     let out = &mut session.out;

@@ -4,11 +4,12 @@ ghost use Rattle.std.specs.Prelude.{◌≡◌, ◌+◌, ◌<◌, ◌≤◌, ◌^
 ghost use Rattle.resp_value.specs.Canonical.{canonical_text, Fits};
 ghost use Rattle.resp_value.specs.Rules.{rules_under};
 ghost use Rattle.resp_value.specs.Values.{datum_of};
+ghost use Rattle.resp_value.specs.declared.version.Version.TheVariants.{Three};
 ghost use Rattle.resp_session.specs.Replies.{natural, hello_reply};
 ghost use Rattle.resp_server.specs.Greetings.{greeting_begin, greeting_end};
 
 use bytes::BytesMut;
-use resp_encode::{EncodeError, encode};
+use resp_encode::{EncodeError, append, encode};
 use resp_session::laws;
 use resp_value::limits::Limits;
 use resp_value::value::Value;
@@ -42,19 +43,17 @@ pub(crate) fn reply(
 /// The room for a reply to a number.
 pub(crate) const NUMBER_ROOM: usize = 22;
 
-/// Appends the reply to a number. The buffer already has room for it.
-pub(crate) fn reply_number(out: &mut BytesMut, version: Version, limits: &Limits, number: u64)
+/// Appends the reply to a number, the same in both versions. The buffer already has room for it.
+pub(crate) fn reply_number(out: &mut BytesMut, number: u64)
     requires room { 22 ≤ out.old.spare }
     requires small { number < 2 ^ 63 }
-    ensures appended { out.new.items ≡ out.old.items ++ canonical_text version (natural number) }
+    ensures appended { out.new.items ≡ out.old.items ++ canonical_text Three (natural number) }
     ensures spare { out.old.spare ≤ out.new.spare + 22 }
 {
     laws::numbers_are_short();
-    let _total = limits.total();
-    let _depth = limits.depth();
-    match reply(out, version, limits, &Value::Int(number as i64)) {
+    match append::int(number as i64, out) {
         Ok(()) => {}
-        Err(_) => unreachable!(),
+        Err(AllocError) => unreachable!(),
     }
 }
 
@@ -85,7 +84,6 @@ fn greeting_end() -> &'static [u8]
 pub(crate) fn reply_greeting(
     out: &mut BytesMut,
     version: Version,
-    limits: &Limits,
     id: u64,
 ) -> Result<(), AllocError>
     requires { id < 2 ^ 63 }
@@ -95,7 +93,7 @@ pub(crate) fn reply_greeting(
 {
     out.reserve(172)?;
     out.extend_reserved(greeting_begin(version));
-    reply_number(out, version, limits, id);
+    reply_number(out, id);
     out.extend_reserved(greeting_end());
     Ok(())
 }

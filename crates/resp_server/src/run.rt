@@ -158,7 +158,7 @@ fn del<S: BuildHasher>(
 {
     session.out.reserve(NUMBER_ROOM)?;
     let removed = shared.store.remove(keys);
-    reply_number(&mut session.out, session.version, &shared.limits, removed);
+    reply_number(&mut session.out, removed);
     Ok(())
 }
 
@@ -176,7 +176,7 @@ fn hello<S: BuildHasher>(
     ensures rest { HasSameRest session.old session.new }
 {
     let next = asked.unwrap_or(session.version);
-    reply_greeting(&mut session.out, next, &shared.limits, session.id)?;
+    reply_greeting(&mut session.out, next, session.id)?;
     session.version = next;
     Ok(())
 }

@@ -20,7 +20,8 @@ returns c = λ b may is goes.
     let done = c.end_value.ensures.written goes in
     let with_head : WithHead o old.text.items put.text.items = search rules in
     let counts : CountsOne (reverse left.items) (reverse new.aggregates.items) =
-    subst (λ zs. CountsOne (reverse zs.items) (reverse new.aggregates.items)) (ap (λ z. let h : Draft = z in h.aggregates) had) (c.end_value.ensures.counted goes) in
+    subst (λ zs. CountsOne (reverse zs.items) (reverse new.aggregates.items)) (ap (λ z. let h : Draft = z in h.aggregates) had)
+    (c.end_value.ensures.counted goes) in
     let version = ap (λ z. let h : Draft = z in h.version) same ∙ ap (λ z. let h : Draft = z in h.version) had in
     let kind = ap (λ z. let h : Draft = z in h.kind) same ∙ ap (λ z. let h : Draft = z in h.kind) had in
     let content = ap (λ z. let h : Draft = z in h.content.items) same ∙ ap (λ z. let h : Draft = z in h.content.items) had in (
