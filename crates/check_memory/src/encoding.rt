@@ -109,7 +109,7 @@ pub(crate) fn of_bulk(alloc: Global) -> Outcome {
     };
     let answer = append::bulk(b"second", &mut out);
     appended(
-        answer.map_err(|AllocError| EncodeError::OutOfMemory),
+        answer.map_err(|_| EncodeError::OutOfMemory),
         &out,
         b"$6\r\nsecond\r\n",
     )
