@@ -33,10 +33,17 @@ pub(crate) enum Kind {
 }
 
 /// Counts of the commands and replies.
-#[derive(Clone, Copy)]
+#[derive(Clone, Copy, Default)]
 pub(crate) struct Tally {
     commands: u64,
     replied: u64,
+}
+
+impl Tally {
+    /// Returns the number of commands, and the number of bytes replied.
+    pub(crate) fn counted(self) -> (u64, u64) {
+        (self.commands, self.replied)
+    }
 }
 
 /// Makes a hub without a session.
@@ -73,7 +80,7 @@ fn commands(alloc: Global, kind: Kind, count: u64) -> Result<Vec<u8>> {
 
 /// Sends a piece, and drops the replies.
 #[inline(always)]
-fn send_piece(hub: &mut BenchHub, piece: &[u8], tally: &mut Tally) -> Result<()> {
+pub(crate) fn send_piece(hub: &mut BenchHub, piece: &[u8], tally: &mut Tally) -> Result<()> {
     let handled = hub.bytes(SESSION, piece)?;
     tally.commands = tally.commands.saturating_add(handled.commands);
     let waiting = hub.out(SESSION)?.len();
@@ -84,10 +91,7 @@ fn send_piece(hub: &mut BenchHub, piece: &[u8], tally: &mut Tally) -> Result<()>
 
 /// Sends the text in pieces, and drops the replies to each.
 pub(crate) fn send(hub: &mut BenchHub, text: &[u8]) -> Result<Tally> {
-    let mut tally = Tally {
-        commands: 0,
-        replied: 0,
-    };
+    let mut tally = Tally::default();
     for piece in text.chunks(PIECE) {
         send_piece(hub, piece, &mut tally)?;
     }
@@ -126,7 +130,7 @@ fn run(rt: &HostRuntime, hub: &mut BenchHub, timed: bool, kind: Kind, text: &[u8
     let start = nanos(rt)?;
     let tally = answer_text(hub, text)?;
     let nanos = nanos(rt)?.saturating_sub(start);
-    let (commands, replied) = (tally.commands, tally.replied);
+    let (commands, replied) = tally.counted();
     print!(rt; "{kind:?}: {commands} commands, {replied} bytes replied;")?;
     if timed {
         print!(rt; " {} us", nanos / 1_000)?;
