@@ -21,7 +21,7 @@ use Rattle.resp_client.specs.declared.heard.What.{What}
 use Rattle.resp_client.specs.declared.heard.What.TheVariants.{Reply, Push, Shown, More}
 use Rattle.resp_print.specs.Written.{AppendsPart}
 use Rattle.resp_wire.specs.Hearing.{ReadsFrom}
-use Rattle.resp_wire.proofs.Turning.{appends_more, appends_nothing}
+use Rattle.resp_turns.proofs.Turning.{appends_more, appends_nothing}
 use Rattle.resp_ask.specs.Hearing.{Receives, StopsHearing, StopsTelling, Tells, TellsSome, error_by, error_of}
 use Rattle.resp_ask.specs.Tellings.{TellsText, counted_after, errors_among, errors_of, heard_text, push_text, reply_text, text_of}
 use Rattle.resp_ask.specs.declared.error.AskError.{AskError}

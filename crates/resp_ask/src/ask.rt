@@ -7,7 +7,7 @@ ghost use Rattle.resp_session.specs.Requests as request;
 ghost use Rattle.resp_client.specs.Clients.{state_of, with_request};
 ghost use Rattle.resp_client.specs.Hearing.{WhereTaken};
 ghost use Rattle.resp_client.specs.Sending.{DeclinesRequest, MayBeSent};
-ghost use Rattle.resp_wire.specs.Turns.{WereRead};
+ghost use Rattle.resp_turns.specs.Turns.{WereRead};
 ghost use Rattle.resp_ask.specs.Exchanging.{IsRefused, refusal_of, sent_state};
 ghost use Rattle.resp_ask.specs.Hearing.{StopsHearing, Tells};
 

@@ -4,7 +4,7 @@ ghost use Rattle.std.specs.Prelude.{◌≡◌, ◌≢◌, ◌≤◌, ◌<◌, �
 ghost use Rattle.resp_value.specs.Devices.{Appends, failures_after};
 ghost use Rattle.resp_client.specs.Clients.{state_of};
 ghost use Rattle.resp_client.specs.Hearing.{KeepsReading, WhereTaken};
-ghost use Rattle.resp_wire.specs.Turns.{TellsEnd, WereRead};
+ghost use Rattle.resp_turns.specs.Turns.{TellsEnd, WereRead};
 ghost use Rattle.resp_ask.specs.Exchanging.{SendsAll, SendsPart, sent_state};
 ghost use Rattle.resp_ask.specs.Hearing.{IsOfConnection, StopsHearing, Tells, failed_to_print, failed_to_read, failed_to_write};
 

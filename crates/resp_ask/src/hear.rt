@@ -4,7 +4,7 @@ ghost use Rattle.std.specs.Prelude.{◌≡◌, ◌≤◌, ◌<◌, ◌++◌, ℕ
 ghost use Rattle.resp_value.specs.Devices.{failures_after};
 ghost use Rattle.resp_client.specs.Clients.{state_of};
 ghost use Rattle.resp_client.specs.Hearing.{WhereTaken};
-ghost use Rattle.resp_wire.specs.Turns.{TellsEnd, WereRead};
+ghost use Rattle.resp_turns.specs.Turns.{TellsEnd, WereRead};
 ghost use Rattle.resp_ask.specs.Hearing.{IsOfConnection, StopsHearing, StopsTelling, Tells, error_of, failed_to_print, failed_to_read, failed_to_write};
 
 use crate::error::AskError;

@@ -33,7 +33,8 @@ some_name (b ∷ bs) some = refl
 
 -- the error reply to a protocol error
 pub fault_line : (old name : List ℕ) (at : ℕ) → at < 2 ^ 64 →
-    ((((old ++ codes "-ERR Protocol error: ") ++ name) ++ codes " at byte ") ++ decimal at) ++ codes "\r\n" ≡ old ++ canonical_text Two (error (fault_text name at))
+    ((((old ++ codes "-ERR Protocol error: ") ++ name) ++ codes " at byte ") ++ decimal at) ++ codes "\r\n" ≡ old ++ canonical_text Two
+    (error (fault_text name at))
 fault_line old name at fits =
     let A = codes "-ERR Protocol error: " in
     let B = codes " at byte " in

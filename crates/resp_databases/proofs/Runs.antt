@@ -59,8 +59,8 @@ nothing_reached old new before after n =
 stores_alone : (old new : ServerState) (stores : List Store) → new ≡ record old { stores = stores } → new ≡ record old { stores = new.stores }
 stores_alone old new stores is = is ∙ ap (λ (s : List Store). record old { stores = s }) (ap (λ (v : ServerState). v.stores) (sym is))
 
-pub run_alone : {E : Type 0} (r : Result (Unit {0}) E) (text : List ℕ) (old new : ServerState) (before after : Client) → OnOk r (HasRun text old new before after) →
-    OnErr r (HasDoneNothing old new before after) → new ≡ record old { stores = new.stores }
+pub run_alone : {E : Type 0} (r : Result (Unit {0}) E) (text : List ℕ) (old new : ServerState) (before after : Client) →
+    OnOk r (HasRun text old new before after) → OnErr r (HasDoneNothing old new before after) → new ≡ record old { stores = new.stores }
 run_alone (Ok x) text old new before after ran failed =
     stores_alone old new (outcome_of old.stores (standing_of before) ran.asked).stores ran.done.state
 run_alone (Err e) text old new before after ran failed = stores_alone old new old.stores failed.state

@@ -101,7 +101,8 @@ taken_none held old before piece = record {
 }
 
 -- only the stores are changed, twice
-pub same_twice : (s0 s1 s2 : ServerState) → s1 ≡ record s0 { stores = s1.stores } → s2 ≡ record s1 { stores = s2.stores } → s2 ≡ record s0 { stores = s2.stores }
+pub same_twice : (s0 s1 s2 : ServerState) → s1 ≡ record s0 { stores = s1.stores } → s2 ≡ record s1 { stores = s2.stores } →
+    s2 ≡ record s0 { stores = s2.stores }
 same_twice s0 s1 s2 first second = second ∙ ap (λ (v : ServerState). record v { stores = s2.stores }) first
 
 pub same_limits : (s0 s1 : ServerState) → s1 ≡ record s0 { stores = s1.stores } → s1.limits ≡ s0.limits

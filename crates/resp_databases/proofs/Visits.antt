@@ -4,22 +4,20 @@ use Rattle.std.specs.List.{AllByRecursion, concat}
 use Rattle.std.proofs.lemmas.Bool.{false≢true}
 use Rattle.std.proofs.Math.Seq.{take-length}
 use Rattle.std.proofs.lemmas.List.{append-nil, drop-take, take-append-drop}
-use Rattle.resp_frames.specs.Framing.{HasBegun}
-use Rattle.resp_value.specs.Rules.{rules_under}
 use Rattle.resp_session.specs.Replies.{error}
 use Rattle.resp_value.specs.Bounds.{Bounds}
 use Rattle.resp_value.specs.Canonical.{canonical_text}
 use Rattle.resp_value.specs.Devices.{Appends}
 use Rattle.resp_value.specs.declared.version.Version.TheVariants.{Two}
-use Rattle.resp_wire.specs.Turns.{WereRead}
-use Rattle.resp_wire.proofs.Pieces.{before_more, concat_more, only_pieces}
-use Rattle.resp_wire.proofs.Turning.{appends_more, appends_nothing}
-use Rattle.resp_wire.specs.Pieces.{GivesPieces, ReadsNothing, ReadsPieces}
+use Rattle.resp_turns.specs.Turns.{WereRead}
+use Rattle.resp_turns.proofs.Pieces.{before_more, concat_more, only_pieces}
+use Rattle.resp_turns.proofs.Turning.{appends_more, appends_nothing}
+use Rattle.resp_turns.specs.Pieces.{GivesPieces, ReadsNothing, ReadsPieces}
 use Rattle.resp_databases.specs.Deeds.{Asked}
 use Rattle.resp_databases.specs.Outcomes.{Standing, outcome_of}
 use Rattle.resp_databases.specs.Parts.{IsPart, Part, texts_in}
 use Rattle.resp_databases.specs.Rejections.{rejection_text}
-use Rattle.resp_databases.specs.Running.{KeepsBegun, standing_of, waiting_of}
+use Rattle.resp_databases.specs.Running.{standing_of, waiting_of}
 use Rattle.resp_databases.specs.Servers.{ServerState}
 use Rattle.resp_databases.specs.Taking.{Begins, DoesParts, Ends, HasUnfinished, IsOpenBefore, KeepsUnfinished, Progress, Takes, TakesFirst, WhereUnfinished, after_parts, after_rejection, after_request, closed, progress_of}
 use Rattle.resp_databases.specs.Visiting.{Answers, HadServed, Serves, ServesBy, ServesFirst, ServesPieces, StopsAnswering, StopsReading, StopsWriting, WhereOpen, WritesOut, LeavesRest, ends_by_read, with_written}
@@ -87,7 +85,8 @@ written_rejection text why p =
     (sym (append_assoc text p.waiting (canonical_text Two (error (rejection_text why)))))
 
 -- the same end, after this text was written
-ends_written : (limits : Bounds) (rest text : List ℕ) (r q : Progress) (c : Client) → Ends limits rest r q c → Ends limits rest (with_written text r) (with_written text q) c
+ends_written : (limits : Bounds) (rest text : List ℕ) (r q : Progress) (c : Client) → Ends limits rest r q c →
+    Ends limits rest (with_written text r) (with_written text q) c
 ends_written limits rest text r q c (inl b) = inl (record { is_open = b.is_open; same = ap (with_written text) b.same; begun = b.begun })
 ends_written limits rest text r q c (inr (inl e)) = inr (inl (record {
   is_open = e.is_open;
@@ -421,7 +420,8 @@ visited_part most written remaining calls failures w0 w1 w2 r0 r1 r2 s0 s1 s2 c0
 
 -- no further piece was read
 pub visited_all : {W R : Type 0} → (most : ℕ) (written : W → Option (List ℕ)) (remaining : R → Option (List ℕ)) (calls failures : R → ℕ) (w0 w : W)
-    (r0 r1 r2 : R) (s0 s : ServerState) (c0 c : Client) (end : Result Served ServeError) → HasVisited most written remaining calls failures w0 w r0 r1 s0 s c0 c →
+    (r0 r1 r2 : R) (s0 s : ServerState) (c0 c : Client) (end : Result Served ServeError) →
+    HasVisited most written remaining calls failures w0 w r0 r1 s0 s c0 c →
     (end ≡ Err OutOfMemory → ⊥) → ReadsNothing remaining calls r1 r2 (ends_by_read end) →
     ServesPieces most written remaining calls failures w0 w r0 r2 s0 s c0 c end []
 visited_all most written remaining calls failures w0 w r0 r1 r2 s0 s c0 c end h real over = record {
@@ -450,33 +450,6 @@ visited_none most written remaining calls failures w0 w r s c0 c e real unread o
       (serves_written (front ++ []) [] (written w0) (written w) s s c0 c0 c (serves_nothing s c0 front is_open begun) o);
   before_each = λ is_open front begun k less. absurd (omega (arith, less));
 }
-
--- more bytes that waited were written
-pub writes_more : (w0 w1 w2 : Option (List ℕ)) (c0 c1 c2 : Client) (n : ℕ) → (o : WritesOut w0 w1 c0 c1) → Appends w1 w2 (take n (waiting_of c1)) →
-    waiting_of c2 ≡ drop n (waiting_of c1) → standing_of c2 ≡ standing_of c1 → KeepsUnfinished c1 c2 → WritesOut w0 w2 c0 c2
-writes_more w0 w1 w2 c0 c1 c2 n o more left standing keeps =
-    let first = take n (waiting_of c1) in
-    record {
-      text = o.text ++ first;
-      appended = appends_more w0 w1 w2 o.text first o.appended more;
-      parts = o.parts ∙ ap (λ l. o.text ++ l) (sym (take-append-drop n (waiting_of c1)) ∙ ap (λ l. first ++ l) (sym left)) ∙
-          sym (append_assoc o.text first (waiting_of c2));
-      same_standing = standing ∙ o.same_standing;
-      same_begun = λ limits front h. keeps limits front (o.same_begun limits front h);
-    }
-
--- a request that the client has begun goes on, whatever waits
-pub keeps_begun : (c c' : Client) → KeepsBegun c c' → KeepsUnfinished c c'
-keeps_begun c c' k limits front (inl a) = inl (record {
-  begun = subst (λ b. HasBegun (rules_under Two limits) b front) (sym k.array) a.begun;
-  no_line = k.line ∙ a.no_line;
-})
-keeps_begun c c' k limits front (inr l) = inr (record {
-  begins = l.begins;
-  within = l.within;
-  bytes = k.line ∙ l.bytes;
-  no_array = subst (λ b. HasBegun (rules_under Two limits) b []) (sym k.array) l.no_array;
-})
 
 -- Why a call stops.
 

@@ -2,8 +2,8 @@
 use Rattle.std.specs.Prelude.{◌≡◌, ◌⊎◌, ℕ, ◌-◌, ◌<◌, Bool, true, false, List, [], ◌++◌, length, take, drop, Option, Result, Ok, Err}
 use Rattle.std.specs.List.{concat}
 use Rattle.resp_value.specs.Devices.{Appends, HasRisen, count_after}
-use Rattle.resp_wire.specs.Pieces.{ReadsPieces}
-use Rattle.resp_wire.specs.Turns.{TellsEnd}
+use Rattle.resp_turns.specs.Pieces.{ReadsPieces}
+use Rattle.resp_turns.specs.Turns.{TellsEnd}
 use Rattle.resp_databases.specs.Parts.{Part}
 use Rattle.resp_databases.specs.Running.{standing_of, waiting_of}
 use Rattle.resp_databases.specs.Servers.{ServerState}

@@ -2,14 +2,14 @@
 
 ghost use Rattle.std.specs.Prelude.{◌≡◌, ◌<◌, ◌≤◌, [], length, take, false, true, IfErr, IfOk, IsErrOf, OnErr, OnOk};
 ghost use Rattle.resp_value.specs.Devices.{count_after, failures_after};
-ghost use Rattle.resp_wire.specs.Asking.{SpendsAtMost};
-ghost use Rattle.resp_wire.specs.Turns.{Spends, TellsEnd, WereRead};
+ghost use Rattle.resp_turns.specs.Turns.{Spends, SpendsAtMost, TellsEnd, WereRead};
 ghost use Rattle.resp_databases.specs.Running.{standing_of, waiting_of};
 ghost use Rattle.resp_databases.specs.Visiting.{Answers, EndsVisit, FailsServing, LeavesRest, ServesPieces, StaysAfter, StopsAnswering, StopsReading, StopsWriting, WritesOut, failed_to_read, failed_to_write, rest_in};
 
 use crate::client::Client;
 use crate::databases::Databases;
 use crate::error::ServeError;
+use resp_turns::{Halt, read_some, write_text};
 use resp_value::device::{Sink, Source};
 use std::hash::BuildHasher;
 use std::ops::Range;
@@ -89,7 +89,7 @@ pub fn serve<R: Source, W: Sink, S: BuildHasher + Copy>(
         return ended(Err(error));
     }
     while !client.closing {
-        let count = match read_some(reader, buffer, &mut left) {
+        let count = match read_piece(reader, buffer, &mut left) {
             Ok(0) => return ended(Ok(Served::Ended)),
             Ok(count) => count,
             Err(error) => return ended(Err(error)),
@@ -168,7 +168,7 @@ fn answer<W: Sink, S: BuildHasher + Copy>(
 }
 
 /// Reads some bytes with one read. The number is 0 only at the end, or if there is no room.
-fn read_some<R: Source>(
+fn read_piece<R: Source>(
     reader: &mut R,
     buffer: &mut [u8],
     turns: &mut u64,
@@ -188,13 +188,10 @@ fn read_some<R: Source>(
         (R.calls reader.old) (R.calls reader.new) reader.old reader.new turns.new) }
     ensures onward { OnOk result (turns.new < turns.old) }
 {
-    if *turns == 0 {
-        return Err(ServeError::TooManyTurns);
-    }
-    *turns -= 1;
-    match reader.read(buffer) {
+    match read_some(reader, buffer, turns) {
         Ok(count) => Ok(count),
-        Err(_) => Err(ServeError::Read),
+        Err(Halt::Failed) => Err(ServeError::Read),
+        Err(Halt::NoTurn) => Err(ServeError::TooManyTurns),
     }
 }
 
@@ -214,15 +211,11 @@ fn write_out<W: Sink>(
         turns.new) }
     ensures turns { Spends (W.calls writer.old) (W.calls writer.new) turns.old turns.new }
 {
-    while !client.out.is_empty() {
-        if *turns == 0 {
-            return Err(ServeError::TooManyTurns);
-        }
-        *turns -= 1;
-        match writer.write(client.out.as_slice()) {
-            Ok(0) | Err(_) => return Err(ServeError::Write),
-            Ok(count) => client.out.advance(count),
-        }
+    let written = write_text(writer, client.out(), turns);
+    client.sent(written.count);
+    match written.end {
+        Ok(()) => Ok(()),
+        Err(Halt::Failed) => Err(ServeError::Write),
+        Err(Halt::NoTurn) => Err(ServeError::TooManyTurns),
     }
-    Ok(())
 }

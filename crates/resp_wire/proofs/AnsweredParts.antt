@@ -12,7 +12,7 @@ use Rattle.resp_wire.specs.Serving.{AnswersBefore, AnswersGiven, EndsAnswering, 
 use Rattle.resp_wire.specs.declared.error.ServeError.{ServeError}
 use Rattle.resp_wire.specs.declared.error.ServeError.TheVariants.{NoSession, OutOfMemory, Read, Write, TooManyTurns}
 use Rattle.resp_wire.proofs.Seated.{at_open, where_open}
-use Rattle.resp_wire.proofs.Pieces.{concat_more}
+use Rattle.resp_turns.proofs.Pieces.{concat_more}
 use Rattle.resp_wire.proofs.ServedTexts.{Stands, piece_serves, piece_stops, seat_given, seat_of, serves_piece, stands, stops_piece}
 
 -- the result of a part that was answered
@@ -88,21 +88,6 @@ given_whole cur new id piece used end closing held held' is all given =
     subst (λ z. WhereOpen cur id (λ s front. Serves cur new id s (front ++ z) held held' [] × ⊤))
     (ap (λ n. take n piece) size ∙ take_all (length piece) piece (omega arith))
     (subst (λ e. AnswersGiven cur new id piece held held' (record { used = used; end = e })) is given)
-
--- The rest of a piece that a session was not given.
-
-pub none_left : (count used : ℕ) (bytes : List ℕ) → used ≡ count → take (count - used) (drop used bytes) ≡ []
-none_left count used bytes all = let none : count - used ≡ 0 = omega (arith, all) in ap (λ n. take n (drop used bytes)) none
-
-pub rest_of : (pieces : List (List ℕ)) (bytes : List ℕ) (count used : ℕ) → used ≤ count →
-    concat (pieces ++ take count bytes ∷ []) ≡ (concat pieces ++ take used (take count bytes)) ++ take (count - used) (drop used bytes)
-rest_of pieces bytes count used within =
-    let piece = take count bytes in
-    let whole : used + (count - used) ≡ count = omega (arith, within) in
-    let rest : drop used piece ≡ take (count - used) (drop used bytes) =
-    ap (λ n. drop used (take n bytes)) (sym whole) ∙ drop-take used (count - used) bytes in
-    concat_more pieces piece ∙ ap (λ l. concat pieces ++ l) (sym (take-append-drop used piece) ∙ ap (λ l. take used piece ++ l) rest) ∙
-    sym (append_assoc (concat pieces) (take used piece) (take (count - used) (drop used bytes)))
 
 -- the pieces before the last one are the same, however long that is
 pub before_last : (old : HubState) (id : ℕ) (s : Seat) (front : List ℕ) (pieces : List (List ℕ)) (p q : List ℕ) (held held' : Option (List ℕ)) →
@@ -227,10 +212,3 @@ pub stops_overfull : AnswersGoOn → AnswersAreAdded → (most : ℕ) (old cur n
 stops_overfull go_on added most old cur new id pieces piece held held' held'' served o left =
     stops_by go_on added most old cur left.between new id pieces piece (take left.size (drop left.count piece)) left.count held held' left.held_between held''
     served o left.before left.overfills
-
--- where bytes are left, not all of the piece was used
-pub some_left : (count used : ℕ) (bytes : List ℕ) → (take (count - used) (drop used bytes) ≡ [] → ⊥) → used < count
-some_left count used bytes some = elim (cases_lt used count) [
-  | inl less ↦ less
-  | inr all ↦ absurd (some (let none : count - used ≡ 0 = omega (arith, all) in ap (λ n. take n (drop used bytes)) none))
-]

@@ -5,14 +5,12 @@ use Rattle.std.proofs.lemmas.List.{append-nil, take-append-drop, take_all}
 use Rattle.resp_value.specs.Devices.{Appends}
 use Rattle.resp_client.specs.Clients.{ClientState, state_of, without_front}
 use Rattle.resp_client.specs.declared.client.Client.{Client}
-use Rattle.resp_wire.specs.Asking.{SendsAll, SendsPart, SpendsTurns, asked, sent}
+use Rattle.resp_wire.specs.Asking.{SendsAll, SendsPart, asked, sent}
 use Rattle.resp_wire.specs.Requests.{MayAllBeSent, with_requests}
 use Rattle.resp_wire.specs.Stops.{FailsWriting, KeepsFault, QueuesFirst, StopsQueueing}
-use Rattle.resp_wire.specs.Turns.{Spends}
 use Rattle.resp_wire.specs.declared.asked.Request.{Request}
 use Rattle.resp_wire.specs.declared.error.AskError.{AskError}
 use Rattle.resp_wire.specs.declared.error.AskError.TheVariants as error
-use Rattle.resp_wire.proofs.Turning.{spends_nothing}
 
 -- what a write of all that waits says of it
 abbrev pub HasSent : Client → Client → Option (List ℕ) → Option (List ℕ) → Type 0
@@ -63,12 +61,6 @@ all_sent old mid new requests held held' q (count, within, appended, left) none 
     left ∙ ap (with_out (state_of mid)) over ∙ ap (λ (s : ClientState). with_out s []) (all_asked old mid requests q)
 
 -- Turns.
-
-pub spends_no_turns : (writes reads turns : ℕ) → SpendsTurns writes writes reads reads turns turns
-spends_no_turns writes reads turns = record { between = turns; written = spends_nothing writes turns; read = spends_nothing reads turns }
-
-pub spends_writes : (writes writes' reads turns left : ℕ) → Spends writes writes' turns left → SpendsTurns writes writes' reads reads turns left
-spends_writes writes writes' reads turns left w = record { between = left; written = w; read = spends_nothing reads left }
 
 -- no request is refused for want of turns
 pub queue_takes_no_turn : (old new : Client) (requests : List Request) (answer : Result (Unit {0}) AskError) (e : AskError) → answer ≡ Err e →

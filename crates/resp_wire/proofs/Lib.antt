@@ -1,6 +1,4 @@
 pub mod Listening
-pub mod Turning
-pub mod Pieces
 pub mod Queueing
 pub mod Exchanges
 pub mod Seated

@@ -24,7 +24,7 @@ use Rattle.resp_wire.specs.Stops.{FailsReading, KeepsFault, StopsClient, StopsHe
 use Rattle.resp_wire.specs.declared.error.AskError.{AskError}
 use Rattle.resp_wire.specs.declared.error.AskError.TheVariants as error
 use Rattle.resp_wire.specs.declared.asked.Asked.{Asked}
-use Rattle.resp_wire.proofs.Pieces.{before_more}
+use Rattle.resp_turns.proofs.Pieces.{before_more}
 
 -- What has been heard after this many turns: the bytes before the rest, of which each turn used one at least.
 pub record HearsUpTo (s : ClientState) (c : Client) (before after : Asked) (front piece rest : List ℕ) (turns : ℕ) : Type 0 where

@@ -20,8 +20,8 @@ use Rattle.resp_wire.specs.declared.error.ServeError.TheVariants.{NoSession, Out
 use Rattle.resp_wire.specs.declared.serve.Served.{Served}
 use Rattle.resp_wire.specs.declared.serve.Served.TheVariants.{Ended, Closed}
 use Rattle.resp_wire.proofs.Seated.{at_open, where_open, one_seat, seat_here, seated_twice}
-use Rattle.resp_wire.proofs.Pieces.{before_more, concat_more}
-use Rattle.resp_wire.proofs.Turning.{appends_more, appends_nothing}
+use Rattle.resp_turns.proofs.Pieces.{before_more, concat_more}
+use Rattle.resp_turns.proofs.Turning.{appends_more, appends_nothing}
 
 abbrev pub seat_with : Version → List ℕ → Bool → Reading → Seat
 seat_with version out closing decoder = record { version = version; out = out; closing = closing; decoder = decoder }

@@ -4,7 +4,6 @@ use Rattle.resp_value.specs.Devices.{Appends}
 use Rattle.resp_client.specs.Clients.{ClientState, state_of, without_front}
 use Rattle.resp_client.specs.declared.client.Client.{Client}
 use Rattle.resp_wire.specs.Requests.{MayAllBeSent, with_requests}
-use Rattle.resp_wire.specs.Turns.{Spends}
 use Rattle.resp_wire.specs.declared.asked.Request.{Request}
 
 -- the state of the client once all requests are queued
@@ -27,14 +26,3 @@ pub record SendsPart (old new : Client) (requests : List Request) (held held' : 
   pub within : count ≤ length (asked old requests).out
   pub appended : Appends held held' (take count (asked old requests).out)
   pub waits : state_of new ≡ without_front count (asked old requests)
-
--- writes and reads were made, and these turns are left
-pub record SpendsTurns (writes writes' reads reads' turns left : ℕ) : Type 0 where
-  pub between : ℕ
-  pub written : Spends writes writes' turns between
-  pub read : Spends reads reads' between left
-
--- At most this many writes and reads were made. If the call is out of turns, no turn is left.
-abbrev pub SpendsAtMost : ℕ → ℕ → ℕ → ℕ → ℕ → Type 0 → Type 0
-SpendsAtMost writes writes' reads reads' turns IsOutOfTurns =
-    (left : ℕ) × SpendsTurns writes writes' reads reads' turns left × (IsOutOfTurns → left ≡ 0)

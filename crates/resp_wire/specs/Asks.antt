@@ -6,7 +6,7 @@ use Rattle.resp_client.specs.Hearing.{KeepsReading, WhereTaken}
 use Rattle.resp_client.specs.declared.client.Client.{Client}
 use Rattle.resp_wire.specs.Asking.{SendsAll, SendsPart, sent}
 use Rattle.resp_wire.specs.Hearing.{WaitsBefore}
-use Rattle.resp_wire.specs.Pieces.{ReadsPieces}
+use Rattle.resp_turns.specs.Pieces.{ReadsPieces}
 use Rattle.resp_wire.specs.Stops.{FailsReading, FailsWriting, StopsListening, StopsQueueing, is_of_last_read}
 use Rattle.resp_wire.specs.declared.asked.Asked.{Asked}
 use Rattle.resp_wire.specs.declared.asked.Request.{Request}

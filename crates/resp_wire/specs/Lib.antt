@@ -1,7 +1,5 @@
 -- The definitions that callers of both ends, of links and of worlds read.
 pub mod Hearing
-pub mod Turns
-pub mod Pieces
 pub mod Requests
 pub mod Stops
 pub mod Asking

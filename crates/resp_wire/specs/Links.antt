@@ -3,12 +3,12 @@ use Rattle.std.specs.Prelude.{◌≡◌, ◌⊎◌, ℕ, List, ◌++◌, Bool, t
 use Rattle.resp_value.specs.Devices.{HasRisen}
 use Rattle.resp_value.specs.declared.cause.Cause.{Cause}
 use Rattle.resp_value.specs.declared.cause.Cause.TheVariants.{Read, Write, TooManyTurns}
-use Rattle.resp_wire.specs.Turns.{TellsEnd}
+use Rattle.resp_turns.specs.Turns.{TellsEnd}
 use Rattle.resp_wire.specs.declared.link.Direction.{Direction}
 use Rattle.resp_wire.specs.declared.link.Direction.TheVariants.{ToServer, ToClient}
 use Rattle.resp_wire.specs.declared.link.LinkFault.{LinkFault}
-use Rattle.resp_wire.specs.declared.turns.Halt.{Halt}
-use Rattle.resp_wire.specs.declared.turns.Halt.TheVariants as halt
+use Rattle.resp_turns.specs.declared.halt.Halt.{Halt}
+use Rattle.resp_turns.specs.declared.halt.Halt.TheVariants as halt
 
 -- the bytes that a link has carried in each direction
 pub record Traffic : Type 0 where

@@ -6,8 +6,8 @@ use Rattle.resp_value.specs.Devices.{Appends, HasRisen, failures_after}
 use Rattle.resp_server.specs.Handling.{HasAnswered, HasCutShort, WhereOpen}
 use Rattle.resp_server.specs.Hubs.{HubState, Seat, WaitsAtMost, seat_at, seated}
 use Rattle.resp_server.specs.Reading.{HasReadFront}
-use Rattle.resp_wire.specs.Pieces.{ReadsPieces}
-use Rattle.resp_wire.specs.Turns.{Spends, TellsEnd}
+use Rattle.resp_turns.specs.Pieces.{ReadsPieces}
+use Rattle.resp_turns.specs.Turns.{Spends, TellsEnd}
 use Rattle.resp_wire.specs.declared.error.ServeError.{ServeError}
 use Rattle.resp_wire.specs.declared.error.ServeError.TheVariants.{NoSession, OutOfMemory, Read, Write, TooManyTurns}
 use Rattle.resp_wire.specs.declared.serve.Answered.{Answered}

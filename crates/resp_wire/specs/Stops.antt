@@ -12,7 +12,7 @@ use Rattle.resp_client.specs.declared.send_error.SendError.{SendError}
 use Rattle.resp_client.specs.declared.send_error.SendError.TheVariants as send
 use Rattle.resp_wire.specs.Hearing.{HearsAll, HearsSome, StopsAtFault}
 use Rattle.resp_wire.specs.Requests.{MayAllBeSent, request_of, with_requests}
-use Rattle.resp_wire.specs.Turns.{TellsEnd}
+use Rattle.resp_turns.specs.Turns.{TellsEnd}
 use Rattle.resp_wire.specs.declared.asked.Asked.{Asked}
 use Rattle.resp_wire.specs.declared.asked.Request.{Request}
 use Rattle.resp_wire.specs.declared.error.AskError.{AskError}

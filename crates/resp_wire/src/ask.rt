@@ -7,19 +7,20 @@ ghost use Rattle.resp_wire.specs.Requests.{request_of};
 ghost use Rattle.resp_client.specs.Hearing.{KeepsReading, WhereTaken};
 ghost use Rattle.resp_value.specs.Devices.{Appends, failures_after};
 ghost use Rattle.resp_wire.specs.Hearing.{HearsAll, WaitsBefore};
-ghost use Rattle.resp_wire.specs.Asking.{SendsAll, SpendsAtMost, sent};
+ghost use Rattle.resp_wire.specs.Asking.{SendsAll, sent};
 ghost use Rattle.resp_wire.specs.Asks.{HearsPieces, StopsAsking};
 ghost use Rattle.resp_wire.specs.Stops.{FailsReading, FailsWriting, KeepsFault, QueuesFirst, StopsListening, StopsQueueing, ends_by_read, error_at, failed_to_read, failed_to_write, is_of_last_read, is_of_reader, is_of_writer};
-ghost use Rattle.resp_wire.specs.Pieces.{ReadsPieces};
-ghost use Rattle.resp_wire.specs.Turns.{Halts, Spends, has_failed};
+ghost use Rattle.resp_turns.specs.Pieces.{ReadsPieces};
+ghost use Rattle.resp_turns.specs.Turns.{Halts, Spends, SpendsAtMost, has_failed};
 ghost use Rattle.std.specs.List.{concat};
 
 use crate::asked::{Asked, Request};
 use crate::error::AskError;
 use crate::hear::hear_piece;
-use crate::turns::{Halt, PIECE, front, write_text};
+use crate::pieces::{PIECE, front};
 use resp_client::{Client, SendError};
 use resp_session::laws;
+use resp_turns::{Halt, write_text};
 use resp_value::device::{Sink, Source};
 
 /// Queues the requests, writes all waiting bytes, and reads until no command waits for a reply. The

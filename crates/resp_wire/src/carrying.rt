@@ -16,7 +16,7 @@ use crate::asked::Asked;
 use crate::error::AskError;
 use crate::hear::hear_piece;
 use crate::link::{Direction, Link};
-use crate::turns::front;
+use crate::pieces::front;
 use resp_client::Client;
 use resp_server::{Hub, HubError};
 use resp_session::laws;

@@ -11,7 +11,7 @@ ghost use Rattle.resp_wire.specs.Stops.{KeepsFault, StopsClient, StopsHearing, e
 
 use crate::asked::Asked;
 use crate::error::AskError;
-use crate::turns::beyond;
+use crate::pieces::beyond;
 use resp_client::Client;
 use resp_scan::event::Fault;
 use resp_session::laws;

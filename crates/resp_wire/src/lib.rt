@@ -15,8 +15,8 @@ pub mod event;
 mod hear;
 pub mod laws;
 pub mod link;
+mod pieces;
 pub mod serve;
-mod turns;
 pub mod world;
 
 pub use asked::{Asked, Request};

@@ -4,14 +4,14 @@ ghost use Rattle.std.specs.Prelude.{◌≡◌, ◌≢◌, ◌+◌, ◌-◌, ◌<
 ghost use Rattle.resp_server.specs.Hubs.{Seat, WaitsAtMost, seat_at};
 ghost use Rattle.resp_server.specs.Handling.{HasAnswered, WhereOpen};
 ghost use Rattle.resp_value.specs.Devices.{failures_after};
-ghost use Rattle.resp_wire.specs.Asking.{SpendsAtMost, SpendsTurns};
 ghost use Rattle.resp_wire.specs.Serving.{AnswersPiece, EndsBy, FailsServing, HasSent, HasSentPart, IsClosing, IsOpen, IsThere, LeavesOverfull, LeavesRest, Overfills, Serves, ServesClosing, ServesPieces, StopsAnswering, StopsReading, StopsServing, StopsWriting, failed_to_read, failed_to_write, rest_in, is_of_reader, is_of_writer};
-ghost use Rattle.resp_wire.specs.Turns.{Halts, Spends, has_failed};
+ghost use Rattle.resp_turns.specs.Turns.{Halts, Spends, SpendsAtMost, SpendsTurns, has_failed};
 
 use crate::error::ServeError;
-use crate::turns::{Halt, PIECE, beyond, front, read_some, write_text};
+use crate::pieces::{PIECE, beyond, front};
 use resp_server::{Hub, HubError};
 use resp_session::laws;
+use resp_turns::{Halt, read_some, write_text};
 use resp_value::device::{Sink, Source};
 use std::hash::BuildHasher;
 use std::ops::Range;

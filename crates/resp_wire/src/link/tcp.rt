@@ -2,13 +2,12 @@
 
 ghost use Rattle.std.specs.Prelude.{◌≡◌, ◌+◌, ◌<◌, ◌≤◌, None, length, is_err, IfErr, IfOk, OnOk};
 ghost use Rattle.resp_value.specs.Devices.{HasRisen, failures_after};
-ghost use Rattle.resp_wire.specs.Asking.{SpendsAtMost};
 ghost use Rattle.resp_wire.specs.Links.{IsLinkCause, IsOutOfTurns, StopsPassing, StopsReceiving, cause_of_halt};
 ghost use Rattle.resp_wire.specs.TcpLinks.{UsesBothEnds, receiving_end, sending_end};
-ghost use Rattle.resp_wire.specs.Turns.{Spends};
+ghost use Rattle.resp_turns.specs.Turns.{Spends, SpendsAtMost};
 
 use super::{Carried, Direction, Link, LinkFault};
-use crate::turns::{Halt, read_some, write_text};
+use resp_turns::{Halt, read_some, write_text};
 use resp_value::cause::Cause;
 use resp_value::device::{Device, Sink, Source};
 use std::io;

@@ -6,7 +6,7 @@ use Rattle.resp_client.specs.Clients.{ClientState, state_of}
 use Rattle.resp_client.specs.Hearing.{HasTaken, WhereTaken}
 use Rattle.resp_client.specs.declared.client.Client.{Client}
 use Rattle.resp_client.specs.declared.send_error.SendError.{SendError}
-use Rattle.resp_wire.specs.Turns.{WereRead}
+use Rattle.resp_turns.specs.Turns.{WereRead}
 use Rattle.resp_ask.specs.Exchanging.{IsRefused, sent_state}
 use Rattle.resp_ask.specs.Hearing.{IsOfConnection, Tells}
 use Rattle.resp_ask.specs.declared.error.AskError.{AskError}

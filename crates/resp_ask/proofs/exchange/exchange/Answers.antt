@@ -1,6 +1,6 @@
 use Rattle.std.proofs.Common.{◌++◌, ◌≢◌, [], Result, Ok, Err, OnOk, IfErr, subst}
 use Rattle.resp_client.specs.Clients.{state_of}
-use Rattle.resp_wire.proofs.Turning.{reads_none}
+use Rattle.resp_turns.proofs.Turning.{reads_none}
 use Rattle.resp_ask.specs.Hearing.{StopsHearing, Tells}
 use Rattle.resp_ask.specs.declared.error.AskError.{AskError}
 use Rattle.resp_ask.specs.declared.error.AskError.TheVariants.{Write}

@@ -1,8 +1,8 @@
 use Rattle.std.proofs.Common.{rules, refl, [], ◌≡◌, ◌++◌, take, subst}
 use Rattle.std.proofs.lemmas.List.{append-nil}
 use Rattle.resp_client.specs.Clients.{state_of}
-use Rattle.resp_wire.specs.Turns.{WereRead}
-use Rattle.resp_wire.proofs.Turning.{end_after, has_read_more, reads_end, reads_failed, reads_more, reads_none}
+use Rattle.resp_turns.specs.Turns.{WereRead}
+use Rattle.resp_turns.proofs.Turning.{end_after, has_read_more, reads_end, reads_failed, reads_more, reads_none}
 use Rattle.resp_ask.specs.Hearing.{StopsTelling, Tells}
 use Rattle.resp_ask.proofs.Receiving.{stops_piece, tells_more, tells_nothing}
 use Rattle.resp_ask.proofs.hear.hear_until.Goals as goal

@@ -1,7 +1,7 @@
 use Rattle.std.proofs.Common.{◌≡◌, ◌++◌, List, ℕ}
 use Rattle.resp_client.specs.Clients.{state_of}
 use Rattle.resp_client.specs.Hearing.{WhereTaken}
-use Rattle.resp_wire.specs.Turns.{WereRead}
+use Rattle.resp_turns.specs.Turns.{WereRead}
 use Rattle.resp_ask.specs.Hearing.{Tells}
 use Rattle.resp_ask.proofs.hear.hear_until.Given as goal
 

@@ -1,5 +1,5 @@
 use Rattle.std.proofs.Common.{◌≡◌, ◌-◌, length}
-use Rattle.resp_wire.specs.Turns.{Spends}
+use Rattle.resp_turns.specs.Turns.{Spends}
 use Rattle.resp_databases.proofs.Visits.{HasAnswered}
 use Rattle.resp_databases.proofs.connection.answer.Given as goal
 

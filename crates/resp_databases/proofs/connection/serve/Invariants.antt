@@ -1,5 +1,5 @@
 use Rattle.std.proofs.Common.{◌≡◌, length}
-use Rattle.resp_wire.specs.Asking.{SpendsTurns}
+use Rattle.resp_turns.specs.Turns.{SpendsTurns}
 use Rattle.resp_databases.proofs.Visits.{HasVisited}
 use Rattle.resp_databases.proofs.connection.serve.Given as goal
 

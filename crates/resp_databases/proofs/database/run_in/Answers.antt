@@ -12,7 +12,8 @@ returns-in_default-clause-failed g c within request sent =
     let text = c.args.command.now in
     (failed_same c.a_text_has_one_answer.ensures.one_answer c.no_spelling_begins_another.ensures c.fronts_of_spellings_are_viable.ensures
     c.args.limits.now before after c.args.id c.requires.fresh within text request sent e
-    (where_fresh before c.args.id c.requires.fresh (λ s front. IfOutOfMemory e (HasCutShort before after c.args.id s front text)) c.in_default.ensures.cut_short)
+    (where_fresh before c.args.id c.requires.fresh (λ s front. IfOutOfMemory e (HasCutShort before after c.args.id s front text))
+    c.in_default.ensures.cut_short)
     (λ is. c.in_default.ensures.unchanged (ap Err is))).0
 
 pub returns-in_default-clause-within : goal.returns-in_default-clause-within
@@ -23,7 +24,8 @@ returns-in_default-clause-within g c within request sent =
     let text = c.args.command.now in
     let same = failed_same c.a_text_has_one_answer.ensures.one_answer c.no_spelling_begins_another.ensures c.fronts_of_spellings_are_viable.ensures
     c.args.limits.now before after c.args.id c.requires.fresh within text request sent e
-    (where_fresh before c.args.id c.requires.fresh (λ s front. IfOutOfMemory e (HasCutShort before after c.args.id s front text)) c.in_default.ensures.cut_short)
+    (where_fresh before c.args.id c.requires.fresh (λ s front. IfOutOfMemory e (HasCutShort before after c.args.id s front text))
+    c.in_default.ensures.cut_short)
     (λ is. c.in_default.ensures.unchanged (ap Err is)) in
     still_within c.args.limits.now before after same.0 same.1 within
 

@@ -44,8 +44,10 @@ returns-then-integer-ltminus2147483648 c =
     let fits : FitsSigned w64 y = search rules in
     let number = to_z-of_z w64 y fits in
     indexed c.args.word.now y (Err FarIndex) fits c.in-Some.ensures.some (elim c.then-integer-ltminus2147483648.branch [
-      | then-integer-ltminus2147483648-via-then-integer-ltminus2147483648 w ↦ far_below y (ap (λ z. lt_z z (negsuc 2147483647)) (sym number) ∙ w.if-integer-ltminus2147483648.true)
-      | then-integer-ltminus2147483648-via-else-integer-ltminus2147483648+then-integer-gt2147483647 w ↦ far_above y (ap (lt_z (pos 2147483647)) (sym number) ∙ w.if-integer-gt2147483647.true)
+      | then-integer-ltminus2147483648-via-then-integer-ltminus2147483648 w ↦ far_below y
+          (ap (λ z. lt_z z (negsuc 2147483647)) (sym number) ∙ w.if-integer-ltminus2147483648.true)
+      | then-integer-ltminus2147483648-via-else-integer-ltminus2147483648+then-integer-gt2147483647 w ↦ far_above y
+          (ap (lt_z (pos 2147483647)) (sym number) ∙ w.if-integer-gt2147483647.true)
     ])
 
 pub returns-then-integer-lt0 : goal.returns-then-integer-lt0
@@ -54,8 +56,10 @@ returns-then-integer-lt0 c =
     let fits : FitsSigned w64 y = search rules in
     let number = to_z-of_z w64 y fits in
     indexed c.args.word.now y (Err NoDatabase) fits c.in-Some.ensures.some (elim c.then-integer-lt0.branch [
-      | then-integer-lt0-via-then-integer-lt0 w ↦ none_below y (ap (λ z. lt_z z (negsuc 2147483647)) (sym number) ∙ c.if-integer-ltminus2147483648.false) (ap (λ z. lt_z z (pos 0)) (sym number) ∙ w.if-integer-lt0.true)
-      | then-integer-lt0-via-else-integer-lt0+then-integer-gt15 w ↦ none_above y (ap (lt_z (pos 2147483647)) (sym number) ∙ c.if-integer-gt2147483647.false) (ap (lt_z (pos 15)) (sym number) ∙ w.if-integer-gt15.true)
+      | then-integer-lt0-via-then-integer-lt0 w ↦ none_below y (ap (λ z. lt_z z (negsuc 2147483647)) (sym number) ∙ c.if-integer-ltminus2147483648.false)
+          (ap (λ z. lt_z z (pos 0)) (sym number) ∙ w.if-integer-lt0.true)
+      | then-integer-lt0-via-else-integer-lt0+then-integer-gt15 w ↦ none_above y (ap (lt_z (pos 2147483647)) (sym number) ∙ c.if-integer-gt2147483647.false)
+          (ap (lt_z (pos 15)) (sym number) ∙ w.if-integer-gt15.true)
     ])
 
 pub returns : goal.returns

@@ -3,10 +3,10 @@ use Rattle.std.proofs.Common.{rules, refl, false, [], ◌≡◌, ◌-◌, ◌∷
 use Rattle.resp_client.specs.Clients.{state_of}
 use Rattle.resp_wire.specs.Hearing.{HearsAll}
 use Rattle.resp_wire.specs.Stops.{StopsHearing, StopsListening, is_of_last_read}
-use Rattle.resp_wire.specs.Turns.{WereRead}
+use Rattle.resp_turns.specs.Turns.{WereRead}
 use Rattle.resp_wire.proofs.Listening.{fails_reading, hears_no_bytes, hears_piece, no_last_read, stops_listening, stops_piece, waits_for_none, waits_for_piece}
-use Rattle.resp_wire.proofs.Pieces.{all_read, concat_more, gives, only_pieces}
-use Rattle.resp_wire.proofs.Turning.{end_after, reads_end, reads_failed, reads_more, reads_none, spends_nothing, spends_one}
+use Rattle.resp_turns.proofs.Pieces.{all_read, concat_more, gives, only_pieces}
+use Rattle.resp_turns.proofs.Turning.{end_after, reads_end, reads_failed, reads_more, reads_none, spends_nothing, spends_one}
 use Rattle.resp_wire.proofs.ask.hear_all.Goals as goal
 
 pub loop-turns-init : goal.loop-turns-init

@@ -1,6 +1,6 @@
 use Rattle.std.proofs.Common.{◌<◌, ap, arith, drop, length, length-drop, subst, sym}
 use Rattle.resp_client.specs.Clients.{ClientState, state_of}
-use Rattle.resp_wire.proofs.Turning.{if_err}
+use Rattle.resp_turns.proofs.Turning.{if_err}
 use Rattle.resp_wire.proofs.ask.send_all.Goals as goal
 
 pub returns-in-Err-clause-refusal : goal.returns-in-Err-clause-refusal

@@ -1,7 +1,7 @@
 use Rattle.std.proofs.Common.{◌+◌, length, sym, ap, subst, ◌∙◌, arith, length-drop}
 use Rattle.resp_wire.specs.Serving.{AnswersGiven, EndsAnswering}
 use Rattle.resp_wire.proofs.AnsweredParts.{ends_more, first_overfills, if_ok, ok_end, part_more, part_overfills}
-use Rattle.resp_wire.proofs.Turning.{spends_more}
+use Rattle.resp_turns.proofs.Turning.{spends_more}
 use Rattle.resp_wire.proofs.serve.answer.Goals as goal
 
 pub loop-answered-init : goal.loop-answered-init

@@ -7,7 +7,7 @@ use Rattle.resp_wire.specs.Serving.{StopsAnswering, StopsServing, is_of_reader, 
 use Rattle.resp_wire.proofs.Seated.{at_open, is_open, none_is_few, not_there, open_is_there, sent_few, sent_none, where_open}
 use Rattle.resp_wire.proofs.ServedTexts.{answered_at, answered_is_there, first_waits, goes_on, sent_is_there, serves_given, takes_at, uses_all, waits_more}
 use Rattle.resp_wire.proofs.ServeStops.{answering, memory_was_wanting, not_of_memory, stops_writing}
-use Rattle.resp_wire.proofs.Turning.{spends_nothing}
+use Rattle.resp_turns.proofs.Turning.{spends_nothing}
 use Rattle.resp_wire.proofs.serve.answer_part.Goals as goal
 
 pub returns-in-Err-clause-part : goal.returns-in-Err-clause-part

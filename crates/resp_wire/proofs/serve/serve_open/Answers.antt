@@ -5,15 +5,14 @@ use Rattle.std.proofs.Common.{rules, arith, ◌+◌, ◌-◌, ◌≤◌, drop, r
 use Rattle.resp_server.specs.Handling.{HasAnswered, WhereOpen}
 use Rattle.resp_server.specs.Hubs.{HubState}
 use Rattle.resp_wire.specs.Serving.{AnswersBefore, AnswersGiven, EndsAnswering, FailsServing, Serves, StopsServing, is_of_reader}
-use Rattle.resp_wire.specs.Pieces.{ReadsNothing}
-use Rattle.resp_wire.specs.Turns.{WereRead}
-use Rattle.resp_wire.proofs.AnsweredParts.{at_err, given_whole, may_leave, none_left, part_stops, rest_of, some_left, still_few, stops_overfull}
-use Rattle.resp_wire.proofs.Pieces.{all_read, gives, halted, only_pieces}
+use Rattle.resp_turns.specs.Pieces.{ReadsNothing}
+use Rattle.resp_turns.specs.Turns.{WereRead}
+use Rattle.resp_wire.proofs.AnsweredParts.{at_err, given_whole, may_leave, part_stops, still_few, stops_overfull}
+use Rattle.resp_turns.proofs.Pieces.{all_read, gives, halted, none_left, only_pieces, rest_of, some_left}
 use Rattle.resp_wire.proofs.Seated.{at_open, sent_few, sent_none, where_open}
 use Rattle.resp_wire.proofs.ServedTexts.{leaves_none, nothing_before, open_is, piece_serves, sent_is_open, serves_nothing}
 use Rattle.resp_wire.proofs.ServeStops.{fails_reading, no_turn_to_read, stops_reading, stops_writing}
-use Rattle.resp_wire.proofs.Exchanges.{spends_writes}
-use Rattle.resp_wire.proofs.Turning.{end_after, spends_both, spends_nothing}
+use Rattle.resp_turns.proofs.Turning.{end_after, spends_both, spends_nothing, spends_writes}
 use Rattle.resp_wire.proofs.serve.serve_open.Goals as goal
 
 pub returns-in-Err-clause-served : goal.returns-in-Err-clause-served

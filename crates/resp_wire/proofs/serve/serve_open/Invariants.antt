@@ -2,10 +2,10 @@ use Rattle.std.specs.List.{concat}
 use Rattle.std.proofs.Common.{◌≡◌, ◌+◌, ◌++◌, List, ℕ, [], length}
 use Rattle.resp_server.specs.Handling.{WhereOpen}
 use Rattle.resp_server.specs.Hubs.{WaitsAtMost}
-use Rattle.resp_wire.specs.Asking.{SpendsTurns}
-use Rattle.resp_wire.specs.Pieces.{GivesPieces}
+use Rattle.resp_turns.specs.Pieces.{GivesPieces}
 use Rattle.resp_wire.specs.Serving.{AnswersBefore, IsOpen, Serves}
 use Rattle.resp_wire.proofs.serve.serve_open.Given as goal
+use Rattle.resp_turns.specs.Turns.{SpendsTurns}
 
 abbrev pub invariant-loop-count : goal.invariant-loop-count
 invariant-loop-count g l = record {

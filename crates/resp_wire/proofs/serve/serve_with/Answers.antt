@@ -1,11 +1,11 @@
 use Rattle.std.proofs.Common.{rules, ◌+◌, Err, refl, [], subst, true, length}
 use Rattle.resp_wire.specs.Serving.{IsClosing, is_of_reader}
-use Rattle.resp_wire.proofs.Exchanges.{spends_no_turns, spends_writes}
 use Rattle.resp_wire.proofs.Seated.{closing_is_there, is_open, not_open, nowhere, sent_few}
 use Rattle.resp_wire.proofs.ServedTexts.{leaves_none, sent_is_closing}
 use Rattle.resp_wire.proofs.ServeStops.{answering, no_turn_to_answer}
-use Rattle.resp_wire.proofs.Pieces.{no_pieces, only_pieces}
+use Rattle.resp_turns.proofs.Pieces.{no_pieces, only_pieces}
 use Rattle.resp_wire.proofs.serve.serve_with.Goals as goal
+use Rattle.resp_turns.proofs.Turning.{spends_no_turns, spends_writes}
 
 pub returns-in_default-clause-served : goal.returns-in_default-clause-served
 returns-in_default-clause-served g c =

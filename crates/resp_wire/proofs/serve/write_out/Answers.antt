@@ -1,7 +1,7 @@
 use Rattle.std.proofs.Common.{◌<◌, arith, drop, length, length-drop, subst}
 use Rattle.resp_wire.specs.Serving.{HasSent}
 use Rattle.resp_wire.proofs.Seated.{all_dropped, sent_part}
-use Rattle.resp_wire.proofs.Turning.{if_err, if_ok}
+use Rattle.resp_turns.proofs.Turning.{if_err, if_ok}
 use Rattle.resp_wire.proofs.serve.write_out.Goals as goal
 
 pub returns-in-Ok-end-clause-sent : goal.returns-in-Ok-end-clause-sent

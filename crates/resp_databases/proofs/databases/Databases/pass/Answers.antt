@@ -18,8 +18,10 @@ invariant_of-self-2 g c =
     let hubs = i.list.items in
     let place = c.args.client.now.database in
     let hub = c.in-Some.hub.now in
-    let there : slice_get hubs place ≡ Some hub = slice_get_read hubs i.list.len place hub i.list.ok.0 (c.in-Some.ensures.variant.0 refl) c.in-Some.ensures.value in
-    let sent = subst (λ l. IsSent l c.args.command.now c.requires.sent.request) (sym (ap (λ (v : ServerState). v.limits) c.self.view_is)) c.requires.sent.sent in
+    let there : slice_get hubs place ≡ Some hub = slice_get_read hubs i.list.len place hub i.list.ok.0 (c.in-Some.ensures.variant.0 refl)
+    c.in-Some.ensures.value in
+    let sent = subst (λ l. IsSent l c.args.command.now c.requires.sent.request) (sym (ap (λ (v : ServerState). v.limits) c.self.view_is))
+    c.requires.sent.sent in
     record {
       count = length-set hubs place c.run.new.hub ∙ c.self.invariant.count;
       within = all_set (IsWithin i.limits) hubs place c.run.new.hub c.self.invariant.within
@@ -34,7 +36,8 @@ returns-clause-done g c request asked =
     let hubs = i.list.items in
     let place = c.args.client.now.database in
     let hub = c.in-Some.hub.now in
-    let there : slice_get hubs place ≡ Some hub = slice_get_read hubs i.list.len place hub i.list.ok.0 (c.in-Some.ensures.variant.0 refl) c.in-Some.ensures.value in
+    let there : slice_get hubs place ≡ Some hub = slice_get_read hubs i.list.len place hub i.list.ok.0 (c.in-Some.ensures.variant.0 refl)
+    c.in-Some.ensures.value in
     let sent = subst (λ l. IsSent l c.args.command.now request) (sym (ap (λ (v : ServerState). v.limits) c.self.view_is)) asked in
     let after = record c.args.client.now { out = c.run.new.out } in
     let server : ServerState = record { limits = i.limits; stores = stores_in (set hubs place c.run.new.hub); last = i.last } in
@@ -49,8 +52,10 @@ returns-clause-failed g c =
     let hubs = i.list.items in
     let place = c.args.client.now.database in
     let hub = c.in-Some.hub.now in
-    let there : slice_get hubs place ≡ Some hub = slice_get_read hubs i.list.len place hub i.list.ok.0 (c.in-Some.ensures.variant.0 refl) c.in-Some.ensures.value in
-    let sent = subst (λ l. IsSent l c.args.command.now c.requires.sent.request) (sym (ap (λ (v : ServerState). v.limits) c.self.view_is)) c.requires.sent.sent in
+    let there : slice_get hubs place ≡ Some hub = slice_get_read hubs i.list.len place hub i.list.ok.0 (c.in-Some.ensures.variant.0 refl)
+    c.in-Some.ensures.value in
+    let sent = subst (λ l. IsSent l c.args.command.now c.requires.sent.request) (sym (ap (λ (v : ServerState). v.limits) c.self.view_is))
+    c.requires.sent.sent in
     let after = record c.args.client.now { out = c.run.new.out } in
     undone_there c.run.result i.limits hubs i.last c.args.self.now hub c.run.new.hub c.args.client.now after c.self.view_is there refl
     (c.run.ensures.failed (all_at (IsWithin i.limits) hubs place hub there c.self.invariant.within) c.requires.sent.request sent)

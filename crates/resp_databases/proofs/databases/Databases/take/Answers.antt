@@ -10,7 +10,8 @@ loop-used-preserved g c =
     let within : l.used + c.in-Ok-Some.count ≤ length c.args.piece.now = grind arith in
     let is_open : l.client.closing ≡ false = search rules in
     let few : length l.client.out.items ≤ c.args.held = omega (arith, c.len.ensures.value) in
-    more_taken c.args.held c.args.self.now l.self c.take_one.new.self c.args.client.now l.client c.take_one.new.client c.args.piece.now l.used c.in-Ok-Some.count
+    more_taken c.args.held c.args.self.now l.self c.take_one.new.self c.args.client.now l.client c.take_one.new.client c.args.piece.now l.used
+    c.in-Ok-Some.count
     c.in-Ok-Some.field-0 l.invariant c.in-Ok-Some.field-0-is some within is_open few c.take_one.ensures.same_server c.in-Ok-Some.ensures.taken
 
 pub returns-in-Ok-None-clause-taken : goal.returns-in-Ok-None-clause-taken
@@ -36,7 +37,8 @@ returns-in-Ok-clause-taken g c =
 pub returns-in-Err-clause-failed : goal.returns-in-Err-clause-failed
 returns-in-Err-clause-failed g c =
     let l = c.loop-used in
-    failed_taken c.args.held c.args.self.now l.self c.take_one.new.self c.args.client.now l.client c.take_one.new.client c.reject.new.client c.args.piece.now l.used
+    failed_taken c.args.held c.args.self.now l.self c.take_one.new.self c.args.client.now l.client c.take_one.new.client c.reject.new.client
+    c.args.piece.now l.used
     l.invariant c.in-Err-Rejected.ensures.unchanged c.reject.ensures.closing c.in-Err.ensures.no_reply c.reject.ensures.nothing_begun
 
 pub returns-in-Err-OutOfMemory-clause-failed : goal.returns-in-Err-OutOfMemory-clause-failed
@@ -49,7 +51,8 @@ pub returns-then-client-clause-taken : goal.returns-then-client-clause-taken
 returns-then-client-clause-taken g c =
     let l = c.loop-used in
     of_whole c.args.held c.args.self.now l.self c.args.client.now c.shut-then-client.new.self c.args.piece.now
-    (ignored_taken c.args.held c.args.self.now l.self c.args.client.now l.client c.shut-then-client.new.self c.args.piece.now l.used l.invariant c.if-client.true
+    (ignored_taken c.args.held c.args.self.now l.self c.args.client.now l.client c.shut-then-client.new.self c.args.piece.now l.used l.invariant
+    c.if-client.true
     c.shut-then-client.ensures.closing c.shut-then-client.ensures.same_waiting c.shut-then-client.ensures.nothing_begun)
 
 pub returns-clause-taken : goal.returns-clause-taken

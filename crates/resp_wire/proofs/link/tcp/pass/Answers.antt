@@ -1,10 +1,10 @@
 use Rattle.std.proofs.Common.{◌≡◌, ℕ, subst}
 use Rattle.resp_value.specs.declared.cause.Cause.TheVariants as cause
 use Rattle.resp_wire.specs.Links.{cause_of_halt}
-use Rattle.resp_wire.specs.Turns.{Halts}
-use Rattle.resp_wire.specs.declared.turns.Halt.{Halt}
-use Rattle.resp_wire.specs.declared.turns.Halt.TheVariants as halt
-use Rattle.resp_wire.proofs.Turning.{if_err, spends_nothing}
+use Rattle.resp_turns.specs.Turns.{Halts}
+use Rattle.resp_turns.specs.declared.halt.Halt.{Halt}
+use Rattle.resp_turns.specs.declared.halt.Halt.TheVariants as halt
+use Rattle.resp_turns.proofs.Turning.{if_err, spends_nothing}
 use Rattle.resp_wire.proofs.link.tcp.pass.Goals as goal
 
 no_turn : (h : Halt) (failures failures' left : ℕ) → Halts failures failures' left h → cause_of_halt cause.Write h ≡ cause.TooManyTurns → left ≡ 0

@@ -1,6 +1,5 @@
 use Rattle.std.proofs.Common.{◌≡◌, ◌∙◌, ℕ, Result, Ok, Err, sym, subst, IfErr}
 use Rattle.resp_value.specs.declared.cause.Cause.TheVariants as cause
-use Rattle.resp_wire.specs.Asking.{SpendsAtMost}
 use Rattle.resp_wire.specs.Links.{IsOutOfTurns}
 use Rattle.resp_wire.specs.TcpLinks.{receiving_end, sending_end}
 use Rattle.resp_wire.specs.declared.link.Direction.{Direction}
@@ -9,6 +8,7 @@ use Rattle.resp_wire.specs.declared.link.LinkFault.{LinkFault}
 use Rattle.resp_wire.specs.declared.link.tcp.TcpLink.{TcpLink}
 use Rattle.resp_wire.proofs.link.tcp.TcpLinkLink.carry.Goals as goal
 use Rattle.resp_wire.proofs.link.tcp.TcpLinkLink.carry.Goals.{in-Ok, in-Err}
+use Rattle.resp_turns.specs.Turns.{SpendsAtMost}
 
 -- a count of failures says nothing of the turns
 turns_kept : (way : Direction) (old new : TcpLink) (n most : ℕ) (Out Out' : Type 0) → (Out' → Out) →

@@ -2,7 +2,7 @@
 -- reads.
 use Rattle.std.specs.Prelude.{◌≡◌, ℕ, ◌<◌, ◌≤◌, Bool, true, false, List, [], ◌∷◌, length, Option}
 use Rattle.resp_value.specs.Devices.{count_after}
-use Rattle.resp_wire.specs.Turns.{WereRead}
+use Rattle.resp_turns.specs.Turns.{WereRead}
 
 -- one read, which did not fail, returned this piece of at most so many bytes
 pub record GivesPiece {R : Type 0} (most : ℕ) (remaining : R → Option (List ℕ)) (calls failures : R → ℕ) (before after : R)

@@ -1,18 +1,19 @@
 -- Pieces, one after another.
 use Rattle.std.specs.List.{concat}
-use Rattle.std.proofs.Common.{◌≡◌, inl, inr, ℕ, ◌<◌, ◌≤◌, Bool, false, List, [], ◌∷◌, ◌++◌, length, take, Option, refl, sym, ap, subst, ◌∙◌, arith}
+use Rattle.std.proofs.Common.{◌≡◌, inl, inr, ℕ, ◌+◌, ◌-◌, ◌<◌, ◌≤◌, Bool, false, List, [], ◌∷◌, ◌++◌, length, take, drop, Option, refl, sym, ap, subst, ◌∙◌, append_assoc, arith}
 use Rattle.std.proofs.lemmas.Bool.{cases_lt}
-use Rattle.std.proofs.lemmas.List.{append-nil, length-append, length-take-le, take-append-le, take_all}
+use Rattle.std.proofs.lemmas.List.{append-nil, drop-take, length-append, length-take-le, take-append-drop, take-append-le, take_all}
 use Rattle.std.proofs.lemmas.List.Folds.{concat-append}
 use Rattle.resp_value.specs.Devices.{count_after}
-use Rattle.resp_wire.specs.Pieces.{GivesPiece, GivesPieces, ReadsNothing, ReadsPieces}
-use Rattle.resp_wire.specs.Turns.{WereRead, has_failed}
-use Rattle.resp_wire.specs.declared.turns.Halt.{Halt}
-use Rattle.resp_wire.specs.declared.turns.Halt.TheVariants.{Failed, NoTurn}
-use Rattle.resp_wire.proofs.Turning.{has_read_more, reads_none}
+use Rattle.resp_turns.specs.Pieces.{GivesPiece, GivesPieces, ReadsNothing, ReadsPieces}
+use Rattle.resp_turns.specs.Turns.{WereRead, has_failed}
+use Rattle.resp_turns.specs.declared.halt.Halt.{Halt}
+use Rattle.resp_turns.specs.declared.halt.Halt.TheVariants.{Failed, NoTurn}
+use Rattle.resp_turns.proofs.Turning.{has_read_more, reads_none}
 
 -- nothing was read
-pub no_pieces : {R : Type 0} → (most : ℕ) (remaining : R → Option (List ℕ)) (calls failures : R → ℕ) (r : R) → ReadsPieces most remaining calls failures r r [] false
+pub no_pieces : {R : Type 0} → (most : ℕ) (remaining : R → Option (List ℕ)) (calls failures : R → ℕ) (r : R) →
+    ReadsPieces most remaining calls failures r r [] false
 no_pieces most remaining calls failures r = record { between = r; given = refl; over = refl }
 
 -- no read was made after these pieces
@@ -68,4 +69,26 @@ before_more P pieces piece each all k less = elim (cases_lt k (length pieces)) a
   | inl below ↦ subst P (sym (take-append-le k pieces (piece ∷ []) (omega (arith, below)))) (each k below)
   | inr most ↦ subst P
       (sym (take-append-le k pieces (piece ∷ []) (omega (arith, less, length-append pieces (piece ∷ []))) ∙ take_all k pieces (omega (arith, most)))) all
+]
+
+-- The rest of a piece, of which the first bytes were used.
+
+pub none_left : (count used : ℕ) (bytes : List ℕ) → used ≡ count → take (count - used) (drop used bytes) ≡ []
+none_left count used bytes all = let none : count - used ≡ 0 = omega (arith, all) in ap (λ n. take n (drop used bytes)) none
+
+pub rest_of : (pieces : List (List ℕ)) (bytes : List ℕ) (count used : ℕ) → used ≤ count →
+    concat (pieces ++ take count bytes ∷ []) ≡ (concat pieces ++ take used (take count bytes)) ++ take (count - used) (drop used bytes)
+rest_of pieces bytes count used within =
+    let piece = take count bytes in
+    let whole : used + (count - used) ≡ count = omega (arith, within) in
+    let rest : drop used piece ≡ take (count - used) (drop used bytes) =
+    ap (λ n. drop used (take n bytes)) (sym whole) ∙ drop-take used (count - used) bytes in
+    concat_more pieces piece ∙ ap (λ l. concat pieces ++ l) (sym (take-append-drop used piece) ∙ ap (λ l. take used piece ++ l) rest) ∙
+    sym (append_assoc (concat pieces) (take used piece) (take (count - used) (drop used bytes)))
+
+-- where bytes are left, not all of the piece was used
+pub some_left : (count used : ℕ) (bytes : List ℕ) → (take (count - used) (drop used bytes) ≡ [] → ⊥) → used < count
+some_left count used bytes some = elim (cases_lt used count) [
+  | inl less ↦ less
+  | inr all ↦ absurd (some (let none : count - used ≡ 0 = omega (arith, all) in ap (λ n. take n (drop used bytes)) none))
 ]

@@ -1,8 +1,8 @@
--- The results of the reads and writes of one end.
+-- The results of reads and writes, of which each is a turn.
 use Rattle.std.specs.Prelude.{◌≡◌, ℕ, ◌+◌, ◌<◌, Bool, true, false, List, [], ◌++◌, Option, None, Some, Result, Ok, Err}
 use Rattle.resp_value.specs.Devices.{HasRisen, count_after}
-use Rattle.resp_wire.specs.declared.turns.Halt.{Halt}
-use Rattle.resp_wire.specs.declared.turns.Halt.TheVariants.{Failed, NoTurn}
+use Rattle.resp_turns.specs.declared.halt.Halt.{Halt}
+use Rattle.resp_turns.specs.declared.halt.Halt.TheVariants.{Failed, NoTurn}
 
 -- Bytes were read: if the device describes its bytes, they are the first of the bytes that were left.
 abbrev pub WereRead : Option (List ℕ) → Option (List ℕ) → List ℕ → Type 0
@@ -35,3 +35,14 @@ is_failed (Err halt) = has_failed halt
 abbrev pub TellsEnd : Option (List ℕ) → Option (List ℕ) → Type 0
 TellsEnd None after = Unit {0}
 TellsEnd (Some left) after = after ≡ Some []
+
+-- writes and reads were made, and these turns are left
+pub record SpendsTurns (writes writes' reads reads' turns left : ℕ) : Type 0 where
+  pub between : ℕ
+  pub written : Spends writes writes' turns between
+  pub read : Spends reads reads' between left
+
+-- At most this many writes and reads were made. If the call is out of turns, no turn is left.
+abbrev pub SpendsAtMost : ℕ → ℕ → ℕ → ℕ → ℕ → Type 0 → Type 0
+SpendsAtMost writes writes' reads reads' turns IsOutOfTurns =
+    (left : ℕ) × SpendsTurns writes writes' reads reads' turns left × (IsOutOfTurns → left ≡ 0)

@@ -1,7 +1,7 @@
 use Rattle.std.proofs.Common.{◌≡◌, ◌<◌, ◌≤◌, length, take}
 use Rattle.resp_value.specs.Devices.{Appends}
-use Rattle.resp_wire.specs.Turns.{Spends}
-use Rattle.resp_wire.proofs.turns.write_text.Given as goal
+use Rattle.resp_turns.specs.Turns.{Spends}
+use Rattle.resp_turns.proofs.write.write_text.Given as goal
 
 abbrev pub invariant-loop-count : goal.invariant-loop-count
 invariant-loop-count g l = record {

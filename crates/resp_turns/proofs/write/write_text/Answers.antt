@@ -1,8 +1,8 @@
 use Rattle.std.proofs.Common.{rules, ◌-◌, ap, arith, length, subst, take}
 use Rattle.std.proofs.lemmas.List.{length-drop}
 use Rattle.resp_value.specs.Devices.{Appends}
-use Rattle.resp_wire.proofs.Turning.{appends_part, spends_one}
-use Rattle.resp_wire.proofs.turns.write_text.Goals as goal
+use Rattle.resp_turns.proofs.Turning.{appends_part, spends_one}
+use Rattle.resp_turns.proofs.write.write_text.Goals as goal
 
 pub loop-count-preserved : goal.loop-count-preserved
 loop-count-preserved g c =

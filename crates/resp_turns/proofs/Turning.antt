@@ -6,8 +6,7 @@ use Rattle.std.proofs.lemmas.List.{append-nil, take-append-drop}
 use Rattle.std.proofs.Math.Seq.{take-add}
 use Rattle.resp_value.specs.Devices.{Appends, HasRisen, Reads, ReadsFront, count_after, failures_after, last_count}
 use Rattle.resp_value.specs.declared.device.DeviceFault.{DeviceFault}
-use Rattle.resp_wire.specs.Asking.{SpendsTurns}
-use Rattle.resp_wire.specs.Turns.{WereRead, Spends, TellsEnd}
+use Rattle.resp_turns.specs.Turns.{WereRead, Spends, SpendsTurns, TellsEnd}
 
 -- Failures.
 
@@ -65,6 +64,12 @@ spends_bounded calls calls' turns turns' s = elim (cases_lt 0 s.count) as (λ _.
   | inl any ↦ omega (arith, s.some any, s.spent)
   | inr none ↦ let zero : s.count ≡ 0 = omega (arith, none) in omega (arith, s.none zero, s.spent)
 ]
+
+pub spends_no_turns : (writes reads turns : ℕ) → SpendsTurns writes writes reads reads turns turns
+spends_no_turns writes reads turns = record { between = turns; written = spends_nothing writes turns; read = spends_nothing reads turns }
+
+pub spends_writes : (writes writes' reads turns left : ℕ) → Spends writes writes' turns left → SpendsTurns writes writes' reads reads turns left
+spends_writes writes writes' reads turns left w = record { between = left; written = w; read = spends_nothing reads left }
 
 -- reads and then writes more
 pub spends_both : (writes writes' writes'' reads reads' reads'' turns turns' turns'' left : ℕ) → SpendsTurns writes writes' reads reads' turns turns' →
