@@ -8,9 +8,19 @@ use resp_tap::filtered::watch_filtered;
 use resp_tap::json_tap::watch_json;
 use resp_tap::watch::Side;
 use resp_tap::way::{Visited, Way};
-use resp_tap::{CountedTap, Filter, FilteredTap, JsonTap, Moment, Printing};
+use resp_tap::{CountedTap, Filter, FilteredTap, JsonTap, Moment, Printing, ShownPart};
 use resp_value::{Limits, MemorySink, MemorySource};
 use std::alloc::{AllocError, Global};
+
+/// The lines of a command.
+const COMMAND: &[u8] = b"client 1 command 1\n  \"a\"\n";
+
+/// The lines of a reply with a text of 20 bytes, of which 12 are shown.
+const LONG_REPLY: &[u8] =
+    b"client 1 reply 1\n  array\n    bulk \"abcdefghijkl\" .. 20\n    bulk \"c\" 1\n  end 2\n";
+
+/// The beginning of the line of a command or a reply for which memory is out.
+const REFUSED: &[u8] = b"client 1 refused OutOfMemory at byte ";
 
 /// The line of JSON of a command.
 const COMMAND_JSON: &[u8] =
@@ -55,9 +65,8 @@ pub(crate) fn of_filtered_tap(alloc: Global) -> Outcome {
     let printing = Printing {
         client: 1,
         shows_passwords: false,
-        shown: None,
     };
-    let mut tap = FilteredTap::new(alloc, &Limits::standard());
+    let mut tap = FilteredTap::new(alloc, &Limits::standard(), ShownPart::all());
     let Ok(mut text) = MemorySink::new(alloc, 4_096, 4_096) else {
         return Outcome::OutOfMemory;
     };
@@ -70,7 +79,7 @@ pub(crate) fn of_filtered_tap(alloc: Global) -> Outcome {
         }
     }
     let text = text.bytes();
-    if text.starts_with(b"client 1 refused OutOfMemory at byte ") {
+    if text.starts_with(REFUSED) {
         return Outcome::OutOfMemory;
     }
     if text == b"client 1 command 1\n  ..\nclient 1 reply 1\n  error \"E\" 1\n".as_slice() {
@@ -79,6 +88,34 @@ pub(crate) fn of_filtered_tap(alloc: Global) -> Outcome {
     Outcome::of(
         text == b"client 1 command 1\n  \"a\"\nclient 1 reply 1\n  error \"E\" 1\n".as_slice(),
     )
+}
+
+/// A reply in two pieces with a text of 20 bytes, of which 12 are shown.
+pub(crate) fn of_long_reply(alloc: Global) -> Outcome {
+    let filter = Filter::all(alloc);
+    let printing = Printing {
+        client: 1,
+        shows_passwords: false,
+    };
+    let mut tap = FilteredTap::new(alloc, &Limits::standard(), ShownPart::first(12));
+    let Ok(mut text) = MemorySink::new(alloc, 4_096, 4_096) else {
+        return Outcome::OutOfMemory;
+    };
+    for (side, piece) in [
+        (Side::Client, b"*1\r\n$1\r\na\r\n".as_slice()),
+        (Side::Server, b"*2\r\n$20\r\nabcdefghij".as_slice()),
+        (Side::Server, b"klmnopqrst\r\n$1\r\nc\r\n".as_slice()),
+    ] {
+        if watch_filtered(&mut tap, &filter, printing, side, piece, None, &mut text).is_err() {
+            return Outcome::Wrong;
+        }
+    }
+    let text = text.bytes();
+    let after_command = text.get(COMMAND.len()..).unwrap_or(b"".as_slice());
+    if text.starts_with(REFUSED) || after_command.starts_with(REFUSED) {
+        return Outcome::OutOfMemory;
+    }
+    Outcome::of(text.starts_with(COMMAND) && after_command == LONG_REPLY)
 }
 
 /// A command and its reply that are printed as JSON, the reply with the name of the command.
@@ -148,7 +185,6 @@ fn count_piece(
     let printing = Printing {
         client: 1,
         shows_passwords: false,
-        shown: None,
     };
     let now = Moment {
         of_day: 0,

@@ -102,7 +102,7 @@ fn parts_of_values(alloc: Global) -> [Part; 27] {
 }
 
 /// Runs the parts of the programs that serve or forward, and returns their outcomes in order.
-fn parts_of_connections(alloc: Global) -> [Part; 34] {
+fn parts_of_connections(alloc: Global) -> [Part; 35] {
     [
         ("databases new", hosting::of_new(alloc)),
         ("databases lines", hosting::of_lines(alloc)),
@@ -122,6 +122,7 @@ fn parts_of_connections(alloc: Global) -> [Part; 34] {
         ("take reply", frames::of_join(alloc)),
         ("way", forwarding::of_way(alloc)),
         ("filtered tap", forwarding::of_filtered_tap(alloc)),
+        ("tap of a long reply", forwarding::of_long_reply(alloc)),
         ("json tap", forwarding::of_json_tap(alloc)),
         ("counted tap", forwarding::of_counted_tap(alloc)),
         ("stream of a capture", capturing::of_stream(alloc)),

@@ -12,7 +12,7 @@ use resp_tap::filtered::watch_filtered;
 use resp_tap::screen::Screen;
 use resp_tap::stamp::Stamp;
 use resp_tap::watch::Side;
-use resp_tap::{CountedTap, Filter, FilteredTap, Moment, Printing};
+use resp_tap::{CountedTap, Filter, FilteredTap, Moment, Printing, ShownPart};
 use resp_value::Limits;
 use std::alloc::Global;
 use std::str;
@@ -30,21 +30,28 @@ pub(crate) struct Tapping {
     /// The time at which the next bytes pass, if the row sets a time.
     now: Option<Moment>,
     printing: Printing,
+    /// How many bytes of each text are printed.
+    shown: ShownPart,
     filter: Filter,
+}
+
+/// Returns a tap of a new connection.
+fn tap_of(alloc: Global, shown: ShownPart) -> FilteredTap {
+    FilteredTap::new(alloc, &Limits::standard().with_doubles(true), shown)
 }
 
 impl Subject for Tapping {
     fn new(alloc: Global) -> Result<Tapping> {
         Ok(Tapping {
             alloc,
-            tap: FilteredTap::new(alloc, &Limits::standard().with_doubles(true)),
+            tap: tap_of(alloc, ShownPart::all()),
             counting: None,
             now: None,
             printing: Printing {
                 client: 1,
                 shows_passwords: false,
-                shown: None,
             },
+            shown: ShownPart::all(),
             filter: Filter::all(alloc),
         })
     }
@@ -61,10 +68,7 @@ impl Subject for Tapping {
                 self.printing.shows_passwords = true;
                 Ok(())
             }
-            "shown" => {
-                self.printing.shown = Some(given.parse()?);
-                Ok(())
-            }
+            "shown" => self.set_shown(given),
             "errors" => {
                 self.filter.errors = true;
                 Ok(())
@@ -91,7 +95,14 @@ impl Subject for Tapping {
 impl Tapping {
     /// `tap LIMITS` begins a tap of a new connection.
     fn renew(&mut self, limits: &str) -> Result<()> {
-        self.tap = FilteredTap::new(self.alloc, &bounds::limits(limits)?);
+        self.tap = FilteredTap::new(self.alloc, &bounds::limits(limits)?, self.shown);
+        Ok(())
+    }
+
+    /// `shown BYTES` begins a tap of a new connection that shows this many bytes of each text.
+    fn set_shown(&mut self, bytes: &str) -> Result<()> {
+        self.shown = ShownPart::first(bytes.parse()?);
+        self.tap = tap_of(self.alloc, self.shown);
         Ok(())
     }
 
@@ -136,8 +147,7 @@ impl Tapping {
 
     /// `arrays` taps a new connection, of which no line is a command.
     fn read_arrays(&mut self) -> Result<()> {
-        let limits = Limits::standard().with_doubles(true);
-        self.tap = FilteredTap::new(self.alloc, &limits).with_lines(false);
+        self.tap = tap_of(self.alloc, self.shown).with_lines(false);
         Ok(())
     }
 

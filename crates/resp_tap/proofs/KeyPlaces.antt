@@ -10,7 +10,6 @@ use Rattle.resp_value.specs.Numbers.{IsNumber}
 use Rattle.resp_commands.specs.Keys.{HasCount, IsAmong, IsCountedKey}
 use Rattle.resp_commands.specs.Rows.{HasRow}
 use Rattle.resp_commands.specs.declared.command.Command.{Command}
-use Rattle.resp_commands.specs.declared.keys.Places.{Places}
 use Rattle.resp_tap.specs.Keyed.{HasKeyLike, IsFirstArgument, IsKeyed, IsUnkeyed, name_in}
 use Rattle.resp_commands.specs.Sorts.{StoresAfter, StoresLast, sort_argument_count}
 use Rattle.resp_commands.specs.Migrates.{HasKeysAfter, migrate_argument_count}

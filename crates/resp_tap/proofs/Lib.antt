@@ -2,6 +2,8 @@ pub mod SecretWords
 pub mod Visits
 pub mod NoticeMembers
 pub mod LineLemmas
+pub mod KeptLemmas
+pub mod JsonLemmas
 pub mod TimeLemmas
 pub mod Streams
 pub mod Counting

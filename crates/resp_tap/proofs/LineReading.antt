@@ -126,9 +126,9 @@ line_told unique now old new line text words used (seen.Refused cause at where')
   place = sees.place;
   after = sees.after;
 }
-line_told unique now old new line text words used (seen.Reply number x) some are same spelled times (inl sees) = absurd sees
-line_told unique now old new line text words used (seen.Push items) some are same spelled times (inl sees) = absurd sees
-line_told unique now old new line text words used (seen.Value x) some are same spelled times (inl sees) = absurd sees
+line_told unique now old new line text words used (seen.Reply number kept) some are same spelled times (inl sees) = absurd sees
+line_told unique now old new line text words used (seen.Push members lengths) some are same spelled times (inl sees) = absurd sees
+line_told unique now old new line text words used (seen.Value kept) some are same spelled times (inl sees) = absurd sees
 line_told unique now old new line text words used (seen.Refused cause at where') some are same spelled times (inr lacks) = record {
   why = inr (inl (inl (ap refused_at lacks.1.told)));
   place = ap refused_in lacks.1.told;
@@ -142,12 +142,12 @@ line_told unique now old new line text words used (seen.Command number words') s
     absurd (lacks_none (tap_state old.tap) new.tap text used (seen.Command number words') refl lacks.1)
 line_told unique now old new line text words used (seen.NotCommand number) some are same spelled times (inr lacks) =
     absurd (lacks_none (tap_state old.tap) new.tap text used (seen.NotCommand number) refl lacks.1)
-line_told unique now old new line text words used (seen.Reply number x) some are same spelled times (inr lacks) =
-    absurd (lacks_none (tap_state old.tap) new.tap text used (seen.Reply number x) refl lacks.1)
-line_told unique now old new line text words used (seen.Push items) some are same spelled times (inr lacks) =
-    absurd (lacks_none (tap_state old.tap) new.tap text used (seen.Push items) refl lacks.1)
-line_told unique now old new line text words used (seen.Value x) some are same spelled times (inr lacks) =
-    absurd (lacks_none (tap_state old.tap) new.tap text used (seen.Value x) refl lacks.1)
+line_told unique now old new line text words used (seen.Reply number kept) some are same spelled times (inr lacks) =
+    absurd (lacks_none (tap_state old.tap) new.tap text used (seen.Reply number kept) refl lacks.1)
+line_told unique now old new line text words used (seen.Push members lengths) some are same spelled times (inr lacks) =
+    absurd (lacks_none (tap_state old.tap) new.tap text used (seen.Push members lengths) refl lacks.1)
+line_told unique now old new line text words used (seen.Value kept) some are same spelled times (inr lacks) =
+    absurd (lacks_none (tap_state old.tap) new.tap text used (seen.Value kept) refl lacks.1)
 
 -- ---- the bytes of a line
 
@@ -196,9 +196,9 @@ by_end now lines lines' old new piece line used seen.Passed so ends = ends
 by_end now lines lines' old new piece line used (seen.Command number words) so ends = ends
 by_end now lines lines' old new piece line used (seen.NotCommand number) so ends = ends
 by_end now lines lines' old new piece line used (seen.Refused cause at where') so ends = ends
-by_end now lines lines' old new piece line used (seen.Reply number x) so ends = ends
-by_end now lines lines' old new piece line used (seen.Push items) so ends = ends
-by_end now lines lines' old new piece line used (seen.Value x) so ends = ends
+by_end now lines lines' old new piece line used (seen.Reply number kept) so ends = ends
+by_end now lines lines' old new piece line used (seen.Push members lengths) so ends = ends
+by_end now lines lines' old new piece line used (seen.Value kept) so ends = ends
 
 -- a line ends in the piece
 pub line_ended : (now : Option Moment) (lines lines' : Lines) (old new : TimedTap) (piece line : List ℕ) (end used : ℕ) (what : Seen) →

@@ -15,8 +15,6 @@ use Rattle.resp_tap.specs.declared.line.Due.{Due}
 use Rattle.resp_tap.specs.declared.moment.Moment.{Moment}
 use Rattle.resp_tap.specs.declared.notice.Notice.{Notice}
 use Rattle.resp_value.specs.Data.{Datum}
-use Rattle.resp_value.specs.Values.{datum_of}
-use Rattle.resp_value.specs.declared.value.Value.TheVariants as value
 use Rattle.resp_tap.specs.declared.seen.Seen.{Seen}
 use Rattle.resp_tap.specs.declared.seen.Seen.TheVariants as seen
 use Rattle.resp_tap.specs.declared.tap.Tap.{Tap}
@@ -66,9 +64,9 @@ request_waits s new front piece used (seen.Command number words) h =
     (sent_by s.line.is_lost (s.commands + 1) (command_kind words) s.line refl)
 request_waits s new front piece used (seen.NotCommand number) h = waits_as s (tap_state new) (ap (λ (z : TapState). z.line) h.after)
 request_waits s new front piece used (seen.Refused cause at where') h = waits_as s (tap_state new) (ap (λ (z : TapState). z.line) h.after)
-request_waits s new front piece used (seen.Reply number x) h = absurd h
-request_waits s new front piece used (seen.Push items) h = absurd h
-request_waits s new front piece used (seen.Value x) h = absurd h
+request_waits s new front piece used (seen.Reply number kept) h = absurd h
+request_waits s new front piece used (seen.Push members lengths) h = absurd h
+request_waits s new front piece used (seen.Value kept) h = absurd h
 
 -- the times where as many commands wait
 same_after : (now n : ℕ) (times : List ℕ) → times_after now n n times ≡ times
@@ -156,9 +154,9 @@ value_seen_waits s t x after = subst (λ (l : LineState). WaitsNoMore l (length 
 answer_waits : (s : TapState) (new : Tap) (front piece : List ℕ) (used : ℕ) (what : Seen) → SeesValue s new front piece used what →
     WaitsNoMore (tap_state new).line (length s.line.due)
 answer_waits s new front piece used seen.Nothing h = same_waits s (tap_state new) (ap (λ (z : TapState). z.line) h.after)
-answer_waits s new front piece used (seen.Reply number x) h = value_seen_waits s (tap_state new) (datum_of x) (ap (λ (z : TapState). z.line) h.0.after)
-answer_waits s new front piece used (seen.Push items) h = value_seen_waits s (tap_state new) (datum_of (value.Push items)) (ap (λ (z : TapState). z.line) h.0.after)
-answer_waits s new front piece used (seen.Value x) h = value_seen_waits s (tap_state new) (datum_of x) (ap (λ (z : TapState). z.line) h.0.after)
+answer_waits s new front piece used (seen.Reply number kept) h = value_seen_waits s (tap_state new) h.whole (ap (λ (z : TapState). z.line) h.after)
+answer_waits s new front piece used (seen.Push members lengths) h = value_seen_waits s (tap_state new) h.whole (ap (λ (z : TapState). z.line) h.after)
+answer_waits s new front piece used (seen.Value kept) h = value_seen_waits s (tap_state new) h.whole (ap (λ (z : TapState). z.line) h.after)
 answer_waits s new front piece used (seen.Refused cause at where') h = same_waits s (tap_state new) (ap (λ (z : TapState). z.line) h.after)
 answer_waits s new front piece used seen.Passed h = absurd h
 answer_waits s new front piece used (seen.Command number words) h = absurd h
@@ -196,9 +194,9 @@ keeps_times (Some now) old new keeps = keeps now.steady
 unheard_waits : (s : TapState) (new : Tap) (front piece : List ℕ) (used : ℕ) (what : Seen) → SeesValue s new front piece used what → is_heard what ≡ false →
     length (tap_state new).line.due ≡ length s.line.due
 unheard_waits s new front piece used seen.Nothing h un = ap (λ (z : TapState). length z.line.due) h.after
-unheard_waits s new front piece used (seen.Reply number x) h un = absurd (cc)
-unheard_waits s new front piece used (seen.Push items) h un = absurd (cc)
-unheard_waits s new front piece used (seen.Value x) h un = absurd (cc)
+unheard_waits s new front piece used (seen.Reply number kept) h un = absurd (cc)
+unheard_waits s new front piece used (seen.Push members lengths) h un = absurd (cc)
+unheard_waits s new front piece used (seen.Value kept) h un = absurd (cc)
 unheard_waits s new front piece used (seen.Refused cause at where') h un = ap (λ (z : TapState). length z.line.due) h.after
 unheard_waits s new front piece used seen.Passed h un = absurd h
 unheard_waits s new front piece used (seen.Command number words) h un = absurd h

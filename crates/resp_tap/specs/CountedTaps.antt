@@ -1,12 +1,12 @@
 -- The results that a tap counts for the pieces of either side, and what is printed of them.
-use Rattle.std.specs.Prelude.{◌≡◌, ℕ, Bool, true, false, ◌&&◌, List, [], ◌∷◌, drop, Option, None, Some, Result, Ok, if◌then◌else◌}
+use Rattle.std.specs.Prelude.{◌≡◌, ℕ, Bool, List, [], ◌∷◌, drop, Option, None, Some, Result, Ok, if◌then◌else◌}
 use Rattle.resp_counts.specs.declared.row.Row.{Row}
 use Rattle.resp_print.specs.Printed.{Prints}
 use Rattle.resp_print.specs.declared.print_error.PrintError.{PrintError}
 use Rattle.resp_tap.specs.Counting.{CountsSeen}
 use Rattle.resp_tap.specs.Filters.{keeps_client}
 use Rattle.resp_tap.specs.Lined.{SeesLined}
-use Rattle.resp_tap.specs.Texts.{levels_of, seen_text}
+use Rattle.resp_tap.specs.Texts.{levels_of, refused_text}
 use Rattle.resp_tap.specs.Times.{stamp_of}
 use Rattle.resp_tap.specs.Watches.{first_error}
 use Rattle.resp_tap.specs.declared.counted.CountedTap.{CountedTap}
@@ -14,19 +14,12 @@ use Rattle.resp_tap.specs.declared.filter.Filter.{Filter}
 use Rattle.resp_tap.specs.declared.moment.Moment.{Moment}
 use Rattle.resp_tap.specs.declared.print.Printing.{Printing}
 use Rattle.resp_tap.specs.declared.seen.Seen.{Seen}
-use Rattle.resp_tap.specs.declared.seen.Seen.TheVariants as seen
 use Rattle.resp_tap.specs.declared.watch.Side.{Side}
-
--- whether this is an error, after which the bytes of its side are not read
-abbrev pub is_refused : Seen → Bool
-is_refused (seen.NotCommand number) = true
-is_refused (seen.Refused cause at where') = true
-is_refused _ = false
 
 -- the text of an error, if the filter lets lines about the client through; no text of other results
 abbrev pub counted_text : Filter → Printing → Moment → Seen → List ℕ
-counted_text f printing now what = if keeps_client f printing.client && is_refused what
-    then seen_text printing (stamp_of (Some now) None what) what else []
+counted_text f printing now what = if keeps_client f printing.client
+    then refused_text printing.client (stamp_of (Some now) None what) what else []
 
 -- The first result in a piece: it is reported as without counting, and that of a line too. It is counted.
 pub record SeesCounted (f : Filter) (client : ℕ) (side : Side) (now : Moment) (old new : CountedTap) (piece : List ℕ)

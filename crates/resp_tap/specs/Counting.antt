@@ -55,7 +55,7 @@ pub record AsksCall (f : Filter) (client : ℕ) (words : List (List ℕ)) (befor
 
 -- whether a result is a reply that is an error
 abbrev pub is_error : Seen → Bool
-is_error (seen.Reply number x) = is_refusal (datum_of x)
+is_error (seen.Reply number kept) = is_refusal (datum_of kept.value)
 is_error _ = false
 
 -- a command of so many bytes, with what was heard in reply

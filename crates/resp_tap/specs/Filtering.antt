@@ -1,9 +1,12 @@
 -- The results that a filtered tap reports and prints for the pieces of either side.
 use Rattle.std.specs.Prelude.{◌≡◌, ℕ, Bool, List, [], ◌∷◌, drop, slice_get, Option, Result, Ok}
+use Rattle.resp_value.specs.Data.{Datum}
 use Rattle.resp_print.specs.Printed.{Prints}
 use Rattle.resp_print.specs.declared.print_error.PrintError.{PrintError}
 use Rattle.resp_tap.specs.Lines.{asked_at}
 use Rattle.resp_tap.specs.Noted.{IsChosen, NotesAfter, filtered_text}
+use Rattle.resp_tap.specs.Options.{options_of}
+use Rattle.resp_tap.specs.SeenOf.{IsKeptIn}
 use Rattle.resp_tap.specs.Taps.{tap_state}
 use Rattle.resp_tap.specs.Texts.{levels_of}
 use Rattle.resp_tap.specs.Times.{HasTimes, stamp_of, waits_in}
@@ -28,7 +31,7 @@ pub record SeesFiltered (filter : Filter) (printing : Printing) (side : Side) (n
     (piece : List ℕ) (used : ℕ) (what : Seen) (is_line is_chosen : Bool) : Type 0 where
   pub seen : SeesLined now side old.lines new.lines old.timed new.timed piece used what is_line
   pub chosen : IsChosen filter (note_of old) what is_chosen
-  pub notes : NotesAfter filter printing now is_line is_chosen what (waits_in old.timed) (waits_in new.timed) old.notes.items
+  pub notes : NotesAfter filter (options_of printing old.timed.tap) now is_line is_chosen what (waits_in old.timed) (waits_in new.timed) old.notes.items
       new.notes.items
   pub name : naming_of new.name ≡ named_after what (naming_of old.name)
 
@@ -40,8 +43,9 @@ pub record PrintsFiltered (filter : Filter) (printing : Printing) (now : Option 
   pub asked : Option ℕ
   pub of_command : (times : List ℕ) → HasTimes old.timed times →
       asked ≡ slice_get times (asked_at (tap_state old.timed.tap).line.due)
-  pub text : Prints before after failures failures' printed
-      (filtered_text filter printing is_line is_chosen (note_of old) (stamp_of now asked what) what) (levels_of what)
+  pub text : (whole : Datum) → IsKeptIn (tap_state old.timed.tap).shown whole what →
+      Prints before after failures failures' printed (filtered_text filter (options_of printing old.timed.tap) is_line is_chosen
+      (note_of old) (stamp_of now asked what) whole what) (levels_of what)
 
 -- These are all results in a piece, in order. Each result is printed before the next one is read. The first error of
 -- printing is told.

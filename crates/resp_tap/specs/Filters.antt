@@ -72,9 +72,9 @@ abbrev pub keeps_seen : Filter → Bool → Option ℕ → Seen → Bool
 keeps_seen f is_chosen waited seen.Nothing = false
 keeps_seen f is_chosen waited seen.Passed = false
 keeps_seen f is_chosen waited (seen.Command number words) = not (is_by_reply f) && is_chosen
-keeps_seen f is_chosen waited (seen.Reply number x) = is_chosen && keeps_answer f (is_refusal (datum_of x)) waited
-keeps_seen f is_chosen waited (seen.Push items) = keeps_loose f false
-keeps_seen f is_chosen waited (seen.Value x) = keeps_loose f (is_refusal (datum_of x))
+keeps_seen f is_chosen waited (seen.Reply number kept) = is_chosen && keeps_answer f (is_refusal (datum_of kept.value)) waited
+keeps_seen f is_chosen waited (seen.Push members lengths) = keeps_loose f false
+keeps_seen f is_chosen waited (seen.Value kept) = keeps_loose f (is_refusal (datum_of kept.value))
 keeps_seen f is_chosen waited (seen.NotCommand number) = true
 keeps_seen f is_chosen waited (seen.Refused cause at where') = true
 

@@ -1,11 +1,10 @@
 -- The lines of JSON that are printed in place of text.
-use Rattle.std.specs.Prelude.{ℕ, Bool, true, false, List, [], ◌∷◌, ◌++◌, length, take, nat_le, ◌&&◌, Option, None, Some, if◌then◌else◌, codes, decimal, slice_index_or}
+use Rattle.std.specs.Prelude.{ℕ, Bool, List, [], ◌∷◌, ◌++◌, length, take, nat_le, ◌&&◌, Option, None, Some, if◌then◌else◌, codes, decimal, slice_index_or}
 use Rattle.resp_json.specs.Json.{text_json}
 use Rattle.resp_value.specs.Attributes.{without_attributes}
 use Rattle.resp_value.specs.Causes.{name_of}
 use Rattle.resp_value.specs.Data.{Array, Set, Map, Attr, Push, Scalar, Null, Int, Simple, Error, Double, Bulk, BulkError, Verbatim, Big, Datum, scalar, aggregate}
 use Rattle.resp_value.specs.Data as d
-use Rattle.resp_value.specs.Values.{datum_of}
 use Rattle.resp_tap.specs.Called.{command_name}
 use Rattle.resp_tap.specs.Digits.{time_text}
 use Rattle.resp_tap.specs.declared.end.Cut.{Cut}
@@ -150,16 +149,17 @@ abbrev pub refused_json : Facts → List ℕ → ℕ → Place → List ℕ
 refused_json facts name at where' = front_json facts.client (codes ",\"kind\":\"refused\",\"cause\":\"") ++
     (name ++ (number_json (codes "\",\"at\":") at ++ (place_json where' ++ end_json facts.of_day)))
 
--- the line of a result. The name is that of the command that is answered.
-abbrev pub seen_json : Facts → List ℕ → Seen → List ℕ
-seen_json facts name seen.Nothing = []
-seen_json facts name seen.Passed = []
-seen_json facts name (seen.Command number words) = command_json facts number (command_name words) (length words)
-seen_json facts name (seen.Reply number x) = reply_json facts number name (datum_of x)
-seen_json facts name (seen.Push items) = push_json facts
-seen_json facts name (seen.Value x) = unpaired_json facts (datum_of x)
-seen_json facts name (seen.NotCommand number) = refused_json facts (codes "NotCommand") 0 (place.Command number)
-seen_json facts name (seen.Refused cause at where') = refused_json facts (name_of cause) at where'
+-- The line of a result; that of a result of the server is the line of this whole value. The name is that of the command
+-- that is answered.
+abbrev pub seen_json : Facts → List ℕ → Datum → Seen → List ℕ
+seen_json facts name whole seen.Nothing = []
+seen_json facts name whole seen.Passed = []
+seen_json facts name whole (seen.Command number words) = command_json facts number (command_name words) (length words)
+seen_json facts name whole (seen.Reply number kept) = reply_json facts number name whole
+seen_json facts name whole (seen.Push members lengths) = push_json facts
+seen_json facts name whole (seen.Value kept) = unpaired_json facts whole
+seen_json facts name whole (seen.NotCommand number) = refused_json facts (codes "NotCommand") 0 (place.Command number)
+seen_json facts name whole (seen.Refused cause at where') = refused_json facts (name_of cause) at where'
 
 -- ---- lines about connections
 

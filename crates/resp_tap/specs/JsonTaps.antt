@@ -1,5 +1,6 @@
 -- The results that a tap reports and prints as JSON for the pieces of either side.
 use Rattle.std.specs.Prelude.{◌≡◌, ℕ, ◌+◌, Bool, List, [], ◌∷◌, drop, min, slice_get, Option, Some, Result, Ok, if◌then◌else◌}
+use Rattle.resp_value.specs.Data.{Datum}
 use Rattle.resp_print.specs.Printed.{Prints}
 use Rattle.resp_print.specs.declared.print_error.PrintError.{PrintError}
 use Rattle.resp_tap.specs.Called.{CalledAfter, IsChosenCalled, name_of_called}
@@ -9,6 +10,7 @@ use Rattle.resp_tap.specs.Filters.{keeps}
 use Rattle.resp_tap.specs.JsonLines.{seen_json}
 use Rattle.resp_tap.specs.Lined.{SeesLined}
 use Rattle.resp_tap.specs.Lines.{asked_at}
+use Rattle.resp_tap.specs.SeenOf.{IsKeptIn}
 use Rattle.resp_tap.specs.Taps.{tap_state}
 use Rattle.resp_tap.specs.Times.{HasTimes, waited_of, waits_in}
 use Rattle.resp_tap.specs.Watches.{first_error}
@@ -35,10 +37,10 @@ KeepsTaken Server old new = new.sent ≡ old.sent
 abbrev pub called_of : JsonTap → Option Called
 called_of t = slice_get t.calls.items (asked_at (tap_state t.timed.tap).line.due)
 
--- the line of a result, if the filter lets it through
-abbrev pub kept_json : Filter → Facts → Bool → List ℕ → Seen → List ℕ
-kept_json f facts is_chosen name what =
-    if keeps f facts.client is_chosen facts.waited what then seen_json facts name what else []
+-- the line of a result, if the filter lets it through; that of a result of the server is the line of this whole value
+abbrev pub kept_json : Filter → Facts → Bool → List ℕ → Datum → Seen → List ℕ
+kept_json f facts is_chosen name whole what =
+    if keeps f facts.client is_chosen facts.waited what then seen_json facts name whole what else []
 
 -- The first result in a piece: it is reported as without JSON, and that of a line too. Its bytes are those of this piece
 -- and of earlier ones that belong to it.
@@ -67,8 +69,8 @@ pub record PrintsJson (f : Filter) (client : ℕ) (now : Moment) (old : JsonTap)
     of_day = now.of_day;
     waited = waited_of now asked what;
   }
-  pub text : Prints before after failures failures' printed
-      (kept_json f facts is_chosen (name_of_called (called_of old)) what) 0
+  pub text : (whole : Datum) → IsKeptIn (Some 1024) whole what → Prints before after failures failures' printed
+      (kept_json f facts is_chosen (name_of_called (called_of old)) whole what) 0
 
 -- These are all results in a piece, in order. Each result is printed before the next one is read. The first error of
 -- printing is told.

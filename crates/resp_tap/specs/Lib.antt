@@ -3,6 +3,7 @@ pub mod Kinds
 pub mod Notices
 pub mod Lines
 pub mod LinesOf
+pub mod Parts
 pub mod Sides
 pub mod Taps
 pub mod Watching
@@ -11,6 +12,8 @@ pub mod Digits
 pub mod Stamps
 pub mod Secrets
 pub mod SecretLaws
+pub mod KeptLaws
+pub mod Options
 pub mod Texts
 pub mod TimeLaws
 pub mod Times

@@ -1,12 +1,13 @@
 -- What is kept of the commands that wait while a filter is used, and what is printed through it.
 use Rattle.std.specs.Prelude.{◌≡◌, ℕ, ◌-◌, ◌≤◌, Bool, true, false, ◌&&◌, List, [], ◌∷◌, ◌++◌, length, drop, take, nat_lt, Option, None, Some, option_map, ◌⊎◌, if◌then◌else◌, codes}
+use Rattle.resp_value.specs.Data.{Datum}
 use Rattle.resp_tap.specs.Filters.{Chooses, is_by_reply, is_selective, keeps, keeps_all}
 use Rattle.resp_tap.specs.Secrets.{printed_words}
 use Rattle.resp_tap.specs.Texts.{heading, numbered_line, shown_text, words_text}
 use Rattle.resp_tap.specs.declared.filter.Filter.{Filter}
 use Rattle.resp_tap.specs.declared.moment.Moment.{Moment}
 use Rattle.resp_tap.specs.declared.note.Note.{Note}
-use Rattle.resp_tap.specs.declared.print.Printing.{Printing}
+use Rattle.resp_tap.specs.declared.print.TextOptions.{TextOptions}
 use Rattle.resp_tap.specs.declared.seen.Seen.{Seen}
 use Rattle.resp_tap.specs.declared.seen.Seen.TheVariants as seen
 use Rattle.resp_tap.specs.declared.stamp.Stamp.{Stamp}
@@ -24,12 +25,12 @@ abbrev pub room_for : Filter → Bool → ℕ → ℕ
 room_for f is_chosen behind = if is_by_reply f && is_chosen then room_behind behind else 0
 
 -- the text of a command's words, without the secret ones
-abbrev pub shown_words : Printing → List (List ℕ) → List ℕ
-shown_words p words = words_text p.shown (printed_words p.shows_passwords words)
+abbrev pub shown_words : TextOptions → List (List ℕ) → List ℕ
+shown_words p words = words_text p.shown.most (printed_words p.shows_passwords words)
 
 -- This is kept of a command that arrived at this moment, as a line or as an array, and is let through by its words or is
 -- not, if so many bytes are kept of them.
-pub record IsNote (p : Printing) (now : Option Moment) (is_line is_chosen : Bool) (words : List (List ℕ)) (room : ℕ) (note : Note) :
+pub record IsNote (p : TextOptions) (now : Option Moment) (is_line is_chosen : Bool) (words : List (List ℕ)) (room : ℕ) (note : Note) :
     Type 0 where
   pub time : note.of_day ≡ option_map (λ (moment : Moment). moment.of_day) now
   pub line : note.is_line ≡ is_line
@@ -39,19 +40,19 @@ pub record IsNote (p : Printing) (now : Option Moment) (is_line is_chosen : Bool
   pub part : note.is_whole ≡ false → room ≤ length (shown_words p words)
 
 -- the next command that waits was added; or memory for it was out, or nothing is kept of a command before it
-abbrev pub IsAdded : Filter → Printing → Option Moment → Bool → Bool → List (List ℕ) → List Note → List Note → Type 0
+abbrev pub IsAdded : Filter → TextOptions → Option Moment → Bool → Bool → List (List ℕ) → List Note → List Note → Type 0
 IsAdded f p now is_line is_chosen words old new = (new ≡ old) ⊎
     ((note : Note) × IsNote p now is_line is_chosen words (room_for f is_chosen (length old)) note × (new ≡ old ++ note ∷ []))
 
 -- after a result, by which one more command waits or this many wait no more
-abbrev pub NotesBy : Bool → Filter → Printing → Option Moment → Bool → Bool → Seen → ℕ → List Note → List Note → Type 0
+abbrev pub NotesBy : Bool → Filter → TextOptions → Option Moment → Bool → Bool → Seen → ℕ → List Note → List Note → Type 0
 NotesBy true f p now is_line is_chosen (seen.Command number words) gone old new =
     IsAdded f p now is_line is_chosen words old new
 NotesBy more f p now is_line is_chosen what gone old new = new ≡ drop gone old
 
 -- What is kept after a result, if this many commands waited before it and after it: that of a new command is added, and
 -- that of commands that wait no more is dropped.
-abbrev pub NotesAfter : Filter → Printing → Option Moment → Bool → Bool → Seen → ℕ → ℕ → List Note → List Note →
+abbrev pub NotesAfter : Filter → TextOptions → Option Moment → Bool → Bool → Seen → ℕ → ℕ → List Note → List Note →
     Type 0
 NotesAfter f p now is_line is_chosen what before after old new =
     NotesBy (nat_lt before after && is_selective f) f p now is_line is_chosen what (before - after) old new
@@ -78,7 +79,7 @@ deferred_text client number (Some note) =
 
 -- the lines before a result: those of its command, if the reply has decided
 abbrev pub before_text : Filter → ℕ → Option Note → Seen → List ℕ
-before_text f client note (seen.Reply number x) = if is_by_reply f then deferred_text client number note else []
+before_text f client note (seen.Reply number kept) = if is_by_reply f then deferred_text client number note else []
 before_text f client _ what = []
 
 -- whether the command of a reply is let through by its words
@@ -96,9 +97,10 @@ abbrev pub waited_in : Option Stamp → Option ℕ
 waited_in None = None
 waited_in (Some stamp) = stamp.waited
 
--- The lines of a result through a filter. `note` is what is kept of the command that the next reply belongs to.
-abbrev pub filtered_text : Filter → Printing → Bool → Bool → Option Note → Option Stamp → Seen → List ℕ
-filtered_text f p is_line is_chosen note stamp what =
+-- The lines of a result through a filter. `note` is what is kept of the command that the next reply belongs to, and those
+-- of a result of the server are the lines of this whole value.
+abbrev pub filtered_text : Filter → TextOptions → Bool → Bool → Option Note → Option Stamp → Datum → Seen → List ℕ
+filtered_text f p is_line is_chosen note stamp whole what =
     if keeps f p.client is_chosen (waited_in stamp) what
-    then before_text f p.client note what ++ shown_text is_line p stamp what
+    then before_text f p.client note what ++ shown_text is_line p stamp whole what
     else []

@@ -1,5 +1,5 @@
 -- The results that `watch` reports for a whole connection, however the bytes of both sides were cut into pieces.
-use Rattle.std.specs.Prelude.{◌≡◌, ◌⊎◌, ℕ, ◌+◌, ◌≤◌, false, List, [], ◌∷◌, ◌++◌, length, take, Option, Result}
+use Rattle.std.specs.Prelude.{◌≡◌, ◌⊎◌, ℕ, ◌+◌, ◌≤◌, false, List, [], ◌∷◌, ◌++◌, length, map, take, Option, Result}
 use Rattle.std.specs.List.{AllByRecursion}
 use Rattle.resp_value.specs.Bounds.{Bounds}
 use Rattle.resp_value.specs.Data.{Datum}
@@ -13,6 +13,7 @@ use Rattle.resp_session.specs.Heard.{numbered_replies, pushes_of}
 use Rattle.resp_print.specs.declared.print_error.PrintError.{PrintError}
 use Rattle.resp_tap.specs.Kinds.{command_kind}
 use Rattle.resp_tap.specs.Lines.{LineState, ReadsLine, asking, next_version, paired}
+use Rattle.resp_tap.specs.Parts.{cut_within, lengths_within}
 use Rattle.resp_tap.specs.Taps.{new_tap, tap_state}
 use Rattle.resp_tap.specs.Watches.{KeepsOther, WatchesAll}
 use Rattle.resp_tap.specs.Watching.{HasTakenRequest, HasTakenValue, request_rules}
@@ -71,12 +72,23 @@ abbrev pub command_in : Seen → List Numbered
 command_in (seen.Command number words) = (number, words) ∷ []
 command_in _ = []
 
-abbrev pub reply_in : Seen → List (ℕ × Datum)
-reply_in (seen.Reply number x) = (number, datum_of x) ∷ []
+-- what is kept of a value: one byte more of each text than is shown, and the lengths of the longer texts
+abbrev pub Part : Type 0
+Part = Datum × List ℕ
+
+abbrev pub part_of : Option ℕ → Datum → Part
+part_of most x = (cut_within most x, lengths_within most x)
+
+-- the same of a reply with its number
+abbrev pub reply_part : Option ℕ → ℕ × Datum → ℕ × Part
+reply_part most reply = (reply.0, part_of most reply.1)
+
+abbrev pub reply_in : Seen → List (ℕ × Part)
+reply_in (seen.Reply number kept) = (number, (datum_of kept.value, kept.lengths.items)) ∷ []
 reply_in _ = []
 
-abbrev pub push_in : Seen → List Datum
-push_in (seen.Push items) = datum_of (value.Push items) ∷ []
+abbrev pub push_in : Seen → List Part
+push_in (seen.Push members lengths) = (datum_of (value.Push members), lengths.items) ∷ []
 push_in _ = []
 
 -- what is told of each result, in order
@@ -126,8 +138,9 @@ pub record TellsCommands (limits : Bounds) (arrivals : List Arrival) : Type 0 wh
   pub commands : told command_in arrivals ≡ numbered_commands 1 (commands_of values)
 
 -- The replies and the pushes that were told are those of the server's bytes, which are read while all of these commands
--- wait. Each reply has the number of the command that it belongs to.
-pub record TellsReplies (limits : Bounds) (arrivals : List Arrival) (commands : List (List (List ℕ))) : Type 0 where
+-- wait. Each reply has the number of the command that it belongs to. Of each value the part is told that is kept.
+pub record TellsReplies (limits : Bounds) (most : Option ℕ) (arrivals : List Arrival) (commands : List (List (List ℕ))) :
+    Type 0 where
   pub values : List Datum
   pub front : List ℕ
   pub rest : List ℕ
@@ -135,16 +148,17 @@ pub record TellsReplies (limits : Bounds) (arrivals : List Arrival) (commands : 
   pub whole : server_bytes arrivals ≡ front ++ rest
   pub reads : ReadsLine limits (asking commands) values front after
   pub no_more : IsRest limits after rest
-  pub replies : told reply_in arrivals ≡ paired (asking commands) values
-  pub pushes : told push_in arrivals ≡ pushes_of values
+  pub replies : told reply_in arrivals ≡ map (reply_part most) (paired (asking commands) values)
+  pub pushes : told push_in arrivals ≡ map (part_of most) (pushes_of values)
 
 -- Of a new connection: if no error was told, the commands are told. If no value has arrived that no command asked for,
 -- the replies are told too.
 abbrev pub TellsTheConnection : Type 0
-TellsTheConnection = (limits : Bounds) (old new : TimedTap) (arrivals : List Arrival) → tap_state old.tap ≡ new_tap limits →
+TellsTheConnection = (limits : Bounds) (most : Option ℕ) (old new : TimedTap) (arrivals : List Arrival) →
+    tap_state old.tap ≡ new_tap limits most →
     HasTakenRequest old.tap [] → HasTakenValue old.tap [] → Arrive old new arrivals → NoError arrivals →
     (commands : TellsCommands limits arrivals) ×
-    ((tap_state new.tap).line.is_lost ≡ false → TellsReplies limits arrivals (commands_of commands.values))
+    ((tap_state new.tap).line.is_lost ≡ false → TellsReplies limits most arrivals (commands_of commands.values))
 
 -- a kind of commands with exactly one reply
 abbrev pub IsAnswered : CommandKind → Type 0

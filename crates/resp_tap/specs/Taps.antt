@@ -1,5 +1,5 @@
 -- The state of a tap, and how commands, values and errors change it.
-use Rattle.std.specs.Prelude.{ℕ, ◌+◌, Bool, true, false, List, [], ◌∷◌}
+use Rattle.std.specs.Prelude.{ℕ, ◌+◌, Bool, true, false, List, [], ◌∷◌, Option}
 use Rattle.resp_value.specs.Bounds.{Bounds}
 use Rattle.resp_value.specs.Data.{Datum}
 use Rattle.resp_value.specs.declared.version.Version.{Version}
@@ -12,6 +12,8 @@ use Rattle.resp_tap.specs.declared.tap.Tap.{Tap}
 pub record TapState : Type 0 where
   -- the limits within which both sides are read
   pub limits : Bounds
+  -- the most bytes of each text of the server that are shown, if not all are
+  pub shown : Option ℕ
   -- the number of commands that were read
   pub commands : ℕ
   -- the commands that wait, and what is known of the connection
@@ -26,6 +28,7 @@ pub record TapState : Type 0 where
 abbrev pub tap_state : Tap → TapState
 tap_state t = record {
   limits = t.limits;
+  shown = t.values.shown.most;
   commands = t.commands;
   line = line_of t.line;
   reading = t.values.version;
@@ -34,9 +37,10 @@ tap_state t = record {
 }
 
 -- a new connection: nothing was read, and the version is 2
-abbrev pub new_tap : Bounds → TapState
-new_tap limits = record {
+abbrev pub new_tap : Bounds → Option ℕ → TapState
+new_tap limits most = record {
   limits = limits;
+  shown = most;
   commands = 0;
   line = new_line;
   reading = Two;

@@ -8,11 +8,11 @@ use Rattle.resp_value.specs.declared.value.Value.TheVariants as value
 use Rattle.resp_print.specs.Shown.{is_cut, lines_within, quoted_text, shown_part}
 use Rattle.resp_tap.specs.Secrets.{printed_words}
 use Rattle.resp_tap.specs.Stamps.{ending_text}
-use Rattle.resp_tap.specs.declared.print.Printing.{Printing}
+use Rattle.resp_tap.specs.declared.print.TextOptions.{TextOptions}
 use Rattle.resp_tap.specs.declared.seen.Place.{Place}
 use Rattle.resp_tap.specs.declared.seen.Place.TheVariants as place
 use Rattle.resp_tap.specs.declared.seen.Seen.{Seen}
-use Rattle.resp_tap.specs.declared.seen.Seen.TheVariants.{Nothing, Passed, Command, Reply, Push, Value, NotCommand, Refused}
+use Rattle.resp_tap.specs.declared.seen.Seen.TheVariants.{Command, Reply, Push, Value, NotCommand, Refused}
 use Rattle.resp_tap.specs.declared.stamp.Stamp.{Stamp}
 
 -- the quote after a word of so many bytes, and two dots and the number if not all of them are printed
@@ -48,9 +48,9 @@ abbrev pub remark_text : ℕ → List ℕ → List ℕ → Option Stamp → List
 remark_text client front text stamp = (codes "client " ++ decimal client ++ front) ++ (text ++ ending_text stamp)
 
 -- the lines of a command of a client
-abbrev pub command_text : Printing → ℕ → Option Stamp → List (List ℕ) → List ℕ
+abbrev pub command_text : TextOptions → ℕ → Option Stamp → List (List ℕ) → List ℕ
 command_text p number stamp words =
-    numbered_line p.client (codes " command ") number stamp ++ words_line p.shown (printed_words p.shows_passwords words)
+    numbered_line p.client (codes " command ") number stamp ++ words_line p.shown.most (printed_words p.shows_passwords words)
 
 -- the number of a command that came as a line, and the end of the line
 abbrev pub inline_end : ℕ → Option Stamp → List ℕ
@@ -66,16 +66,16 @@ heading is_line client number stamp =
     if is_line then inline_line client number stamp else numbered_line client (codes " command ") number stamp
 
 -- the lines of the reply to it
-abbrev pub reply_text : Printing → ℕ → Option Stamp → Datum → List ℕ
-reply_text p number stamp x = numbered_line p.client (codes " reply ") number stamp ++ lines_within p.shown 1 x
+abbrev pub reply_text : TextOptions → ℕ → Option Stamp → Datum → List ℕ
+reply_text p number stamp x = numbered_line p.client (codes " reply ") number stamp ++ lines_within p.shown.most 1 x
 
 -- the lines of a push to a client
-abbrev pub push_text : Printing → Option Stamp → Datum → List ℕ
-push_text p stamp x = client_line p.client (codes " push") stamp ++ lines_within p.shown 1 x
+abbrev pub push_text : TextOptions → Option Stamp → Datum → List ℕ
+push_text p stamp x = client_line p.client (codes " push") stamp ++ lines_within p.shown.most 1 x
 
 -- the lines of a value to a client that is paired with no command
-abbrev pub value_text : Printing → Option Stamp → Datum → List ℕ
-value_text p stamp x = client_line p.client (codes " value") stamp ++ lines_within p.shown 1 x
+abbrev pub value_text : TextOptions → Option Stamp → Datum → List ℕ
+value_text p stamp x = client_line p.client (codes " value") stamp ++ lines_within p.shown.most 1 x
 
 -- the command, reply or value that contains a wrong byte
 abbrev pub place_text : Place → Option Stamp → List ℕ
@@ -95,30 +95,33 @@ byte_text at where' stamp = (codes " at byte " ++ decimal at ++ codes " of ") ++
 abbrev pub refusal_text : ℕ → List ℕ → ℕ → Place → Option Stamp → List ℕ
 refusal_text client name at where' stamp = refusal_heading client name ++ byte_text at where' stamp
 
--- the lines of a result, with or without a stamp
-abbrev pub seen_text : Printing → Option Stamp → Seen → List ℕ
-seen_text p stamp Nothing = []
-seen_text p stamp Passed = []
-seen_text p stamp (Command number words) = command_text p number stamp words
-seen_text p stamp (Reply number x) = reply_text p number stamp (datum_of x)
-seen_text p stamp (Push items) = push_text p stamp (datum_of (value.Push items))
-seen_text p stamp (Value x) = value_text p stamp (datum_of x)
-seen_text p stamp (NotCommand number) = refusal_text p.client (codes "NotCommand") 0 (place.Command number) stamp
-seen_text p stamp (Refused cause at where') = refusal_text p.client (name_of cause) at where' stamp
+-- the line of a result that is an error, and no line of another result
+abbrev pub refused_text : ℕ → Option Stamp → Seen → List ℕ
+refused_text client stamp (NotCommand number) = refusal_text client (codes "NotCommand") 0 (place.Command number) stamp
+refused_text client stamp (Refused cause at where') = refusal_text client (name_of cause) at where' stamp
+refused_text client stamp what = []
+
+-- the lines of a result, with or without a stamp; those of a result of the server are the lines of this whole value
+abbrev pub seen_text : TextOptions → Option Stamp → Datum → Seen → List ℕ
+seen_text p stamp whole (Command number words) = command_text p number stamp words
+seen_text p stamp whole (Reply number kept) = reply_text p number stamp whole
+seen_text p stamp whole (Push members lengths) = push_text p stamp whole
+seen_text p stamp whole (Value kept) = value_text p stamp whole
+seen_text p stamp whole what = refused_text p.client stamp what
 
 -- the lines of a result of a line
-abbrev pub line_text : Printing → Option Stamp → Seen → List ℕ
-line_text p stamp (Command number words) =
-    inline_line p.client number stamp ++ words_line p.shown (printed_words p.shows_passwords words)
-line_text p stamp what = seen_text p stamp what
+abbrev pub line_text : TextOptions → Option Stamp → Datum → Seen → List ℕ
+line_text p stamp whole (Command number words) =
+    inline_line p.client number stamp ++ words_line p.shown.most (printed_words p.shows_passwords words)
+line_text p stamp whole what = seen_text p stamp whole what
 
 -- the lines of a result, which is that of a line or is not
-abbrev pub shown_text : Bool → Printing → Option Stamp → Seen → List ℕ
-shown_text is_line p stamp what = if is_line then line_text p stamp what else seen_text p stamp what
+abbrev pub shown_text : Bool → TextOptions → Option Stamp → Datum → Seen → List ℕ
+shown_text is_line p stamp whole what = if is_line then line_text p stamp whole what else seen_text p stamp whole what
 
 -- the number of levels of these lines
 abbrev pub levels_of : Seen → ℕ
-levels_of (Reply number x) = 1 + depth (datum_of x)
-levels_of (Push items) = 1 + depth (datum_of (value.Push items))
-levels_of (Value x) = 1 + depth (datum_of x)
+levels_of (Reply number kept) = 1 + depth (datum_of kept.value)
+levels_of (Push members lengths) = 1 + depth (datum_of (value.Push members))
+levels_of (Value kept) = 1 + depth (datum_of kept.value)
 levels_of _ = 0

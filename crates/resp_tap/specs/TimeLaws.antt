@@ -5,7 +5,7 @@ use Rattle.resp_print.specs.Shown.{lines_on}
 use Rattle.resp_print.specs.Headings.{push_heading, reply_heading}
 use Rattle.resp_tap.specs.Digits.{micros_text, time_text}
 use Rattle.resp_tap.specs.Texts.{push_text, reply_text}
-use Rattle.resp_tap.specs.declared.print.Printing.{Printing}
+use Rattle.resp_tap.specs.declared.print.TextOptions.{TextOptions}
 
 -- times of day and microseconds, worked out by hand
 pub record TimesAreToldSo : Type 0 where
@@ -16,6 +16,6 @@ pub record TimesAreToldSo : Type 0 where
 
 -- without a time, replies and pushes of which all bytes are printed are printed as those of a script are
 abbrev pub PrintsAsPlayed : Type 0
-PrintsAsPlayed = (p : Printing) (number : ℕ) (x : Datum) → p.shown ≡ None →
+PrintsAsPlayed = (p : TextOptions) (number : ℕ) (x : Datum) → p.shown.most ≡ None →
     (reply_text p number None x ≡ reply_heading p.client number ++ lines_on 1 x) ×
     (push_text p None x ≡ push_heading p.client ++ lines_on 1 x)

@@ -29,14 +29,14 @@ KeepsTimes (Some now) old new = (times : List ℕ) → HasTimes old times →
 
 -- whether a value of the server was heard
 abbrev pub is_heard : Seen → Bool
-is_heard (seen.Reply number x) = true
-is_heard (seen.Push items) = true
-is_heard (seen.Value x) = true
+is_heard (seen.Reply number kept) = true
+is_heard (seen.Push members lengths) = true
+is_heard (seen.Value kept) = true
 is_heard _ = false
 
 -- how long the command with this time waited, if this is its reply
 abbrev pub waited_of : Moment → Option ℕ → Seen → Option ℕ
-waited_of now (Some asked) (seen.Reply number x) = Some (now.steady - asked)
+waited_of now (Some asked) (seen.Reply number kept) = Some (now.steady - asked)
 waited_of now _ _ = None
 
 -- the printed time of a result, if a moment is given

@@ -1,20 +1,21 @@
 -- The results that a tap reports for the bytes of either side, in terms of texts and values.
-use Rattle.std.specs.Prelude.{◌≡◌, ◌≢◌, ◌⊎◌, ℕ, ◌+◌, ◌≤◌, ◌<◌, ◌^◌, true, false, if◌then◌else◌, Option, None, Some, IsSome, List, [], ◌∷◌, ◌++◌, length, take}
+use Rattle.std.specs.Prelude.{◌≡◌, ◌≢◌, ◌⊎◌, ℕ, ◌+◌, ◌≤◌, ◌<◌, ◌^◌, true, false, if◌then◌else◌, Bool, Option, None, Some, IsSome, List, [], ◌∷◌, ◌++◌, length, take}
 use Rattle.resp_value.specs.Bounds.{Bounds}
 use Rattle.resp_value.specs.Data.{Datum}
 use Rattle.resp_value.specs.Rules.{Rules, WithinTotal, rules_under}
 use Rattle.resp_value.specs.Spellings.{IsSpelling, IsViable}
-use Rattle.resp_value.specs.Values.{datum_of}
 use Rattle.resp_value.specs.declared.cause.Cause.{Cause}
 use Rattle.resp_value.specs.declared.cause.Cause.TheVariants as causes
 use Rattle.resp_value.specs.declared.value.Value.TheVariants as value
 use Rattle.resp_value.specs.declared.version.Version.TheVariants.{Two}
+use Rattle.resp_cut.specs.declared.cut_value.CutValue.{CutValue}
 use Rattle.resp_scan.specs.Reading.{HasNoValue}
 use Rattle.resp_scan.specs.declared.event.Fault.{Fault}
 use Rattle.resp_session.specs.Commands.{NoCommand, Nothing, array_meaning, meaning_of}
 use Rattle.resp_session.specs.Heard.{is_push}
 use Rattle.resp_tap.specs.Kinds.{command_kind}
 use Rattle.resp_tap.specs.Lines.{LineState, due_of, number_for}
+use Rattle.resp_tap.specs.Parts.{IsKeptOf}
 use Rattle.resp_tap.specs.Sides.{HasSent, RefusesSide}
 use Rattle.resp_tap.specs.Taps.{TapState, tap_state, with_command, with_refused_command, with_refused_reply, with_value}
 use Rattle.resp_tap.specs.declared.kind.CommandKind.{CommandKind}
@@ -155,10 +156,16 @@ abbrev pub SeesTimed : Option Moment → TapState → Tap → List ℕ → List 
 SeesTimed now s new front piece used what =
     SeesRequest s new front piece used what ⊎ (IsSome now × LacksTime s new piece used what)
 
--- the server's text is this value, which changes the line
-pub record HearsValue (s : TapState) (new : Tap) (written : List ℕ) (x : Datum) : Type 0 where
-  pub spelled : IsSpelling (value_rules s) x written
-  pub after : tap_state new ≡ with_value x s
+-- The server's text is a value, of which this is kept. It is a push or not, belongs to the command with this number if
+-- there is one, and changes the line.
+pub record HearsValue (s : TapState) (new : Tap) (written : List ℕ) (kept : CutValue) (push : Bool) (number : Option ℕ) :
+    Type 0 where
+  pub whole : Datum
+  pub spelled : IsSpelling (value_rules s) whole written
+  pub is_kept : IsKeptOf s.shown whole kept
+  pub pushed : is_push whole ≡ push
+  pub numbered : number_for s.line whole ≡ number
+  pub after : tap_state new ≡ with_value whole s
   pub takes : HasTakenValue new []
 
 -- the whole piece was read: the server's value is incomplete, and a valid value can begin with its bytes
@@ -200,14 +207,10 @@ pub record RefusesValueAt (s : TapState) (new : Tap) (front piece : List ℕ) (c
 -- the result for the bytes of the server, if this state holds before the value's next byte
 abbrev pub SeesValue : TapState → Tap → List ℕ → List ℕ → ℕ → Seen → Type 0
 SeesValue s new front piece used seen.Nothing = AwaitsValue s new (front ++ piece) piece used
-SeesValue s new front piece used (seen.Reply number x) =
-    HearsValue s new (front ++ take used piece) (datum_of x) × (number_for s.line (datum_of x) ≡ Some number) ×
-    (is_push (datum_of x) ≡ false)
-SeesValue s new front piece used (seen.Push items) =
-    HearsValue s new (front ++ take used piece) (datum_of (value.Push items)) ×
-    (number_for s.line (datum_of (value.Push items)) ≡ None)
-SeesValue s new front piece used (seen.Value x) =
-    HearsValue s new (front ++ take used piece) (datum_of x) × (is_push (datum_of x) ≡ false) ×
-    (number_for s.line (datum_of x) ≡ None)
+SeesValue s new front piece used (seen.Reply number kept) =
+    HearsValue s new (front ++ take used piece) kept false (Some number)
+SeesValue s new front piece used (seen.Push members lengths) =
+    HearsValue s new (front ++ take used piece) (record { value = value.Push members; lengths = lengths }) true None
+SeesValue s new front piece used (seen.Value kept) = HearsValue s new (front ++ take used piece) kept false None
 SeesValue s new front piece used (seen.Refused cause at where') = RefusesValueAt s new front piece cause at where'
 SeesValue s new front piece used _ = ⊥

@@ -112,7 +112,7 @@ impl ClientName {
     {
         match seen {
             Seen::Command { number, words } => self.ask(*number, words),
-            Seen::Reply { number, value } => self.hear(*number, is_refusal(value)),
+            Seen::Reply { number, value } => self.hear(*number, is_refusal(&value.value)),
             _ => {}
         }
     }

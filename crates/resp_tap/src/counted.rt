@@ -22,8 +22,9 @@ use crate::filter::Filter;
 use crate::line::is_refusal;
 use crate::lines::{Lines, step_or_line};
 use crate::moment::Moment;
-use crate::print::{Printing, write_seen};
+use crate::print::{Printing, printed, write_refused};
 use crate::seen::{Seen, Step};
+use crate::shown_part::ShownPart;
 use crate::tap::Tap;
 use crate::timed::TimedTap;
 use crate::watch::{Side, Watched, first_error, stamp_of, waited_of};
@@ -60,7 +61,7 @@ fn is_error(seen: &Seen) -> bool
     ensures { result ≡ is_error seen.now }
 {
     match seen {
-        Seen::Reply { value, .. } => is_refusal(value),
+        Seen::Reply { value, .. } => is_refusal(&value.value),
         _ => false,
     }
 }
@@ -115,10 +116,10 @@ pub struct CountedTap {
 }
 
 impl CountedTap {
-    /// Returns a tap of a new connection, which is read within these limits. A line of the client is
-    /// a command too. It allocates nothing.
+    /// Returns a tap of a new connection, which is read within these limits. At most 13 bytes of each
+    /// text of the server are kept. A line of the client is a command too. It allocates nothing.
     pub fn new(alloc: Global, limits: &Limits) -> CountedTap
-        ensures nothing_passed { tap_state result.timed.tap ≡ new_tap limits.now }
+        ensures nothing_passed { tap_state result.timed.tap ≡ new_tap limits.now (Some 12) }
         ensures nothing_requested { HasTakenRequest result.timed.tap [] }
         ensures nothing_answered { HasTakenValue result.timed.tap [] }
         ensures reads_lines { result.lines.are_read ≡ true }
@@ -127,7 +128,7 @@ impl CountedTap {
         ensures no_name { (naming_of result.name).name ≡ [] }
     {
         CountedTap {
-            timed: TimedTap::new(alloc, limits),
+            timed: TimedTap::new(alloc, limits, ShownPart::first(0)),
             lines: Lines::new(alloc, true),
             asked: VecDeque::new(alloc),
             sent: 0,
@@ -350,10 +351,11 @@ fn write_counted<W: Sink>(
         (W.failures writer.new) result (counted_text filter.now printing now seen.now)
         (levels_of seen.now) }
 {
-    if !(filter.keeps_client(printing.client) && seen.is_refused()) {
+    if !filter.keeps_client(printing.client) {
         return Ok(());
     }
-    write_seen(printing, stamp_of(Some(now), None, seen), seen, writer)
+    let stamp = stamp_of(Some(now), None, seen);
+    printed(write_refused(printing.client, stamp, seen, writer))
 }
 
 /// Reads bytes that one side sent, as [`count_some`] does. Prints the result if it is an error, and

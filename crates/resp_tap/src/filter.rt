@@ -168,9 +168,10 @@ impl Filter {
         match seen {
             Seen::Nothing | Seen::Passed => false,
             Seen::Command { .. } => !self.is_by_reply() && is_chosen,
-            Seen::Reply { value, .. } => is_chosen && self.keeps_answer(is_refusal(value), waited),
-            Seen::Push(_) => self.keeps_loose(false),
-            Seen::Value(value) => self.keeps_loose(is_refusal(value)),
+            Seen::Reply { value, .. } => is_chosen
+                && self.keeps_answer(is_refusal(&value.value), waited),
+            Seen::Push { .. } => self.keeps_loose(false),
+            Seen::Value(value) => self.keeps_loose(is_refusal(&value.value)),
             Seen::NotCommand { .. } | Seen::Refused { .. } => true,
         }
     }

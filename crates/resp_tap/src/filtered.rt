@@ -17,8 +17,9 @@ use crate::filter::Filter;
 use crate::lines::{Lines, step_or_line};
 use crate::moment::Moment;
 use crate::note::{Note, is_chosen, note_of, write_filtered};
-use crate::print::Printing;
+use crate::print::{Printing, TextOptions};
 use crate::seen::Seen;
+use crate::shown_part::ShownPart;
 use crate::tap::Tap;
 use crate::timed::TimedTap;
 use crate::watch::{Side, Watched, first_error, stamp_of};
@@ -51,10 +52,11 @@ pub struct FilteredTap {
 }
 
 impl FilteredTap {
-    /// Returns a tap of a new connection, which is read within these limits. A line of the client is
-    /// a command too. It allocates nothing.
-    pub fn new(alloc: Global, limits: &Limits) -> FilteredTap
-        ensures nothing_passed { tap_state result.timed.tap ≡ new_tap limits.now }
+    /// Returns a tap of a new connection, which is read within these limits. It keeps one byte
+    /// more of each text of the server than is shown. A line of the client is a command too. The call
+    /// allocates nothing.
+    pub fn new(alloc: Global, limits: &Limits, shown: ShownPart) -> FilteredTap
+        ensures nothing_passed { tap_state result.timed.tap ≡ new_tap limits.now shown.most }
         ensures nothing_requested { HasTakenRequest result.timed.tap [] }
         ensures nothing_answered { HasTakenValue result.timed.tap [] }
         ensures reads_lines { result.lines.are_read ≡ true }
@@ -64,7 +66,7 @@ impl FilteredTap {
     {
         FilteredTap {
             alloc,
-            timed: TimedTap::new(alloc, limits),
+            timed: TimedTap::new(alloc, limits, shown),
             lines: Lines::new(alloc, true),
             notes: VecDeque::new(alloc),
             name: ClientName::new(),
@@ -108,14 +110,14 @@ impl FilteredTap {
     fn follow(
         &mut self,
         filter: &Filter,
-        printing: Printing,
+        options: TextOptions,
         now: Option<Moment>,
         before: u64,
         is_line: bool,
         is_chosen: bool,
         seen: &Seen,
     )
-        ensures notes { NotesAfter filter.now printing now is_line is_chosen seen.now before
+        ensures notes { NotesAfter filter.now options now is_line is_chosen seen.now before
             (waits_in self.old.timed) self.old.notes.items self.new.notes.items }
         ensures same_tap { self.new.timed ≡ self.old.timed }
         ensures same_lines { self.new.lines ≡ self.old.lines }
@@ -124,7 +126,7 @@ impl FilteredTap {
         let after = self.timed.tap.waiting();
         match seen {
             Seen::Command { words, .. } if before < after && filter.is_selective() => {
-                self.add(filter, printing, now, before, is_line, is_chosen, words);
+                self.add(filter, options, now, before, is_line, is_chosen, words);
             }
             _ => self.drop_first(before.saturating_sub(after)),
         }
@@ -134,14 +136,14 @@ impl FilteredTap {
     fn add(
         &mut self,
         filter: &Filter,
-        printing: Printing,
+        options: TextOptions,
         now: Option<Moment>,
         before: u64,
         is_line: bool,
         is_chosen: bool,
         words: &Words,
     )
-        ensures notes { IsAdded filter.now printing now is_line is_chosen words.now self.old.notes.items
+        ensures notes { IsAdded filter.now options now is_line is_chosen words.now self.old.notes.items
             self.new.notes.items }
         ensures same_tap { self.new.timed ≡ self.old.timed }
         ensures same_lines { self.new.lines ≡ self.old.lines }
@@ -154,7 +156,7 @@ impl FilteredTap {
         }
         let alloc = self.alloc;
         let note = note_of(
-            alloc, filter, printing, now, is_line, is_chosen, words, behind,
+            alloc, filter, options, now, is_line, is_chosen, words, behind,
         );
         if let Ok(note) = note {
             let _ = self.notes.push_back(note);
@@ -202,6 +204,7 @@ pub fn watch_filtered_some<W: Sink>(
     ensures within_piece { result.used ≤ length piece.now }
     ensures uses_bytes { 0 < length piece.now → 0 < result.used }
 {
+    let options = tap.timed.tap.options(printing);
     let asked = tap.timed.asked();
     let before = tap.timed.tap.waiting();
     let at = tap.timed.tap.line.asked_at();
@@ -212,11 +215,9 @@ pub fn watch_filtered_some<W: Sink>(
     let note = tap.notes.get(at);
     let is_chosen = is_chosen(filter, note, &step.seen);
     let printed = write_filtered(
-        filter, printing, is_line, is_chosen, note, stamp, &step.seen, writer,
+        filter, options, is_line, is_chosen, note, stamp, &step.seen, writer,
     );
-    tap.follow(
-        filter, printing, now, before, is_line, is_chosen, &step.seen,
-    );
+    tap.follow(filter, options, now, before, is_line, is_chosen, &step.seen);
     tap.name.follow(&step.seen);
     Watched {
         used: step.used,
@@ -237,12 +238,11 @@ pub fn watch_filtered_some<W: Sink>(
 /// From [samples](../../samples/src/tapping.rt):
 ///
 /// ```rust
-/// let mut tap = FilteredTap::new(alloc, &Limits::standard());
+/// let mut tap = FilteredTap::new(alloc, &Limits::standard(), ShownPart::all());
 /// let mut text = MemorySink::new(alloc, 4_096, 4_096)?;
 /// let printing = Printing {
 ///     client: 1,
 ///     shows_passwords: false,
-///     shown: None,
 /// };
 /// let sent = b"*1\r\n$4\r\nPING\r\n*2\r\n$4\r\nINCR\r\n$1\r\na\r\n";
 /// watch_filtered(&mut tap, &filter, printing, Side::Client, sent, None, &mut text)?;

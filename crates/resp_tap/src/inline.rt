@@ -3,11 +3,13 @@
 ghost use Rattle.std.specs.Prelude.{◌++◌};
 ghost use Rattle.resp_print.specs.Printed.{Prints};
 ghost use Rattle.resp_print.specs.Written.{WritesText};
+ghost use Rattle.resp_value.specs.Data.{Datum};
+ghost use Rattle.resp_tap.specs.SeenOf.{IsKeptIn};
 ghost use Rattle.resp_tap.specs.Secrets.{printed_words};
 ghost use Rattle.resp_tap.specs.Texts.{heading, inline_end, inline_line, levels_of, line_text, shown_text, words_line};
 
 use crate::print::{
-    Printing, printed, secrets_for, write_numbered_line, write_seen, write_words_line,
+    TextOptions, printed, secrets_for, write_numbered_line, write_seen, write_words_line,
 };
 use crate::seen::Seen;
 use crate::stamp::{Stamp, write_ending};
@@ -63,35 +65,42 @@ fn write_inline_end<W: Sink>(
 
 /// Writes a command that came as a line.
 fn write_inline<W: Sink>(
-    printing: Printing,
+    options: TextOptions,
     number: u64,
     stamp: Option<Stamp>,
     words: &Words,
     writer: &mut W,
 ) -> Result<(), DeviceFault>
     ensures { WritesText (W.written writer.old) (W.written writer.new) (W.failures writer.old)
-        (W.failures writer.new) result (inline_line printing.client number stamp ++
-        words_line printing.shown (printed_words printing.shows_passwords words.now)) }
+        (W.failures writer.new) result (inline_line options.client number stamp ++
+        words_line options.shown.most (printed_words options.shows_passwords words.now)) }
 {
-    write_inline_line(printing.client, number, stamp, writer)?;
-    write_words_line(words, secrets_for(printing, words), printing.shown, writer)
+    write_inline_line(options.client, number, stamp, writer)?;
+    write_words_line(
+        words,
+        secrets_for(options, words),
+        options.shown.most,
+        writer,
+    )
 }
 
 /// Writes the lines of a result of a line.
 fn write_of_line<W: Sink>(
-    printing: Printing,
+    options: TextOptions,
     stamp: Option<Stamp>,
     seen: &Seen,
     writer: &mut W,
 ) -> Result<(), PrintError>
-    ensures { Prints (W.written writer.old) (W.written writer.new) (W.failures writer.old)
-        (W.failures writer.new) result (line_text printing stamp seen.now) (levels_of seen.now) }
+    ensures { (whole : Datum) → IsKeptIn options.shown.most whole seen.now →
+        Prints (W.written writer.old) (W.written writer.new) (W.failures writer.old)
+        (W.failures writer.new) result (line_text options stamp whole seen.now)
+        (levels_of seen.now) }
 {
     match seen {
         Seen::Command { number, words } => {
-            printed(write_inline(printing, *number, stamp, words, writer))
+            printed(write_inline(options, *number, stamp, words, writer))
         }
-        _ => write_seen(printing, stamp, seen, writer),
+        _ => write_seen(options, stamp, seen, writer),
     }
 }
 
@@ -101,19 +110,20 @@ fn write_of_line<W: Sink>(
 ///
 /// The errors of [`write_seen`]. The first part of the text was written.
 pub(crate) fn write_shown<W: Sink>(
-    printing: Printing,
+    options: TextOptions,
     is_line: bool,
     stamp: Option<Stamp>,
     seen: &Seen,
     writer: &mut W,
 ) -> Result<(), PrintError>
-    ensures { Prints (W.written writer.old) (W.written writer.new) (W.failures writer.old)
-        (W.failures writer.new) result (shown_text is_line printing stamp seen.now)
+    ensures { (whole : Datum) → IsKeptIn options.shown.most whole seen.now →
+        Prints (W.written writer.old) (W.written writer.new) (W.failures writer.old)
+        (W.failures writer.new) result (shown_text is_line options stamp whole seen.now)
         (levels_of seen.now) }
 {
     if is_line {
-        write_of_line(printing, stamp, seen, writer)
+        write_of_line(options, stamp, seen, writer)
     } else {
-        write_seen(printing, stamp, seen, writer)
+        write_seen(options, stamp, seen, writer)
     }
 }

@@ -1,8 +1,10 @@
 //! The lines of JSON of commands, replies, pushes and connections.
 
-ghost use Rattle.std.specs.Prelude.{◌≡◌, ◌++◌, ◌<◌, codes, length};
+ghost use Rattle.std.specs.Prelude.{◌≡◌, ◌++◌, ◌<◌, Some, codes, length};
 ghost use Rattle.resp_json.specs.Json.{text_json};
 ghost use Rattle.resp_print.specs.Written.{WritesText};
+ghost use Rattle.resp_value.specs.Data.{Datum};
+ghost use Rattle.resp_tap.specs.SeenOf.{IsKeptIn};
 ghost use Rattle.resp_value.specs.Values.{datum_of};
 ghost use Rattle.resp_tap.specs.Called.{command_name};
 ghost use Rattle.resp_tap.specs.JsonLines.{answer_json, called_json, closed_json, closed_kind, command_json, continues, cut_json, end_json, ended_json, error_text, front_json, inline_json, last_end, listening_json, member_json, number_json, place_json, push_json, refused_json, remark_json, reply_json, seen_json, shown_part, type_word, unpaired_json, value_json, waited_json, words_json};
@@ -19,7 +21,7 @@ use resp_value::device::{DeviceFault, Sink};
 use resp_value::value::Value;
 
 /// The most bytes of an error or an address that are printed.
-const SHOWN: usize = 1_024;
+pub(crate) const SHOWN: usize = 1_024;
 
 /// What the line of a result says apart from the result itself.
 #[derive(Clone, Copy, Debug, PartialEq, Eq)]
@@ -326,15 +328,16 @@ pub(crate) fn write_seen_json<W: Sink>(
     seen: &Seen,
     writer: &mut W,
 ) -> Result<(), DeviceFault>
-    ensures { WritesText (W.written writer.old) (W.written writer.new) (W.failures writer.old)
-        (W.failures writer.new) result (seen_json facts name.now seen.now) }
+    ensures { (whole : Datum) → IsKeptIn (Some 1024) whole seen.now →
+        WritesText (W.written writer.old) (W.written writer.new) (W.failures writer.old)
+        (W.failures writer.new) result (seen_json facts name.now whole seen.now) }
 {
     match seen {
         Seen::Nothing | Seen::Passed => Ok(()),
         Seen::Command { number, words } => write_words(facts, *number, words, writer),
-        Seen::Reply { number, value } => write_reply(facts, *number, name, value, writer),
-        Seen::Push(_) => write_push(facts, writer),
-        Seen::Value(value) => write_unpaired(facts, value, writer),
+        Seen::Reply { number, value } => write_reply(facts, *number, name, &value.value, writer),
+        Seen::Push { .. } => write_push(facts, writer),
+        Seen::Value(value) => write_unpaired(facts, &value.value, writer),
         Seen::NotCommand { number } => {
             write_refused(facts, b"NotCommand", 0, Place::Command(*number), writer)
         }

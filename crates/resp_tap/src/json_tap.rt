@@ -7,6 +7,8 @@ ghost use Rattle.resp_tap.specs.ClientNames.{naming_of};
 ghost use Rattle.resp_tap.specs.Counting.{left_of};
 ghost use Rattle.resp_tap.specs.Ends.{CutsOff};
 ghost use Rattle.resp_tap.specs.JsonTaps.{KeepsTaken, PrintsAll, PrintsJson, SeesJson, kept_json, taken_of};
+ghost use Rattle.resp_value.specs.Data.{Datum};
+ghost use Rattle.resp_tap.specs.SeenOf.{IsKeptIn};
 ghost use Rattle.resp_tap.specs.Taps.{new_tap, tap_state};
 ghost use Rattle.resp_tap.specs.Times.{waits_in};
 ghost use Rattle.resp_tap.specs.Watches.{KeepsOther};
@@ -18,11 +20,12 @@ use crate::client_name::ClientName;
 use crate::counted::left_of;
 use crate::end::Cut;
 use crate::filter::Filter;
-use crate::json_line::{Facts, write_seen_json};
+use crate::json_line::{Facts, SHOWN, write_seen_json};
 use crate::lines::{Lines, step_or_line};
 use crate::moment::Moment;
 use crate::print::printed;
 use crate::seen::Seen;
+use crate::shown_part::ShownPart;
 use crate::tap::Tap;
 use crate::timed::TimedTap;
 use crate::watch::{Side, Watched, first_error, waited_of};
@@ -54,10 +57,10 @@ pub struct JsonTap {
 }
 
 impl JsonTap {
-    /// Returns a tap of a new connection, which is read within these limits. A line of the client is
-    /// a command too. It allocates nothing.
+    /// Returns a tap of a new connection, which is read within these limits. At most 1,025 bytes of
+    /// each text of the server are kept. A line of the client is a command too. It allocates nothing.
     pub fn new(alloc: Global, limits: &Limits) -> JsonTap
-        ensures nothing_passed { tap_state result.timed.tap ≡ new_tap limits.now }
+        ensures nothing_passed { tap_state result.timed.tap ≡ new_tap limits.now (Some 1024) }
         ensures nothing_requested { HasTakenRequest result.timed.tap [] }
         ensures nothing_answered { HasTakenValue result.timed.tap [] }
         ensures reads_lines { result.lines.are_read ≡ true }
@@ -67,7 +70,7 @@ impl JsonTap {
         ensures no_name { (naming_of result.name).name ≡ [] }
     {
         JsonTap {
-            timed: TimedTap::new(alloc, limits),
+            timed: TimedTap::new(alloc, limits, ShownPart::first(SHOWN)),
             lines: Lines::new(alloc, true),
             calls: VecDeque::new(alloc),
             sent: 0,
@@ -194,8 +197,10 @@ fn write_kept<W: Sink>(
     seen: &Seen,
     writer: &mut W,
 ) -> Result<(), PrintError>
-    ensures { Prints (W.written writer.old) (W.written writer.new) (W.failures writer.old)
-        (W.failures writer.new) result (kept_json filter.now facts is_chosen name.now seen.now) 0 }
+    ensures { (whole : Datum) → IsKeptIn (Some 1024) whole seen.now →
+        Prints (W.written writer.old) (W.written writer.new) (W.failures writer.old)
+        (W.failures writer.new) result
+        (kept_json filter.now facts is_chosen name.now whole seen.now) 0 }
 {
     if !filter.keeps(facts.client, is_chosen, facts.waited, seen) {
         return Ok(());

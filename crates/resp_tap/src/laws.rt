@@ -1,5 +1,6 @@
 //! Facts about the definitions. Each function does nothing; its contract states the fact.
 
+ghost use Rattle.resp_tap.specs.KeptLaws.{KeptPartsTellTheSame};
 ghost use Rattle.resp_tap.specs.SecretLaws.{SecretsAreRedactedSo};
 ghost use Rattle.resp_tap.specs.Streams.{CountsReplies, TellsTheConnection};
 ghost use Rattle.resp_tap.specs.TimeLaws.{PrintsAsPlayed, TimesAreToldSo};
@@ -42,4 +43,10 @@ pub fn pieces_tell_the_connection()
 /// command.
 pub fn replies_are_counted()
     ensures { CountsReplies }
+{}
+
+/// The kept part of a value is an error exactly if the value is one, and has as many levels. So a
+/// filter, the counts and the name of a connection follow the whole values.
+pub fn kept_parts_tell_the_same()
+    ensures { KeptPartsTellTheSame }
 {}

@@ -3,6 +3,8 @@
 ghost use Rattle.std.specs.Prelude.{◌++◌, ◌≡◌, ◌≤◌, [], false, true, length, take, IfOk, codes, if◌then◌else◌, option_map};
 ghost use Rattle.resp_print.specs.Printed.{Prints};
 ghost use Rattle.resp_print.specs.Written.{WritesText};
+ghost use Rattle.resp_value.specs.Data.{Datum};
+ghost use Rattle.resp_tap.specs.SeenOf.{IsKeptIn};
 ghost use Rattle.resp_tap.specs.Filters.{is_by_reply};
 ghost use Rattle.resp_tap.specs.Noted.{IsChosen, IsNote, before_text, deferred_text, filtered_text, kept_line, line_end, room_behind, room_for, shown_words, stamp_on, waited_in};
 ghost use Rattle.resp_tap.specs.Texts.{heading, levels_of};
@@ -10,7 +12,7 @@ ghost use Rattle.resp_tap.specs.Texts.{heading, levels_of};
 use crate::filter::Filter;
 use crate::inline::{write_heading, write_shown};
 use crate::moment::Moment;
-use crate::print::{Printing, secrets_for, write_words};
+use crate::print::{TextOptions, secrets_for, write_words};
 use crate::seen::Seen;
 use crate::stamp::Stamp;
 use resp_print::print_error::PrintError;
@@ -68,18 +70,18 @@ fn room_behind(behind: usize) -> usize
 pub(crate) fn note_of(
     alloc: Global,
     filter: &Filter,
-    printing: Printing,
+    options: TextOptions,
     now: Option<Moment>,
     is_line: bool,
     is_chosen: bool,
     words: &Words,
     behind: usize,
 ) -> Result<Note, AllocError>
-    ensures { IfOk result (IsNote printing now is_line is_chosen words.now
+    ensures { IfOk result (IsNote options now is_line is_chosen words.now
         (room_for filter.now is_chosen behind)) }
 {
     let room = filter.room_for(is_chosen, behind);
-    let (text, is_whole) = first_bytes(alloc, printing, words, room)?;
+    let (text, is_whole) = first_bytes(alloc, options, words, room)?;
     Ok(Note {
         of_day: of_day(now),
         is_line,
@@ -106,16 +108,16 @@ fn of_day(now: Option<Moment>) -> Option<u64>
 /// `AllocError` if an allocation fails.
 fn first_bytes(
     alloc: Global,
-    printing: Printing,
+    options: TextOptions,
     words: &Words,
     room: usize,
 ) -> Result<(Vec<u8>, bool), AllocError>
     requires { room ≤ 1024 }
-    ensures bytes { IfOk result (λ kept. kept.0.items ≡ take room (shown_words printing words.now)) }
+    ensures bytes { IfOk result (λ kept. kept.0.items ≡ take room (shown_words options words.now)) }
     ensures whole { IfOk result (λ kept. kept.1 ≡ true →
-        length (shown_words printing words.now) ≤ room) }
+        length (shown_words options words.now) ≤ room) }
     ensures part { IfOk result (λ kept. kept.1 ≡ false →
-        room ≤ length (shown_words printing words.now)) }
+        room ≤ length (shown_words options words.now)) }
 {
     if room == 0 {
         return Ok((Vec::new(alloc), false));
@@ -124,8 +126,8 @@ fn first_bytes(
     let mut sink = MemorySink::new(alloc, usize::MAX, room + 1)?;
     let written = write_words(
         words,
-        secrets_for(printing, words),
-        printing.shown,
+        secrets_for(options, words),
+        options.shown.most,
         &mut sink,
     );
     let text = sink.bytes();
@@ -183,7 +185,7 @@ fn stamp_on(of_day: Option<u64>) -> Option<Stamp>
 /// The errors of [`write_shown`]. The first part of the text was written.
 pub(crate) fn write_filtered<W: Sink>(
     filter: &Filter,
-    printing: Printing,
+    options: TextOptions,
     is_line: bool,
     is_chosen: bool,
     note: Option<&Note>,
@@ -191,15 +193,16 @@ pub(crate) fn write_filtered<W: Sink>(
     seen: &Seen,
     writer: &mut W,
 ) -> Result<(), PrintError>
-    ensures { Prints (W.written writer.old) (W.written writer.new) (W.failures writer.old)
-        (W.failures writer.new) result (filtered_text filter.now printing is_line is_chosen
-        (option_map (λ note. note.now) note.entry) stamp seen.now) (levels_of seen.now) }
+    ensures { (whole : Datum) → IsKeptIn options.shown.most whole seen.now →
+        Prints (W.written writer.old) (W.written writer.new) (W.failures writer.old)
+        (W.failures writer.new) result (filtered_text filter.now options is_line is_chosen
+        (option_map (λ note. note.now) note.entry) stamp whole seen.now) (levels_of seen.now) }
 {
-    if !filter.keeps(printing.client, is_chosen, waited_in(stamp), seen) {
+    if !filter.keeps(options.client, is_chosen, waited_in(stamp), seen) {
         return Ok(());
     }
-    match write_before(filter, printing.client, note, seen, writer) {
-        Ok(()) => write_shown(printing, is_line, stamp, seen, writer),
+    match write_before(filter, options.client, note, seen, writer) {
+        Ok(()) => write_shown(options, is_line, stamp, seen, writer),
         Err(_) => Err(PrintError::Write),
     }
 }

@@ -3,22 +3,28 @@
 ghost use Rattle.std.specs.Prelude.{◌+◌, ◌++◌, ◌≡◌, [], ℕ, List, Option, Some, codes, decimal, length};
 ghost use Rattle.resp_print.specs.Printed.{Prints};
 ghost use Rattle.resp_print.specs.Written.{WritesText};
-ghost use Rattle.resp_value.specs.Data.{depth};
+ghost use Rattle.resp_value.specs.Data.{Datum, depth};
 ghost use Rattle.resp_value.specs.Values.{datum_of};
 ghost use Rattle.resp_value.specs.declared.value.Value.TheVariants as value;
+ghost use Rattle.resp_print.specs.Shown.{lines_within};
+ghost use Rattle.resp_tap.specs.Parts.{IsKeptOf, cut_within, lengths_within};
+ghost use Rattle.resp_tap.specs.SeenOf.{IsKeptIn};
 ghost use Rattle.resp_tap.specs.Secrets.{printed_words, redacted_after, shown_word};
 ghost use Rattle.resp_tap.specs.Stamps.{ending_text};
-ghost use Rattle.resp_tap.specs.Texts.{byte_text, client_line, command_text, levels_of, numbered_end, numbered_line, place_text, push_text, refusal_heading, refusal_text, remark_text, reply_text, seen_text, value_text, word_end, word_text, words_line, words_text};
+ghost use Rattle.resp_tap.specs.Texts.{byte_text, client_line, command_text, levels_of, numbered_end, numbered_line, place_text, push_text, refusal_heading, refusal_text, refused_text, remark_text, reply_text, seen_text, value_text, word_end, word_text, words_line, words_text};
 
 use crate::secrets::Secrets;
 use crate::seen::{Place, Seen};
+use crate::shown_part::ShownPart;
 use crate::stamp::{Stamp, write_ending, write_stamp};
+use crate::tap::Tap;
+use resp_cut::CutValue;
 use resp_print::print_error::PrintError;
 use resp_print::text::{is_cut, shown_part, write_number, write_quoted, write_text};
-use resp_print::value::{write_push_value, write_value};
+use resp_print::value::{write_cut_push_value, write_cut_value, write_push_value, write_value};
 use resp_session::words::Words;
 use resp_value::device::{DeviceFault, Sink};
-use resp_value::value::{Members, Value};
+use resp_value::value::Members;
 
 /// How the traffic of a client is printed.
 #[derive(Clone, Copy, Debug, PartialEq, Eq)]
@@ -28,9 +34,33 @@ pub struct Printing {
     /// Whether passwords and other secret words of commands are printed. If not, `(redacted)` is
     /// printed in place of each.
     pub shows_passwords: bool,
-    /// The most bytes of a word or of a text that are printed, or `None` if all are. `..` and the
-    /// number of its bytes follow one that has more.
-    pub shown: Option<usize>,
+}
+
+/// How the results of a client are printed by a tap.
+#[derive(Clone, Copy, Debug, PartialEq, Eq)]
+pub struct TextOptions {
+    /// The number of the client, from 1.
+    pub client: u64,
+    /// Whether passwords and other secret words of commands are printed.
+    pub shows_passwords: bool,
+    /// How many bytes of a word or of a text are printed. `..` and the number of its bytes follow one
+    /// that has more. The results are those of a tap that shows as many.
+    pub shown: ShownPart,
+}
+
+impl Tap {
+    ghost use Rattle.resp_tap.specs.Options.{options_of};
+
+    /// Returns how results of this tap are printed.
+    pub fn options(&self, printing: Printing) -> TextOptions
+        ensures { result ≡ options_of printing self.now }
+    {
+        TextOptions {
+            client: printing.client,
+            shows_passwords: printing.shows_passwords,
+            shown: self.values.shown,
+        }
+    }
 }
 
 /// Writes the lines of `seen`. Replies and pushes have the lines of `resp loop`, if all their bytes are
@@ -40,31 +70,52 @@ pub struct Printing {
 ///
 /// Fails as [`write_value`] does. The first part of the text was written.
 pub fn write_seen<W: Sink>(
-    printing: Printing,
+    options: TextOptions,
     stamp: Option<Stamp>,
     seen: &Seen,
     writer: &mut W,
 ) -> Result<(), PrintError>
-    ensures { Prints (W.written writer.old) (W.written writer.new) (W.failures writer.old)
-        (W.failures writer.new) result (seen_text printing stamp seen.now) (levels_of seen.now) }
+    ensures { (whole : Datum) → IsKeptIn options.shown.most whole seen.now →
+        Prints (W.written writer.old) (W.written writer.new) (W.failures writer.old)
+        (W.failures writer.new) result (seen_text options stamp whole seen.now)
+        (levels_of seen.now) }
 {
-    let client = printing.client;
     match seen {
         Seen::Nothing | Seen::Passed => Ok(()),
         Seen::Command { number, words } => {
-            printed(write_command(printing, *number, stamp, words, writer))
+            printed(write_command(options, *number, stamp, words, writer))
         }
-        Seen::Reply { number, value } => write_reply(printing, *number, stamp, value, writer),
-        Seen::Push(items) => write_push(printing, stamp, items, writer),
-        Seen::Value(value) => write_unpaired(printing, stamp, value, writer),
+        Seen::Reply { number, value } => write_reply(options, *number, stamp, value, writer),
+        Seen::Push { members, lengths } => {
+            write_push(options, stamp, members, lengths.as_slice(), writer)
+        }
+        Seen::Value(value) => write_unpaired(options, stamp, value, writer),
+        Seen::NotCommand { .. } | Seen::Refused { .. } => {
+            printed(write_refused(options.client, stamp, seen, writer))
+        }
+    }
+}
+
+/// Writes the line of a result if it is an error.
+pub(crate) fn write_refused<W: Sink>(
+    client: u64,
+    stamp: Option<Stamp>,
+    seen: &Seen,
+    writer: &mut W,
+) -> Result<(), DeviceFault>
+    ensures { WritesText (W.written writer.old) (W.written writer.new) (W.failures writer.old)
+        (W.failures writer.new) result (refused_text client stamp seen.now) }
+{
+    match seen {
         Seen::NotCommand { number } => {
             let place = Place::Command(*number);
-            printed(write_refusal(client, b"NotCommand", 0, place, stamp, writer))
+            write_refusal(client, b"NotCommand", 0, place, stamp, writer)
         }
         Seen::Refused { cause, at, place } => {
             let name = cause.name().as_bytes();
-            printed(write_refusal(client, name, *at, *place, stamp, writer))
+            write_refusal(client, name, *at, *place, stamp, writer)
         }
+        _ => Ok(()),
     }
 }
 
@@ -82,78 +133,116 @@ pub(crate) fn printed(written: Result<(), DeviceFault>) -> Result<(), PrintError
 
 /// Writes the reply to a command, after its heading.
 fn write_reply<W: Sink>(
-    printing: Printing,
+    options: TextOptions,
     number: u64,
     stamp: Option<Stamp>,
-    value: &Value,
+    kept: &CutValue,
     writer: &mut W,
 ) -> Result<(), PrintError>
-    ensures { Prints (W.written writer.old) (W.written writer.new) (W.failures writer.old)
-        (W.failures writer.new) result (reply_text printing number stamp (datum_of value.now))
-        (1 + depth (datum_of value.now)) }
+    ensures { (whole : Datum) → IsKeptOf options.shown.most whole kept.now →
+        Prints (W.written writer.old) (W.written writer.new) (W.failures writer.old)
+        (W.failures writer.new) result (reply_text options number stamp whole)
+        (1 + depth (datum_of kept.now.value)) }
 {
-    match write_numbered_line(printing.client, b" reply ", number, stamp, writer) {
-        Ok(()) => write_value(value, 1, printing.shown, writer),
+    match write_numbered_line(options.client, b" reply ", number, stamp, writer) {
+        Ok(()) => write_kept(kept, options.shown, writer),
         Err(_) => Err(PrintError::Write),
+    }
+}
+
+/// Writes the lines of a value of which one byte more of each text was kept than is shown.
+fn write_kept<W: Sink>(kept: &CutValue, shown: ShownPart, writer: &mut W) -> Result<(), PrintError>
+    ensures { (whole : Datum) → IsKeptOf shown.most whole kept.now →
+        Prints (W.written writer.old) (W.written writer.new) (W.failures writer.old)
+        (W.failures writer.new) result (lines_within shown.most 1 whole)
+        (1 + depth (datum_of kept.now.value)) }
+{
+    match shown.most {
+        Some(most) => write_cut_value(&kept.value, kept.lengths.as_slice(), 1, most, writer),
+        None => write_value(&kept.value, 1, None, writer),
     }
 }
 
 /// Writes a push, after its heading.
 fn write_push<W: Sink>(
-    printing: Printing,
+    options: TextOptions,
     stamp: Option<Stamp>,
-    items: &Members,
+    members: &Members,
+    lengths: &[u64],
     writer: &mut W,
 ) -> Result<(), PrintError>
-    ensures { Prints (W.written writer.old) (W.written writer.new) (W.failures writer.old)
-        (W.failures writer.new) result
-        (push_text printing stamp (datum_of (value.Push items.now)))
-        (1 + depth (datum_of (value.Push items.now))) }
+    ensures { (whole : Datum) →
+        datum_of (value.Push members.now) ≡ cut_within options.shown.most whole →
+        lengths.now ≡ lengths_within options.shown.most whole →
+        Prints (W.written writer.old) (W.written writer.new) (W.failures writer.old)
+        (W.failures writer.new) result (push_text options stamp whole)
+        (1 + depth (datum_of (value.Push members.now))) }
 {
-    match write_client_line(printing.client, b" push", stamp, writer) {
-        Ok(()) => write_push_value(items, 1, printing.shown, writer),
+    match write_client_line(options.client, b" push", stamp, writer) {
+        Ok(()) => write_kept_push(members, lengths, options.shown, writer),
         Err(_) => Err(PrintError::Write),
+    }
+}
+
+/// Writes the lines of a push of which one byte more of each text was kept than is shown.
+fn write_kept_push<W: Sink>(
+    members: &Members,
+    lengths: &[u64],
+    shown: ShownPart,
+    writer: &mut W,
+) -> Result<(), PrintError>
+    ensures { (whole : Datum) → datum_of (value.Push members.now) ≡ cut_within shown.most whole →
+        lengths.now ≡ lengths_within shown.most whole →
+        Prints (W.written writer.old) (W.written writer.new) (W.failures writer.old)
+        (W.failures writer.new) result (lines_within shown.most 1 whole)
+        (1 + depth (datum_of (value.Push members.now))) }
+{
+    match shown.most {
+        Some(most) => write_cut_push_value(members, lengths, 1, most, writer),
+        None => write_push_value(members, 1, None, writer),
     }
 }
 
 /// Writes a value that is paired with no command, after its heading.
 fn write_unpaired<W: Sink>(
-    printing: Printing,
+    options: TextOptions,
     stamp: Option<Stamp>,
-    value: &Value,
+    kept: &CutValue,
     writer: &mut W,
 ) -> Result<(), PrintError>
-    ensures { Prints (W.written writer.old) (W.written writer.new) (W.failures writer.old)
-        (W.failures writer.new) result (value_text printing stamp (datum_of value.now))
-        (1 + depth (datum_of value.now)) }
+    ensures { (whole : Datum) → IsKeptOf options.shown.most whole kept.now →
+        Prints (W.written writer.old) (W.written writer.new) (W.failures writer.old)
+        (W.failures writer.new) result (value_text options stamp whole)
+        (1 + depth (datum_of kept.now.value)) }
 {
-    match write_client_line(printing.client, b" value", stamp, writer) {
-        Ok(()) => write_value(value, 1, printing.shown, writer),
+    match write_client_line(options.client, b" value", stamp, writer) {
+        Ok(()) => write_kept(kept, options.shown, writer),
         Err(_) => Err(PrintError::Write),
     }
 }
 
 /// Writes the number of a command, and its words on the next line.
 fn write_command<W: Sink>(
-    printing: Printing,
+    options: TextOptions,
     number: u64,
     stamp: Option<Stamp>,
     words: &Words,
     writer: &mut W,
 ) -> Result<(), DeviceFault>
     ensures { WritesText (W.written writer.old) (W.written writer.new) (W.failures writer.old)
-        (W.failures writer.new) result (command_text printing number stamp words.now) }
+        (W.failures writer.new) result (command_text options number stamp words.now) }
 {
-    write_numbered_line(printing.client, b" command ", number, stamp, writer)?;
-    write_words_line(words, secrets_for(printing, words), printing.shown, writer)
+    write_numbered_line(options.client, b" command ", number, stamp, writer)?;
+    let most = options.shown.most;
+    write_words_line(words, secrets_for(options, words), most, writer)
 }
 
 /// Returns the secret words of a command that are not printed.
-pub(crate) fn secrets_for(printing: Printing, words: &Words) -> Secrets
+pub(crate) fn secrets_for(options: TextOptions, words: &Words) -> Secrets
     ensures { redacted_after result [] words.now ≡
-        printed_words printing.shows_passwords words.now }
+        printed_words options.shows_passwords words.now }
 {
-    if printing.shows_passwords {
+    if options.shows_passwords {
         Secrets::Absent
     } else {
         Secrets::of(words)

@@ -1,11 +1,9 @@
 //! The commands, replies and pushes of a connection.
 
-ghost use Rattle.std.specs.Prelude.{◌≡◌};
-ghost use Rattle.resp_tap.specs.CountedTaps.{is_refused};
-
+use resp_cut::CutValue;
 use resp_session::words::Words;
 use resp_value::cause::Cause;
-use resp_value::value::{Members, Value};
+use resp_value::value::Members;
 
 /// The result of one step over a piece that one side sent.
 #[derive(Drop)]
@@ -19,6 +17,8 @@ pub struct Step {
 
 /// A command, a reply or another part of the traffic. Commands are numbered from 1, and a reply has
 /// the number of its command.
+///
+/// A value of the server has one byte more of each text than is shown.
 #[derive(Drop)]
 pub enum Seen {
     /// The whole piece was read, and nothing ended in it.
@@ -33,13 +33,17 @@ pub enum Seen {
     /// The server sent the reply to a command.
     Reply {
         number: u64,
-        value: Value,
+        value: CutValue,
     },
-    /// The server sent a push, which is no reply to a command. These are its members.
-    Push(Members),
+    /// The server sent a push, which is no reply to a command. These are its members, with the
+    /// lengths of the longer texts as in a [`CutValue`].
+    Push {
+        members: Members,
+        lengths: Vec<u64>,
+    },
     /// The server sent a value that is paired with no command: after a command that does not have
     /// exactly one reply, after an error of the client, or after a value that no command asked for.
-    Value(Value),
+    Value(CutValue),
     /// The client sent a value that is not a command. The rest of its bytes is not read.
     NotCommand {
         number: u64,
@@ -53,15 +57,6 @@ pub enum Seen {
         at: u64,
         place: Place,
     },
-}
-
-impl Seen {
-    /// Returns whether this is an error, after which the bytes of its side are not read.
-    pub(crate) fn is_refused(&self) -> bool
-        ensures { result ≡ is_refused self.now }
-    {
-        matches!(self, Seen::NotCommand { .. } | Seen::Refused { .. })
-    }
 }
 
 /// The part of the traffic that contains a wrong byte.

@@ -3,27 +3,32 @@
 ghost use Rattle.std.specs.Prelude.{◌≡◌, List, ℕ, [], true, None, Some, IfOk, MatchOption, OnErr};
 ghost use Rattle.std.specs.Option.{ForSome};
 ghost use Rattle.resp_value.specs.Rules.{rules_under};
-ghost use Rattle.resp_decode.specs.Decoding.{HasTaken, rules_of};
+ghost use Rattle.resp_decode.specs.CutDecoding.{HasTaken, rules_of, shown_of};
+ghost use Rattle.resp_tap.specs.Parts.{kept_bytes};
 
-use resp_decode::Decoder;
-use resp_decode::fed::Fed;
+use crate::shown_part::ShownPart;
+use resp_decode::CutDecoder;
+use resp_decode::fed::CutFed;
 use resp_scan::event::Fault;
 use resp_value::cause::Cause;
 use resp_value::limits::Limits;
 use resp_value::version::Version;
 use std::alloc::{AllocError, Global};
 
-/// Reads the values that one side sends, until the first error in its bytes. It holds memory only
-/// between two pieces of a value.
+/// Reads the values that one side sends, until the first error in its bytes. It keeps one byte more
+/// of each text than is shown. It holds memory only between two pieces of a value.
 #[derive(Drop)]
 pub(crate) struct SideReader {
     pub(crate) alloc: Global,
     pub(crate) version: Version,
     pub(crate) limits: Limits,
-    pub(crate) decoder: Option<Box<Decoder>>,
+    /// How many bytes of each text are shown.
+    pub(crate) shown: ShownPart,
+    pub(crate) decoder: Option<Box<CutDecoder>>,
     /// Whether the bytes of this side are still read.
     pub(crate) is_reading: bool,
     pub ghost same_rules: { ForSome decoder (λ decoder. rules_of decoder.value ≡ rules_under version limits) },
+    pub ghost same_shown: { ForSome decoder (λ decoder. shown_of decoder.value ≡ kept_bytes shown.most) },
     /// Until the first error, some bytes were read of the value that is incomplete.
     pub ghost reading: { is_reading ≡ true → ∥ ((front : List ℕ) ×
         MatchOption decoder (front ≡ []) (λ decoder. HasTaken decoder.value front)) ∥₁ },
@@ -32,20 +37,23 @@ pub(crate) struct SideReader {
 impl SideReader {
     ghost use Rattle.std.specs.Prelude.{◌<◌, ◌≤◌, ◌++◌, false, length, take, IfErr, OnOk};
     ghost use Rattle.resp_value.specs.declared.version.Version.TheVariants.{Two};
-    ghost use Rattle.resp_decode.specs.Decoding.{IfNoValue, IfValue};
+    ghost use Rattle.resp_decode.specs.CutDecoding.{IfNoValue, IfValue};
     ghost use Rattle.resp_tap.specs.Sides.{EndsSide, GoesOnSide, HasSent, RefusesSide, WhereSent, side_rules};
 
-    /// Returns a reader of a new connection, in version 2. It allocates nothing.
-    pub(crate) fn new(alloc: Global, limits: &Limits) -> SideReader
+    /// Returns a reader of a new connection, in version 2, that keeps one byte more of each text than
+    /// is shown. It allocates nothing.
+    pub(crate) fn new(alloc: Global, limits: &Limits, shown: ShownPart) -> SideReader
         ensures nothing_sent { HasSent result [] }
         ensures version { result.version ≡ Two }
         ensures limits { result.limits ≡ limits.now }
+        ensures shown { result.shown ≡ shown }
         ensures reads { result.is_reading ≡ true }
     {
         SideReader {
             alloc,
             version: Version::Two,
             limits: *limits,
+            shown,
             decoder: None,
             is_reading: true,
         }
@@ -55,11 +63,12 @@ impl SideReader {
     ///
     /// # Errors
     ///
-    /// The faults of [`Decoder::feed`], and `OutOfMemory` at byte 0 if there is no memory for a decoder.
-    pub(crate) fn feed(&mut self, piece: &[u8]) -> Result<Fed, Fault>
+    /// The faults of [`CutDecoder::feed`], and `OutOfMemory` at byte 0 if there is no memory for a decoder.
+    pub(crate) fn feed(&mut self, piece: &[u8]) -> Result<CutFed, Fault>
         requires { self.old.is_reading ≡ true }
         ensures value_whole { WhereSent self.old (λ front. IfValue result (λ used.
-            EndsSide (side_rules self.old) self.new (front ++ take used piece.now))) }
+            EndsSide (side_rules self.old) self.old.shown.most self.new
+            (front ++ take used piece.now))) }
         ensures used_up { WhereSent self.old (λ front. IfNoValue result
             (GoesOnSide (side_rules self.old) self.new (front ++ piece.now) piece.now)) }
         ensures refusal { WhereSent self.old (λ front. IfErr result
@@ -68,17 +77,20 @@ impl SideReader {
         ensures within_piece { IfOk result (λ fed. fed.used ≤ length piece.now) }
         ensures same_version { self.new.version ≡ self.old.version }
         ensures same_limits { self.new.limits ≡ self.old.limits }
+        ensures same_shown { self.new.shown ≡ self.old.shown }
         ensures goes_on { OnOk result (self.new.is_reading ≡ true) }
         ensures stops { OnErr result (self.new.is_reading ≡ false) }
     {
         let held = self.decoder.take();
-        let Ok(mut decoder) = begun(held, self.alloc, self.version, &self.limits) else {
+        let Ok(mut decoder) = begun(held, self.alloc, self.version, &self.limits, self.shown) else {
             self.is_reading = false;
             return Err(Fault {
                 cause: Cause::OutOfMemory,
                 at: 0,
             });
         };
+        // Each limit is within its range, so no text has 2^64 bytes.
+        self.limits.are_in_range();
         match decoder.feed(piece) {
             Ok(fed) => {
                 self.decoder = kept(decoder, &fed, piece);
@@ -96,6 +108,7 @@ impl SideReader {
         ensures nothing_sent { HasSent self.old [] → HasSent self.new [] }
         ensures new_version { HasSent self.old [] → self.new.version ≡ version }
         ensures same_limits { self.new.limits ≡ self.old.limits }
+        ensures same_shown { self.new.shown ≡ self.old.shown }
         ensures same_reading { self.new.is_reading ≡ self.old.is_reading }
     {
         if self.version != version && self.taken() == 0 {
@@ -110,6 +123,7 @@ impl SideReader {
         ensures same_decoder { self.new.decoder ≡ self.old.decoder }
         ensures same_version { self.new.version ≡ self.old.version }
         ensures same_limits { self.new.limits ≡ self.old.limits }
+        ensures same_shown { self.new.shown ≡ self.old.shown }
     {
         self.is_reading = false;
     }
@@ -134,31 +148,38 @@ impl SideReader {
 
 /// Returns the decoder, or a new one if there is none.
 fn begun(
-    decoder: Option<Box<Decoder>>,
+    decoder: Option<Box<CutDecoder>>,
     alloc: Global,
     version: Version,
     limits: &Limits,
-) -> Result<Box<Decoder>, AllocError>
+    shown: ShownPart,
+) -> Result<Box<CutDecoder>, AllocError>
     requires rules { ForSome decoder (λ decoder. rules_of decoder.value ≡ rules_under version limits.now) }
+    requires shown { ForSome decoder (λ decoder. shown_of decoder.value ≡ kept_bytes shown.most) }
     ensures sent { IfOk result (λ begun. (front : List ℕ) →
         MatchOption decoder (front ≡ []) (λ decoder. HasTaken decoder.value front) →
         HasTaken begun.value front) }
     ensures rules { IfOk result (λ begun. rules_of begun.value ≡ rules_under version limits.now) }
+    ensures shown { IfOk result (λ begun. shown_of begun.value ≡ kept_bytes shown.most) }
     ensures nothing_sent { OnErr result ((front : List ℕ) →
         MatchOption decoder (front ≡ []) (λ decoder. HasTaken decoder.value front) → front ≡ []) }
 {
     match decoder {
         Some(decoder) => Ok(decoder),
-        None => Ok(Box::new(alloc, Decoder::new(alloc, version, limits))?),
+        None => {
+            let decoder = CutDecoder::new(alloc, version, limits, shown.bytes());
+            Ok(Box::new(alloc, decoder)?)
+        }
     }
 }
 
 /// Returns the decoder, unless the piece ended with a value.
-fn kept(decoder: Box<Decoder>, fed: &Fed, piece: &[u8]) -> Option<Box<Decoder>>
+fn kept(decoder: Box<CutDecoder>, fed: &CutFed, piece: &[u8]) -> Option<Box<CutDecoder>>
     ensures nothing_sent { HasTaken decoder.value [] →
         MatchOption result (◌≡◌ {A = List ℕ} [] []) (λ kept. HasTaken kept.value []) }
     ensures inside { fed.now.value ≡ None → result ≡ Some decoder }
     ensures rules { ForSome result (λ kept. rules_of kept.value ≡ rules_of decoder.value) }
+    ensures shown { ForSome result (λ kept. shown_of kept.value ≡ shown_of decoder.value) }
 {
     if fed.value.is_some() && fed.used == piece.len() {
         return None;

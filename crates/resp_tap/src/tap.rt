@@ -9,7 +9,9 @@ ghost use Rattle.resp_tap.specs.declared.seen.Place.TheVariants as place;
 use crate::kind::command_kind;
 use crate::line::Line;
 use crate::seen::{Place, Seen, Step};
+use crate::shown_part::ShownPart;
 use crate::side_reader::SideReader;
+use resp_cut::CutValue;
 use resp_session::words::{Asked, Words, asked_by};
 use resp_value::cause::Cause;
 use resp_value::limits::Limits;
@@ -42,26 +44,27 @@ const MOST_COMMANDS: u64 = 9_223_372_036_854_775_808;
 ///
 /// After an error in the bytes of a side, nothing more of that side is read. After an error of the
 /// client, the replies to the commands before it are still paired. A tap holds at most one incomplete
-/// value of each side, and 32 bytes for each command that waits, at most 1,048,576 of them.
+/// value of each side, and 32 bytes for each command that waits, at most 1,048,576 of them. It holds
+/// one byte more of each text of the server's value than is shown, whatever the text's length.
 ///
 /// # Examples
 ///
 /// From [samples](../../samples/src/tapping.rt):
 ///
 /// ```rust
-/// let mut tap = Tap::new(alloc, &Limits::standard());
+/// let mut tap = Tap::new(alloc, &Limits::standard(), ShownPart::first(32));
 /// let step = tap.from_client(b"*1\r\n$4\r\nPING\r\n");
 /// if let Seen::Command { number, words } = &step.seen {
 ///     println!(rt; "command {number}: {}", words.word(0).escape_ascii())?;
 /// }
 /// let step = tap.from_server(b"+PONG\r\n");
 /// if let Seen::Reply { number, value } = &step.seen {
-///     println!(rt; "reply {number}: {value:?}")?;
+///     println!(rt; "reply {number}: {:?} {:?}", value.value, value.lengths)?;
 /// }
 /// ```
 ///
-/// This prints `command 1: PING` and `reply 1: Simple(Line { text: [80, 79, 78, 71] })`, each on a
-/// line.
+/// This prints `command 1: PING` and `reply 1: Simple(Line { text: [80, 79, 78, 71] }) []`, each on
+/// a line.
 #[derive(Drop)]
 pub struct Tap {
     /// Reads the bytes of the client.
@@ -76,6 +79,7 @@ pub struct Tap {
     ghost in_range: { commands ≤ 2 ^ 63 },
     ghost request_rules: { side_rules requests ≡ rules_under Two limits },
     ghost value_limits: { values.limits ≡ limits },
+    ghost all_words: { requests.shown.most ≡ None },
 }
 
 impl Step {
@@ -96,14 +100,18 @@ ghost use Rattle.resp_tap.specs.SeenOf.{ToldAs};
 
 /// Converts a value of the server, which belongs to the command with this number. A push has no
 /// number.
-fn told_as(number: Option<u64>, value: Value) -> Seen
-    requires { is_push (datum_of value) ≡ true → number ≡ None }
-    ensures { ToldAs number (datum_of value) result }
+fn told_as(number: Option<u64>, kept: CutValue) -> Seen
+    requires { is_push (datum_of kept.value) ≡ true → number ≡ None }
+    ensures { ToldAs number kept result }
 {
+    let CutValue { value, lengths } = kept;
     match (number, value) {
-        (_, Value::Push(items)) => Seen::Push(items),
-        (Some(number), value) => Seen::Reply { number, value },
-        (None, value) => Seen::Value(value),
+        (_, Value::Push(members)) => Seen::Push { members, lengths },
+        (Some(number), value) => Seen::Reply {
+            number,
+            value: CutValue { value, lengths },
+        },
+        (None, value) => Seen::Value(CutValue { value, lengths }),
     }
 }
 
@@ -114,16 +122,17 @@ impl Tap {
     ghost use Rattle.resp_tap.specs.Taps.{at_front, new_tap, tap_state, with_command, with_refused_command, with_refused_reply, with_value};
     ghost use Rattle.resp_tap.specs.Watching.{HasTakenRequest, HasTakenSomeRequest, HasTakenSomeValue, HasTakenValue, IsLeftOut, KeepsRequest, KeepsValue, LacksTime, SeesRequest, SeesValue, WhereAnswered, WhereRequested, place_of_value, request_rules};
 
-    /// Returns a tap of a new connection, which is read within these limits. It allocates nothing.
-    pub fn new(alloc: Global, limits: &Limits) -> Tap
-        ensures nothing_passed { tap_state result ≡ new_tap limits.now }
+    /// Returns a tap of a new connection, which is read within these limits. It keeps one byte
+    /// more of each text of the server than is shown. The call allocates nothing.
+    pub fn new(alloc: Global, limits: &Limits, shown: ShownPart) -> Tap
+        ensures nothing_passed { tap_state result ≡ new_tap limits.now shown.most }
         ensures nothing_requested { HasTakenRequest result [] }
         ensures nothing_answered { HasTakenValue result [] }
     {
         Tap {
-            requests: SideReader::new(alloc, limits),
+            requests: SideReader::new(alloc, limits, ShownPart::all()),
             commands: 0,
-            values: SideReader::new(alloc, limits),
+            values: SideReader::new(alloc, limits, shown),
             line: Line::new(alloc),
             limits: *limits,
         }
@@ -163,9 +172,9 @@ impl Tap {
                 used,
                 seen: Seen::Nothing,
             },
-            Some(value) => Step {
+            Some(kept) => Step {
                 used,
-                seen: self.command_of(value),
+                seen: self.command_of(kept.value),
             },
         }
     }
@@ -331,23 +340,24 @@ impl Tap {
                 used,
                 seen: Seen::Nothing,
             },
-            Some(value) => Step {
+            Some(kept) => Step {
                 used,
-                seen: self.value_of(value),
+                seen: self.value_of(kept),
             },
         }
     }
 
     /// Records a value of the server, and returns what it is.
     #[tactic(auto, using(crate::proofs::LineLemmas::no_number_of_a_push))]
-    fn value_of(&mut self, value: Value) -> Seen
-        ensures told { ToldAs (number_for (tap_state self.old).line (datum_of value))
-            (datum_of value) result }
-        ensures after { tap_state self.new ≡ with_value (datum_of value) (tap_state self.old) }
+    fn value_of(&mut self, kept: CutValue) -> Seen
+        ensures told { ToldAs (number_for (tap_state self.old).line (datum_of kept.value)) kept
+            result }
+        ensures after { tap_state self.new ≡
+            with_value (datum_of kept.value) (tap_state self.old) }
         ensures same_values { self.new.values ≡ self.old.values }
         ensures same_request { self.new.requests ≡ self.old.requests }
     {
-        let number = self.line.hear(&value);
-        told_as(number, value)
+        let number = self.line.hear(&kept.value);
+        told_as(number, kept)
     }
 }

@@ -7,6 +7,7 @@ ghost use Rattle.resp_tap.specs.Watching.{HasTakenRequest, HasTakenValue, KeepsR
 
 use crate::moment::Moment;
 use crate::seen::{Seen, Step};
+use crate::shown_part::ShownPart;
 use crate::tap::Tap;
 use resp_value::limits::Limits;
 use std::alloc::Global;
@@ -21,7 +22,7 @@ use std::collections::VecDeque;
 /// From [samples](../../samples/src/tapping.rt):
 ///
 /// ```rust
-/// let mut tap = TimedTap::new(alloc, &Limits::standard());
+/// let mut tap = TimedTap::new(alloc, &Limits::standard(), ShownPart::all());
 /// let sent = Moment {
 ///     of_day: 20_216_123_456,
 ///     steady: 5_000_000,
@@ -45,19 +46,23 @@ ghost use Rattle.resp_tap.specs.Times.{HasTimes, KeepsTimes, is_heard, waits_in}
 fn is_heard(seen: &Seen) -> bool
     ensures { result ≡ is_heard seen.now }
 {
-    matches!(seen, Seen::Reply { .. } | Seen::Push(_) | Seen::Value(_))
+    matches!(
+        seen,
+        Seen::Reply { .. } | Seen::Push { .. } | Seen::Value(_)
+    )
 }
 
 impl TimedTap {
-    /// Returns a tap of a new connection, which is read within these limits. It allocates nothing.
-    pub fn new(alloc: Global, limits: &Limits) -> TimedTap
-        ensures nothing_passed { tap_state result.tap ≡ new_tap limits.now }
+    /// Returns a tap of a new connection, which is read within these limits. It keeps one byte
+    /// more of each text of the server than is shown. The call allocates nothing.
+    pub fn new(alloc: Global, limits: &Limits, shown: ShownPart) -> TimedTap
+        ensures nothing_passed { tap_state result.tap ≡ new_tap limits.now shown.most }
         ensures nothing_requested { HasTakenRequest result.tap [] }
         ensures nothing_answered { HasTakenValue result.tap [] }
         ensures no_times { HasTimes result [] }
     {
         TimedTap {
-            tap: Tap::new(alloc, limits),
+            tap: Tap::new(alloc, limits, shown),
             times: VecDeque::new(alloc),
         }
     }

@@ -92,10 +92,11 @@ pub fn watch_some<W: Sink>(
     ensures within_piece { result.used ≤ length piece.now }
     ensures uses_bytes { 0 < length piece.now → 0 < result.used }
 {
+    let options = tap.tap.options(printing);
     let asked = tap.asked();
     let step = step(tap, side, piece, now);
     let stamp = stamp_of(now, asked, &step.seen);
-    let printed = write_seen(printing, stamp, &step.seen, writer);
+    let printed = write_seen(options, stamp, &step.seen, writer);
     Watched {
         used: step.used,
         printed,
@@ -128,12 +129,11 @@ pub(crate) fn first_error(
 /// From [samples](../../samples/src/tapping.rt):
 ///
 /// ```rust
-/// let mut tap = TimedTap::new(alloc, &Limits::standard());
+/// let mut tap = TimedTap::new(alloc, &Limits::standard(), ShownPart::all());
 /// let mut text = MemorySink::new(alloc, 4_096, 4_096)?;
 /// let printing = Printing {
 ///     client: 1,
 ///     shows_passwords: false,
-///     shown: None,
 /// };
 /// let get = b"*2\r\n$3\r\nGET\r\n$4\r\nhits\r\n";
 /// watch(&mut tap, printing, Side::Client, get, None, &mut text)?;

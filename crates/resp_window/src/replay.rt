@@ -13,7 +13,7 @@ use resp_capture::{
     Capture, CaptureError, Connection, Endpoint, Frame, Packet, Segment, is_to_server,
 };
 use resp_lane::PIECE;
-use resp_tap::{Filter, Printing};
+use resp_tap::{Filter, Printing, ShownPart};
 use resp_value::device::{Sink, Source};
 use resp_value::limits::Limits;
 use std::alloc::{AllocError, Global};
@@ -261,7 +261,6 @@ impl Replay {
         let printing = Printing {
             client: self.count,
             shows_passwords: self.settings.shows_passwords,
-            shown: Some(self.settings.shown),
         };
         self.view.print_connected(self.count, client, out)?;
         if !segment.begins {
@@ -274,6 +273,7 @@ impl Replay {
             self.settings.reads_lines,
             self.view.counts(),
             self.view.is_json(),
+            ShownPart::first(self.settings.shown),
         );
         let connection = Connection::new(self.alloc, client, server);
         let is_whole = segment.begins;

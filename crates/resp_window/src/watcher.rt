@@ -2,7 +2,7 @@
 
 use crate::window::Settings;
 use resp_tap::watch::Side;
-use resp_tap::{ClientName, CountedTap, Cut, FilteredTap, JsonTap};
+use resp_tap::{ClientName, CountedTap, Cut, FilteredTap, JsonTap, ShownPart};
 use resp_value::limits::Limits;
 use std::alloc::Global;
 
@@ -16,13 +16,15 @@ pub(crate) enum Watcher {
 
 impl Watcher {
     /// Returns the tap of a new connection, which is counted, or is printed as JSON or as text.
-    /// `reads_lines` says whether a line of a client is a command. It allocates nothing.
+    /// `reads_lines` says whether a line of a client is a command, and `shown` how many bytes of each
+    /// text are printed. It allocates nothing.
     pub(crate) fn new(
         alloc: Global,
         limits: &Limits,
         reads_lines: bool,
         is_counted: bool,
         json: bool,
+        shown: ShownPart,
     ) -> Self {
         if is_counted {
             let tap = CountedTap::new(alloc, limits);
@@ -31,7 +33,7 @@ impl Watcher {
             let tap = JsonTap::new(alloc, limits);
             Watcher::Json(tap.with_lines(reads_lines))
         } else {
-            let tap = FilteredTap::new(alloc, limits);
+            let tap = FilteredTap::new(alloc, limits, shown);
             Watcher::Printed(tap.with_lines(reads_lines))
         }
     }

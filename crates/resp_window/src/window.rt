@@ -21,7 +21,7 @@ use resp_loop::terminal::Terminal;
 use resp_paint::{Painted, Style};
 use resp_print::live::LiveSink;
 use resp_tap::screen::Screen;
-use resp_tap::{Filter, Printing};
+use resp_tap::{Filter, Printing, ShownPart};
 use resp_value::device::Sink;
 use resp_value::limits::Limits;
 use std::alloc::{AllocError, Global};
@@ -600,7 +600,6 @@ impl View {
         let printing = Printing {
             client: number,
             shows_passwords: self.settings.shows_passwords,
-            shown: Some(self.settings.shown),
         };
         let sockets = Sockets {
             client,
@@ -614,6 +613,7 @@ impl View {
             self.settings.reads_lines,
             self.stats.is_some(),
             self.settings.json,
+            ShownPart::first(self.settings.shown),
         );
         let peer = sockets.client.peer_addr().unwrap_or(None);
         let server = self.recorded_server();

@@ -4,7 +4,7 @@ use anyhow::Result;
 use resp_tap::filtered::watch_filtered;
 use resp_tap::json_tap::watch_json;
 use resp_tap::watch::{Side, watch};
-use resp_tap::{Filter, FilteredTap, JsonTap, Moment, Printing, Seen, Tap, TimedTap};
+use resp_tap::{Filter, FilteredTap, JsonTap, Moment, Printing, Seen, ShownPart, Tap, TimedTap};
 use resp_value::{Limits, MemorySink};
 use std::alloc::Global;
 use std::str;
@@ -18,20 +18,20 @@ pub(crate) fn run(rt: &impl Print, alloc: Global) -> Result<()> {
 }
 
 fn pair_reply(rt: &impl Print, alloc: Global) -> Result<()> {
-    let mut tap = Tap::new(alloc, &Limits::standard());
+    let mut tap = Tap::new(alloc, &Limits::standard(), ShownPart::first(32));
     let step = tap.from_client(b"*1\r\n$4\r\nPING\r\n");
     if let Seen::Command { number, words } = &step.seen {
         println!(rt; "command {number}: {}", words.word(0).escape_ascii())?;
     }
     let step = tap.from_server(b"+PONG\r\n");
     if let Seen::Reply { number, value } = &step.seen {
-        println!(rt; "reply {number}: {value:?}")?;
+        println!(rt; "reply {number}: {:?} {:?}", value.value, value.lengths)?;
     }
     Ok(())
 }
 
 fn measure_reply(rt: &impl Print, alloc: Global) -> Result<()> {
-    let mut tap = TimedTap::new(alloc, &Limits::standard());
+    let mut tap = TimedTap::new(alloc, &Limits::standard(), ShownPart::all());
     let sent = Moment {
         of_day: 20_216_123_456,
         steady: 5_000_000,
@@ -42,12 +42,11 @@ fn measure_reply(rt: &impl Print, alloc: Global) -> Result<()> {
 }
 
 fn print_traffic(rt: &impl Print, alloc: Global) -> Result<()> {
-    let mut tap = TimedTap::new(alloc, &Limits::standard());
+    let mut tap = TimedTap::new(alloc, &Limits::standard(), ShownPart::all());
     let mut text = MemorySink::new(alloc, 4_096, 4_096)?;
     let printing = Printing {
         client: 1,
         shows_passwords: false,
-        shown: None,
     };
     let get = b"*2\r\n$3\r\nGET\r\n$4\r\nhits\r\n";
     watch(&mut tap, printing, Side::Client, get, None, &mut text)?;
@@ -60,12 +59,11 @@ fn print_errors(rt: &impl Print, alloc: Global) -> Result<()> {
     let mut filter = Filter::all(alloc);
     filter.errors = true;
     println!(rt; "{}", filter.is_by_reply())?;
-    let mut tap = FilteredTap::new(alloc, &Limits::standard());
+    let mut tap = FilteredTap::new(alloc, &Limits::standard(), ShownPart::all());
     let mut text = MemorySink::new(alloc, 4_096, 4_096)?;
     let printing = Printing {
         client: 1,
         shows_passwords: false,
-        shown: None,
     };
     let sent = b"*1\r\n$4\r\nPING\r\n*2\r\n$4\r\nINCR\r\n$1\r\na\r\n";
     watch_filtered(

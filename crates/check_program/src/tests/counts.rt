@@ -24,7 +24,6 @@ fn counted(alloc: Global) -> Option<Counts> {
     let printing = Printing {
         client: 1,
         shows_passwords: false,
-        shown: None,
     };
     let mut tap = CountedTap::new(alloc, &Limits::standard());
     let mut counts = Counts::new(alloc).ok()?;

@@ -3,10 +3,14 @@ use Rattle.std.specs.Prelude.{None, Some, option_map, slice_get}
 use Rattle.std.specs.Slice.{IsItemAt}
 use Rattle.std.specs.Borrow.{Bor}
 use Rattle.std.proofs.lemmas.Option.{slice_get_past, slice_get_read}
+use Rattle.resp_value.specs.Data.{Datum}
 use Rattle.resp_print.specs.Printed.{Prints}
 use Rattle.resp_tap.specs.ClientNames.{named_after, naming_of}
 use Rattle.resp_tap.specs.Filtering.{note_of}
 use Rattle.resp_tap.specs.Noted.{IsChosen, NotesAfter, filtered_text}
+use Rattle.resp_tap.specs.Options.{options_of}
+use Rattle.resp_tap.specs.SeenOf.{IsKeptIn}
+use Rattle.resp_tap.specs.declared.print.TextOptions.{TextOptions}
 use Rattle.resp_tap.specs.Texts.{levels_of}
 use Rattle.resp_tap.specs.Times.{stamp_of, waits_in}
 use Rattle.resp_tap.specs.Lined.{SeesLined}
@@ -24,8 +28,8 @@ note_at notes i (Some x) item = sym (slice_get_read notes (length notes) i x.now
 pub returns-clause-watches : goal.returns-clause-watches
 returns-clause-watches g c =
     let f = c.args.filter.now in
-    let p = c.args.printing in
     let old = c.args.tap.now in
+    let p = options_of c.args.printing old.timed.tap in
     let new = c.follow.new.self in
     let what = c.step_or_line-lined.result.step.seen in
     let same = sym c.follow.ensures.same_tap in
@@ -44,18 +48,23 @@ returns-clause-watches g c =
         chosen = subst (λ (n : Option Note). IsChosen f n what is_chosen) note c.is_chosen-is_chosen.ensures;
         notes = subst (λ (t : TimedTap). NotesAfter f p c.args.now is_line is_chosen what (waits_in old.timed) (waits_in t) old.notes.items new.notes.items) same
             (subst (λ n. NotesAfter f p c.args.now is_line is_chosen what n (waits_in c.step_or_line-lined.new.tap) old.notes.items new.notes.items) c.waiting-before.ensures
-            c.follow.ensures.notes);
+            (subst (λ (o : TextOptions). NotesAfter f o c.args.now is_line is_chosen what c.waiting-before.result (waits_in c.step_or_line-lined.new.tap)
+            old.notes.items new.notes.items) c.options-options.ensures c.follow.ensures.notes));
         name = c.follow-2.ensures ∙ ap (λ n. named_after what (naming_of n)) c.follow.ensures.same_name;
       },
       record {
         asked = c.asked-asked.result;
         of_command = c.asked-asked.ensures;
-        text = subst (λ (n : Option Note). Prints (g.W.Sink.written c.args.writer.now) (g.W.Sink.written c.write_filtered-printed.new.writer)
+        text = subst (λ (o : TextOptions). (whole : Datum) → IsKeptIn o.shown.most whole what → Prints (g.W.Sink.written c.args.writer.now)
+            (g.W.Sink.written c.write_filtered-printed.new.writer) (g.W.Sink.failures c.args.writer.now) (g.W.Sink.failures c.write_filtered-printed.new.writer)
+            c.write_filtered-printed.result (filtered_text f o is_line is_chosen (note_of old) (stamp_of c.args.now c.asked-asked.result what) whole what)
+            (levels_of what)) c.options-options.ensures (λ whole kept.
+            subst (λ (n : Option Note). Prints (g.W.Sink.written c.args.writer.now) (g.W.Sink.written c.write_filtered-printed.new.writer)
             (g.W.Sink.failures c.args.writer.now) (g.W.Sink.failures c.write_filtered-printed.new.writer) c.write_filtered-printed.result
-            (filtered_text f p is_line is_chosen n (stamp_of c.args.now c.asked-asked.result what) what) (levels_of what)) note
+            (filtered_text f c.options-options.result is_line is_chosen n (stamp_of c.args.now c.asked-asked.result what) whole what) (levels_of what)) note
             (subst (λ (stamp : Option Stamp). Prints (g.W.Sink.written c.args.writer.now) (g.W.Sink.written c.write_filtered-printed.new.writer)
             (g.W.Sink.failures c.args.writer.now) (g.W.Sink.failures c.write_filtered-printed.new.writer) c.write_filtered-printed.result
-            (filtered_text f p is_line is_chosen (option_map (λ note. note.now) c.get-note.result) stamp what) (levels_of what)) c.stamp_of-stamp.ensures
-            c.write_filtered-printed.ensures);
+            (filtered_text f c.options-options.result is_line is_chosen (option_map (λ note. note.now) c.get-note.result) stamp whole what) (levels_of what))
+            c.stamp_of-stamp.ensures (c.write_filtered-printed.ensures whole kept)));
       },
     )

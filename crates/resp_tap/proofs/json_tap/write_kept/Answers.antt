@@ -1,5 +1,6 @@
 use Rattle.std.proofs.Common.{rules, ◌≡◌, [], Bool, true, List, ℕ, ap, sym, subst, ◌∙◌}
 use Rattle.std.specs.Prelude.{if◌then◌else◌}
+use Rattle.resp_value.specs.Data.{Datum}
 use Rattle.resp_print.specs.Printed.{Prints}
 use Rattle.resp_tap.specs.Filters.{keeps}
 use Rattle.resp_tap.specs.JsonLines.{seen_json}
@@ -10,14 +11,14 @@ use Rattle.resp_tap.specs.declared.seen.Seen.{Seen}
 use Rattle.resp_tap.proofs.json_tap.write_kept.Goals as goal
 
 -- the line of a result that is let through
-let_through : (f : Filter) (facts : Facts) (is_chosen : Bool) (name : List ℕ) (what : Seen) →
-    keeps f facts.client is_chosen facts.waited what ≡ true → seen_json facts name what ≡ kept_json f facts is_chosen name what
-let_through f facts is_chosen name what passes = sym (ap (λ b. if b then seen_json facts name what else []) passes)
+let_through : (f : Filter) (facts : Facts) (is_chosen : Bool) (name : List ℕ) (whole : Datum) (what : Seen) →
+    keeps f facts.client is_chosen facts.waited what ≡ true → seen_json facts name whole what ≡ kept_json f facts is_chosen name whole what
+let_through f facts is_chosen name whole what passes = sym (ap (λ b. if b then seen_json facts name whole what else []) passes)
 
 pub returns : goal.returns
-returns g c =
+returns g c = λ whole kept.
     let passes : c.keeps.result ≡ true = search rules in
     subst (λ text. Prints (g.W.Sink.written c.args.writer.now) (g.W.Sink.written c.write_seen_json.new.writer)
     (g.W.Sink.failures c.args.writer.now) (g.W.Sink.failures c.write_seen_json.new.writer) c.printed.result text 0)
-    (let_through c.args.filter.now c.args.facts c.args.is_chosen c.args.name.now c.args.seen.now (sym c.keeps.ensures ∙ passes))
-    (c.printed.ensures _ _ _ _ _ 0 c.write_seen_json.ensures)
+    (let_through c.args.filter.now c.args.facts c.args.is_chosen c.args.name.now whole c.args.seen.now (sym c.keeps.ensures ∙ passes))
+    (c.printed.ensures _ _ _ _ _ 0 (c.write_seen_json.ensures whole kept))

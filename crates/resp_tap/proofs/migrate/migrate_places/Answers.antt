@@ -1,4 +1,4 @@
-use Rattle.std.proofs.Common.{◌+◌, ◌-◌, drop, length, length-drop, subst, sym, arith}
+use Rattle.std.proofs.Common.{◌+◌, ◌-◌, drop, length-drop, arith}
 use Rattle.resp_commands.proofs.Migrated.{no_list, with_list, without_list}
 use Rattle.resp_tap.proofs.KeyPlaces.{words_left}
 use Rattle.resp_tap.proofs.migrate.migrate_places.Goals as goal

@@ -7,13 +7,13 @@ use Rattle.resp_tap.proofs.print.write_command.Goals as goal
 
 pub returns-in_err-write_numbered_line : goal.returns-in_err-write_numbered_line
 returns-in_err-write_numbered_line g c =
-    let p = c.args.printing in
+    let p = c.args.options in
     writes_part c.from_residual.result _ _ _ _ (numbered_line p.client (codes " command ") c.args.number c.args.stamp)
-    (words_line p.shown (printed_words p.shows_passwords c.args.words.now)) c.from_residual.ensures.0 c.in_err-write_numbered_line.ensures
+    (words_line p.shown.most (printed_words p.shows_passwords c.args.words.now)) c.from_residual.ensures.0 c.in_err-write_numbered_line.ensures
 
 pub returns : goal.returns
 returns g c =
-    let p = c.args.printing in
+    let p = c.args.options in
     writes_next c.write_words_line.result _ _ _ _ _ _ (numbered_line p.client (codes " command ") c.args.number c.args.stamp)
-    (words_line p.shown (printed_words p.shows_passwords c.args.words.now)) c.in_ok-write_numbered_line.ensures
-    (words_line_as p.shown _ _ _ _ _ _ _ c.secrets_for.ensures c.write_words_line.ensures)
+    (words_line p.shown.most (printed_words p.shows_passwords c.args.words.now)) c.in_ok-write_numbered_line.ensures
+    (words_line_as p.shown.most _ _ _ _ _ _ _ c.secrets_for.ensures c.write_words_line.ensures)

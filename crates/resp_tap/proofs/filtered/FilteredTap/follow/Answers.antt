@@ -6,7 +6,7 @@ use Rattle.resp_tap.specs.Times.{waits_in}
 use Rattle.resp_tap.specs.declared.filter.Filter.{Filter}
 use Rattle.resp_tap.specs.declared.moment.Moment.{Moment}
 use Rattle.resp_tap.specs.declared.note.Note.{Note}
-use Rattle.resp_tap.specs.declared.print.Printing.{Printing}
+use Rattle.resp_tap.specs.declared.print.TextOptions.{TextOptions}
 use Rattle.resp_tap.specs.declared.seen.Seen.{Seen}
 use Rattle.resp_tap.specs.declared.seen.Seen.TheVariants as seen
 use Rattle.resp_tap.proofs.filtered.FilteredTap.follow.Goals as goal
@@ -15,7 +15,7 @@ use Rattle.resp_tap.proofs.filtered.FilteredTap.follow.Goals as goal
 both_hold : (before after : ℕ) (some : Bool) → before < after → some ≡ true → (nat_lt before after && some) ≡ true
 both_hold before after some less is = grind (arith, less, is)
 
-one_more : (f : Filter) (p : Printing) (now : Option Moment) (is_line is_chosen : Bool) (what : Seen) (number : ℕ) (words : List (List ℕ)) (before after : ℕ)
+one_more : (f : Filter) (p : TextOptions) (now : Option Moment) (is_line is_chosen : Bool) (what : Seen) (number : ℕ) (words : List (List ℕ)) (before after : ℕ)
     (old new : List Note) → what ≡ seen.Command number words → before < after → is_selective f ≡ true → IsAdded f p now is_line is_chosen words old new →
     NotesAfter f p now is_line is_chosen what before after old new
 one_more f p now is_line is_chosen what number words before after old new is less some added =
@@ -26,5 +26,5 @@ pub returns-in-Command-clause-notes : goal.returns-in-Command-clause-notes
 returns-in-Command-clause-notes c =
     let more : c.args.before < waits_in c.args.self.now.timed = search rules in
     let some : is_selective c.args.filter.now ≡ true = search rules in
-    one_more c.args.filter.now c.args.printing c.args.now c.args.is_line c.args.is_chosen c.args.seen.now c.in-Command.number c.in-Command.words c.args.before
+    one_more c.args.filter.now c.args.options c.args.now c.args.is_line c.args.is_chosen c.args.seen.now c.in-Command.number c.in-Command.words c.args.before
     (waits_in c.args.self.now.timed) c.args.self.now.notes.items c.add.new.self.notes.items c.in-Command.is more some c.add.ensures.notes
