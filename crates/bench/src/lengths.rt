@@ -1,9 +1,10 @@
 //! Measures commands by their kind and by the length of their values.
 //!
 //! A session of a hub receives a thousand commands in one piece: PING, GET, ECHO, DEL, and SET with
-//! values of several lengths. After a warm-up all keys are present. At last `serve_with` serves
-//! sessions that receive one PING each. Without an argument there are ten commands of each kind.
-//! It prints counts, which are the same in every run; a profiler counts the instructions.
+//! values of several lengths. All keys are present. The part `alone` serves sessions by `serve_with`
+//! that receive one PING each, and then one PING more. Without the argument `once` there are ten
+//! commands of each kind. It prints counts, which are the same in every run; a profiler counts the
+//! instructions.
 
 use crate::has;
 use crate::server::{BenchHub, Tally, new_hub, send_piece};
@@ -106,33 +107,38 @@ fn print(rt: &HostRuntime, hub: &mut BenchHub, kind: Kind, count: usize) -> Resu
     Ok(())
 }
 
-/// Prints the counts of PINGs that arrive alone.
-fn print_alone(rt: &HostRuntime, hub: &mut BenchHub, count: usize) -> Result<()> {
+/// Returns how many commands of each kind the arguments request.
+fn asked_for(words: &[String]) -> usize {
+    if has(words, "once") { 1_000 } else { 10 }
+}
+
+/// Prints the counts of PINGs that arrive alone: the first of each session, and the second.
+pub(crate) fn bench_alone(rt: &HostRuntime, words: &[String]) -> Result<()> {
+    let count = asked_for(words);
+    let mut hub = new_hub(rt.alloc());
     let mut sessions = Vec::new(rt.alloc());
     for _ in 0..count {
         sessions.push(hub.open()?)?;
     }
-    let mut writer = MemorySink::new(rt.alloc(), PIECE, count.saturating_mul(7))?;
-    let written = answer_alone(hub, sessions.as_slice(), &mut writer);
-    println!(rt; "PING alone, by serve_with: {count} commands, {written} bytes replied;")?;
+    for name in ["first PING", "PING"] {
+        let mut writer = MemorySink::new(rt.alloc(), PIECE, count.saturating_mul(7))?;
+        let written = answer_alone(&mut hub, sessions.as_slice(), &mut writer);
+        println!(rt; "{name} alone, by serve_with: {count} commands, {written} bytes replied;")?;
+    }
     Ok(())
 }
 
 /// Runs the benchmark as the arguments request.
 pub(crate) fn bench(rt: &HostRuntime, words: &[String]) -> Result<()> {
-    let count = if has(words, "once") { 1_000 } else { 10 };
+    let count = asked_for(words);
     let mut hub = new_hub(rt.alloc());
     hub.open()?;
     for kind in [Kind::Ping, Kind::Get, Kind::Echo, Kind::Del] {
         print(rt, &mut hub, kind, count)?;
     }
     for length in LENGTHS {
-        print(
-            rt,
-            &mut hub,
-            Kind::Set(length),
-            if length > 1_000 { count / 10 } else { count },
-        )?;
+        let commands = if length > 1_000 { count / 10 } else { count };
+        print(rt, &mut hub, Kind::Set(length), commands)?;
     }
-    print_alone(rt, &mut hub, count)
+    Ok(())
 }

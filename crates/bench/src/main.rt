@@ -1,7 +1,7 @@
 //! Benchmarks of the client, the server, the codecs and worlds, to be compared with others.
 //!
-//! The arguments name a part, `client`, `server`, `lengths`, `framed`, `worlds` or `grow`, and its
-//! options.
+//! The arguments name a part, `client`, `server`, `lengths`, `alone`, `framed`, `worlds` or `grow`,
+//! and its options.
 //! Without an argument each part counts its work on short texts, with the same output in every run.
 #![tactic(auto)]
 
@@ -37,7 +37,9 @@ fn end_line(rt: &HostRuntime, timed: bool, nanos: u128, count: u128, each: &str)
 
 /// Runs the parts that the arguments name, or all parts if they name no part.
 fn bench(rt: &HostRuntime, words: &[String]) -> Result<()> {
-    let names = ["client", "server", "lengths", "framed", "worlds", "grow"];
+    let names = [
+        "client", "server", "lengths", "alone", "framed", "worlds", "grow",
+    ];
     let all = !names.iter().any(|name| has(words, name));
     for name in names {
         if all || has(words, name) {
@@ -52,6 +54,7 @@ fn bench_part(rt: &HostRuntime, name: &str, words: &[String]) -> Result<()> {
         "client" => client::bench(rt, words),
         "server" => server::bench(rt, words),
         "lengths" => lengths::bench(rt, words),
+        "alone" => lengths::bench_alone(rt, words),
         "framed" => framed::bench(rt, words),
         "worlds" => worlds::bench(rt, words),
         _ => grow::bench(rt, words),
