@@ -9,6 +9,7 @@ pub mod Nearer
 pub mod Begins
 pub mod Turns
 pub mod WholeTexts
+pub mod Passing
 pub mod SlotSteps
 pub mod Loops
 pub mod NoValue

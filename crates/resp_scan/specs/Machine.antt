@@ -16,4 +16,5 @@ pub mod Beginnings
 pub mod Standing
 pub mod Owed
 pub mod Turns
+pub mod Passing
 pub mod Slots

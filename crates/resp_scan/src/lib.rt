@@ -23,6 +23,7 @@ mod literals;
 mod machine;
 mod needed;
 pub mod nobody;
+mod receiver;
 pub mod scanner;
 mod short;
 mod short_arrays;
@@ -30,6 +31,7 @@ pub mod slot;
 mod start;
 mod step;
 mod step_into;
+mod turn;
 pub mod whole;
 
 pub use event::{Busy, Event, Fault, ScanError, Scanned, Step, TextKind};

@@ -11,8 +11,8 @@ ghost use Rattle.resp_scan.specs.Machine.Turns.{EndsAt, HasShortNumber, LeavesCo
 ghost use Rattle.resp_scan.specs.declared.event.TextKind.TheVariants as text;
 
 use crate::lines::line_run;
-use crate::listen::{beyond, ends_at};
 use crate::machine::{EventTag, Machine, State, Taken};
+use crate::turn::{beyond, ends_at};
 
 /// The greatest number of bytes of a line that takes the fast path.
 const LINE: usize = 1_000;

@@ -1,10 +1,10 @@
--- A text told whole: its head, its content and its CR LF, as one turn.
-use Rattle.std.specs.Prelude.{Bool, take, drop, get_or, min, eqb, cond}
+-- A text that lies in the piece: its head, its content and its CR LF.
+use Rattle.std.specs.Prelude.{take, drop, get_or, min, eqb, cond}
 use Rattle.std.specs.Str.{byte}
 use Rattle.std.proofs.Common.{◌≡◌, ℕ, suc, ◌+◌, ◌-◌, ◌<◌, ◌≤◌, List, [], ◌∷◌, ◌++◌, length, reverse, refl, sym, ap, subst, ◌∙◌, arith, zero-add, add-one, drop-cons, append_assoc, append-nil}
 use Prim.Native.Nat.{zero}
 use Rattle.std.proofs.lemmas.Grind.{common_steps}
-use Rattle.std.proofs.lemmas.List.{drop-take, length-drop, take-append-drop}
+use Rattle.std.proofs.lemmas.List.{drop-take, length-drop, length-take-le, take-append-drop}
 use Rattle.resp_value.specs.Bytes.{IsLine, IsText}
 use Rattle.resp_fronts.specs.Events as e
 use Rattle.resp_scan.specs.declared.event.TextKind.{TextKind}
@@ -16,9 +16,8 @@ use Rattle.resp_scan.specs.declared.machine.Taken.{Taken}
 use Rattle.resp_scan.specs.declared.machine.Machine.{Machine}
 use Rattle.resp_scan.specs.declared.machine.State.TheVariants as state
 use Rattle.resp_scan.specs.Kinds.{content_events, rules_of, text_kind_of}
-use Rattle.resp_scan.specs.Reading.{Events, HasRead}
-use Rattle.resp_scan.specs.declared.listen.Turned.{Turned}
-use Rattle.resp_scan.specs.Listening.{Hears, IsTextOf, whole_text_events}
+use Rattle.resp_scan.specs.Reading.{AreDue, Events, HasRead}
+use Rattle.resp_scan.specs.Listening.{IsTextOf, whole_text_events}
 use Rattle.resp_scan.specs.Machine.Fields.{out_by, out_of, place_of, token_at}
 use Rattle.resp_scan.specs.Machine.Tokens.{Place, Text, TextEnd, at, at_boundary, InLine, InContent}
 use Rattle.resp_scan.specs.Machine.Heads.{content_at}
@@ -27,9 +26,9 @@ use Rattle.resp_scan.specs.Machine.Runs.{plain_run}
 use Rattle.resp_scan.specs.Machine.Scan.{Bad, Gave, Part, out_from}
 use Rattle.resp_scan.specs.Machine.Sound.{IsSound, IsTokenSound}
 use Rattle.resp_scan.specs.Machine.StepOutcomes.{after_bytes}
-use Rattle.resp_scan.specs.Machine.Turns.{EndsAt, IsLineTag, IsTurn, LeavesContent, OutcomeOfTurn, turn_of}
-use Rattle.resp_scan.proofs.CallClauses.Begins.{whole_text_begins}
-use Rattle.resp_scan.proofs.CallClauses.Turns.{from_dead, not_more, reads_more, turn_told}
+use Rattle.resp_scan.specs.Machine.Passing.{TellsText}
+use Rattle.resp_scan.specs.Machine.Turns.{EndsAt, IsLineTag, LeavesContent}
+use Rattle.resp_scan.proofs.CallClauses.Turns.{from_dead, reads_more, shows}
 use Rattle.resp_scan.proofs.Soundness.Counted.{counted_out}
 use Rattle.resp_scan.proofs.Soundness.Kept.{IsOut, is_advanced}
 use Rattle.resp_scan.proofs.Soundness.Pieces.{used_within}
@@ -143,43 +142,44 @@ run_is_line p most run is =
     taken_short : (n most : ℕ) (p : List ℕ) → n ≤ length (take most p) → take n (take most p) ≡ take n p
     taken_short n most p few = grind (arith, common_steps)
 
--- The turn.
+-- The whole text.
 
--- a text whose head, content and CR LF lie in the piece
-pub whole_turn : {O : Type 0} (s : Place) (m m' : Machine) (n run : ℕ) (k : TextKind) (t : Place) (p : List ℕ) (HadHeard HasHeard HasStopped : O →
-    Events → Type 0) (goes_on : Bool)
-    (turned : Turned) → IsText p → IsSound s → Gave n (Text k) (place_of m) ≡ out_from s p → EndsAt (drop n p) run →
-    RunsTo (after_bytes n (place_of m)) t (drop n p) run → EndsText (after_bytes run t) → rules_of t ≡ rules_of (place_of m) →
-    after_bytes 2 (at_boundary (after_bytes run t)) ≡ place_of m' → n + run + 2 ≤ length p →
-    Hears HadHeard HasHeard HasStopped (whole_text_events k (take run (drop n p))) goes_on → turned.used ≡ n + run + 2 → turned.turn ≡ turn_of goes_on →
-    IsTurn O s (place_of m') HadHeard HasHeard HasStopped p turned
-whole_turn {O = O} s m m' n run k t p HadHeard HasHeard HasStopped goes_on turned text sound here ends runs ends_text rules there within hears used is_turn =
+-- a text whose head, content and CR LF lie in the piece leads from one place to another
+pub whole_text : (s : Place) (m m' : Machine) (n run : ℕ) (k : TextKind) (t : Place) (p : List ℕ) → IsText p → IsSound s →
+    Gave n (Text k) (place_of m) ≡ out_from s p → EndsAt (drop n p) run → RunsTo (after_bytes n (place_of m)) t (drop n p) run →
+    EndsText (after_bytes run t) → rules_of t ≡ rules_of (place_of m) → after_bytes 2 (at_boundary (after_bytes run t)) ≡ place_of m' →
+    n + run + 2 ≤ length p → TellsText s (place_of m') p (n + run + 2) k (take run (drop n p))
+whole_text s m m' n run k t p text sound here ends runs ends_text rules there within =
     let u = after_bytes n (place_of m) in
     let kept : IsOut s (Gave n (Text k) (place_of m)) = subst (IsOut s) (sym here) (is_advanced s p sound) in
     let sound_u : IsSound u = counted_out s (Gave n (Text k) (place_of m)) kept in
     let last = after_bytes 2 (at_boundary (after_bytes run t)) in
-    let sound_last : IsSound last = sound_text_ends u t (drop n p) run sound_u ends runs ends_text in
-    let same_rules : rules_of last ≡ rules_of s = rules ∙ kept.0.rules in
-    let size : n + (run + 2) ≡ turned.used = omega (arith, used) in
-    subst (λ x. IsTurn O s x HadHeard HasHeard HasStopped p turned) there (record {
-      sound = sound_last;
-      rules = same_rules;
-      within = omega (arith, used, within);
-      whole_piece = λ more. absurd (not_more goes_on (sym is_turn ∙ more));
-      dead = λ fault f. absurd (let z : Gave n (Text k) (place_of m) ≡ Bad 0 fault.cause s = here ∙ from_dead s p fault f in cc);
-      nearer = λ on none. absurd (omega (arith, used, none));
-      outcome = λ since front given w had.
+    let bytes = take run (drop n p) in
+    let used = n + run + 2 in
+    let count : length bytes ≡ run = length-take-le run (drop n p) (omega (arith, ends.within)) in
+    let head : n ≡ used - (run + 2) = omega arith in
+    subst (λ x. TellsText s x p used k bytes) there (record {
+      sound = sound_text_ends u t (drop n p) run sound_u ends runs ends_text;
+      rules = rules ∙ kept.0.rules;
+      no_fault = λ fault f. absurd (let z : Gave n (Text k) (place_of m) ≡ Bad 0 fault.cause s = here ∙ from_dead s p fault f in cc);
+      of_piece = record {
+        within = within;
+        has_end = omega (arith, count);
+        lent = ap (λ j. take run (drop j p)) head ∙ ap (λ j. take j (drop (used - (j + 2)) p)) (sym count);
+      };
+      reads = λ front given w.
           let read = text_ends u t (front ++ take n p) (given ++ e.Text (text_kind_of k) ∷ []) (drop n p) run (text_after n p text) sound_u
           (reads_more s front given p (Gave n (Text k) (place_of m)) text sound here w) ends runs ends_text in
-          let bytes : (front ++ take n p) ++ take (run + 2) (drop n p) ≡ front ++ take turned.used p =
-          append_assoc front (take n p) (take (run + 2) (drop n p)) ∙ ap (λ z. front ++ z) (taken_on n (run + 2) p ∙ ap (λ j. take j p) size) in
-          let more = whole_text_events k (take run (drop n p)) in
-          subst (OutcomeOfTurn s last (HasHeard since) (HasStopped since) front given p turned.used) (sym is_turn)
-          (turn_told s last (HasHeard since) (HasStopped since) front given p turned.used more goes_on sound_last same_rules
-          (whole_text_begins k (take run (drop n p))) (subst (λ z. HasRead last z (given ++ more)) bytes
+          let all : (front ++ take n p) ++ take (run + 2) (drop n p) ≡ front ++ take used p =
+          append_assoc front (take n p) (take (run + 2) (drop n p)) ∙
+          ap (λ z. front ++ z) (taken_on n (run + 2) p ∙ ap (λ j. take j p) (let z : n + (run + 2) ≡ used = omega arith in z)) in
+          subst (λ z. HasRead last z (given ++ whole_text_events k bytes)) all
           (subst (HasRead last ((front ++ take n p) ++ take (run + 2) (drop n p)))
-          (append_assoc given (e.Text (text_kind_of k) ∷ []) (content_events (take run (drop n p)) ++ e.TextEnd ∷ [])) read))
-          (hears since given had));
+          (append_assoc given (e.Text (text_kind_of k) ∷ []) (content_events bytes ++ e.TextEnd ∷ [])) read);
+      in_time = λ front given w some.
+          let before : n - 1 ≡ used - (length bytes + 3) = omega (arith, count) in
+          subst (λ j. AreDue (front ++ take j p) given) before
+          ((shows s front given p (Gave n (Text k) (place_of m)) text sound here w).3 (omega (arith, count, some)));
     })
 
 -- The tags.
@@ -198,16 +198,13 @@ line_text_is tag.Error k bytes is line = subst (λ x. IsTextOf x bytes) (sym is)
 line_text_is tag.Double k bytes is line = subst (λ x. IsTextOf x bytes) (sym is) line
 line_text_is w k bytes is line = absurd is
 
--- A line told whole is a turn.
-pub line_turn : {O : Type 0} (s : Place) (m m' : Machine) (taken : Taken) (run : ℕ) (k : TextKind) (p : List ℕ) (HadHeard HasHeard HasStopped : O → Events →
-    Type 0) (goes_on : Bool)
-    (turned : Turned) → IsText p → IsSound s → IsLineTag taken.tag k → out_of taken m ≡ out_from s p → m.state ≡ state.Line →
-    EndsAt (drop taken.used p) run →
+-- A line that lies in the piece.
+pub line_tells : (s : Place) (m m' : Machine) (taken : Taken) (run : ℕ) (k : TextKind) (p : List ℕ) → IsText p → IsSound s → IsLineTag taken.tag k →
+    out_of taken m ≡ out_from s p → m.state ≡ state.Line → EndsAt (drop taken.used p) run →
     run ≡ plain_run (take (min (min m.room (total_room (place_of m) - (taken.used + 2))) (length (drop taken.used p))) (drop taken.used p)) →
     m' ≡ record m { taken = m.taken + (taken.used + run + 2); state = state.Boundary } →
-    Hears HadHeard HasHeard HasStopped (whole_text_events k (take run (drop taken.used p))) goes_on → turned.used ≡ taken.used + run + 2 →
-    turned.turn ≡ turn_of goes_on → IsTurn O s (place_of m') HadHeard HasHeard HasStopped p turned
-line_turn s m m' taken run k p HadHeard HasHeard HasStopped goes_on turned text sound line out is_line ends run_is machine hears used is_turn =
+    TellsText s (place_of m') p (taken.used + run + 2) k (take run (drop taken.used p))
+line_tells s m m' taken run k p text sound line out is_line ends run_is machine =
     let n = taken.used in
     let place : place_of m ≡ at (place_of m) (InLine m.room) = ap (λ x. record (place_of m) { token = token_at x m }) is_line in
     let t = after_bytes n (at (place_of m) (InLine (m.room - run))) in
@@ -217,9 +214,9 @@ line_turn s m m' taken run k p HadHeard HasHeard HasStopped goes_on turned text 
     ap (λ j. record (at_boundary (place_of m)) { taken = j }) (let z : ((m.taken + n) + run) + 2 ≡ m.taken + (n + run + 2) = omega arith in z) ∙
     ap place_of (sym machine) in
     let size : n ≤ length p = (used_within taken m s p sound out).0 in
-    whole_turn s m m' n run k t p HadHeard HasHeard HasStopped goes_on turned text sound (sym (line_tag taken.tag k n m line) ∙ out) ends runs
+    whole_text s m m' n run k t p text sound (sym (line_tag taken.tag k n m line) ∙ out) ends runs
     (line_ends (after_bytes run (after_bytes n (place_of m))) (m.room - run)) refl there
-    (omega (arith, ends.within, length-drop n p, size)) hears used is_turn
+    (omega (arith, ends.within, length-drop n p, size))
 
 -- Counted content.
 
@@ -235,15 +232,12 @@ content_runs u run p some within = (λ more. sym (part more), λ none. absurd (o
 content_ends : (u : Place) → EndsText (content_at 0 u)
 content_ends u more = refl
 
--- Content told whole is a turn.
-pub content_turn : {O : Type 0} (s : Place) (m m' : Machine) (taken : Taken) (run : ℕ) (p : List ℕ) (HadHeard HasHeard HasStopped : O → Events →
-    Type 0) (goes_on : Bool)
-    (turned : Turned) → IsText p → IsSound s → taken.tag ≡ tag.Bulk → out_of taken m ≡ out_from s p → EndsAt (drop taken.used p) run →
-    LeavesContent m.state m.count run →
+-- Content that lies in the piece with its CR LF.
+pub content_tells : (s : Place) (m m' : Machine) (taken : Taken) (run : ℕ) (p : List ℕ) → IsText p → IsSound s → taken.tag ≡ tag.Bulk →
+    out_of taken m ≡ out_from s p → EndsAt (drop taken.used p) run → LeavesContent m.state m.count run →
     m' ≡ record m { taken = m.taken + (taken.used + run + 2); state = state.Boundary } →
-    Hears HadHeard HasHeard HasStopped (whole_text_events kind.Bulk (take run (drop taken.used p))) goes_on → turned.used ≡ taken.used + run + 2 →
-    turned.turn ≡ turn_of goes_on → IsTurn O s (place_of m') HadHeard HasHeard HasStopped p turned
-content_turn s m m' taken run p HadHeard HasHeard HasStopped goes_on turned text sound bulk out ends left machine hears used is_turn =
+    TellsText s (place_of m') p (taken.used + run + 2) kind.Bulk (take run (drop taken.used p))
+content_tells s m m' taken run p text sound bulk out ends left machine =
     let n = taken.used in
     let here : Gave n (Text kind.Bulk) (place_of m) ≡ out_from s p = ap (λ x. out_by x n m) (sym bulk) ∙ out in
     let kept : IsOut s (Gave n (Text kind.Bulk) (place_of m)) = subst (IsOut s) (sym here) (is_advanced s p sound) in
@@ -251,9 +245,9 @@ content_turn s m m' taken run p HadHeard HasHeard HasStopped goes_on turned text
     ap (λ j. record (at_boundary (place_of m)) { taken = j }) (let z : ((m.taken + n) + run) + 2 ≡ m.taken + (n + run + 2) = omega arith in z) ∙
     ap place_of (sym machine) in
     let size : n ≤ length p = (used_within taken m s p sound out).0 in
-    whole_turn s m m' n run kind.Bulk (after_bytes n (content_at 0 (place_of m))) p HadHeard HasHeard HasStopped goes_on turned text sound here ends
+    whole_text s m m' n run kind.Bulk (after_bytes n (content_at 0 (place_of m))) p text sound here ends
     (runs_from m.state refl left kept.0.sound.token) (content_ends (after_bytes run (after_bytes n (place_of m)))) refl there
-    (omega (arith, ends.within, length-drop n p, size)) hears used is_turn
+    (omega (arith, ends.within, length-drop n p, size))
   where
     runs_from : (x : State) → m.state ≡ x → LeavesContent x m.count run → IsTokenSound (token_at m.state m) m.limits.depth (reverse m.frames.items) →
         RunsTo (after_bytes taken.used (place_of m)) (after_bytes taken.used (content_at 0 (place_of m))) (drop taken.used p) run

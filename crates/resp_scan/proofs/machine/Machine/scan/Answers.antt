@@ -12,7 +12,7 @@ use Rattle.resp_scan.specs.Machine.Turns.{IsTurn}
 use Rattle.resp_scan.specs.Reading.{IsFaulted}
 use Rattle.resp_scan.proofs.CallClauses.Calls.{is_text}
 use Rattle.resp_scan.proofs.CallClauses.Loops.{Runs, fault_again, less_work, piece_heard, refusal_heard, runs_on, same_fault, stop_heard, value_heard, work_left}
-use Rattle.resp_scan.proofs.CallClauses.Turns.{is_ended, is_used_up}
+use Rattle.resp_scan.proofs.CallClauses.Passing.{is_ended, is_used_up}
 use Rattle.resp_scan.proofs.CallClauses.WholeTexts.{text_after}
 use Rattle.resp_scan.proofs.machine.Machine.scan.Given as given
 use Rattle.resp_scan.proofs.machine.Machine.scan.Goals as goal

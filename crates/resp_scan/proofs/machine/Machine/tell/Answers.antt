@@ -1,161 +1,164 @@
 use mir.Syntax.{w64}
 use mir.Val.{of_z, to_z}
-use Rattle.std.proofs.Common.{rules, [], ◌∷◌, ◌≡◌, sym, subst, arith, length, ap, ◌∙◌}
+use Rattle.std.proofs.Common.{rules, ◌≡◌, refl, subst, ◌+◌, length, Some, None, ap, sym, ◌∙◌, arith}
+use Rattle.std.specs.Prelude.{Ok}
 use Rattle.std.proofs.lemmas.List.{length-take-le}
+use Rattle.resp_scan.specs.declared.event.Event.TheVariants as event
+use Rattle.resp_scan.specs.declared.event.TextKind.TheVariants as text
 use Rattle.resp_scan.specs.declared.machine.EventTag.TheVariants as tag
-use Rattle.resp_fronts.specs.Events as e
-use Rattle.resp_scan.specs.Kinds.{content_events}
-use Rattle.resp_scan.specs.Listening.{Hears}
-use Rattle.resp_scan.proofs.CallClauses.Told.{run_length}
-use Rattle.resp_scan.proofs.CallClauses.Calls.{is_text}
-use Rattle.resp_scan.proofs.CallClauses.Turns.{is_counted, is_done, is_failed, is_more, tells}
-use Rattle.resp_scan.proofs.Soundness.Counted.{place_counted}
-use Rattle.resp_scan.proofs.Soundness.Pieces.{chunk_part_some, digit_owed, failed_is, few_taken, part_some, taken_within, used_within}
-use Rattle.resp_scan.proofs.Soundness.Kept.{IsOut, is_advanced}
+use Rattle.resp_scan.specs.Machine.StepOutcomes.{after_bytes}
+use Rattle.resp_scan.proofs.CallClauses.Passing.{done_passes, event_passes, failed_passes, more_passes}
+use Rattle.resp_scan.proofs.CallClauses.Told.{digit_heard, digit_is, part_heard, run_is, run_length}
+use Rattle.resp_scan.proofs.Soundness.Pieces.{chunk_part_some, digit_owed, few_taken, part_some, taken_within, used_within}
 use Rattle.resp_scan.proofs.machine.Machine.tell.Goals as goal
 
 pub overflow_add-self : goal.overflow_add-self
 overflow_add-self g c = omega (arith, few_taken c.args.taken c.args.self.now c.args.rest.now c.requires)
 
-pub slice_bounds-part-end : goal.slice_bounds-part-end
-slice_bounds-part-end g c = sym (length-take-le _ _ (taken_within c.args.taken c.args.self.now c.args.rest.now c.requires))
+pub slice_bounds-take_part-end : goal.slice_bounds-take_part-end
+slice_bounds-take_part-end g c = sym (length-take-le _ _ (taken_within c.args.taken c.args.self.now c.args.rest.now c.requires))
 
-pub run-requires-clause-start : goal.run-requires-clause-start
-run-requires-clause-start g c = omega (
+pub run-part-requires-clause-start : goal.run-part-requires-clause-start
+run-part-requires-clause-start g c = omega (
   arith,
   chunk_part_some c.args.taken c.args.self.now c.requires.0 c.args.rest.now c.requires.1 c.requires.2 c.in-ChunkPart.is,
 )
 
-pub run-requires-clause-within : goal.run-requires-clause-within
-run-requires-clause-within g c = taken_within c.args.taken c.args.self.now c.args.rest.now c.requires
+pub run-part-requires-clause-within : goal.run-part-requires-clause-within
+run-part-requires-clause-within g c = taken_within c.args.taken c.args.self.now c.args.rest.now c.requires
 
 pub digit_text-requires : goal.digit_text-requires
 digit_text-requires g c = (digit_owed c.args.taken c.args.self.now c.requires.0 c.args.rest.now c.requires.1 c.requires.2 c.in-Digit.is).1
 
-pub returns-in-More-clause-is_turn : goal.returns-in-More-clause-is_turn
-returns-in-More-clause-is_turn g c s sound out =
-    is_counted c.args.self.now c.args.taken.used s c.args.rest.now c.ends.ensures
-    (is_more c.args.taken c.args.self.now s c.args.rest.now _ _ (is_text c.args.rest.now (λ i. (c.type_inv.rest i).fits)) c.in-More.is sound out)
-
-pub returns-in-Failed-clause-is_turn : goal.returns-in-Failed-clause-is_turn
-returns-in-Failed-clause-is_turn g c s sound out =
-    is_counted c.args.self.now c.args.taken.used s c.args.rest.now c.ends-in-Failed.ensures
-    (is_failed c.args.taken c.args.self.now s c.args.rest.now _ _ (is_text c.args.rest.now (λ i. (c.type_inv.rest i).fits)) c.in-Failed.is sound out)
-
-pub returns-in-Done-clause-is_turn : goal.returns-in-Done-clause-is_turn
-returns-in-Done-clause-is_turn g c s sound out =
-    is_counted c.args.self.now c.args.taken.used s c.args.rest.now c.ends-in-Done.ensures
-    (is_done c.args.taken c.args.self.now s c.args.rest.now _ _ (is_text c.args.rest.now (λ i. (c.type_inv.rest i).fits)) c.in-Done.is sound out)
-
-pub returns-in-Null-clause-is_turn : goal.returns-in-Null-clause-is_turn
-returns-in-Null-clause-is_turn g c s sound out =
-    tells tag.Null c.args.taken c.args.self.now s c.args.rest.now _ tt (is_text c.args.rest.now (λ i. (c.type_inv.rest i).fits)) c.in-Null.is sound out
-    c.told.ensures.told c.null.ensures
-
-pub returns-in-Bool-clause-is_turn : goal.returns-in-Bool-clause-is_turn
-returns-in-Bool-clause-is_turn g c s sound out =
-    tells tag.Bool c.args.taken c.args.self.now s c.args.rest.now _ tt (is_text c.args.rest.now (λ i. (c.type_inv.rest i).fits)) c.in-Bool.is sound out
-    c.told-in-Bool.ensures.told c.truth.ensures
-
-pub returns-in-Int-clause-is_turn : goal.returns-in-Int-clause-is_turn
-returns-in-Int-clause-is_turn g c s sound out =
-    let H = g.L.Listener.has_heard c.args.listener.now in
-    let K = g.L.Listener.has_heard c.int.new.self in
-    let S = g.L.Listener.has_stopped c.int.new.self in
-    let number : to_z w64 (of_z w64 c.args.self.now.value) ≡ c.args.self.now.value = search rules in
-    tells tag.Int c.args.taken c.args.self.now s c.args.rest.now _ tt (is_text c.args.rest.now (λ i. (c.type_inv.rest i).fits)) c.in-Int.is sound out
-    c.told-in-Int.ensures.told (subst (λ z. Hears H K S (e.Int z ∷ []) c.int.result) number c.int.ensures)
-
-pub returns-in-Simple-clause-is_turn : goal.returns-in-Simple-clause-is_turn
-returns-in-Simple-clause-is_turn g c s sound out =
-    tells tag.Simple c.args.taken c.args.self.now s c.args.rest.now _ tt (is_text c.args.rest.now (λ i. (c.type_inv.rest i).fits)) c.in-Simple.is sound out
-    c.told-in-Simple.ensures.told c.text.ensures
-
-pub returns-in-Error-clause-is_turn : goal.returns-in-Error-clause-is_turn
-returns-in-Error-clause-is_turn g c s sound out =
-    tells tag.Error c.args.taken c.args.self.now s c.args.rest.now _ tt (is_text c.args.rest.now (λ i. (c.type_inv.rest i).fits)) c.in-Error.is sound out
-    c.told-in-Error.ensures.told c.text-in-Error.ensures
-
-pub returns-in-Double-clause-is_turn : goal.returns-in-Double-clause-is_turn
-returns-in-Double-clause-is_turn g c s sound out =
-    tells tag.Double c.args.taken c.args.self.now s c.args.rest.now _ tt (is_text c.args.rest.now (λ i. (c.type_inv.rest i).fits)) c.in-Double.is sound out
-    c.told-in-Double.ensures.told c.text-in-Double.ensures
-
-pub returns-in-Bulk-clause-is_turn : goal.returns-in-Bulk-clause-is_turn
-returns-in-Bulk-clause-is_turn g c s sound out =
-    tells tag.Bulk c.args.taken c.args.self.now s c.args.rest.now _ tt (is_text c.args.rest.now (λ i. (c.type_inv.rest i).fits)) c.in-Bulk.is sound out
-    c.told-in-Bulk.ensures.told c.text-in-Bulk.ensures
-
-pub returns-in-BulkError-clause-is_turn : goal.returns-in-BulkError-clause-is_turn
-returns-in-BulkError-clause-is_turn g c s sound out =
-    tells tag.BulkError c.args.taken c.args.self.now s c.args.rest.now _ tt (is_text c.args.rest.now (λ i. (c.type_inv.rest i).fits)) c.in-BulkError.is sound out
-    c.told-in-BulkError.ensures.told c.text-in-BulkError.ensures
-
-pub returns-in-Verbatim-clause-is_turn : goal.returns-in-Verbatim-clause-is_turn
-returns-in-Verbatim-clause-is_turn g c s sound out =
-    tells tag.Verbatim c.args.taken c.args.self.now s c.args.rest.now _ tt (is_text c.args.rest.now (λ i. (c.type_inv.rest i).fits)) c.in-Verbatim.is sound out
-    c.told-in-Verbatim.ensures.told c.text-in-Verbatim.ensures
-
-pub returns-in-Big-clause-is_turn : goal.returns-in-Big-clause-is_turn
-returns-in-Big-clause-is_turn g c s sound out =
-    tells tag.Big c.args.taken c.args.self.now s c.args.rest.now _ tt (is_text c.args.rest.now (λ i. (c.type_inv.rest i).fits)) c.in-Big.is sound out
-    c.told-in-Big.ensures.told c.text-in-Big.ensures
-
-pub returns-in-Part-clause-is_turn : goal.returns-in-Part-clause-is_turn
-returns-in-Part-clause-is_turn g c s sound out =
-    tells tag.Part c.args.taken c.args.self.now s c.args.rest.now _ tt (is_text c.args.rest.now (λ i. (c.type_inv.rest i).fits)) c.in-Part.is sound out
-    c.told-in-Part.ensures.told c.part.ensures
-
-pub returns-in-ChunkPart-clause-is_turn : goal.returns-in-ChunkPart-clause-is_turn
-returns-in-ChunkPart-clause-is_turn g c s sound out =
-    let H = g.L.Listener.has_heard c.args.listener.now in
-    let K = g.L.Listener.has_heard c.part-in-ChunkPart.new.self in
-    let S = g.L.Listener.has_stopped c.part-in-ChunkPart.new.self in
-    tells tag.ChunkPart c.args.taken c.args.self.now s c.args.rest.now _ tt (is_text c.args.rest.now (λ i. (c.type_inv.rest i).fits)) c.in-ChunkPart.is sound out
-    c.told-in-ChunkPart.ensures.told (subst (λ xs. Hears H K S (content_events xs) c.part-in-ChunkPart.result) c.run.ensures c.part-in-ChunkPart.ensures)
-
-pub returns-in-Digit-clause-is_turn : goal.returns-in-Digit-clause-is_turn
-returns-in-Digit-clause-is_turn g c s sound out =
-    let H = g.L.Listener.has_heard c.args.listener.now in
-    let K = g.L.Listener.has_heard c.part-in-Digit.new.self in
-    let S = g.L.Listener.has_stopped c.part-in-Digit.new.self in
-    tells tag.Digit c.args.taken c.args.self.now s c.args.rest.now _ tt (is_text c.args.rest.now (λ i. (c.type_inv.rest i).fits)) c.in-Digit.is sound out
-    c.told-in-Digit.ensures.told (subst (λ xs. Hears H K S (content_events xs) c.part-in-Digit.result) c.digit_text.ensures c.part-in-Digit.ensures)
-
-pub returns-in-TextEnd-clause-is_turn : goal.returns-in-TextEnd-clause-is_turn
-returns-in-TextEnd-clause-is_turn g c s sound out =
-    tells tag.TextEnd c.args.taken c.args.self.now s c.args.rest.now _ tt (is_text c.args.rest.now (λ i. (c.type_inv.rest i).fits)) c.in-TextEnd.is sound out
-    c.told-in-TextEnd.ensures.told c.text_end.ensures
-
-pub returns-in-Open-clause-is_turn : goal.returns-in-Open-clause-is_turn
-returns-in-Open-clause-is_turn g c s sound out =
-    tells tag.Open c.args.taken c.args.self.now s c.args.rest.now _ tt (is_text c.args.rest.now (λ i. (c.type_inv.rest i).fits)) c.in-Open.is sound out
-    c.told-in-Open.ensures.told c.open.ensures
-
-pub returns-in-OpenStreamed-clause-is_turn : goal.returns-in-OpenStreamed-clause-is_turn
-returns-in-OpenStreamed-clause-is_turn g c s sound out =
-    tells tag.OpenStreamed c.args.taken c.args.self.now s c.args.rest.now _ tt (is_text c.args.rest.now (λ i. (c.type_inv.rest i).fits)) c.in-OpenStreamed.is sound out
-    c.told-in-OpenStreamed.ensures.told c.open-in-OpenStreamed.ensures
-
-pub returns-in-Close-clause-is_turn : goal.returns-in-Close-clause-is_turn
-returns-in-Close-clause-is_turn g c s sound out =
-    tells tag.Close c.args.taken c.args.self.now s c.args.rest.now _ tt (is_text c.args.rest.now (λ i. (c.type_inv.rest i).fits)) c.in-Close.is sound out
-    c.told-in-Close.ensures.told c.close.ensures
-
-pub part-requires : goal.part-requires
-part-requires g c =
+pub take_part-requires : goal.take_part-requires
+take_part-requires g c =
     let u = used_within c.args.taken c.args.self.now c.requires.0 c.args.rest.now c.requires.1 c.requires.2 in
     let some = part_some c.args.taken c.args.self.now c.requires.0 c.args.rest.now c.requires.1 c.requires.2 c.in-Part.is in
     omega (arith, some, length-take-le c.args.taken.used c.args.rest.now u.0)
 
-pub part-requires-in-ChunkPart : goal.part-requires-in-ChunkPart
-part-requires-in-ChunkPart g c =
+pub take_part-requires-in-ChunkPart : goal.take_part-requires-in-ChunkPart
+take_part-requires-in-ChunkPart g c =
     let u = used_within c.args.taken c.args.self.now c.requires.0 c.args.rest.now c.requires.1 c.requires.2 in
     let some = chunk_part_some c.args.taken c.args.self.now c.requires.0 c.args.rest.now c.requires.1 c.requires.2 c.in-ChunkPart.is in
-    omega (arith, ap length c.run.ensures, some, run_length c.args.taken.used c.args.self.now.part_start c.args.rest.now some u.0)
+    omega (arith, ap length c.run-part.ensures, some, run_length c.args.taken.used c.args.self.now.part_start c.args.rest.now some u.0)
 
-pub returns-in-Failed-clause-failed : goal.returns-in-Failed-clause-failed
-returns-in-Failed-clause-failed g c failed =
-    let s = c.requires.0 in
-    let bad = (failed_is c.args.taken c.args.self.now s c.args.rest.now c.requires.1 c.requires.2 c.in-Failed.is).0 in
-    ap (λ x. x.token) (place_counted c.args.self.now c.args.taken.used) ∙ (subst (IsOut s) bad (is_advanced s c.args.rest.now c.requires.1)).1
+pub take_part-requires-in-Digit : goal.take_part-requires-in-Digit
+take_part-requires-in-Digit g c = omega (arith, ap length c.digit_text.ensures)
+
+pub returns-in-More : goal.returns-in-More
+returns-in-More g c s sound out =
+    more_passes _ _ c.args.taken c.args.self.now s c.args.rest.now c.take_end.ensures sound out c.in-More.is
+
+pub returns-in-Failed : goal.returns-in-Failed
+returns-in-Failed g c s sound out =
+    failed_passes _ _ c.args.taken c.args.self.now s c.args.rest.now c.take_fault.ensures sound out c.in-Failed.is
+
+pub returns-in-Done : goal.returns-in-Done
+returns-in-Done g c s sound out =
+    done_passes _ _ c.args.taken c.args.self.now s c.args.rest.now c.take_done.ensures sound out c.in-Done.is
+
+pub returns-in-Null : goal.returns-in-Null
+returns-in-Null g c s sound out =
+    event_passes _ _ c.args.taken c.args.self.now s c.args.rest.now tag.Null event.Null
+    c.take_null.ensures sound out c.in-Null.is refl tt
+
+pub returns-in-Bool : goal.returns-in-Bool
+returns-in-Bool g c s sound out =
+    event_passes _ _ c.args.taken c.args.self.now s c.args.rest.now tag.Bool (event.Bool c.args.self.now.truth)
+    c.take_truth.ensures sound out c.in-Bool.is refl tt
+
+pub returns-in-Simple : goal.returns-in-Simple
+returns-in-Simple g c s sound out =
+    event_passes _ _ c.args.taken c.args.self.now s c.args.rest.now tag.Simple (event.Text text.Simple)
+    c.take_text.ensures sound out c.in-Simple.is refl tt
+
+pub returns-in-Error : goal.returns-in-Error
+returns-in-Error g c s sound out =
+    event_passes _ _ c.args.taken c.args.self.now s c.args.rest.now tag.Error (event.Text text.Error)
+    c.take_text-in-Error.ensures sound out c.in-Error.is refl tt
+
+pub returns-in-Double : goal.returns-in-Double
+returns-in-Double g c s sound out =
+    event_passes _ _ c.args.taken c.args.self.now s c.args.rest.now tag.Double (event.Text text.Double)
+    c.take_text-in-Double.ensures sound out c.in-Double.is refl tt
+
+pub returns-in-Bulk : goal.returns-in-Bulk
+returns-in-Bulk g c s sound out =
+    event_passes _ _ c.args.taken c.args.self.now s c.args.rest.now tag.Bulk (event.Text text.Bulk)
+    c.take_text-in-Bulk.ensures sound out c.in-Bulk.is refl tt
+
+pub returns-in-BulkError : goal.returns-in-BulkError
+returns-in-BulkError g c s sound out =
+    event_passes _ _ c.args.taken c.args.self.now s c.args.rest.now tag.BulkError (event.Text text.BulkError)
+    c.take_text-in-BulkError.ensures sound out c.in-BulkError.is refl tt
+
+pub returns-in-Verbatim : goal.returns-in-Verbatim
+returns-in-Verbatim g c s sound out =
+    event_passes _ _ c.args.taken c.args.self.now s c.args.rest.now tag.Verbatim (event.Text (text.Verbatim c.args.self.now.format))
+    c.take_text-in-Verbatim.ensures sound out c.in-Verbatim.is refl tt
+
+pub returns-in-Big : goal.returns-in-Big
+returns-in-Big g c s sound out =
+    event_passes _ _ c.args.taken c.args.self.now s c.args.rest.now tag.Big (event.Text (text.Big c.args.self.now.big_negative))
+    c.take_text-in-Big.ensures sound out c.in-Big.is refl tt
+
+pub returns-in-TextEnd : goal.returns-in-TextEnd
+returns-in-TextEnd g c s sound out =
+    event_passes _ _ c.args.taken c.args.self.now s c.args.rest.now tag.TextEnd event.TextEnd
+    c.take_text_end.ensures sound out c.in-TextEnd.is refl tt
+
+pub returns-in-Open : goal.returns-in-Open
+returns-in-Open g c s sound out =
+    event_passes _ _ c.args.taken c.args.self.now s c.args.rest.now tag.Open (event.Open c.args.self.now.kind (Some c.args.self.now.count))
+    c.take_open.ensures sound out c.in-Open.is refl tt
+
+pub returns-in-OpenStreamed : goal.returns-in-OpenStreamed
+returns-in-OpenStreamed g c s sound out =
+    event_passes _ _ c.args.taken c.args.self.now s c.args.rest.now tag.OpenStreamed (event.Open c.args.self.now.kind None)
+    c.take_open-in-OpenStreamed.ensures sound out c.in-OpenStreamed.is refl tt
+
+pub returns-in-Close : goal.returns-in-Close
+returns-in-Close g c s sound out =
+    event_passes _ _ c.args.taken c.args.self.now s c.args.rest.now tag.Close event.Close
+    c.take_close.ensures sound out c.in-Close.is refl tt
+
+pub returns-in-Int : goal.returns-in-Int
+returns-in-Int g c s sound out =
+    let number : to_z w64 (of_z w64 c.args.self.now.value) ≡ c.args.self.now.value = search rules in
+    let takes = subst (λ z. g.R.Receiver.takes c.args.receiver.now c.take_int.new.self
+    (Ok (record { used = c.args.taken.used; event = Some (event.Int z) })) c.take_int.result) number c.take_int.ensures in
+    event_passes _ _ c.args.taken c.args.self.now s c.args.rest.now tag.Int (event.Int c.args.self.now.value) takes sound out c.in-Int.is refl tt
+
+pub returns-in-Part : goal.returns-in-Part
+returns-in-Part g c s sound out =
+    let taken = c.args.taken in
+    let p = c.args.rest.now in
+    let some = part_some taken c.args.self.now s p sound out c.in-Part.is in
+    let within = (used_within taken c.args.self.now s p sound out).0 in
+    event_passes _ _ taken c.args.self.now s p tag.Part _ c.take_part.ensures sound out c.in-Part.is
+    (part_heard taken.used 0 _ (after_bytes taken.used _) some (run_length taken.used 0 p some within))
+    (run_is taken.used 0 p _ some within refl)
+
+pub returns-in-ChunkPart : goal.returns-in-ChunkPart
+returns-in-ChunkPart g c s sound out =
+    let taken = c.args.taken in
+    let m = c.args.self.now in
+    let p = c.args.rest.now in
+    let part = c.run-part.result.now in
+    let some = chunk_part_some taken m s p sound out c.in-ChunkPart.is in
+    let within = (used_within taken m s p sound out).0 in
+    event_passes _ _ taken m s p tag.ChunkPart _ c.take_part-in-ChunkPart.ensures sound out c.in-ChunkPart.is
+    (part_heard taken.used m.part_start part (after_bytes taken.used _) (omega (arith, some))
+    (ap (λ v. length v + m.part_start) c.run-part.ensures ∙ run_length taken.used m.part_start p some within))
+    (run_is taken.used m.part_start p part some within c.run-part.ensures)
+
+pub returns-in-Digit : goal.returns-in-Digit
+returns-in-Digit g c s sound out =
+    let taken = c.args.taken in
+    let m = c.args.self.now in
+    let p = c.args.rest.now in
+    let digit = c.digit_text.result.now in
+    let none = (digit_owed taken m s p sound out c.in-Digit.is).0 in
+    event_passes _ _ taken m s p tag.Digit _ c.take_part-in-Digit.ensures sound out c.in-Digit.is
+    (digit_heard taken.used m.digit digit (after_bytes taken.used _) none c.digit_text.ensures)
+    (digit_is taken.used m.digit p digit none c.digit_text.ensures)

@@ -1,6 +1,8 @@
 use Rattle.std.proofs.Common.{arith}
+use Rattle.resp_scan.specs.declared.event.TextKind.TheVariants as kind
 use Rattle.resp_scan.proofs.CallClauses.Calls.{is_text}
-use Rattle.resp_scan.proofs.CallClauses.WholeTexts.{content_turn}
+use Rattle.resp_scan.proofs.CallClauses.Passing.{text_passes}
+use Rattle.resp_scan.proofs.CallClauses.WholeTexts.{content_tells}
 use Rattle.resp_scan.proofs.Soundness.Pieces.{few_taken, taken_within}
 use Rattle.resp_scan.proofs.machine.Machine.tell_content.Goals as goal
 
@@ -13,12 +15,9 @@ tell_whole-requires-clause-few g c = omega (arith, c.in-Some.ensures.few, few_ta
 pub tell-requires : goal.tell-requires
 tell-requires g c = c.requires.whole
 
-pub returns-in-Some-clause-is_turn : goal.returns-in-Some-clause-is_turn
-returns-in-Some-clause-is_turn g c s sound out =
-    let told = rw c.beyond-after.ensures at c.in-Some.ensures.content in
-    let h = c.tell_whole.ensures.turn in
-    content_turn s c.args.self.now c.tell_whole.new.self c.args.taken c.in-Some.run' c.args.rest.now
-    (g.L.Listener.has_heard c.args.listener.now) (g.L.Listener.has_heard c.tell_whole.new.listener)
-    (g.L.Listener.has_stopped c.tell_whole.new.listener) h.0 c.tell_whole.result
-    (is_text c.args.rest.now (λ i. (c.type_inv.rest i).fits)) sound c.requires.tag out told.0 told.1
-    c.tell_whole.ensures.machine h.2 c.tell_whole.ensures.used h.1
+pub returns-in-Some : goal.returns-in-Some
+returns-in-Some g c s sound out =
+    let found = rw c.beyond-after.ensures at c.in-Some.ensures.content in
+    text_passes _ _ s c.tell_whole.new.self c.args.rest.now _ kind.Bulk _ tt c.tell_whole.ensures.told
+    (content_tells s c.args.self.now c.tell_whole.new.self c.args.taken c.in-Some.run' c.args.rest.now
+    (is_text c.args.rest.now (λ i. (c.type_inv.rest i).fits)) sound c.requires.tag out found.0 found.1 c.tell_whole.ensures.machine)
