@@ -1,4 +1,3 @@
-mod Replies
 mod Again
 mod InSessions
 mod LineEnds

@@ -9,9 +9,9 @@ use Rattle.resp_frames.specs.Requests.{EndsNoRequest}
 use Rattle.resp_frames.specs.declared.error.FrameError.{FrameError}
 use Rattle.resp_frames.specs.declared.error.FrameError.TheVariants as frame
 use Rattle.resp_line.specs.Lines.{AreWords}
+use Rattle.resp_server.specs.ReplyTexts.{fault_text}
 use Rattle.resp_value.specs.Bounds.{Bounds}
 use Rattle.resp_value.specs.Causes.{name_of}
-use Rattle.resp_value.specs.Numbers.{decimal}
 use Rattle.resp_value.specs.Rules.{Rules, rules_under}
 use Rattle.resp_value.specs.Words.{command_of}
 use Rattle.resp_value.specs.declared.version.Version.TheVariants.{Two}
@@ -20,10 +20,6 @@ use Rattle.resp_databases.specs.declared.rejection.Rejection.{Rejection}
 use Rattle.resp_databases.specs.declared.rejection.Rejection.TheVariants.{Faulty, LongLine, NoCommand, OverLimits, Quotes}
 use Rattle.resp_databases.specs.declared.rejection.TakeError.{TakeError}
 use Rattle.resp_databases.specs.declared.rejection.TakeError.TheVariants as error
-
--- the text of the error reply to a protocol error of this name at this byte of a value
-abbrev pub fault_text : List ℕ → ℕ → List ℕ
-fault_text name at = codes "ERR Protocol error: " ++ name ++ codes " at byte " ++ decimal at
 
 -- the text of the error reply
 abbrev pub rejection_text : Rejection → List ℕ

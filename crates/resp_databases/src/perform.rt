@@ -18,10 +18,11 @@ use crate::database;
 use crate::databases::Databases;
 use crate::deed::{Deed, deed_of};
 use crate::rejection::{Rejection, TakeError};
-use crate::reply::{reply_greeting, reply_name, reply_number, reply_ok, reply_unknown};
+use crate::reply::{reply_name, reply_ok, reply_unknown};
 use bytes::BytesMut;
 use resp_scan::whole;
 use resp_scan::whole::Words;
+use resp_server::reply;
 use resp_value::laws::no_spelling_begins_another;
 use resp_value::version::Version;
 use std::alloc::AllocError;
@@ -114,7 +115,7 @@ impl<S: BuildHasher + Copy> Databases<S> {
     {
         match self.list.get(client.database) {
             Some(hub) => reply_count(&mut client.out, database::count(hub, keys)),
-            None => reply_number(&mut client.out, 0),
+            None => reply::number(&mut client.out, 0),
         }
     }
 
@@ -126,7 +127,7 @@ impl<S: BuildHasher + Copy> Databases<S> {
     {
         match self.list.get(client.database) {
             Some(hub) => reply_count(&mut client.out, database::size(hub)),
-            None => reply_number(&mut client.out, 0),
+            None => reply::number(&mut client.out, 0),
         }
     }
 }
@@ -139,7 +140,7 @@ fn reply_count(out: &mut BytesMut, count: Option<u64>) -> Result<(), AllocError>
     ensures unchanged { OnErr result (out.new.items ≡ out.old.items) }
 {
     match count {
-        Some(count) => reply_number(out, count),
+        Some(count) => reply::number(out, count),
         None => Err(AllocError),
     }
 }
@@ -165,7 +166,7 @@ fn change(client: &mut Client, deed: Deed<'_>) -> Result<(), AllocError>
             Ok(())
         }
         Deed::GetName => reply_name(&mut client.out, client.version, &client.name),
-        Deed::Id => reply_number(&mut client.out, client.id),
+        Deed::Id => reply::number(&mut client.out, client.id),
         Deed::Quit => {
             reply_ok(&mut client.out)?;
             client.closing = true;
@@ -186,7 +187,7 @@ fn greet(client: &mut Client, asked: Option<Version>) -> Result<(), AllocError>
     ensures same_begun { KeepsBegun client.old client.new }
 {
     let version = asked.unwrap_or(client.version);
-    reply_greeting(&mut client.out, version, client.id)?;
+    reply::greeting(&mut client.out, version, client.id)?;
     client.version = version;
     Ok(())
 }

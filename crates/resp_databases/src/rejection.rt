@@ -10,9 +10,9 @@ ghost use Rattle.resp_databases.specs.Running.{standing_of, waiting_of};
 ghost use Rattle.resp_databases.specs.Taking.{HasUnfinished};
 
 use crate::client::Client;
-use crate::reply::reply_fault;
 use bytes::BytesMut;
 use resp_scan::event::Fault;
+use resp_server::reply;
 use std::alloc::AllocError;
 
 /// Why bytes of a client are rejected.
@@ -63,8 +63,8 @@ fn append(out: &mut BytesMut, why: Rejection) -> Result<(), AllocError>
     ensures unchanged { OnErr result (out.new.items ≡ out.old.items) }
 {
     match why {
-        Rejection::Faulty(fault) => reply_fault(out, fault.cause.name().as_bytes(), fault.at),
-        Rejection::NoCommand => reply_fault(out, b"NotCommand", 0),
+        Rejection::Faulty(fault) => reply::fault(out, fault.cause.name().as_bytes(), fault.at),
+        Rejection::NoCommand => reply::fault(out, b"NotCommand", 0),
         Rejection::LongLine => {
             out.extend_from_slice(b"-ERR Protocol error: too big inline request\r\n")
         }

@@ -2,10 +2,9 @@ pub mod StoreEntries
 pub mod Slots
 pub mod StorePlaces
 pub mod ClosingUp
-pub mod Numbers
+pub mod Replies
 pub mod Seats
 pub mod PushVerdicts
-pub mod FaultLines
 pub mod ValueAnswers
 pub mod Readings
 pub mod Turns

@@ -1,12 +1,11 @@
 -- One turn of a session's reading, in words of answers.
-use Rattle.std.proofs.Common.{◌≡◌, inl, inr, ℕ, zero, suc, ◌+◌, ◌-◌, ◌<◌, ◌≤◌, Bool, true, false, None, Some, List, [], ◌∷◌, ◌++◌, length, take, codes, refl, sym, ap, subst, ◌∙◌, arith, append-nil, length-append, take_all, take_at}
+use Rattle.std.proofs.Common.{◌≡◌, inl, inr, ℕ, zero, suc, ◌+◌, ◌-◌, ◌<◌, ◌≤◌, Bool, true, false, None, Some, List, [], ◌∷◌, ◌++◌, length, take, refl, sym, ap, subst, ◌∙◌, arith, append-nil, length-append, take_all, take_at}
 use Rattle.std.proofs.lemmas.Bool.{false≢true}
 use Rattle.resp_value.specs.Bounds.{Bounds, AreBounds}
 use Rattle.resp_value.specs.Canonical.{canonical_text}
 use Rattle.resp_value.specs.Causes.{cause_of, name_of}
 use Rattle.resp_value.specs.Data.{Datum}
 use Rattle.resp_value.specs.Laws.{NoSpellingIsEmpty, TheEmptyTextIsViable}
-use Rattle.resp_value.specs.Numbers.{decimal}
 use Rattle.resp_value.specs.Rules.{Rules, Rule, Grammar, NoDouble, InVersion, PushAtTop, InRange, NotStreamed, WithinDepth, WithinLength, WithinItems, WithinTotal}
 use Rattle.resp_value.specs.Spellings.{IsSpelling, IsViable}
 use Rattle.resp_value.specs.Trees.{Spells}
@@ -22,6 +21,7 @@ use Rattle.resp_session.specs.Answers.{SessionState, Answers, BeginsNoValue, End
 use Rattle.resp_session.specs.Replies.{error}
 use Rattle.resp_session.specs.Stores.{Store}
 use Rattle.resp_server.specs.Answering.{IsAnswerTo, AnswersBytes, IsNamedFault, state_with}
+use Rattle.resp_server.specs.ReplyTexts.{fault_text}
 use Rattle.resp_server.specs.Reading.{HasReadFront, Reading, ReadsOn, ReadsValue, RefusesReading}
 use Rattle.resp_server.specs.declared.session.Session.{Session}
 
@@ -158,10 +158,10 @@ state_same store version version' text closing closing' count v b =
 pub refused_turn : (limits : Bounds) (store : Store) (before after : Session) (front piece : List ℕ) (fault : Fault) →
     RefusesByte (server_rules limits) front piece fault → after.version ≡ before.version → after.closing ≡ true →
     after.out.items ≡ before.out.items ++ canonical_text before.version
-    (error (codes "ERR Protocol error: " ++ name_of fault.cause ++ codes " at byte " ++ decimal fault.at)) →
+    (error (fault_text (name_of fault.cause) fault.at)) →
     AnswersBytes limits store store before after front piece (length piece) 0
 refused_turn limits store before after front piece fault refused version closes line =
-    let reply = canonical_text before.version (error (codes "ERR Protocol error: " ++ name_of fault.cause ++ codes " at byte " ++ decimal fault.at)) in
+    let reply = canonical_text before.version (error (fault_text (name_of fault.cause) fault.at)) in
     let whole : front ++ take (length piece) piece ≡ front ++ piece = ap (λ p. front ++ p) (take_all (length piece) piece (omega arith)) in
     record {
       reply = reply;

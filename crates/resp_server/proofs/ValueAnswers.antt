@@ -2,7 +2,6 @@
 use Rattle.std.proofs.Common.{◌≡◌, ℕ, ◌+◌, ◌<◌, ◌≤◌, true, false, List, [], ◌∷◌, ◌++◌, length, drop, get_or, Some, Result, Ok, Err, OnOk, OnErr, codes, sym, ap, ◌∙◌, arith, append-nil, length-append}
 use Rattle.resp_value.specs.Canonical.{canonical_text}
 use Rattle.resp_value.specs.Data.{Datum}
-use Rattle.resp_value.specs.Numbers.{decimal}
 use Rattle.resp_value.specs.Words.{command_of}
 use Rattle.resp_session.specs.AnswerLaws.{ACommandIsItsWords}
 use Rattle.resp_session.specs.Answers.{after_meaning}
@@ -11,6 +10,7 @@ use Rattle.resp_session.specs.Replies.{error}
 use Rattle.resp_session.specs.Operations.{operation_of}
 use Rattle.resp_session.specs.Stores.{Store, Effect, effect_of}
 use Rattle.resp_server.specs.Answering.{IsAnswerTo, state_with}
+use Rattle.resp_server.specs.ReplyTexts.{fault_text}
 use Rattle.resp_server.specs.Running.{HasEffect, HasSameRest}
 use Rattle.resp_server.specs.declared.session.Session.{Session}
 
@@ -75,9 +75,9 @@ nothing_answer x store session h is_open = record {
 pub no_command_answer : (x : Datum) (store : Store) (before after : Session) → NoCommand ≡ meaning_of x → after.version ≡ before.version →
     after.closing ≡ true →
     after.out.items ≡ before.out.items ++ canonical_text before.version
-    (error (codes "ERR Protocol error: " ++ codes "NotCommand" ++ codes " at byte " ++ decimal 0)) → IsAnswerTo x store store before after 0
+    (error (fault_text (codes "NotCommand") 0)) → IsAnswerTo x store store before after 0
 no_command_answer x store before after h version closes line =
-    let reply = canonical_text before.version (error (codes "ERR Protocol error: " ++ codes "NotCommand" ++ codes " at byte " ++ decimal 0)) in
+    let reply = canonical_text before.version (error (fault_text (codes "NotCommand") 0)) in
     record {
       reply = reply;
       replied = line;

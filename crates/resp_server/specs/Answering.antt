@@ -1,10 +1,9 @@
 -- The answers of a session, in terms of its state.
-use Rattle.std.specs.Prelude.{◌≡◌, ℕ, ◌+◌, ◌<◌, ◌≤◌, ◌^◌, Bool, true, false, List, [], ◌++◌, length, take, codes}
+use Rattle.std.specs.Prelude.{◌≡◌, ℕ, ◌+◌, ◌<◌, ◌≤◌, ◌^◌, Bool, true, false, List, [], ◌++◌, length, take}
 use Rattle.resp_value.specs.Bounds.{Bounds}
 use Rattle.resp_value.specs.Canonical.{canonical_text}
 use Rattle.resp_value.specs.Causes.{name_of}
 use Rattle.resp_value.specs.Data.{Datum}
-use Rattle.resp_value.specs.Numbers.{decimal}
 use Rattle.resp_value.specs.declared.cause.Cause.TheVariants.{OutOfMemory}
 use Rattle.resp_value.specs.declared.version.Version.{Version}
 use Rattle.resp_scan.specs.declared.event.Fault.{Fault}
@@ -12,6 +11,7 @@ use Rattle.resp_session.specs.Answers.{SessionState, Answers, after_value}
 use Rattle.resp_session.specs.Replies.{error}
 use Rattle.resp_session.specs.Stores.{Store}
 use Rattle.resp_server.specs.Reading.{HasReadFront}
+use Rattle.resp_server.specs.ReplyTexts.{fault_text}
 use Rattle.resp_server.specs.declared.session.Session.{Session}
 
 -- a session over this store that has written this text and run this many commands
@@ -85,4 +85,4 @@ pub record AnswersFault (before after : Session) (fault : Fault) : Type 0 where
   pub caused : fault.cause ≡ OutOfMemory → ⊥
   pub closes : after.closing ≡ true
   pub line : after.out.items ≡ before.out.items ++ canonical_text before.version
-      (error (codes "ERR Protocol error: " ++ name_of fault.cause ++ codes " at byte " ++ decimal fault.at))
+      (error (fault_text (name_of fault.cause) fault.at))

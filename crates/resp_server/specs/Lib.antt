@@ -1,7 +1,7 @@
 pub mod Entries
 pub mod Words
 pub mod Operations
-pub mod Greetings
+pub mod ReplyTexts
 pub mod Running
 pub mod Reading
 pub mod Hubs

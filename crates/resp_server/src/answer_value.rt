@@ -12,8 +12,8 @@ ghost use Rattle.resp_server.specs.Answering.{IsAnswerTo};
 ghost use Rattle.resp_server.specs.Running.{HasEffect, IsAsBefore, HasSameRest};
 ghost use Rattle.resp_server.specs.Words.{words_left};
 
-use crate::fault_line::append_fault;
 use crate::operation::operation_of;
+use crate::reply::fault;
 use crate::run::run;
 use crate::session::Session;
 use crate::shared::Shared;
@@ -86,7 +86,7 @@ pub(crate) fn answer_value<S: BuildHasher>(
         }
         Asked::Nothing => Ok(0),
         Asked::NoCommand => {
-            append_fault(shared, session, b"NotCommand", 0)?;
+            fault(&mut session.out, b"NotCommand", 0)?;
             session.closing = true;
             Ok(0)
         }

@@ -1,16 +1,16 @@
-//! Writes replies.
+//! Writes replies. Each public function appends a whole reply. If it fails, the buffer is unchanged.
 
-ghost use Rattle.std.specs.Prelude.{◌≡◌, ◌+◌, ◌<◌, ◌≤◌, ◌^◌, ◌++◌, length, IsOk, OnOk, OnErr};
+ghost use Rattle.std.specs.Prelude.{◌≡◌, ◌+◌, ◌≤◌, ◌++◌, length, codes, decimal, IsOk, OnOk, OnErr};
 ghost use Rattle.resp_value.specs.Canonical.{canonical_text, Fits};
 ghost use Rattle.resp_value.specs.Rules.{rules_under};
 ghost use Rattle.resp_value.specs.Values.{datum_of};
-ghost use Rattle.resp_value.specs.declared.version.Version.TheVariants.{Three};
-ghost use Rattle.resp_session.specs.Replies.{natural, hello_reply};
-ghost use Rattle.resp_server.specs.Greetings.{greeting_begin, greeting_end};
+ghost use Rattle.resp_value.specs.declared.version.Version.TheVariants.{Two};
+ghost use Rattle.resp_session.specs.Replies.{error, hello_reply, natural};
+ghost use Rattle.resp_server.specs.ReplyTexts.{fault_text, greeting_begin, greeting_end};
 
 use bytes::BytesMut;
-use resp_encode::{EncodeError, append, encode};
-use resp_session::laws;
+use itoa::Buffer;
+use resp_encode::{EncodeError, encode};
 use resp_value::limits::Limits;
 use resp_value::value::Value;
 use resp_value::version::Version;
@@ -40,24 +40,70 @@ pub(crate) fn reply(
     }
 }
 
-/// The room for a reply to a number.
-pub(crate) const NUMBER_ROOM: usize = 22;
+/// The most bytes of the reply to a number of 64 bits.
+pub(crate) const NUMBER_ROOM: usize = 23;
 
-/// Appends the reply to a number, the same in both versions. The buffer already has room for it.
-pub(crate) fn reply_number(out: &mut BytesMut, number: u64)
-    requires room { 22 ≤ out.old.spare }
-    requires small { number < 2 ^ 63 }
-    ensures appended { out.new.items ≡ out.old.items ++ canonical_text Three (natural number) }
-    ensures spare { out.old.spare ≤ out.new.spare + 22 }
+/// The bytes of HELLO's reply beside the number.
+const GREETING_ROOM: usize = 150;
+
+/// The bytes of the error reply to a protocol error beside the name, and the most of its number.
+const FAULT_ROOM: usize = 52;
+
+/// Appends the reply to a number, the same in both versions.
+///
+/// # Errors
+///
+/// `AllocError` if `out` cannot grow.
+pub fn number(out: &mut BytesMut, number: u64) -> Result<(), AllocError>
+    ensures appended { OnOk result (out.new.items ≡ out.old.items ++
+        canonical_text Two (natural number)) }
+    ensures unchanged { OnErr result (out.new.items ≡ out.old.items) }
 {
-    laws::numbers_are_short();
-    match append::int(number as i64, out) {
-        Ok(()) => {}
-        Err(AllocError) => unreachable!(),
-    }
+    out.reserve(NUMBER_ROOM)?;
+    reserved_number(out, number);
+    Ok(())
 }
 
-/// Returns the part of HELLO's reply before the session's number.
+/// Appends the reply to a number. There is room for it.
+pub(crate) fn reserved_number(out: &mut BytesMut, number: u64)
+    requires room { 23 ≤ out.old.spare }
+    ensures { out.new.items ≡ out.old.items ++ canonical_text Two (natural number) }
+{
+    append_number(out, b":", number);
+}
+
+/// Appends some bytes, a number and CR LF. There is room for them.
+fn append_number(out: &mut BytesMut, before: &[u8], number: u64)
+    requires room { length before.now + 22 ≤ out.old.spare }
+    ensures appended { out.new.items ≡ out.old.items ++ before.now ++ decimal number ++
+        codes "\r\n" }
+    ensures short { length out.new.items ≤ length out.old.items + (length before.now + 22) }
+    ensures spare { out.old.spare ≤ out.new.spare + (length before.now + 22) }
+{
+    let mut digits = Buffer::new();
+    out.extend_reserved(before);
+    out.extend_reserved(digits.format(number).as_bytes());
+    out.extend_reserved(b"\r\n");
+}
+
+/// Appends the reply to HELLO in a version, for the session of this id.
+///
+/// # Errors
+///
+/// `AllocError` if `out` cannot grow.
+pub fn greeting(out: &mut BytesMut, version: Version, id: u64) -> Result<(), AllocError>
+    ensures appended { OnOk result (out.new.items ≡ out.old.items ++
+        canonical_text version (hello_reply version id)) }
+    ensures unchanged { OnErr result (out.new.items ≡ out.old.items) }
+{
+    out.reserve(GREETING_ROOM + NUMBER_ROOM)?;
+    out.extend_reserved(greeting_begin(version));
+    append_number(out, b":", id);
+    out.extend_reserved(greeting_end());
+    Ok(())
+}
+
+/// Returns the part of HELLO's reply before the id of the session.
 fn greeting_begin(version: Version) -> &'static [u8]
     ensures begin { result.now ≡ greeting_begin version }
     ensures short { length result.now ≤ 80 }
@@ -72,7 +118,7 @@ fn greeting_begin(version: Version) -> &'static [u8]
     }
 }
 
-/// Returns the part of HELLO's reply after the session's number.
+/// Returns the part of HELLO's reply after the id of the session.
 fn greeting_end() -> &'static [u8]
     ensures end { result.now ≡ greeting_end }
     ensures short { length result.now ≤ 70 }
@@ -80,20 +126,21 @@ fn greeting_end() -> &'static [u8]
     b"$4\r\nmode\r\n$10\r\nstandalone\r\n$4\r\nrole\r\n$6\r\nmaster\r\n$7\r\nmodules\r\n*0\r\n"
 }
 
-/// Appends HELLO's reply in this version, or leaves the buffer unchanged.
-pub(crate) fn reply_greeting(
-    out: &mut BytesMut,
-    version: Version,
-    id: u64,
-) -> Result<(), AllocError>
-    requires { id < 2 ^ 63 }
-    ensures appended { OnOk result (out.new.items ≡
-        out.old.items ++ canonical_text version (hello_reply version id)) }
+/// Appends the error reply to a protocol error of this name at this byte of a value, the same in
+/// both versions. It has at most 52 bytes beside the name.
+///
+/// # Errors
+///
+/// `AllocError` if `out` cannot grow.
+pub fn fault(out: &mut BytesMut, name: &[u8], at: u64) -> Result<(), AllocError>
+    ensures appended { OnOk result (out.new.items ≡ out.old.items ++
+        canonical_text Two (error (fault_text name.now at))) }
+    ensures short { length out.new.items ≤ length out.old.items + (length name.now + 52) }
     ensures unchanged { OnErr result (out.new.items ≡ out.old.items) }
 {
-    out.reserve(172)?;
-    out.extend_reserved(greeting_begin(version));
-    reply_number(out, id);
-    out.extend_reserved(greeting_end());
+    out.reserve(name.len().saturating_add(FAULT_ROOM))?;
+    out.extend_reserved(b"-ERR Protocol error: ");
+    out.extend_reserved(name);
+    append_number(out, b" at byte ", at);
     Ok(())
 }

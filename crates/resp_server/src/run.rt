@@ -10,7 +10,7 @@ ghost use Rattle.resp_server.specs.Running.{HasEffect, IsAsBefore, HasSameRest};
 ghost use Rattle.resp_server.specs.Words.{words_left};
 
 use crate::operation::{Condition, Operation};
-use crate::reply::{NUMBER_ROOM, reply, reply_greeting, reply_number};
+use crate::reply::{NUMBER_ROOM, greeting, reply, reserved_number};
 use crate::session::Session;
 use crate::shared::Shared;
 use crate::store::Store;
@@ -158,7 +158,7 @@ fn del<S: BuildHasher>(
 {
     session.out.reserve(NUMBER_ROOM)?;
     let removed = shared.store.remove(keys);
-    reply_number(&mut session.out, removed);
+    reserved_number(&mut session.out, removed);
     Ok(())
 }
 
@@ -176,7 +176,7 @@ fn hello<S: BuildHasher>(
     ensures rest { HasSameRest session.old session.new }
 {
     let next = asked.unwrap_or(session.version);
-    reply_greeting(&mut session.out, next, session.id)?;
+    greeting(&mut session.out, next, session.id)?;
     session.version = next;
     Ok(())
 }

@@ -11,7 +11,7 @@ ghost use Rattle.resp_scan.specs.Whole.{BeginsWith};
 ghost use Rattle.resp_value.specs.Words.{command_of};
 
 use crate::answer_value::{answer_value, run_command};
-use crate::fault_line::append_fault;
+use crate::reply;
 use crate::session::Session;
 use crate::shared::Shared;
 use crate::words::Words;
@@ -129,7 +129,7 @@ fn read_turn<S: BuildHasher>(
     let fed = match session.decoder.feed(shared.alloc, &shared.limits, piece) {
         Ok(fed) => fed,
         Err(fault) => {
-            refuse(shared, session, fault)?;
+            refuse(session, fault)?;
             return Ok(Turn {
                 used: piece.len(),
                 commands: 0,
@@ -146,11 +146,7 @@ fn read_turn<S: BuildHasher>(
 
 /// Queues the error reply for a fault and closes the session. Fails if the fault is `OutOfMemory`
 /// or the allocation for the reply fails.
-fn refuse<S: BuildHasher>(
-    shared: &Shared<S>,
-    session: &mut Session,
-    fault: Fault,
-) -> Result<(), AllocError>
+fn refuse(session: &mut Session, fault: Fault) -> Result<(), AllocError>
     requires { (fault.cause ≡ OutOfMemory → ⊥) → IsNamedFault fault }
     ensures refused { OnOk result (AnswersFault session.old session.new fault) }
     ensures short { length session.new.out.items ≤ length session.old.out.items + 68 }
@@ -163,7 +159,7 @@ fn refuse<S: BuildHasher>(
         return Err(AllocError);
     }
     let name = fault.cause.name().as_bytes();
-    append_fault(shared, session, name, fault.at)?;
+    reply::fault(&mut session.out, name, fault.at)?;
     session.closing = true;
     Ok(())
 }

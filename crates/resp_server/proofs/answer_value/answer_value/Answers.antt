@@ -1,9 +1,9 @@
-use Rattle.std.proofs.Common.{◌∷◌, drop, subst, sym, ap, ◌∙◌}
+use Rattle.std.proofs.Common.{◌∷◌, drop, refl, subst, sym, ap, ◌∙◌}
 use Rattle.resp_value.specs.Spellings.{IsSpelling}
 use Rattle.resp_value.specs.Values.{datum_of}
 use Rattle.resp_value.specs.Words.{command_of}
 use Rattle.resp_session.specs.Answers.{server_rules}
-use Rattle.resp_server.proofs.ValueAnswers.{words_value}
+use Rattle.resp_server.proofs.ValueAnswers.{no_command_answer, words_value}
 use Rattle.resp_server.proofs.answer_value.answer_value.Goals as goal
 
 pub run_command-requires-clause-spelled : goal.run_command-requires-clause-spelled
@@ -15,3 +15,8 @@ run_command-requires-clause-spelled g c =
           c.in-Command.ensures.meaning ∙ ap (λ name. command_of (name ∷ drop 1 c.in-Command.words)) (sym c.word.ensures))
           spelled,
     )
+
+pub returns-in_ok-fault-in-NoCommand-clause-answered : goal.returns-in_ok-fault-in-NoCommand-clause-answered
+returns-in_ok-fault-in-NoCommand-clause-answered g c =
+    no_command_answer (datum_of c.args.value) c.args.shared.now.store c.args.session.now _ c.in-NoCommand.ensures.meaning refl refl
+    c.in_ok-fault-in-NoCommand.ensures.appended

@@ -1,10 +1,9 @@
 use Rattle.std.proofs.Common.{◌++◌, ap, ◌∙◌, append_assoc, codes, decimal}
 use Rattle.resp_value.specs.Canonical.{canonical_text}
 use Rattle.resp_session.specs.Replies.{natural}
-use Rattle.resp_server.specs.Greetings.{greeting_begin, greeting_end}
-use Rattle.resp_server.proofs.Numbers.{greeting_text}
-use Rattle.resp_databases.proofs.Replies.{number_text}
-use Rattle.resp_databases.proofs.reply.reply_greeting.Goals as goal
+use Rattle.resp_server.specs.ReplyTexts.{greeting_begin, greeting_end}
+use Rattle.resp_server.proofs.Replies.{greeting_text, number_text}
+use Rattle.resp_server.proofs.reply.greeting.Goals as goal
 
 pub returns-clause-appended : goal.returns-clause-appended
 returns-clause-appended c =

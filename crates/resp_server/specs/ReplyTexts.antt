@@ -1,5 +1,6 @@
--- The text of HELLO's reply before and after the session's number.
+-- The texts of a protocol error, and of HELLO's reply before and after the session's number.
 use Rattle.std.specs.Prelude.{ℕ, List, ◌++◌, codes}
+use Rattle.resp_value.specs.Numbers.{decimal}
 use Rattle.resp_value.specs.declared.version.Version.{Version}
 use Rattle.resp_value.specs.declared.version.Version.TheVariants.{Two, Three}
 
@@ -15,3 +16,7 @@ greeting_begin Three = codes "%7\r\n" ++ server_fields ++ codes "$5\r\nproto\r\n
 -- the text after the number
 abbrev pub greeting_end : List ℕ
 greeting_end = codes "$4\r\nmode\r\n$10\r\nstandalone\r\n$4\r\nrole\r\n$6\r\nmaster\r\n$7\r\nmodules\r\n*0\r\n"
+
+-- the text of the error reply to a protocol error of this name at this byte of a value
+abbrev pub fault_text : List ℕ → ℕ → List ℕ
+fault_text name at = codes "ERR Protocol error: " ++ name ++ codes " at byte " ++ decimal at
