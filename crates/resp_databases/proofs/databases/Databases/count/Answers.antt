@@ -23,9 +23,9 @@ returns-in-None-clause-done g c =
     ap (λ (v : ServerState). store_of v.stores (standing_of before)) (sym c.self.view_is) ∙
     no_store hubs (standing_of before) (slice_get_past hubs before.database past) in
     let none : keys_in (store_of c.args.self.now.stores (standing_of before)) c.args.keys ≡ [] = ap (λ s. keys_in s c.args.keys) store ∙ no_keys c.args.keys in
-    on_ok_weaker c.reply_number.result
+    on_ok_weaker c.number.result
     (λ appended. record {
       state = refl;
       client = refl;
       replied = appended ∙ ap (λ l. before.out.items ++ canonical_text before.version (natural (length l))) (sym none);
-    }) c.reply_number.ensures.appended
+    }) c.number.ensures.appended
