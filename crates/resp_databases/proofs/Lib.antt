@@ -1,6 +1,5 @@
 mod Again
 mod InSessions
-mod LineEnds
 pub mod Lists
 pub mod Doings
 pub mod Runs
