@@ -1,13 +1,15 @@
 use Rattle.std.proofs.Common.{rules, refl, [], ◌≡◌, ◌++◌, take, subst, sym}
 use Rattle.resp_client.specs.Clients.{state_of}
-use Rattle.resp_turns.specs.Turns.{WereRead}
+use Rattle.resp_turns.specs.Pieces.{ReadsNothing}
+use Rattle.resp_turns.specs.Turns.{WereRead, has_failed}
+use Rattle.resp_turns.specs.declared.halt.Halt.TheVariants.{Failed, NoTurn}
 use Rattle.resp_turns.proofs.Turning.{end_after, has_read_more, has_read_same, reads_none}
 use Rattle.resp_ask.specs.Hearing.{StopsTelling, Tells}
 use Rattle.resp_ask.proofs.Receiving.{stops_piece, tells_more, tells_nothing}
 use Rattle.resp_ask.proofs.hear.hear_until.Goals as goal
 
-pub loop-turns-init : goal.loop-turns-init
-loop-turns-init g c = record {
+pub loop-reader-init : goal.loop-reader-init
+loop-reader-init g c = record {
   told = (
     [],
     reads_none (g.R.Source.remaining c.args.reader.now),
@@ -17,10 +19,10 @@ loop-turns-init g c = record {
   prints = refl;
 }
 
-pub loop-turns-preserved : goal.loop-turns-preserved
-loop-turns-preserved g c =
-    let (came, given, told) = c.loop-turns.invariant.told in
-    let before = g.R.Source.remaining c.loop-turns.reader in
+pub loop-reader-preserved : goal.loop-reader-preserved
+loop-reader-preserved g c =
+    let (came, given, told) = c.loop-reader.invariant.told in
+    let before = g.R.Source.remaining c.loop-reader.reader in
     let into = c.read_some.new.into in
     let n = c.in-Ok.count in
     record {
@@ -30,11 +32,11 @@ loop-turns-preserved g c =
             (c.in-Ok.ensures.piece (search rules)).read,
         λ front h.
             let so_far = told front h in
-            tells_more c.readings_go_on.ensures c.args.telling.now c.loop-turns.telling c.tell_piece.new.telling (state_of c.args.client.now)
-            c.loop-turns.client c.tell_piece.new.client (g.O.Sink.written c.args.output.now) (g.O.Sink.written c.loop-turns.output)
+            tells_more c.readings_go_on.ensures c.args.telling.now c.loop-reader.telling c.tell_piece.new.telling (state_of c.args.client.now)
+            c.loop-reader.client c.tell_piece.new.client (g.O.Sink.written c.args.output.now) (g.O.Sink.written c.loop-reader.output)
             (g.O.Sink.written c.tell_piece.new.output) front came (take n into) so_far
-            (subst (λ z. Tells c.loop-turns.telling c.tell_piece.new.telling (state_of c.loop-turns.client) c.tell_piece.new.client
-            (g.O.Sink.written c.loop-turns.output) (g.O.Sink.written c.tell_piece.new.output) (so_far.receives.rest ++ z)) (search rules)
+            (subst (λ z. Tells c.loop-reader.telling c.tell_piece.new.telling (state_of c.loop-reader.client) c.tell_piece.new.client
+            (g.O.Sink.written c.loop-reader.output) (g.O.Sink.written c.tell_piece.new.output) (so_far.receives.rest ++ z)) (search rules)
             (c.in_default.ensures.told so_far.receives.rest so_far.receives.takes)),
       );
       reads = search rules;
@@ -43,40 +45,44 @@ loop-turns-preserved g c =
 
 pub returns-clause-told : goal.returns-clause-told
 returns-clause-told g c =
-    let (came, given, told) = c.loop-turns.invariant.told in
+    let (came, given, told) = c.loop-reader.invariant.told in
     (came, given, λ front h. (told front h, tt))
 
 pub returns-in-Ok-eq0-clause-told : goal.returns-in-Ok-eq0-clause-told
 returns-in-Ok-eq0-clause-told g c =
-    let (came, given, told) = c.loop-turns.invariant.told in
+    let (came, given, told) = c.loop-reader.invariant.told in
     let none : c.in-Ok-eq0.field-0 ≡ 0 = search rules in (
       came,
-      has_read_same (g.R.Source.remaining c.args.reader.now) (g.R.Source.remaining c.loop-turns.reader) (g.R.Source.remaining c.read_some.new.reader) came []
+      has_read_same (g.R.Source.remaining c.args.reader.now) (g.R.Source.remaining c.loop-reader.reader) (g.R.Source.remaining c.read_some.new.reader) came []
           refl given (c.in-Ok-eq0.ensures.empty none).0,
       λ front h. (tt, told front h),
     )
 
 pub returns-in-Err-Failed-clause-told : goal.returns-in-Err-Failed-clause-told
 returns-in-Err-Failed-clause-told g c =
-    let (came, given, told) = c.loop-turns.invariant.told in (
+    let (came, given, told) = c.loop-reader.invariant.told in (
       came,
-      has_read_same (g.R.Source.remaining c.args.reader.now) (g.R.Source.remaining c.loop-turns.reader) (g.R.Source.remaining c.read_some.new.reader) came []
-          refl given c.in-Err-Failed.ensures.unread.0,
+      has_read_same (g.R.Source.remaining c.args.reader.now) (g.R.Source.remaining c.loop-reader.reader) (g.R.Source.remaining c.read_some.new.reader) came []
+          refl given
+          (subst (λ h. ReadsNothing g.R.Source.remaining g.R.Source.calls c.loop-reader.reader c.read_some.new.reader (has_failed h)) {y = Failed} (search rules)
+          c.in-Err-Failed.ensures.unread).0,
       λ front h. (tt, told front h),
     )
 
 pub returns-in-Err-NoTurn-clause-told : goal.returns-in-Err-NoTurn-clause-told
 returns-in-Err-NoTurn-clause-told g c =
-    let (came, given, told) = c.loop-turns.invariant.told in (
+    let (came, given, told) = c.loop-reader.invariant.told in (
       came,
-      subst (λ r. WereRead (g.R.Source.remaining c.args.reader.now) (g.R.Source.remaining r) came) (sym c.in-Err-NoTurn.ensures.unread) given,
+      subst (λ r. WereRead (g.R.Source.remaining c.args.reader.now) (g.R.Source.remaining r) came) (sym
+          (subst (λ h. ReadsNothing g.R.Source.remaining g.R.Source.calls c.loop-reader.reader c.read_some.new.reader (has_failed h)) {y = NoTurn} (search rules)
+          c.in-Err-NoTurn.ensures.unread)) given,
       λ front h. (tt, told front h),
     )
 
-pub returns-in-Err-tell_piece-clause-told : goal.returns-in-Err-tell_piece-clause-told
-returns-in-Err-tell_piece-clause-told g c =
-    let (came, given, told) = c.loop-turns.invariant.told in
-    let before = g.R.Source.remaining c.loop-turns.reader in
+pub returns-in-Err-clause-told : goal.returns-in-Err-clause-told
+returns-in-Err-clause-told g c =
+    let (came, given, told) = c.loop-reader.invariant.told in
+    let before = g.R.Source.remaining c.loop-reader.reader in
     let into = c.read_some.new.into in
     let n = c.in-Ok.count in (
       came ++ take n into,
@@ -85,17 +91,17 @@ returns-in-Err-tell_piece-clause-told g c =
       λ front h.
           let so_far = told front h in (
             tt,
-            stops_piece c.readings_go_on.ensures c.args.telling.now c.loop-turns.telling c.tell_piece.new.telling (state_of c.args.client.now)
-                c.loop-turns.client c.tell_piece.new.client (g.O.Sink.written c.args.output.now) (g.O.Sink.written c.loop-turns.output)
-                (g.O.Sink.written c.tell_piece.new.output) front came (take n into) c.in-Err-tell_piece.error so_far
-                (subst (λ z. StopsTelling c.loop-turns.telling c.tell_piece.new.telling (state_of c.loop-turns.client)
-                (g.O.Sink.written c.loop-turns.output) (g.O.Sink.written c.tell_piece.new.output) (so_far.receives.rest ++ z) c.in-Err-tell_piece.error)
-                (search rules) (c.in-Err-tell_piece.ensures.refusal so_far.receives.rest so_far.receives.takes)),
+            stops_piece c.readings_go_on.ensures c.args.telling.now c.loop-reader.telling c.tell_piece.new.telling (state_of c.args.client.now)
+                c.loop-reader.client c.tell_piece.new.client (g.O.Sink.written c.args.output.now) (g.O.Sink.written c.loop-reader.output)
+                (g.O.Sink.written c.tell_piece.new.output) front came (take n into) c.in-Err.error so_far
+                (subst (λ z. StopsTelling c.loop-reader.telling c.tell_piece.new.telling (state_of c.loop-reader.client)
+                (g.O.Sink.written c.loop-reader.output) (g.O.Sink.written c.tell_piece.new.output) (so_far.receives.rest ++ z) c.in-Err.error)
+                (search rules) (c.in-Err.ensures.refusal so_far.receives.rest so_far.receives.takes)),
           ),
     )
 
 pub returns-in-Ok-eq0-clause-end : goal.returns-in-Ok-eq0-clause-end
 returns-in-Ok-eq0-clause-end g c = λ _.
-    let (came, given, told) = c.loop-turns.invariant.told in
-    end_after (g.R.Source.remaining c.args.reader.now) (g.R.Source.remaining c.loop-turns.reader) (g.R.Source.remaining c.read_some.new.reader) came given
+    let (came, given, told) = c.loop-reader.invariant.told in
+    end_after (g.R.Source.remaining c.args.reader.now) (g.R.Source.remaining c.loop-reader.reader) (g.R.Source.remaining c.read_some.new.reader) came given
     (c.in-Ok-eq0.ensures.end (search rules) (search rules))

@@ -5,8 +5,8 @@ use Rattle.resp_turns.specs.Turns.{WereRead}
 use Rattle.resp_ask.specs.Hearing.{Tells}
 use Rattle.resp_ask.proofs.hear.hear_until.Given as goal
 
-abbrev pub invariant-loop-turns : goal.invariant-loop-turns
-invariant-loop-turns g l = record {
+abbrev pub invariant-loop-reader : goal.invariant-loop-reader
+invariant-loop-reader g l = record {
   told : (came : List ℕ) × WereRead (g.R.Source.remaining l.fn.reader) (g.R.Source.remaining l.reader) came ×
       WhereTaken l.fn.client (λ front. Tells l.fn.telling l.telling (state_of l.fn.client) l.client (g.O.Sink.written l.fn.output)
       (g.O.Sink.written l.output) (front ++ came));
@@ -14,5 +14,5 @@ invariant-loop-turns g l = record {
   prints : g.O.Sink.failures l.output ≡ g.O.Sink.failures l.fn.output;
 }
 
-abbrev pub decreases-loop-turns : goal.decreases-loop-turns
-decreases-loop-turns g l = l.turns
+abbrev pub decreases-loop-reader : goal.decreases-loop-reader
+decreases-loop-reader g l = l.turns

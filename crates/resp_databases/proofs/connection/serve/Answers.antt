@@ -3,7 +3,9 @@ use Rattle.std.specs.Prelude.{IfErr, OnOk}
 use Rattle.std.proofs.lemmas.List.{length-take-le}
 use Rattle.resp_frames.proofs.Ends.{take_whole}
 use Rattle.resp_value.specs.Devices.{failures_after}
-use Rattle.resp_turns.specs.Turns.{stopped_by}
+use Rattle.resp_turns.specs.Pieces.{ReadsNothing}
+use Rattle.resp_turns.specs.Turns.{Halts, has_failed, stopped_by}
+use Rattle.resp_turns.specs.declared.halt.Halt.TheVariants.{Failed, NoTurn}
 use Rattle.resp_turns.proofs.Pieces.{all_read, gives, some_left}
 use Rattle.resp_turns.proofs.Turning.{end_after, spends_both, spends_nothing, spends_writes}
 use Rattle.resp_databases.specs.Running.{waiting_of}
@@ -98,7 +100,9 @@ returns-in-Err-Failed-clause-served g c =
     (sym c.ended-in-Err-Failed.ensures)
     (visited_all (length c.args.buffer.now) g.W.Sink.written g.R.Source.remaining g.R.Source.calls g.R.Source.failures c.args.writer.now l.writer
     c.args.reader.now l.reader c.read_some.new.reader c.args.databases.now l.databases c.args.client.now l.client (Err Read) l.invariant.visited
-    (λ is. absurd (cc)) c.in-Err-Failed.ensures.unread)
+    (λ is. absurd (cc))
+    (subst (λ h. ReadsNothing g.R.Source.remaining g.R.Source.calls l.reader c.read_some.new.reader (has_failed h)) {y = Failed} (search rules)
+    c.in-Err-Failed.ensures.unread))
 
 pub returns-in-Err-Failed-clause-turns : goal.returns-in-Err-Failed-clause-turns
 returns-in-Err-Failed-clause-turns g c =
@@ -119,7 +123,9 @@ returns-in-Err-NoTurn-clause-served g c =
     (sym c.ended-in-Err-NoTurn.ensures)
     (visited_all (length c.args.buffer.now) g.W.Sink.written g.R.Source.remaining g.R.Source.calls g.R.Source.failures c.args.writer.now l.writer
     c.args.reader.now l.reader c.read_some.new.reader c.args.databases.now l.databases c.args.client.now l.client (Err TooManyTurns) l.invariant.visited
-    (λ is. absurd (cc)) c.in-Err-NoTurn.ensures.unread)
+    (λ is. absurd (cc))
+    (subst (λ h. ReadsNothing g.R.Source.remaining g.R.Source.calls l.reader c.read_some.new.reader (has_failed h)) {y = NoTurn} (search rules)
+    c.in-Err-NoTurn.ensures.unread))
 
 pub returns-in-Err-NoTurn-clause-turns : goal.returns-in-Err-NoTurn-clause-turns
 returns-in-Err-NoTurn-clause-turns g c =
@@ -128,7 +134,8 @@ returns-in-Err-NoTurn-clause-turns g c =
       spends_both (g.W.Sink.calls c.args.writer.now) (g.W.Sink.calls l.writer) (g.W.Sink.calls l.writer) (g.R.Source.calls c.args.reader.now)
           (g.R.Source.calls l.reader) (g.R.Source.calls c.read_some.new.reader) c.args.turns l.left c.read_some.new.turns c.read_some.new.turns
           l.invariant.spends c.read_some.ensures.turns (spends_nothing (g.W.Sink.calls l.writer) c.read_some.new.turns),
-      λ out. c.in-Err-NoTurn.ensures.halted,
+      λ out. subst (Halts (g.R.Source.failures l.reader) (g.R.Source.failures c.read_some.new.reader) c.read_some.new.turns) {y = NoTurn} (search rules)
+          c.in-Err-NoTurn.ensures.halted,
     )
 
 pub returns-in-Err-end-clause-served : goal.returns-in-Err-end-clause-served
