@@ -4,7 +4,7 @@ ghost use Rattle.std.specs.Prelude.{◌≡◌, ◌≢◌, ◌≤◌, ◌<◌, �
 ghost use Rattle.resp_value.specs.Devices.{Appends, failures_after};
 ghost use Rattle.resp_client.specs.Clients.{state_of};
 ghost use Rattle.resp_client.specs.Hearing.{KeepsReading, WhereTaken};
-ghost use Rattle.resp_turns.specs.Turns.{TellsEnd, WereRead, stopped_by};
+ghost use Rattle.resp_turns.specs.Turns.{WereRead, stopped_by};
 ghost use Rattle.resp_ask.specs.Exchanging.{SendsAll, SendsPart, sent_state};
 ghost use Rattle.resp_ask.specs.Hearing.{IsOfConnection, StopsHearing, Tells, is_of_output, is_of_reader, is_of_writer};
 

@@ -1,8 +1,7 @@
 -- A hub with another session in the place of one.
-use Rattle.std.proofs.Common.{arith, length, take, drop, ◌≤◌, ◌≡◌, ℕ, ◌==◌, Bool, true, false, cond, Option, None, Some, List, [], ◌∷◌, IfSome, refl, sym, ap, subst, ◌∙◌}
+use Rattle.std.proofs.Common.{arith, length, ◌≤◌, ◌≡◌, ℕ, ◌==◌, Bool, true, false, cond, Option, None, Some, List, [], ◌∷◌, IfSome, refl, sym, ap, subst, ◌∙◌}
 use Rattle.std.specs.Option.{option_map}
-use Rattle.std.proofs.lemmas.List.{drop_all, length-append, take-append-drop}
-use Rattle.resp_value.specs.Devices.{Appends}
+use Rattle.std.proofs.lemmas.List.{length-append}
 use Rattle.resp_server.specs.Handling.{WhereOpen}
 use Rattle.resp_server.specs.Hubs.{HubState, Seat, WaitsAtMost, seat_at, seated, with_seat}
 use Rattle.resp_server.specs.Reading.{HasReadFront}

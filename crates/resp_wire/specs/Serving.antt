@@ -1,10 +1,9 @@
 -- The results of a server's end, in terms of its hub and of the bytes written.
 use Rattle.std.specs.Prelude.{◌≡◌, ◌⊎◌, ℕ, ◌+◌, ◌-◌, ◌<◌, ◌≤◌, ◌^◌, Bool, true, false, List, [], ◌++◌, length, take, drop, Option, Some, None, Result, Ok, Err, IfSome, IfOk, IfErr, IsErrOf, OnOk}
 use Rattle.std.specs.List.{concat}
-use Rattle.std.specs.Option.{option_map}
 use Rattle.resp_value.specs.Devices.{Appends, HasRisen, failures_after}
 use Rattle.resp_server.specs.Handling.{HasAnswered, HasCutShort, WhereOpen}
-use Rattle.resp_server.specs.Hubs.{HubState, Seat, WaitsAtMost, seat_at, seated}
+use Rattle.resp_server.specs.Hubs.{HubState, Seat, WaitsAtMost, seat_at}
 use Rattle.resp_server.specs.Reading.{HasReadFront}
 use Rattle.resp_server.specs.Sending.{HasSent, HasSentPart, IsClosing}
 use Rattle.resp_turns.specs.Pieces.{ReadsPieces}

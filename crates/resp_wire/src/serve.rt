@@ -1,6 +1,6 @@
 //! The server's end of a connection.
 
-ghost use Rattle.std.specs.Prelude.{◌≡◌, ◌≢◌, ◌+◌, ◌-◌, ◌<◌, ◌≤◌, ◌^◌, ◌++◌, ℕ, List, [], length, take, true, false, None, Err, IfSome, IfOk, IfErr, IsErrOf, OnOk, OnErr};
+ghost use Rattle.std.specs.Prelude.{◌≡◌, ◌≢◌, ◌+◌, ◌-◌, ◌<◌, ◌≤◌, ◌^◌, [], length, take, true, false, None, Err, IfSome, IfOk, IfErr, IsErrOf, OnOk, OnErr};
 ghost use Rattle.resp_server.specs.Hubs.{Seat, WaitsAtMost, seat_at};
 ghost use Rattle.resp_server.specs.Handling.{HasAnswered, WhereOpen};
 ghost use Rattle.resp_server.specs.Sending.{HasSent, HasSentPart, IsClosing};

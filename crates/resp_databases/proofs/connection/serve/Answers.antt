@@ -218,7 +218,7 @@ loop-client-preserved g c =
           c.args.reader.now l.reader c.read_some.new.reader c.args.databases.now l.databases a.new.databases c.args.client.now l.client a.new.client piece
           v is_open
           (gives (length c.args.buffer.now) (length l.buffer) g.R.Source.remaining g.R.Source.calls g.R.Source.failures c.args.reader.now l.reader
-    c.read_some.new.reader v.pieces (take n into) (omega (arith, room)) v.given (c.in-Ok.ensures.piece some)) answers none a.ensures.same_server;
+          c.read_some.new.reader v.pieces (take n into) (omega (arith, room)) v.given (c.in-Ok.ensures.piece some)) answers none a.ensures.same_server;
       room = same ∙ room;
       writes = none_failed ∙ l.invariant.writes;
       reads = c.in-Ok.ensures.failures ∙ l.invariant.reads;

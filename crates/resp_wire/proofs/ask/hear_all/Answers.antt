@@ -102,7 +102,7 @@ returns-in-Err-clause-heard g c =
     let s = state_of c.args.client.now in
     let error = c.in-Err.error in
     let given_all = gives (length c.args.buffer.now) _ g.R.Source.remaining g.R.Source.calls g.R.Source.failures c.args.reader.now c.loop-reader.reader
-            c.read_some.new.reader pieces (take n into) (search rules) given (c.in-Ok.ensures.piece (search rules)) in (
+    c.read_some.new.reader pieces (take n into) (search rules) given (c.in-Ok.ensures.piece (search rules)) in (
       pieces ++ take n into ∷ [],
       only_pieces (length c.args.buffer.now) g.R.Source.remaining g.R.Source.calls g.R.Source.failures c.args.reader.now c.read_some.new.reader (pieces ++ take n into ∷ [])
           (is_of_last_read error) given_all (no_last_read error c.in-Err.ensures.fault_or_memory),

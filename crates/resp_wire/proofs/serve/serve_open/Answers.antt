@@ -272,7 +272,7 @@ loop-count-preserved g c =
       served = (
         more,
         gives (length c.args.buffer.now) _ g.R.Source.remaining g.R.Source.calls g.R.Source.failures c.args.reader.now c.loop-count.reader
-    c.read_some.new.reader pieces (take n into) (search rules) given (c.in-Ok.ensures.piece (search rules)),
+            c.read_some.new.reader pieces (take n into) (search rules) given (c.in-Ok.ensures.piece (search rules)),
         where_open old id _ (λ s here not_closing front taken.
             let (v, _, each) = at_open old id (λ t f. Serves old new id t (f ++ concat more) held held'' [] × ⊤ × AnswersBefore old id t f more held held'') s
             front all here not_closing taken in
