@@ -1,5 +1,5 @@
 -- Why bytes of a client are rejected, and the error reply.
-use Rattle.std.specs.Prelude.{ℕ, List, [], ◌++◌, codes}
+use Rattle.std.specs.Prelude.{ℕ, List, [], codes}
 use Rattle.resp_frames.specs.Framing.{RejectsByte}
 use Rattle.resp_frames.specs.Requests.{EndsNoRequest}
 use Rattle.resp_frames.specs.declared.error.FrameError.{FrameError}

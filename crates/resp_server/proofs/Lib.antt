@@ -11,3 +11,4 @@ pub mod Turns
 pub mod WholeTurns
 pub mod AnsweredPieces
 pub mod AnsweredHubs
+pub mod Sending
