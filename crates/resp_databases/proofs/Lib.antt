@@ -1,7 +1,6 @@
 mod Replies
 mod Again
 mod InSessions
-mod LineEnds
 pub mod Lists
 pub mod Doings
 pub mod Runs

@@ -1,7 +1,6 @@
 -- How requests are taken, one after another.
 use Rattle.std.proofs.Common.{◌≡◌, ◌⊎◌, ◌∙◌, inl, inr, ℕ, ◌+◌, ◌-◌, ◌<◌, ◌≤◌, true, false, List, [], ◌∷◌, ◌++◌, length, take, drop, Option, None, Some, ap, append_assoc, arith, length-drop, refl, subst, sym}
 use Rattle.std.specs.List.{AllByRecursion, concat}
-use Rattle.std.specs.Prelude.{IfSome}
 use Rattle.std.proofs.Math.Seq.{take-add, take-length}
 use Rattle.std.proofs.lemmas.List.{append-nil, take-append-drop}
 use Rattle.resp_frames.proofs.Ends.{take_whole}
@@ -41,10 +40,6 @@ few_last : (held : ℕ) (parts : List Part) (part : Part) (p : Progress) → Wai
 few_last held [] part p each last = (last, tt)
 few_last held (other ∷ parts) part p each last = (each.0, few_last held parts part (after_request other.asked p) each.1 last)
 
--- no request was done yet
-pub does_nothing : (limits : Bounds) (bytes : List ℕ) (p : Progress) → DoesParts limits [] bytes bytes p p
-does_nothing limits bytes p = record { whole = refl; requests = tt; is_open = tt; done = refl }
-
 -- more bytes came, and no request has ended
 pub does_bytes : (limits : Bounds) (parts : List Part) (bytes rest more : List ℕ) (p q : Progress) → DoesParts limits parts bytes rest p q →
     DoesParts limits parts (bytes ++ more) (rest ++ more) p q
@@ -83,22 +78,6 @@ pub record HasTaken (held : ℕ) (old new : ServerState) (before after : Client)
   pub same_server : new ≡ record old { stores = new.stores }
   pub same_waiting : used ≡ 0 → waiting_of after ≡ waiting_of before
   pub taken : WhereUnfinished old before (λ front. TakesSoFar held (front ++ take used piece) old new before after)
-
--- no byte was taken yet
-pub taken_none : (held : ℕ) (old : ServerState) (before : Client) (piece : List ℕ) → HasTaken held old old before before piece 0
-taken_none held old before piece = record {
-  within = omega arith;
-  same_server = refl;
-  same_waiting = λ none. refl;
-  taken = λ front begun. record {
-    parts = [];
-    rest = front;
-    does = subst (λ b. DoesParts old.limits [] b front (progress_of old before) (progress_of old before)) (sym (append-nil front))
-        (does_nothing old.limits front (progress_of old before));
-    few = tt;
-    begun = begun;
-  };
-}
 
 -- only the stores are changed, twice
 pub same_twice : (s0 s1 s2 : ServerState) → s1 ≡ record s0 { stores = s1.stores } → s2 ≡ record s1 { stores = s2.stores } →
@@ -199,20 +178,6 @@ all_taken held s0 s1 s2 c0 c1 c2 piece used found h is is_open taken front begun
       few = t.few;
       few_last = inl (ap (λ (s : Progress). s.waiting) none.1);
     }
-
--- a request has a byte of the piece
-abbrev pub SomeAfter : Option ℕ → Type 0
-SomeAfter found = IfSome found (λ used. 0 < used)
-
--- no request ends where it began
-pub never_same : (held : ℕ) (s0 s1 s2 : ServerState) (c0 c1 c2 : Client) (piece bytes : List ℕ) (used : ℕ) (found : Option ℕ) →
-    HasTaken held s0 s1 c0 c1 piece used → found ≡ Some 0 → WhereUnfinished s1 c1 (λ front. SomeAfter found) →
-    WhereUnfinished s0 c0 (λ front. Takes held (front ++ bytes) s0 s2 c0 c2)
-never_same held s0 s1 s2 c0 c1 c2 piece bytes used found h is onward front begun =
-    let t = h.taken front begun in
-    let byte : 0 < 0 = subst SomeAfter is
-    (onward t.rest (subst (λ l. HasUnfinished l c1 t.rest) (sym (same_limits s0 s1 h.same_server)) t.begun)) in
-    absurd (omega (arith, byte))
 
 -- all bytes of the piece were used
 pub of_whole : (held : ℕ) (s0 s2 : ServerState) (c0 c2 : Client) (piece : List ℕ) → WhereUnfinished s0 c0 (λ front. Takes held (front ++ piece) s0 s2 c0 c2) →

@@ -1,8 +1,8 @@
 -- The requests of which the bytes of a client are made: arrays and lines.
-use Rattle.std.specs.Prelude.{◌≡◌, ◌≢◌, ◌⊎◌, ℕ, ◌≤◌, List, [], ◌∷◌, ◌++◌, length, map, Option, None, Some}
-use Rattle.std.specs.List.{AllByRecursion, concat}
+use Rattle.std.specs.Prelude.{◌≡◌, ◌⊎◌, ℕ, List, [], ◌∷◌, map, Option, None, Some}
+use Rattle.std.specs.List.{concat}
 use Rattle.resp_frames.specs.Requests.{IsEmptyArray}
-use Rattle.resp_line.specs.Lines.{AreWords}
+use Rattle.resp_line.specs.Inline.{IsLineOf}
 use Rattle.resp_value.specs.Bounds.{Bounds}
 use Rattle.resp_value.specs.Rules.{rules_under}
 use Rattle.resp_value.specs.Spellings.{IsSpelling}
@@ -18,28 +18,6 @@ pub record Part : Type 0 where
 -- the bytes of these parts
 abbrev pub texts_in : List Part → List ℕ
 texts_in parts = concat (map (λ (part : Part). part.text) parts)
-
--- the text begins with a byte that begins no array
-abbrev pub BeginsLine : List ℕ → Type 0
-BeginsLine [] = ⊥
-BeginsLine (b ∷ rest) = b ≢ 42
-
--- the bytes are those of a line before its LF, or the first of them
-pub record IsWithinLine (content : List ℕ) : Type 0 where
-  pub no_end : AllByRecursion (λ b. b ≢ 10) content
-  pub short : length content ≤ 65536
-
--- the text is a line with this content, and its LF
-pub record IsLineWith (content text : List ℕ) : Type 0 where
-  pub within : IsWithinLine content
-  pub whole : text ≡ content ++ 10 ∷ []
-  pub begins : BeginsLine text
-
--- the text is a line of these words, and its LF
-pub record IsLineOf (words : List (List ℕ)) (text : List ℕ) : Type 0 where
-  pub content : List ℕ
-  pub line : IsLineWith content text
-  pub are : AreWords words content
 
 -- The text is a command of these words: an array, or a line. An array of them is within the limits.
 pub record IsCommandOf (limits : Bounds) (words : List (List ℕ)) (text : List ℕ) : Type 0 where

@@ -2,17 +2,16 @@
 use Rattle.std.specs.Prelude.{◌≡◌, ◌⊎◌, ℕ, ◌<◌, ◌≤◌, true, false, List, [], ◌∷◌, ◌++◌, length, take, Option, None, Some}
 use Rattle.std.specs.List.{AllByRecursion}
 use Rattle.resp_frames.specs.Framing.{HasBegun}
+use Rattle.resp_line.specs.Inline.{BeginsLine, IsWithinLine}
 use Rattle.resp_session.specs.Replies.{error}
 use Rattle.resp_session.specs.Stores.{Store}
 use Rattle.resp_value.specs.Bounds.{Bounds}
 use Rattle.resp_value.specs.Canonical.{canonical_text}
 use Rattle.resp_value.specs.Rules.{rules_under}
-use Rattle.resp_value.specs.Spellings.{IsSpelling}
-use Rattle.resp_value.specs.Words.{command_of}
 use Rattle.resp_value.specs.declared.version.Version.TheVariants.{Two}
-use Rattle.resp_databases.specs.Deeds.{Asked, Asks}
+use Rattle.resp_databases.specs.Deeds.{Asked}
 use Rattle.resp_databases.specs.Outcomes.{Outcome, Standing, outcome_of}
-use Rattle.resp_databases.specs.Parts.{BeginsLine, IsPart, IsRequestFor, IsWithinLine, Part, texts_in}
+use Rattle.resp_databases.specs.Parts.{IsPart, IsRequestFor, Part, texts_in}
 use Rattle.resp_databases.specs.Rejections.{Rejects, rejection_text}
 use Rattle.resp_databases.specs.Running.{standing_of, waiting_of}
 use Rattle.resp_databases.specs.Servers.{ServerState}
@@ -48,11 +47,6 @@ WhereUnfinished server c P = (front : List ℕ) → HasUnfinished server.limits 
 abbrev pub KeepsUnfinished : Client → Client → Type 0
 KeepsUnfinished before after = (limits : Bounds) (front : List ℕ) → HasUnfinished limits before front →
     HasUnfinished limits after front
-
--- a line goes on in the piece, or begins with it
-pub record GoesOn (front piece : List ℕ) : Type 0 where
-  pub within : IsWithinLine front
-  pub begins : BeginsLine (front ++ piece)
 
 -- the stores, a client, and the bytes that wait to be written to it
 pub record Progress : Type 0 where
@@ -165,17 +159,6 @@ pub record TakesPart (limits : Bounds) (text : List ℕ) (before after : Progres
   pub asked : Option Asked
   pub request : IsRequestFor limits asked text
   pub done : after ≡ after_request asked before
-
--- an array of these words is within the limits, and their command was done
-pub record RunsWords (limits : Bounds) (words : List (List ℕ)) (before after : Progress) : Type 0 where
-  pub name : List ℕ
-  pub arguments : List (List ℕ)
-  pub same : name ∷ arguments ≡ words
-  pub array : List ℕ
-  pub spelled : IsSpelling (rules_under Two limits) (command_of (name ∷ arguments)) array
-  pub asked : Asked
-  pub asks : Asks name arguments asked
-  pub done : after ≡ after_request (Some asked) before
 
 -- a request that ends in the piece was done, or none ends in it
 abbrev pub TakesOne : Bounds → List ℕ → List ℕ → Option ℕ → Progress → Progress → Client → Type 0

@@ -20,7 +20,6 @@ mod databases;
 mod deed;
 mod error;
 mod index;
-mod line;
 mod perform;
 mod refusal;
 mod rejection;

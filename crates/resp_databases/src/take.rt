@@ -1,16 +1,21 @@
 //! Takes the bytes of a client.
 
-ghost use Rattle.std.specs.Prelude.{◌≡◌, ◌++◌, ◌<◌, ◌≤◌, ℕ, List, false, true, length, take, IfErr, IfOk, IfSome, IsTrue, OnErr, OnOk};
+ghost use Rattle.std.specs.Prelude.{◌≡◌, ◌++◌, ◌<◌, ◌≤◌, ℕ, List, [], false, true, length, take, IfErr, IfOk, IfSome, IsTrue, OnErr, OnOk};
 ghost use Rattle.resp_value.specs.Bounds.{Bounds};
-ghost use Rattle.resp_databases.specs.Parts.{BeginsLine};
-ghost use Rattle.resp_databases.specs.Rejections.{OnRejection, Rejects, taking_error};
+ghost use Rattle.resp_value.specs.Rules.{rules_under};
+ghost use Rattle.resp_value.specs.declared.version.Version.TheVariants.{Two};
+ghost use Rattle.resp_frames.specs.Framing.{HasBegun};
+ghost use Rattle.resp_line.specs.Inline.{GoesOn};
+ghost use Rattle.resp_databases.specs.Rejections.{OnRejection, Rejects, inline_error, taking_error};
 ghost use Rattle.resp_databases.specs.Running.{standing_of, waiting_of};
-ghost use Rattle.resp_databases.specs.Taking.{GoesOn, HasArray, HasBytes, HasUnfinished, IsFull, Takes, TakesFirst, TakesOne, WhereUnfinished, progress_of};
+ghost use Rattle.resp_databases.specs.Taking.{HasArray, HasBytes, HasUnfinished, IsFull, Takes, TakesFirst, TakesOne, WhereUnfinished, progress_of};
 
 use crate::client::Client;
 use crate::databases::Databases;
 use crate::rejection::{Rejection, TakeError, reject};
 use resp_frames::{FrameError, Request};
+use resp_line::{InlineError, begins_line, next_inline};
+use resp_value::laws::no_spelling_begins_another;
 use std::alloc::AllocError;
 use std::hash::BuildHasher;
 
@@ -105,6 +110,36 @@ impl<S: BuildHasher + Copy> Databases<S> {
         }
     }
 
+    /// Takes bytes up to the end of a line, and runs the command of this line. A line without words has
+    /// no command.
+    fn take_line(&mut self, client: &mut Client, piece: &[u8]) -> Result<Option<usize>, TakeError>
+        ensures taken { HasBegun (rules_under Two self.old.limits) client.old.begun [] →
+            GoesOn client.old.line.items piece.now → IfOk result (λ found.
+            TakesOne self.old.limits client.old.line.items piece.now found
+            (progress_of self.old client.old) (progress_of self.new client.new) client.new) }
+        ensures rejected { GoesOn client.old.line.items piece.now → IfErr result (OnRejection
+            (Rejects self.old.limits (client.old.line.items ++ piece.now))) }
+        ensures unchanged { OnErr result (progress_of self.new client.new ≡
+            progress_of self.old client.old) }
+        ensures onward { IfOk result (λ found. IfSome found (λ used. 0 < used)) }
+        ensures within { IfOk result (λ found. IfSome found (λ used. used ≤ length piece.now)) }
+        ensures same_server { self.new ≡ record self.old { stores = self.new.stores } }
+    {
+        no_spelling_begins_another();
+        let command = match next_inline(self.alloc, &self.limits, &mut client.line, piece) {
+            Ok(Some(command)) => command,
+            Ok(None) => return Ok(None),
+            Err(error) => return Err(rejection_of_line(error)),
+        };
+        let Some(text) = &command.text else {
+            return Ok(Some(command.used));
+        };
+        match self.run(client, text.as_slice()) {
+            Ok(()) => Ok(Some(command.used)),
+            Err(error) => Err(error),
+        }
+    }
+
     /// Takes bytes up to the end of an array, and runs the command that it is.
     fn take_array(&mut self, client: &mut Client, piece: &[u8]) -> Result<Option<usize>, TakeError>
         ensures taken { (front : List ℕ) → HasArray self.old.limits client.old front →
@@ -146,6 +181,18 @@ fn rejection_of(error: FrameError) -> TakeError
     }
 }
 
+/// Returns why a line is not taken that is no command.
+fn rejection_of_line(error: InlineError) -> TakeError
+    ensures { result ≡ inline_error error }
+{
+    match error {
+        InlineError::LongLine => TakeError::Rejected(Rejection::LongLine),
+        InlineError::Quotes => TakeError::Rejected(Rejection::Quotes),
+        InlineError::OverLimits => TakeError::Rejected(Rejection::OverLimits),
+        InlineError::OutOfMemory => TakeError::OutOfMemory,
+    }
+}
+
 /// Returns whether the next byte of a client belongs to a line.
 fn is_line(client: &Client, piece: &[u8]) -> bool
     ensures line { (limits : Bounds) (front : List ℕ) → HasUnfinished limits client.now front →
@@ -157,14 +204,4 @@ fn is_line(client: &Client, piece: &[u8]) -> bool
         return true;
     }
     client.begun.is_empty() && begins_line(piece)
-}
-
-/// Returns whether the bytes begin with a byte that begins no array.
-fn begins_line(piece: &[u8]) -> bool
-    ensures { IsTrue result → BeginsLine piece.now }
-{
-    match piece.first() {
-        Some(byte) => *byte != b'*',
-        None => false,
-    }
 }

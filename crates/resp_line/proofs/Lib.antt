@@ -1,1 +1,2 @@
+pub mod InlineLines
 pub mod WordLines

@@ -1,6 +1,8 @@
 -- The words of a line, one byte and one word after another.
 use Rattle.std.specs.Borrow.{Bor}
 use Rattle.std.specs.Prelude.{IfNone, IfSome, Option, None, Some, not}
+use Rattle.resp_line.specs.declared.line.Quote.{Quote}
+use Rattle.resp_line.specs.declared.line.Quote.TheVariants.{Double, Single}
 use Rattle.resp_line.specs.declared.line.WordEnd.{WordEnd}
 use Rattle.resp_line.specs.declared.line.WordEnd.TheVariants.{Ended, Open, NoSpace}
 use Rattle.resp_line.specs.Lines.{IfEnded, IsHexPair, UnlessEnded, escaped}
@@ -8,18 +10,13 @@ use Rattle.std.proofs.Common.{◌≡◌, ◌≢◌, ◌⊎◌, inl, inr, ◌<◌
 use Rattle.std.specs.List.{AllByRecursion}
 use Rattle.std.proofs.lemmas.List.{append-nil}
 use Rattle.resp_value.proofs.FirstBytes.{all_append}
-use Rattle.resp_line.specs.Lines.{AreWords, EndsBare, EndsWord, FollowsSpaces, IsWord, ReadsDouble, ReadsDoubleByte, ReadsQuoted, ReadsSingle, ReadsSingleByte, StartsWord, is_bare, is_space}
+use Rattle.resp_line.specs.Lines.{AreWords, EndsBare, EndsWord, FollowsSpaces, IsWord, ReadsByte, ReadsQuoted, ReadsUpTo, StartsWord, is_bare, is_space, quote_byte}
 
--- a byte more in double quotes
-pub double_more : (text rest mid content : List ℕ) (b : ℕ) → ((more end : List ℕ) → ReadsDouble more rest end → ReadsDouble (content ++ more) text end) →
-    ReadsDoubleByte b rest mid → (more end : List ℕ) → ReadsDouble more mid end → ReadsDouble ((content ++ b ∷ []) ++ more) text end
-double_more text rest mid content b so_far byte more end given =
-    subst (λ z. ReadsDouble z text end) (sym (append_assoc content (b ∷ []) more)) (so_far (b ∷ more) end (mid, byte, given))
-
-pub single_more : (text rest mid content : List ℕ) (b : ℕ) → ((more end : List ℕ) → ReadsSingle more rest end → ReadsSingle (content ++ more) text end) →
-    ReadsSingleByte b rest mid → (more end : List ℕ) → ReadsSingle more mid end → ReadsSingle ((content ++ b ∷ []) ++ more) text end
-single_more text rest mid content b so_far byte more end given =
-    subst (λ z. ReadsSingle z text end) (sym (append_assoc content (b ∷ []) more)) (so_far (b ∷ more) end (mid, byte, given))
+-- a byte more in quotes
+pub quoted_more : (q : Quote) (text rest mid content : List ℕ) (b : ℕ) → ((more end : List ℕ) → ReadsUpTo q more rest end → ReadsUpTo q (content ++ more) text end) →
+    ReadsByte q b rest mid → (more end : List ℕ) → ReadsUpTo q more mid end → ReadsUpTo q ((content ++ b ∷ []) ++ more) text end
+quoted_more q text rest mid content b so_far byte more end given =
+    subst (λ z. ReadsUpTo q z text end) (sym (append_assoc content (b ∷ []) more)) (so_far (b ∷ more) end (mid, byte, given))
 
 -- a space more
 pub space_more : (text rest beyond : List ℕ) (b : ℕ) → FollowsSpaces text rest → rest ≡ b ∷ beyond → is_space b ≡ true → FollowsSpaces text beyond
@@ -30,13 +27,9 @@ space_more text rest beyond b (spaces, parts, are) is space = (
 )
 
 -- the closing quote
-pub double_closed : (text rest after content : List ℕ) → ((more end : List ℕ) → ReadsDouble more rest end → ReadsDouble (content ++ more) text end) →
-    rest ≡ 34 ∷ after → ReadsDouble content text after
-double_closed text rest after content so_far is = subst (λ z. ReadsDouble z text after) (append-nil content) (so_far [] after is)
-
-pub single_closed : (text rest after content : List ℕ) → ((more end : List ℕ) → ReadsSingle more rest end → ReadsSingle (content ++ more) text end) →
-    rest ≡ 39 ∷ after → ReadsSingle content text after
-single_closed text rest after content so_far is = subst (λ z. ReadsSingle z text after) (append-nil content) (so_far [] after is)
+pub quoted_closed : (q : Quote) (text rest after content : List ℕ) → ((more end : List ℕ) → ReadsUpTo q more rest end → ReadsUpTo q (content ++ more) text end) →
+    rest ≡ quote_byte q ∷ after → ReadsUpTo q content text after
+quoted_closed q text rest after content so_far is = subst (λ z. ReadsUpTo q z text after) (append-nil content) (so_far [] after is)
 
 -- what ends bytes that stand for themselves, and is no quote, ends a word
 pub ends_word : (b : ℕ) → is_bare b ≡ false → b ≢ 34 → b ≢ 39 → is_space b ≡ true
@@ -73,7 +66,7 @@ words_end line after [] words (spaces, parts, are) none so_far =
 
 -- a backslash before another byte
 pub escape_read : (text beyond after : List ℕ) (b c : ℕ) → text ≡ b ∷ beyond → b ≡ 92 → beyond ≡ c ∷ after →
-    ((byte : ℕ) → IsHexPair beyond byte → ⊥) → ReadsDoubleByte (escaped c) text after
+    ((byte : ℕ) → IsHexPair beyond byte → ⊥) → ReadsByte Double (escaped c) text after
 escape_read text beyond after b c parts is first none =
     inr (inr (
       c,
@@ -101,44 +94,17 @@ bare_word text rest word word' empty (bare, is, are, parts) starts ends = record
   ends = ends;
 }
 
--- a word that ends with a quoted text
-pub quoted_word : (text mid word between word' : List ℕ) (after : Option (Bor (List ℕ))) (end : WordEnd) → word ≡ [] →
-    ((bare : List ℕ) × (between ≡ word ++ bare) × AllByRecursion (λ b. is_bare b ≡ true) bare × (text ≡ bare ++ mid)) →
-    IfSome after (λ a. (content : List ℕ) × (word' ≡ between ++ content) × ReadsQuoted content mid a.now) →
-    IfSome after (λ bytes. IfEnded (λ rest. (rest ≡ bytes.now) × EndsWord rest) end) → IfNone after (IfEnded (λ _. ⊥) end) →
-    IfEnded (IsWord word' text) end
-quoted_word text mid word between word' (Some a) (Ended rest) empty (bare, is, are, parts) (content, more, read) (same, ends) none = record {
-  bare = bare;
-  quoted = content;
-  mid = mid;
-  parts = more ∙ ap (λ z. z ++ content) (is ∙ ap (λ z. z ++ bare) empty);
-  are_bare = are;
-  begins = parts;
-  read = inr (subst (ReadsQuoted content mid) (sym same) read);
-  ends = ends;
-}
-quoted_word text mid word between word' None (Ended rest) empty all read closed none = absurd none
-quoted_word text mid word between word' after (Open count) empty all read closed none = tt
-quoted_word text mid word between word' after (NoSpace rest) empty all read closed none = tt
+byte_shorter : (q : Quote) (b : ℕ) (text rest : List ℕ) → ReadsByte q b text rest → length rest < length text
+byte_shorter Double b text rest (inl plain) = omega (arith, ap length plain.0)
+byte_shorter Double b text rest (inr (inl (x, h, l, is, pair))) = omega (arith, ap length is)
+byte_shorter Double b text rest (inr (inr (c, is, none, same))) = omega (arith, ap length is)
+byte_shorter Single b text rest (inl is) = omega (arith, ap length is.0)
+byte_shorter Single b text rest (inr is) = omega (arith, ap length is.0)
 
-double_byte_shorter : (b : ℕ) (text rest : List ℕ) → ReadsDoubleByte b text rest → length rest < length text
-double_byte_shorter b text rest (inl plain) = omega (arith, ap length plain.0)
-double_byte_shorter b text rest (inr (inl (x, h, l, is, pair))) = omega (arith, ap length is)
-double_byte_shorter b text rest (inr (inr (c, is, none, same))) = omega (arith, ap length is)
-
-double_shorter : (content text rest : List ℕ) → ReadsDouble content text rest → length rest < length text
-double_shorter [] text rest is = omega (arith, ap length is)
-double_shorter (b ∷ content) text rest (mid, byte, read) =
-    omega (arith, double_byte_shorter b text mid byte, double_shorter content mid rest read)
-
-single_byte_shorter : (b : ℕ) (text rest : List ℕ) → ReadsSingleByte b text rest → length rest < length text
-single_byte_shorter b text rest (inl is) = omega (arith, ap length is.0)
-single_byte_shorter b text rest (inr is) = omega (arith, ap length is.0)
-
-single_shorter : (content text rest : List ℕ) → ReadsSingle content text rest → length rest < length text
-single_shorter [] text rest is = omega (arith, ap length is)
-single_shorter (b ∷ content) text rest (mid, byte, read) =
-    omega (arith, single_byte_shorter b text mid byte, single_shorter content mid rest read)
+quoted_shorter : (q : Quote) (content text rest : List ℕ) → ReadsUpTo q content text rest → length rest < length text
+quoted_shorter q [] text rest is = omega (arith, ap length is)
+quoted_shorter q (b ∷ content) text rest (mid, byte, read) =
+    omega (arith, byte_shorter q b text mid byte, quoted_shorter q content mid rest read)
 
 -- a word takes some bytes
 pub shorter_word : (word text rest : List ℕ) → IsWord word text rest → StartsWord text → length rest < length text
@@ -146,11 +112,8 @@ shorter_word word text rest is starts = go is.read
   where
     go : ((is.quoted ≡ []) × (rest ≡ is.mid) × (length rest < length text)) ⊎ ReadsQuoted is.quoted is.mid rest → length rest < length text
     go (inl bare) = bare.2
-    go (inr (inside, inl (opens, read))) =
-        let some = double_shorter is.quoted inside rest read in
-        omega (arith, ap length is.begins, length-append is.bare is.mid, ap length opens, some)
-    go (inr (inside, inr (opens, read))) =
-        let some = single_shorter is.quoted inside rest read in
+    go (inr (q, inside, opens, read)) =
+        let some = quoted_shorter q is.quoted inside rest read in
         omega (arith, ap length is.begins, length-append is.bare is.mid, ap length opens, some)
 
 pub spaces_shorter : (text rest : List ℕ) → FollowsSpaces text rest → length rest ≤ length text
@@ -166,96 +129,59 @@ abbrev head_of : List ℕ → ℕ
 head_of [] = 0
 head_of (b ∷ rest) = b
 
--- the rest after one byte in double quotes
-pub double_rest : (text : List ℕ) (b b' : ℕ) (rest rest' : List ℕ) → ReadsDoubleByte b text rest → ReadsDoubleByte b' text rest' → rest ≡ rest'
-double_rest text b b' rest rest' (inl a) (inl a') = ap after_first (sym a.0 ∙ a'.0)
-double_rest text b b' rest rest' (inl a) (inr (inl (x, h, l, is, pair))) = absurd (a.2 (ap head_of (sym a.0 ∙ is)))
-double_rest text b b' rest rest' (inl a) (inr (inr (c, is, none, same))) = absurd (a.2 (ap head_of (sym a.0 ∙ is)))
-double_rest text b b' rest rest' (inr (inl (x, h, l, is, pair))) (inl a) = absurd (a.2 (ap head_of (sym a.0 ∙ is)))
-double_rest text b b' rest rest' (inr (inl (x, h, l, is, pair))) (inr (inl (x', h', l', is', pair'))) =
+-- the rest after one byte in quotes
+byte_rest : (q : Quote) (text : List ℕ) (b b' : ℕ) (rest rest' : List ℕ) → ReadsByte q b text rest → ReadsByte q b' text rest' → rest ≡ rest'
+byte_rest Double text b b' rest rest' (inl a) (inl a') = ap after_first (sym a.0 ∙ a'.0)
+byte_rest Double text b b' rest rest' (inl a) (inr (inl (x, h, l, is, pair))) = absurd (a.2 (ap head_of (sym a.0 ∙ is)))
+byte_rest Double text b b' rest rest' (inl a) (inr (inr (c, is, none, same))) = absurd (a.2 (ap head_of (sym a.0 ∙ is)))
+byte_rest Double text b b' rest rest' (inr (inl (x, h, l, is, pair))) (inl a) = absurd (a.2 (ap head_of (sym a.0 ∙ is)))
+byte_rest Double text b b' rest rest' (inr (inl (x, h, l, is, pair))) (inr (inl (x', h', l', is', pair'))) =
     ap (λ z. after_first (after_first (after_first (after_first z)))) (sym is ∙ is')
-double_rest text b b' rest rest' (inr (inl (x, h, l, is, pair))) (inr (inr (c, is', none, same))) =
+byte_rest Double text b b' rest rest' (inr (inl (x, h, l, is, pair))) (inr (inr (c, is', none, same))) =
     absurd (none b (subst (λ z. IsHexPair z b) (ap after_first (sym is ∙ is')) pair))
-double_rest text b b' rest rest' (inr (inr (c, is, none, same))) (inl a) = absurd (a.2 (ap head_of (sym a.0 ∙ is)))
-double_rest text b b' rest rest' (inr (inr (c, is, none, same))) (inr (inl (x, h, l, is', pair))) =
+byte_rest Double text b b' rest rest' (inr (inr (c, is, none, same))) (inl a) = absurd (a.2 (ap head_of (sym a.0 ∙ is)))
+byte_rest Double text b b' rest rest' (inr (inr (c, is, none, same))) (inr (inl (x, h, l, is', pair))) =
     absurd (none b' (subst (λ z. IsHexPair z b') (ap after_first (sym is' ∙ is)) pair))
-double_rest text b b' rest rest' (inr (inr (c, is, none, same))) (inr (inr (c', is', none', same'))) =
+byte_rest Double text b b' rest rest' (inr (inr (c, is, none, same))) (inr (inr (c', is', none', same'))) =
     ap (λ z. after_first (after_first z)) (sym is ∙ is')
+byte_rest Single text b b' rest rest' (inl a) (inl a') = ap (λ z. after_first (after_first z)) (sym a.0 ∙ a'.0)
+byte_rest Single text b b' rest rest' (inl a) (inr a') = absurd (a'.2 rest a.0)
+byte_rest Single text b b' rest rest' (inr a) (inl a') = absurd (a.2 rest' a'.0)
+byte_rest Single text b b' rest rest' (inr a) (inr a') = ap after_first (sym a.0 ∙ a'.0)
 
 -- the closing quote is no byte
-pub double_no_quote : (text end : List ℕ) (b : ℕ) (rest : List ℕ) → text ≡ 34 ∷ end → ReadsDoubleByte b text rest → ⊥
-double_no_quote text end b rest quote (inl a) = a.1 (ap head_of (sym a.0 ∙ quote))
-double_no_quote text end b rest quote (inr (inl (x, h, l, is, pair))) = let e : 92 ≡ 34 = ap head_of (sym is ∙ quote) in absurd (omega (arith, e))
-double_no_quote text end b rest quote (inr (inr (c, is, none, same))) = let e : 92 ≡ 34 = ap head_of (sym is ∙ quote) in absurd (omega (arith, e))
+no_quote : (q : Quote) (text end : List ℕ) (b : ℕ) (rest : List ℕ) → text ≡ quote_byte q ∷ end → ReadsByte q b text rest → ⊥
+no_quote Double text end b rest quote (inl a) = a.1 (ap head_of (sym a.0 ∙ quote))
+no_quote Double text end b rest quote (inr (inl (x, h, l, is, pair))) = let e : 92 ≡ 34 = ap head_of (sym is ∙ quote) in absurd (omega (arith, e))
+no_quote Double text end b rest quote (inr (inr (c, is, none, same))) = let e : 92 ≡ 34 = ap head_of (sym is ∙ quote) in absurd (omega (arith, e))
+no_quote Single text end b rest quote (inl a) = let e : 92 ≡ 39 = ap head_of (sym a.0 ∙ quote) in absurd (omega (arith, e))
+no_quote Single text end b rest quote (inr a) = a.1 (ap head_of (sym a.0 ∙ quote))
 
-pub double_no_end : (text : List ℕ) (b : ℕ) (rest : List ℕ) → length text ≡ 0 → ReadsDoubleByte b text rest → ⊥
-double_no_end text b rest none byte = let some = double_byte_shorter b text rest byte in absurd (omega (arith, some, none))
-
-pub double_no_slash : (text beyond : List ℕ) (b : ℕ) (rest : List ℕ) → text ≡ 92 ∷ beyond → length beyond ≡ 0 → ReadsDoubleByte b text rest → ⊥
-double_no_slash text beyond b rest slash none (inl a) = a.2 (ap head_of (sym a.0 ∙ slash))
-double_no_slash text beyond b rest slash none (inr (inl (x, h, l, is, pair))) = absurd (omega (arith, ap length (sym is ∙ slash), none))
-double_no_slash text beyond b rest slash none (inr (inr (c, is, other, same))) = absurd (omega (arith, ap length (sym is ∙ slash), none))
-
-pub double_through : (text rest after : List ℕ) (b : ℕ) → ((content end : List ℕ) → ReadsDouble content text end → (more : List ℕ) × ReadsDouble more rest end) →
-    ReadsDoubleByte b rest after → (content end : List ℕ) → ReadsDouble content text end → (more : List ℕ) × ReadsDouble more after end
-double_through text rest after b through byte content end given = go (through content end given)
+pub quoted_through : (q : Quote) (text rest after : List ℕ) (b : ℕ) →
+    ((content end : List ℕ) → ReadsUpTo q content text end → (more : List ℕ) × ReadsUpTo q more rest end) →
+    ReadsByte q b rest after → (content end : List ℕ) → ReadsUpTo q content text end → (more : List ℕ) × ReadsUpTo q more after end
+quoted_through q text rest after b through byte content end given = go (through content end given)
   where
-    go : (more : List ℕ) × ReadsDouble more rest end → (more : List ℕ) × ReadsDouble more after end
-    go ([], quote) = absurd (double_no_quote rest end b after quote byte)
-    go (b' ∷ more, (mid, byte', read)) = (more, subst (λ z. ReadsDouble more z end) (double_rest rest b' b mid after byte' byte) read)
+    go : (more : List ℕ) × ReadsUpTo q more rest end → (more : List ℕ) × ReadsUpTo q more after end
+    go ([], quote) = absurd (no_quote q rest end b after quote byte)
+    go (b' ∷ more, (mid, byte', read)) = (more, subst (λ z. ReadsUpTo q more z end) (byte_rest q rest b' b mid after byte' byte) read)
 
-pub double_only : (text rest after : List ℕ) → ((content end : List ℕ) → ReadsDouble content text end → (more : List ℕ) × ReadsDouble more rest end) →
-    rest ≡ 34 ∷ after → (content end : List ℕ) → ReadsDouble content text end → end ≡ after
-double_only text rest after through is content end given = go (through content end given)
+pub quoted_end : (q : Quote) (text rest after : List ℕ) →
+    ((content end : List ℕ) → ReadsUpTo q content text end → (more : List ℕ) × ReadsUpTo q more rest end) →
+    rest ≡ quote_byte q ∷ after → (content end : List ℕ) → ReadsUpTo q content text end → end ≡ after
+quoted_end q text rest after through is content end given = go (through content end given)
   where
-    go : (more : List ℕ) × ReadsDouble more rest end → end ≡ after
+    go : (more : List ℕ) × ReadsUpTo q more rest end → end ≡ after
     go ([], quote) = ap after_first (sym quote ∙ is)
-    go (b ∷ more, (mid, byte, read)) = absurd (double_no_quote rest after b mid is byte)
+    go (b ∷ more, (mid, byte, read)) = absurd (no_quote q rest after b mid is byte)
 
-pub double_open : (text rest : List ℕ) → ((content end : List ℕ) → ReadsDouble content text end → (more : List ℕ) × ReadsDouble more rest end) →
-    ((end : List ℕ) → rest ≡ 34 ∷ end → ⊥) → ((b : ℕ) (after : List ℕ) → ReadsDoubleByte b rest after → ⊥) →
-    (content end : List ℕ) → ReadsDouble content text end → ⊥
-double_open text rest through no_quote no_byte content end given = go (through content end given)
+pub quoted_open : (q : Quote) (text rest : List ℕ) →
+    ((content end : List ℕ) → ReadsUpTo q content text end → (more : List ℕ) × ReadsUpTo q more rest end) →
+    ((end : List ℕ) → rest ≡ quote_byte q ∷ end → ⊥) → ((b : ℕ) (after : List ℕ) → ReadsByte q b rest after → ⊥) →
+    (content end : List ℕ) → ReadsUpTo q content text end → ⊥
+quoted_open q text rest through no_quote no_byte content end given = go (through content end given)
   where
-    go : (more : List ℕ) × ReadsDouble more rest end → ⊥
-    go ([], quote) = no_quote end quote
-    go (b ∷ more, (mid, byte, read)) = no_byte b mid byte
-
-pub single_rest : (text : List ℕ) (b b' : ℕ) (rest rest' : List ℕ) → ReadsSingleByte b text rest → ReadsSingleByte b' text rest' → rest ≡ rest'
-single_rest text b b' rest rest' (inl a) (inl a') = ap (λ z. after_first (after_first z)) (sym a.0 ∙ a'.0)
-single_rest text b b' rest rest' (inl a) (inr a') = absurd (a'.2 rest a.0)
-single_rest text b b' rest rest' (inr a) (inl a') = absurd (a.2 rest' a'.0)
-single_rest text b b' rest rest' (inr a) (inr a') = ap after_first (sym a.0 ∙ a'.0)
-
-pub single_no_quote : (text end : List ℕ) (b : ℕ) (rest : List ℕ) → text ≡ 39 ∷ end → ReadsSingleByte b text rest → ⊥
-single_no_quote text end b rest quote (inl a) = let e : 92 ≡ 39 = ap head_of (sym a.0 ∙ quote) in absurd (omega (arith, e))
-single_no_quote text end b rest quote (inr a) = a.1 (ap head_of (sym a.0 ∙ quote))
-
-pub single_no_end : (text : List ℕ) (b : ℕ) (rest : List ℕ) → length text ≡ 0 → ReadsSingleByte b text rest → ⊥
-single_no_end text b rest none byte = let some = single_byte_shorter b text rest byte in absurd (omega (arith, some, none))
-
-pub single_through : (text rest after : List ℕ) (b : ℕ) → ((content end : List ℕ) → ReadsSingle content text end → (more : List ℕ) × ReadsSingle more rest end) →
-    ReadsSingleByte b rest after → (content end : List ℕ) → ReadsSingle content text end → (more : List ℕ) × ReadsSingle more after end
-single_through text rest after b through byte content end given = go (through content end given)
-  where
-    go : (more : List ℕ) × ReadsSingle more rest end → (more : List ℕ) × ReadsSingle more after end
-    go ([], quote) = absurd (single_no_quote rest end b after quote byte)
-    go (b' ∷ more, (mid, byte', read)) = (more, subst (λ z. ReadsSingle more z end) (single_rest rest b' b mid after byte' byte) read)
-
-pub single_only : (text rest after : List ℕ) → ((content end : List ℕ) → ReadsSingle content text end → (more : List ℕ) × ReadsSingle more rest end) →
-    rest ≡ 39 ∷ after → (content end : List ℕ) → ReadsSingle content text end → end ≡ after
-single_only text rest after through is content end given = go (through content end given)
-  where
-    go : (more : List ℕ) × ReadsSingle more rest end → end ≡ after
-    go ([], quote) = ap after_first (sym quote ∙ is)
-    go (b ∷ more, (mid, byte, read)) = absurd (single_no_quote rest after b mid is byte)
-
-pub single_open : (text rest : List ℕ) → ((content end : List ℕ) → ReadsSingle content text end → (more : List ℕ) × ReadsSingle more rest end) →
-    ((end : List ℕ) → rest ≡ 39 ∷ end → ⊥) → ((b : ℕ) (after : List ℕ) → ReadsSingleByte b rest after → ⊥) →
-    (content end : List ℕ) → ReadsSingle content text end → ⊥
-single_open text rest through no_quote no_byte content end given = go (through content end given)
-  where
-    go : (more : List ℕ) × ReadsSingle more rest end → ⊥
+    go : (more : List ℕ) × ReadsUpTo q more rest end → ⊥
     go ([], quote) = no_quote end quote
     go (b ∷ more, (mid, byte, read)) = no_byte b mid byte
 
@@ -302,17 +228,27 @@ unfolding Stops
 stops_bare [] ends = tt
 stops_bare (b ∷ rest) ends = ends
 
-stops_quote : (mid inside : List ℕ) (q : ℕ) → is_bare q ≡ false → mid ≡ q ∷ inside → Stops is_bare mid
-unfolding Stops
-stops_quote mid inside q quote is = subst (Stops is_bare) (sym is) quote
+quote_not_bare : (q : Quote) → is_bare (quote_byte q) ≡ false
+quote_not_bare Double = refl
+quote_not_bare Single = refl
+
+quote_no_space : (q : Quote) → is_space (quote_byte q) ≡ false
+quote_no_space Double = refl
+quote_no_space Single = refl
+
+same_quote : (q q' : Quote) → quote_byte q ≡ quote_byte q' → q ≡ q'
+same_quote Double Double is = refl
+same_quote Single Single is = refl
+same_quote Double Single is = absurd (omega (arith, is))
+same_quote Single Double is = absurd (omega (arith, is))
 
 stops_mid : (word text rest : List ℕ) → (is : IsWord word text rest) → Stops is_bare is.mid
+unfolding Stops
 stops_mid word text rest is = go is.read
   where
     go : ((is.quoted ≡ []) × (rest ≡ is.mid) × (length rest < length text)) ⊎ ReadsQuoted is.quoted is.mid rest → Stops is_bare is.mid
     go (inl (none, same, some)) = subst (Stops is_bare) same (stops_word rest is.ends)
-    go (inr (inside, inl (quote, read))) = stops_quote is.mid inside 34 refl quote
-    go (inr (inside, inr (quote, read))) = stops_quote is.mid inside 39 refl quote
+    go (inr (q, inside, opens, read)) = subst (Stops is_bare) (sym opens) (quote_not_bare q)
 
 mid_is : (word text end bare rest : List ℕ) → (is : IsWord word text end) → AllByRecursion (λ b. is_bare b ≡ true) bare → text ≡ bare ++ rest →
     EndsBare rest → is.mid ≡ rest
@@ -333,79 +269,64 @@ bare_only text rest word word' (bare, made, are, parts) stops ends other end is 
 
     go : ((is.quoted ≡ []) × (end ≡ is.mid) × (length end < length text)) ⊎ ReadsQuoted is.quoted is.mid end → end ≡ rest
     go (inl (none, same, some)) = same ∙ mid
-    go (inr (inside, inl (quote, read))) = let bad : false ≡ true = subst EndsWord (sym mid ∙ quote) ends in cc
-    go (inr (inside, inr (quote, read))) = let bad : false ≡ true = subst EndsWord (sym mid ∙ quote) ends in cc
+    go (inr (q, inside, opens, read)) = absurd (false_true (is_space (quote_byte q)) (quote_no_space q) (subst EndsWord (sym mid ∙ opens) ends))
 
 -- what a quoted text leads to, and whether it leads anywhere
 abbrev pub OnlyQuoted : List ℕ → Option (Bor (List ℕ)) → Type 0
 OnlyQuoted mid after = IfSome after (λ a. (content end : List ℕ) → ReadsQuoted content mid end → end ≡ a.now) ×
     IfNone after ((content end : List ℕ) → ReadsQuoted content mid end → ⊥)
 
-inside_double : (P : List ℕ → Type 0) (mid inside : List ℕ) → mid ≡ 34 ∷ inside → ((content end : List ℕ) → ReadsDouble content inside end → P end) →
-    (content end : List ℕ) → ReadsQuoted content mid end → P end
-inside_double P mid inside opens given content end (inside', inl (quote, read)) =
-    given content end (subst (λ z. ReadsDouble content z end) (ap after_first (sym quote ∙ opens)) read)
-inside_double P mid inside opens given content end (inside', inr (quote, read)) =
-    let e : 39 ≡ 34 = ap head_of (sym quote ∙ opens) in absurd (omega (arith, e))
+inside_quotes : (P : List ℕ → Type 0) (q : Quote) (mid inside : List ℕ) → mid ≡ quote_byte q ∷ inside →
+    ((content end : List ℕ) → ReadsUpTo q content inside end → P end) → (content end : List ℕ) → ReadsQuoted content mid end → P end
+inside_quotes P q mid inside opens given content end (q', inside', quote, read) =
+    let same = same_quote q' q (ap head_of (sym quote ∙ opens)) in
+    given content end (subst (λ z. ReadsUpTo q content z end) (ap after_first (sym quote ∙ opens)) (subst (λ z. ReadsUpTo z content inside' end) same read))
 
-inside_single : (P : List ℕ → Type 0) (mid inside : List ℕ) → mid ≡ 39 ∷ inside → ((content end : List ℕ) → ReadsSingle content inside end → P end) →
-    (content end : List ℕ) → ReadsQuoted content mid end → P end
-inside_single P mid inside opens given content end (inside', inr (quote, read)) =
-    given content end (subst (λ z. ReadsSingle content z end) (ap after_first (sym quote ∙ opens)) read)
-inside_single P mid inside opens given content end (inside', inl (quote, read)) =
-    let e : 34 ≡ 39 = ap head_of (sym quote ∙ opens) in absurd (omega (arith, e))
-
-pub only_double : (mid inside : List ℕ) (after : Option (Bor (List ℕ))) → mid ≡ 34 ∷ inside →
-    IfSome after (λ a. (content end : List ℕ) → ReadsDouble content inside end → end ≡ a.now) →
-    IfNone after ((content end : List ℕ) → ReadsDouble content inside end → ⊥) → OnlyQuoted mid after
-only_double mid inside (Some a) opens only opened = (inside_double (λ end. end ≡ a.now) mid inside opens only, tt)
-only_double mid inside None opens only opened = (tt, inside_double (λ end. ⊥) mid inside opens opened)
-
-pub only_single : (mid inside : List ℕ) (after : Option (Bor (List ℕ))) → mid ≡ 39 ∷ inside →
-    IfSome after (λ a. (content end : List ℕ) → ReadsSingle content inside end → end ≡ a.now) →
-    IfNone after ((content end : List ℕ) → ReadsSingle content inside end → ⊥) → OnlyQuoted mid after
-only_single mid inside (Some a) opens only opened = (inside_single (λ end. end ≡ a.now) mid inside opens only, tt)
-only_single mid inside None opens only opened = (tt, inside_single (λ end. ⊥) mid inside opens opened)
+pub only_quoted : (q : Quote) (mid inside : List ℕ) (after : Option (Bor (List ℕ))) → mid ≡ quote_byte q ∷ inside →
+    IfSome after (λ a. (content end : List ℕ) → ReadsUpTo q content inside end → end ≡ a.now) →
+    IfNone after ((content end : List ℕ) → ReadsUpTo q content inside end → ⊥) → OnlyQuoted mid after
+only_quoted q mid inside (Some a) opens only opened = (inside_quotes (λ end. end ≡ a.now) q mid inside opens only, tt)
+only_quoted q mid inside None opens only opened = (tt, inside_quotes (λ end. ⊥) q mid inside opens opened)
 
 -- a word whose text in quotes begins where the bytes without quotes end
-word_quoted : (P : List ℕ → Type 0) (text mid inside bare : List ℕ) (q : ℕ) → AllByRecursion (λ b. is_bare b ≡ true) bare → text ≡ bare ++ mid → EndsBare mid →
-    is_space q ≡ false → mid ≡ q ∷ inside → ((content end : List ℕ) → ReadsQuoted content mid end → EndsWord end → P end) →
+word_quoted : (P : List ℕ → Type 0) (text mid inside bare : List ℕ) (q : Quote) → AllByRecursion (λ b. is_bare b ≡ true) bare → text ≡ bare ++ mid → EndsBare mid →
+    mid ≡ quote_byte q ∷ inside → ((content end : List ℕ) → ReadsQuoted content mid end → EndsWord end → P end) →
     (other end : List ℕ) → IsWord other text end → P end
-word_quoted P text mid inside bare q are parts stops space opens given other end is = go is.read
+word_quoted P text mid inside bare q are parts stops opens given other end is = go is.read
   where
     same : is.mid ≡ mid
     same = mid_is other text end bare mid is are parts stops
 
     go : ((is.quoted ≡ []) × (end ≡ is.mid) × (length end < length text)) ⊎ ReadsQuoted is.quoted is.mid end → P end
-    go (inl (none, at, some)) = absurd (false_true (is_space q) space (subst EndsWord (at ∙ same ∙ opens) is.ends))
+    go (inl (none, at, some)) = absurd (false_true (is_space (quote_byte q)) (quote_no_space q) (subst EndsWord (at ∙ same ∙ opens) is.ends))
     go (inr read) = given is.quoted end (subst (λ z. ReadsQuoted is.quoted z end) same read) is.ends
 
-pub quoted_only : (text mid inside word word' : List ℕ) (q : ℕ) (after : Option (Bor (List ℕ))) (end : WordEnd) →
+pub quoted_only : (text mid inside word word' : List ℕ) (q : Quote) (after : Option (Bor (List ℕ))) (end : WordEnd) →
     ((bare : List ℕ) × (word' ≡ word ++ bare) × AllByRecursion (λ b. is_bare b ≡ true) bare × (text ≡ bare ++ mid)) → EndsBare mid →
-    is_space q ≡ false → mid ≡ q ∷ inside → OnlyQuoted mid after →
+    mid ≡ quote_byte q ∷ inside → OnlyQuoted mid after →
     IfSome after (λ bytes. IfEnded (λ rest. (rest ≡ bytes.now) × EndsWord rest) end) → IfNone after (IfEnded (λ _. ⊥) end) →
     IfEnded (λ rest. (other stop : List ℕ) → IsWord other text stop → stop ≡ rest) end
-quoted_only text mid inside word word' q (Some a) (Ended rest) (bare, made, are, parts) stops space opens only closed none =
-    word_quoted (λ stop. stop ≡ rest.now) text mid inside bare q are parts stops space opens
+quoted_only text mid inside word word' q (Some a) (Ended rest) (bare, made, are, parts) stops opens only closed none =
+    word_quoted (λ stop. stop ≡ rest.now) text mid inside bare q are parts stops opens
     (λ content stop read ends. only.0 content stop read ∙ sym closed.0)
-quoted_only text mid inside word word' q None (Ended rest) all stops space opens only closed none = absurd none
-quoted_only text mid inside word word' q after (Open count) all stops space opens only closed none = tt
-quoted_only text mid inside word word' q after (NoSpace rest) all stops space opens only closed none = tt
+quoted_only text mid inside word word' q None (Ended rest) all stops opens only closed none = absurd none
+quoted_only text mid inside word word' q after (Open count) all stops opens only closed none = tt
+quoted_only text mid inside word word' q after (NoSpace rest) all stops opens only closed none = tt
 
-pub quoted_none : (text mid inside word word' : List ℕ) (q : ℕ) (after : Option (Bor (List ℕ))) (end : WordEnd) →
+pub quoted_none : (text mid inside word word' : List ℕ) (q : Quote) (after : Option (Bor (List ℕ))) (end : WordEnd) →
     ((bare : List ℕ) × (word' ≡ word ++ bare) × AllByRecursion (λ b. is_bare b ≡ true) bare × (text ≡ bare ++ mid)) → EndsBare mid →
-    is_space q ≡ false → mid ≡ q ∷ inside → OnlyQuoted mid after → IfSome after (λ bytes. UnlessEnded (EndsWord bytes.now → ⊥) end) →
+    mid ≡ quote_byte q ∷ inside → OnlyQuoted mid after → IfSome after (λ bytes. UnlessEnded (EndsWord bytes.now → ⊥) end) →
     UnlessEnded ((other stop : List ℕ) → IsWord other text stop → ⊥) end
-quoted_none text mid inside word word' q after (Ended rest) all stops space opens only glued = tt
-quoted_none text mid inside word word' q None (Open count) (bare, made, are, parts) stops space opens only glued =
-    word_quoted (λ stop. ⊥) text mid inside bare q are parts stops space opens (λ content stop read ends. only.1 content stop read)
-quoted_none text mid inside word word' q None (NoSpace rest) (bare, made, are, parts) stops space opens only glued =
-    word_quoted (λ stop. ⊥) text mid inside bare q are parts stops space opens (λ content stop read ends. only.1 content stop read)
-quoted_none text mid inside word word' q (Some a) (Open count) (bare, made, are, parts) stops space opens only glued =
-    word_quoted (λ stop. ⊥) text mid inside bare q are parts stops space opens
+quoted_none text mid inside word word' q after (Ended rest) all stops opens only glued = tt
+quoted_none text mid inside word word' q None (Open count) (bare, made, are, parts) stops opens only glued =
+    word_quoted (λ stop. ⊥) text mid inside bare q are parts stops opens (λ content stop read ends. only.1 content stop read)
+quoted_none text mid inside word word' q None (NoSpace rest) (bare, made, are, parts) stops opens only glued =
+    word_quoted (λ stop. ⊥) text mid inside bare q are parts stops opens (λ content stop read ends. only.1 content stop read)
+quoted_none text mid inside word word' q (Some a) (Open count) (bare, made, are, parts) stops opens only glued =
+    word_quoted (λ stop. ⊥) text mid inside bare q are parts stops opens
     (λ content stop read ends. glued (subst EndsWord (only.0 content stop read) ends))
-quoted_none text mid inside word word' q (Some a) (NoSpace rest) (bare, made, are, parts) stops space opens only glued =
-    word_quoted (λ stop. ⊥) text mid inside bare q are parts stops space opens
+quoted_none text mid inside word word' q (Some a) (NoSpace rest) (bare, made, are, parts) stops opens only glued =
+    word_quoted (λ stop. ⊥) text mid inside bare q are parts stops opens
     (λ content stop read ends. glued (subst EndsWord (only.0 content stop read) ends))
 
 -- a word begins with no space
@@ -424,8 +345,7 @@ starts_word word text rest is = go is.bare refl
 
         mid_starts : ((is.quoted ≡ []) × (rest ≡ is.mid) × (length rest < length text)) ⊎ ReadsQuoted is.quoted is.mid rest → Stops is_space text
         mid_starts (inl (none, end, some)) = absurd (omega (arith, some, ap length end, ap length at))
-        mid_starts (inr (inside, inl (quote, read))) = subst (Stops is_space) (sym (at ∙ quote)) refl
-        mid_starts (inr (inside, inr (quote, read))) = subst (Stops is_space) (sym (at ∙ quote)) refl
+        mid_starts (inr (q, inside, opens, read)) = subst (Stops is_space) (sym (at ∙ opens)) (quote_no_space q)
 
 starts_text : (rest : List ℕ) → StartsWord rest → Stops is_space rest
 unfolding Stops

@@ -1,1 +1,2 @@
+pub mod Inline
 pub mod Lines

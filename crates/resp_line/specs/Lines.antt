@@ -1,6 +1,8 @@
 -- The words of a line, with the quoting of redis-cli.
 use Rattle.std.specs.Prelude.{◌≡◌, ◌≢◌, ◌⊎◌, ◌+◌, ◌*◌, ◌-◌, ℕ, Bool, true, false, not, ◌==◌, ◌&&◌, ◌||◌, nat_le, if◌then◌else◌, List, [], ◌∷◌, ◌++◌, length, ◌<◌, Option, None, Some}
 use Rattle.std.specs.List.{AllByRecursion}
+use Rattle.resp_line.specs.declared.line.Quote.{Quote}
+use Rattle.resp_line.specs.declared.line.Quote.TheVariants.{Double, Single}
 use Rattle.resp_line.specs.declared.line.WordEnd.{WordEnd}
 use Rattle.resp_line.specs.declared.line.WordEnd.TheVariants.{Ended}
 
@@ -29,31 +31,30 @@ abbrev pub escaped : ℕ → ℕ
 escaped b = if b == 110 then 10 else if b == 114 then 13 else if b == 116 then 9 else if b == 98 then 8 else
     if b == 97 then 7 else b
 
--- In double quotes the text begins with this byte: the byte itself, `\xHH`, or a backslash and another byte. The rest
--- follows.
-abbrev pub ReadsDoubleByte : ℕ → List ℕ → List ℕ → Type 0
-ReadsDoubleByte b text rest = ((text ≡ b ∷ rest) × (b ≢ 34) × (b ≢ 92))
+-- the byte of a quote
+abbrev pub quote_byte : Quote → ℕ
+quote_byte Double = 34
+quote_byte Single = 39
+
+-- In quotes the text begins with this byte, and the rest follows. In double quotes it is the byte itself, `\xHH`, or a
+-- backslash and another byte. In single quotes it is the byte itself, or `\'`.
+abbrev pub ReadsByte : Quote → ℕ → List ℕ → List ℕ → Type 0
+ReadsByte Double b text rest = ((text ≡ b ∷ rest) × (b ≢ 34) × (b ≢ 92))
     ⊎ ((x : ℕ) × (h : ℕ) × (l : ℕ) × (text ≡ 92 ∷ x ∷ h ∷ l ∷ rest) × IsHexPair (x ∷ h ∷ l ∷ rest) b)
     ⊎ ((c : ℕ) × (text ≡ 92 ∷ c ∷ rest) × ((byte : ℕ) → IsHexPair (c ∷ rest) byte → ⊥) × (b ≡ escaped c))
-
--- the text is this content up to the closing double quote, and the rest follows
-abbrev pub ReadsDouble : List ℕ → List ℕ → List ℕ → Type 0
-ReadsDouble [] text rest = text ≡ 34 ∷ rest
-ReadsDouble (b ∷ content) text rest = (mid : List ℕ) × ReadsDoubleByte b text mid × ReadsDouble content mid rest
-
--- in single quotes the text begins with this byte: the byte itself, or `\'`
-abbrev pub ReadsSingleByte : ℕ → List ℕ → List ℕ → Type 0
-ReadsSingleByte b text rest = ((text ≡ 92 ∷ 39 ∷ rest) × (b ≡ 39))
+ReadsByte Single b text rest = ((text ≡ 92 ∷ 39 ∷ rest) × (b ≡ 39))
     ⊎ ((text ≡ b ∷ rest) × (b ≢ 39) × ((beyond : List ℕ) → text ≡ 92 ∷ 39 ∷ beyond → ⊥))
 
-abbrev pub ReadsSingle : List ℕ → List ℕ → List ℕ → Type 0
-ReadsSingle [] text rest = text ≡ 39 ∷ rest
-ReadsSingle (b ∷ content) text rest = (mid : List ℕ) × ReadsSingleByte b text mid × ReadsSingle content mid rest
+-- the text is this content up to the closing quote, and the rest follows
+abbrev pub ReadsUpTo : Quote → List ℕ → List ℕ → List ℕ → Type 0
+ReadsUpTo quote [] text rest = text ≡ quote_byte quote ∷ rest
+ReadsUpTo quote (b ∷ content) text rest =
+    (mid : List ℕ) × ReadsByte quote b text mid × ReadsUpTo quote content mid rest
 
 -- the text is a quoted text with this content, and the rest follows
 abbrev pub ReadsQuoted : List ℕ → List ℕ → List ℕ → Type 0
-ReadsQuoted content text rest = (inside : List ℕ) × (((text ≡ 34 ∷ inside) × ReadsDouble content inside rest)
-    ⊎ ((text ≡ 39 ∷ inside) × ReadsSingle content inside rest))
+ReadsQuoted content text rest =
+    (quote : Quote) × (inside : List ℕ) × (text ≡ quote_byte quote ∷ inside) × ReadsUpTo quote content inside rest
 
 -- a word ends before this rest: it is empty or begins with a space
 abbrev pub EndsWord : List ℕ → Type 0

@@ -3,7 +3,7 @@
 ghost use Rattle.std.specs.Prelude.{◌≡◌, ◌≢◌, ◌≤◌, ◌<◌, ◌++◌, [], ◌∷◌, ℕ, List, true, length, IfErr, IfNone, IfOk, IfSome, IsSome, OnOk};
 ghost use Rattle.std.specs.List.{AllByRecursion};
 ghost use Rattle.resp_value.specs.Words.{texts_of};
-ghost use Rattle.resp_line.specs.Lines.{AreWords, EndsBare, EndsWord, FollowsSpaces, IfEnded, IsHexPair, IsWord, ReadsDouble, ReadsDoubleByte, ReadsSingle, ReadsSingleByte, StartsWord, UnlessEnded, escaped, hex_value, is_bare, is_space};
+ghost use Rattle.resp_line.specs.Lines.{AreWords, EndsBare, EndsWord, FollowsSpaces, IfEnded, IsHexPair, IsWord, ReadsByte, ReadsUpTo, StartsWord, UnlessEnded, escaped, hex_value, is_bare, is_space, quote_byte};
 
 use std::alloc::{AllocError, Global};
 use thiserror::Error;
@@ -110,12 +110,43 @@ fn hex_byte(text: &[u8]) -> Option<u8>
     Some(high * 16 + low)
 }
 
+/// A quote, inside which spaces separate no words.
+#[derive(Clone, Copy)]
+enum Quote {
+    Double,
+    Single,
+}
+
+impl Quote {
+    /// Returns the quote that a byte is.
+    fn of(byte: u8) -> Option<Quote>
+        ensures quote { IfSome result (λ quote. byte ≡ quote_byte quote) }
+        ensures none { IfNone result ((byte ≢ 34) × (byte ≢ 39)) }
+    {
+        match byte {
+            b'"' => Some(Quote::Double),
+            b'\'' => Some(Quote::Single),
+            _ => None,
+        }
+    }
+
+    /// Returns the byte of the quote.
+    fn byte(self) -> u8
+        ensures { result ≡ quote_byte self }
+    {
+        match self {
+            Quote::Double => b'"',
+            Quote::Single => b'\'',
+        }
+    }
+}
+
 /// Returns the byte with which a text in double quotes begins, and the bytes after it. Returns `None`
 /// at the closing quote, at the end of the text, and at a backslash that ends the text.
 fn double_byte(text: &[u8]) -> Option<(u8, &[u8])>
-    ensures read { IfSome result (λ read. ReadsDoubleByte read.0 text.now read.1.now) }
+    ensures read { IfSome result (λ read. ReadsByte Quote.Double read.0 text.now read.1.now) }
     ensures none { IfNone result ((byte : ℕ) (rest : List ℕ) →
-        ReadsDoubleByte byte text.now rest → ⊥) }
+        ReadsByte Quote.Double byte text.now rest → ⊥) }
     ensures shorter { IfSome result (λ read. length read.1.now < length text.now) }
 {
     let (byte, beyond) = text.split_first()?;
@@ -135,9 +166,9 @@ fn double_byte(text: &[u8]) -> Option<(u8, &[u8])>
 /// Returns the byte with which a text in single quotes begins, and the bytes after it. Returns `None`
 /// at the closing quote and at the end of the text.
 fn single_byte(text: &[u8]) -> Option<(u8, &[u8])>
-    ensures read { IfSome result (λ read. ReadsSingleByte read.0 text.now read.1.now) }
+    ensures read { IfSome result (λ read. ReadsByte Quote.Single read.0 text.now read.1.now) }
     ensures none { IfNone result ((byte : ℕ) (rest : List ℕ) →
-        ReadsSingleByte byte text.now rest → ⊥) }
+        ReadsByte Quote.Single byte text.now rest → ⊥) }
     ensures shorter { IfSome result (λ read. length read.1.now < length text.now) }
 {
     let (byte, beyond) = text.split_first()?;
@@ -150,55 +181,45 @@ fn single_byte(text: &[u8]) -> Option<(u8, &[u8])>
     Some((*byte, beyond))
 }
 
-/// Appends the text in double quotes up to the closing quote, and returns the bytes after the quote,
-/// or `None` if the quote is not closed.
-fn read_double<'a>(text: &'a [u8], word: &mut Vec<u8>) -> Result<Option<&'a [u8]>, AllocError>
-    ensures closed { IfOk result (λ after. IfSome after (λ rest. (content : List ℕ) ×
-        (word.new.items ≡ word.old.items ++ content) ×
-        ReadsDouble content text.now rest.now)) }
-    ensures only { IfOk result (λ after. IfSome after (λ rest. (content end : List ℕ) →
-        ReadsDouble content text.now end → end ≡ rest.now)) }
-    ensures open { IfOk result (λ after. IfNone after ((content end : List ℕ) →
-        ReadsDouble content text.now end → ⊥)) }
-    ensures shorter { IfOk result (λ after. IfSome after (λ rest.
-        length rest.now < length text.now)) }
+/// Returns the byte with which a text in quotes begins, and the bytes after it, or `None`.
+fn quoted_byte(text: &[u8], quote: Quote) -> Option<(u8, &[u8])>
+    ensures read { IfSome result (λ read. ReadsByte quote read.0 text.now read.1.now) }
+    ensures none { IfNone result ((byte : ℕ) (rest : List ℕ) →
+        ReadsByte quote byte text.now rest → ⊥) }
+    ensures shorter { IfSome result (λ read. length read.1.now < length text.now) }
 {
-    let mut rest = text;
-    while let Some((byte, after)) = double_byte(rest) {
-        word.push(byte)?;
-        rest = after;
+    match quote {
+        Quote::Double => double_byte(text),
+        Quote::Single => single_byte(text),
     }
-    let Some((byte, after)) = rest.split_first() else {
-        return Ok(None);
-    };
-    if *byte == b'"' {
-        return Ok(Some(after));
-    }
-    Ok(None)
 }
 
-/// Appends the text in single quotes up to the closing quote, and returns the bytes after the quote,
-/// or `None` if the quote is not closed.
-fn read_single<'a>(text: &'a [u8], word: &mut Vec<u8>) -> Result<Option<&'a [u8]>, AllocError>
+/// Appends the text in quotes up to the closing quote, and returns the bytes after the quote, or
+/// `None` if the quote is not closed.
+fn read_quoted<'a>(
+    text: &'a [u8],
+    quote: Quote,
+    word: &mut Vec<u8>,
+) -> Result<Option<&'a [u8]>, AllocError>
     ensures closed { IfOk result (λ after. IfSome after (λ rest. (content : List ℕ) ×
         (word.new.items ≡ word.old.items ++ content) ×
-        ReadsSingle content text.now rest.now)) }
+        ReadsUpTo quote content text.now rest.now)) }
     ensures only { IfOk result (λ after. IfSome after (λ rest. (content end : List ℕ) →
-        ReadsSingle content text.now end → end ≡ rest.now)) }
+        ReadsUpTo quote content text.now end → end ≡ rest.now)) }
     ensures open { IfOk result (λ after. IfNone after ((content end : List ℕ) →
-        ReadsSingle content text.now end → ⊥)) }
+        ReadsUpTo quote content text.now end → ⊥)) }
     ensures shorter { IfOk result (λ after. IfSome after (λ rest.
         length rest.now < length text.now)) }
 {
     let mut rest = text;
-    while let Some((byte, after)) = single_byte(rest) {
+    while let Some((byte, after)) = quoted_byte(rest, quote) {
         word.push(byte)?;
         rest = after;
     }
     let Some((byte, after)) = rest.split_first() else {
         return Ok(None);
     };
-    if *byte == b'\'' {
+    if *byte == quote.byte() {
         return Ok(Some(after));
     }
     Ok(None)
@@ -231,15 +252,11 @@ fn read_word<'a>(text: &'a [u8], word: &mut Vec<u8>) -> Result<WordEnd<'a>, Allo
     let Some((byte, inside)) = rest.split_first() else {
         return Ok(WordEnd::Ended(rest));
     };
-    if *byte == b'"' {
-        let after = read_double(inside, word)?;
-        return Ok(word_end(after, open));
-    }
-    if *byte == b'\'' {
-        let after = read_single(inside, word)?;
-        return Ok(word_end(after, open));
-    }
-    Ok(WordEnd::Ended(rest))
+    let Some(quote) = Quote::of(*byte) else {
+        return Ok(WordEnd::Ended(rest));
+    };
+    let after = read_quoted(inside, quote, word)?;
+    Ok(word_end(after, open))
 }
 
 /// Returns the end of a word whose quote opens after `open` bytes, with the bytes after the closing

@@ -1,22 +1,24 @@
 -- A command is carried out.
-use Rattle.std.proofs.Common.{◌≡◌, ◌∙◌, inl, inr, ℕ, List, [], ◌∷◌, ◌++◌, take, drop, Option, Some, Result, Ok, Err, ap, refl, subst, sym}
+use Rattle.std.proofs.Common.{◌≡◌, ◌∙◌, inl, inr, ℕ, true, List, [], ◌∷◌, ◌++◌, take, drop, Option, Some, Result, Ok, Err, ap, refl, subst, sym}
 use Rattle.std.proofs.lemmas.List.{append-nil, take-append-drop}
 use Rattle.std.specs.Prelude.{MatchOption, OnOk}
 use Rattle.resp_commands.specs.Classes.{HasClass, HasNoClass}
 use Rattle.resp_commands.specs.declared.command.Class.{Class}
 use Rattle.resp_commands.specs.declared.command.Class.TheVariants as class
 use Rattle.resp_frames.proofs.SameWords.{name_same, same_words, whole_text}
-use Rattle.resp_frames.specs.Commands.{IsFrameOfWords}
+use Rattle.resp_frames.specs.Commands.{IsCommand, IsFrameOfWords}
 use Rattle.resp_frames.specs.Texts.{text_of, used_of}
 use Rattle.resp_frames.specs.declared.words.CommandFrame.{CommandFrame}
-use Rattle.resp_line.specs.Lines.{AreWords}
+use Rattle.resp_line.proofs.InlineLines.{named_words}
+use Rattle.resp_line.specs.Inline.{IsArrayOf, IsLineWith}
 use Rattle.resp_mux.specs.declared.client_id.ClientId.{ClientId}
 use Rattle.resp_mux.specs.Multiplexing.{HasPassed, Multiplexed, WherePassed}
 use Rattle.resp_mux.specs.Passing.{with_command, with_own}
 use Rattle.resp_proxy.specs.declared.error.ClientError.{ClientError}
-use Rattle.resp_proxy.specs.Taking.{AdmitsText, Answers, Carries, CarriesWords, Deed, Does, EndsLine, Fits, Passes, Queues, TakesPart}
-use Rattle.resp_proxy.specs.Terms.{IsAdmitted, MayBeSent, Terms}
-use Rattle.resp_value.specs.Canonical.{canonical_text}
+use Rattle.resp_proxy.specs.Taking.{AdmitsText, Answers, Carries, Deed, Does, Fits, Passes, Queues, TakesPart}
+use Rattle.resp_proxy.specs.Terms.{IsAdmitted, IsRequestOf, MayBeSent, Terms}
+use Rattle.resp_scan.specs.Whole.{BeginsWith}
+use Rattle.resp_value.specs.Bounds.{Bounds}
 use Rattle.resp_value.specs.Laws.{NoSpellingBeginsAnother}
 use Rattle.resp_value.specs.Rules.{rules_under}
 use Rattle.resp_value.specs.Spellings.{IsSpelling}
@@ -77,21 +79,16 @@ carried-own (Ok x) terms who answer front piece found old new f passed = record 
 }
 carried-own (Err e) terms who answer front piece found old new f passed = tt
 
-array-fits : (terms : Terms) (name : List ℕ) (arguments : List (List ℕ)) (text : List ℕ) (deed : Deed) →
-    IsSpelling (rules_under Two terms.rules.limits) (command_of (name ∷ arguments)) text → Does terms name arguments text deed → Fits terms text deed
-array-fits terms name arguments text Passes spelled does = absurd does
-array-fits terms name arguments text (Queues sent) spelled (same, allowed) = record {
+request-fits : (terms : Terms) (text sent name : List ℕ) (arguments : List (List ℕ)) (deed : Deed) → IsRequestOf terms text sent (name ∷ arguments) →
+    Does terms name arguments sent deed → Fits terms text deed
+request-fits terms text sent name arguments Passes r does = absurd does
+request-fits terms text sent name arguments (Queues queued) r (is, allowed) = record {
   name = name;
   arguments = arguments;
-  request = record { spelled = subst (IsSpelling (rules_under Two terms.rules.limits) (command_of (name ∷ arguments))) (sym same) spelled; form = inl (sym same) };
+  request = subst (λ s. IsRequestOf terms text s (name ∷ arguments)) (sym is) r;
   allowed = allowed;
 }
-array-fits terms name arguments text (Answers answer) spelled does = record {
-  sent = text;
-  name = name;
-  arguments = arguments;
-  request = record { spelled = spelled; form = inl refl };
-}
+request-fits terms text sent name arguments (Answers answer) r does = record { sent = sent; name = name; arguments = arguments; request = r }
 
 -- a part that is an array was taken
 pub array-part : (terms : Terms) (who : ClientId) (front piece : List ℕ) (found : CommandFrame) (old new : Multiplexed) →
@@ -100,91 +97,43 @@ pub array-part : (terms : Terms) (who : ClientId) (front piece : List ℕ) (foun
 array-part terms who front piece found old new f c =
     subst (λ text. TakesPart terms who text old new) f.frame.text (record {
       deed = c.deed;
-      fits = array-fits terms c.name c.arguments (text_of found.frame) c.deed c.spelled c.does;
+      fits = request-fits terms (text_of found.frame) (text_of found.frame) c.name c.arguments c.deed (record { spelled = c.spelled; form = inl refl }) c.does;
       passed = c.passed;
     })
 
-line-fits : (terms : Terms) (name : List ℕ) (arguments words : List (List ℕ)) (content text sent : List ℕ) (deed : Deed) →
-    EndsLine terms content text → AreWords words content → name ∷ arguments ≡ words → sent ≡ canonical_text Two (command_of words) →
-    IsSpelling (rules_under Two terms.rules.limits) (command_of (name ∷ arguments)) sent → Does terms name arguments sent deed → Fits terms text deed
-line-fits terms name arguments words content text sent Passes line are same canonical spelled does = absurd does
-line-fits terms name arguments words content text sent (Queues queued) line are same canonical spelled (is, allowed) = record {
-  name = name;
-  arguments = arguments;
-  request = record {
-    spelled = subst (IsSpelling (rules_under Two terms.rules.limits) (command_of (name ∷ arguments))) (sym is) spelled;
-    form = inr (
-      line.lines,
-      record {
-        content = content;
-        within = line.within;
-        whole = line.whole;
-        begins = line.begins;
-        are = subst (λ ws. AreWords ws content) (sym same) are;
-      },
-      is ∙ canonical ∙ ap (λ ws. canonical_text Two (command_of ws)) (sym same),
-    );
-  };
-  allowed = allowed;
-}
-line-fits terms name arguments words content text sent (Answers answer) line are same canonical spelled does = record {
-  sent = sent;
-  name = name;
-  arguments = arguments;
-  request = record {
-    spelled = spelled;
-    form = inr (
-      line.lines,
-      record {
-        content = content;
-        within = line.within;
-        whole = line.whole;
-        begins = line.begins;
-        are = subst (λ ws. AreWords ws content) (sym same) are;
-      },
-      canonical ∙ ap (λ ws. canonical_text Two (command_of ws)) (sym same),
-    );
-  };
-}
+-- the words with which the array of a line begins are those of the line
+pub line-request : NoSpellingBeginsAnother → (terms : Terms) (content text array name : List ℕ) (arguments : List (List ℕ)) (rest : List ℕ) →
+    terms.lines ≡ true → IsLineWith content text → IsArrayOf terms.rules.limits content array →
+    BeginsWith terms.rules.limits array (command_of (name ∷ arguments)) rest → IsRequestOf terms text array (name ∷ arguments)
+line-request law terms content text array name arguments rest lines line a begins =
+    subst (IsRequestOf terms text array)
+    (sym (same_words law terms.rules.limits array (name ∷ arguments) a.words rest begins
+    (record { written = array; spelled = a.spelled; whole = sym (append-nil array) })))
+    (record { spelled = a.spelled; form = inr (lines, record { content = content; line = line; are = a.are }, a.canonical) })
 
 -- a part that is a line was taken
-pub line-part : (result : Result (Unit {0}) ClientError) (terms : Terms) (who : ClientId) (words : List (List ℕ)) (content : List ℕ) (old new : Multiplexed) →
-    AreWords words content → OnOk result (CarriesWords terms who words old new) →
-    OnOk result ((text : List ℕ) → EndsLine terms content text → TakesPart terms who text old new)
-line-part (Ok x) terms who words content old new are c = λ text line. record {
-  deed = c.carries.deed;
-  fits = line-fits terms c.carries.name c.carries.arguments words content text (canonical_text Two (command_of words)) c.carries.deed line are c.same refl
-      c.carries.spelled c.carries.does;
-  passed = c.carries.passed;
+pub line-part : NoSpellingBeginsAnother → (terms : Terms) (who : ClientId) (content text array : List ℕ) (old new : Multiplexed) → terms.lines ≡ true →
+    IsLineWith content text → IsArrayOf terms.rules.limits content array → Carries terms who array old new → TakesPart terms who text old new
+line-part law terms who content text array old new lines line a c = record {
+  deed = c.deed;
+  fits = request-fits terms text array c.name c.arguments c.deed
+      (line-request law terms content text array c.name c.arguments [] lines line a
+      (whole_text terms.rules.limits array c.name c.arguments c.spelled)) c.does;
+  passed = c.passed;
 }
-line-part (Err e) terms who words content old new are c = tt
 
--- the command of the words of a line was carried out, as its canonical text
-pub words-carried : NoSpellingBeginsAnother → (result : Result (Unit {0}) ClientError) (terms : Terms) (who : ClientId) (words : List (List ℕ))
-    (piece : List ℕ) (found : CommandFrame) (old new : Multiplexed) → piece ≡ canonical_text Two (command_of words) →
-    IsSpelling (rules_under Two terms.rules.limits) (command_of words) (canonical_text Two (command_of words)) →
-    IsFrameOfWords terms.rules.limits [] piece found → OnOk result (Carries terms who (text_of found.frame) old new) →
-    OnOk result (CarriesWords terms who words old new)
-words-carried law (Ok x) terms who words piece found old new is spelled f c =
-    let rules = rules_under Two terms.rules.limits in
-    let text = text_of found.frame in
-    let canonical = canonical_text Two (command_of words) in
-    let rest = drop (used_of found.frame) piece in
-    let whole : piece ≡ text ++ rest =
-    sym (take-append-drop (used_of found.frame) piece) ∙ ap (λ t. t ++ rest) (sym f.frame.text) in
-    let begins : piece ≡ canonical ++ [] = is ∙ sym (append-nil canonical) in
-    let same = law rules rules (command_of (c.name ∷ c.arguments)) (command_of words) text canonical rest [] c.spelled spelled (sym whole ∙ begins) in
-    let at : text ≡ canonical = same.1 in
-    record {
-      carries = record {
-        name = c.name;
-        arguments = c.arguments;
-        spelled = subst (IsSpelling rules (command_of (c.name ∷ c.arguments))) at c.spelled;
-        deed = c.deed;
-        does = subst (λ t. Does terms c.name c.arguments t c.deed) at c.does;
-        passed = c.passed;
-      };
-      same = same_words law terms.rules.limits piece (c.name ∷ c.arguments) words rest
-          (record { written = text; spelled = c.spelled; whole = whole }) (record { written = canonical; spelled = spelled; whole = begins });
-    }
-words-carried law (Err e) terms who words piece found old new is spelled f c = tt
+-- an array of the words of a line is a command
+pub line-command : (limits : Bounds) (content array : List ℕ) → IsArrayOf limits content array → IsCommand limits array
+line-command limits content array a =
+    let (name, arguments, spelled) = named_words limits content array a in record { name = name; arguments = arguments; spelled = spelled }
+
+-- a command that lies whole in its text is this text
+pub whole-command : NoSpellingBeginsAnother → (limits : Bounds) (text : List ℕ) (found : CommandFrame) → IsCommand limits text →
+    IsFrameOfWords limits [] text found → text_of found.frame ≡ text
+whole-command law limits text found k f =
+    let rules = rules_under Two limits in
+    let rest = drop (used_of found.frame) text in
+    let whole : text_of found.frame ++ rest ≡ text = ap (λ t. t ++ rest) f.frame.text ∙ take-append-drop (used_of found.frame) text in
+    let same = law rules rules (command_of (f.words.name ∷ f.words.arguments)) (command_of (k.name ∷ k.arguments)) (text_of found.frame) text rest []
+    f.words.spelled k.spelled (whole ∙ sym (append-nil text)) in
+    same.1

@@ -1,6 +1,5 @@
 pub mod ErrorLemmas
 pub mod Carryings
-pub mod Linings
 pub mod Takings
 pub mod Tellings
 pub mod Holdings

@@ -3,6 +3,7 @@ use Rattle.std.specs.Prelude.{◌≡◌, ℕ, ◌≤◌, List, [], ◌∷◌, �
 use Rattle.std.specs.List.{AllByRecursion, concat}
 use Rattle.resp_frames.specs.declared.begun.Begun.{Begun}
 use Rattle.resp_frames.specs.Framing.{HasBegun, IsReady}
+use Rattle.resp_line.specs.Inline.{IsWithinLine}
 use Rattle.resp_mux.specs.declared.client_id.ClientId.{ClientId}
 use Rattle.resp_mux.specs.Multiplexing.{HasPassed, KeepsClients, KeepsPassed, Multiplexed, WherePassed}
 use Rattle.resp_mux.specs.Passing.{Passed, with_command, with_own}
@@ -11,14 +12,13 @@ use Rattle.resp_proxy.specs.Leaving.{NeedsOwn}
 use Rattle.resp_proxy.specs.Refusing.{Refuses}
 use Rattle.resp_proxy.specs.declared.part.Part.{Part}
 use Rattle.resp_proxy.specs.declared.part.Part.TheVariants.{Aside, Partial, Whole}
-use Rattle.resp_proxy.specs.Terms.{BeginsLine, IsAdmitted, IsNoRequest, IsRequestOf, IsWithinLine, MayBeSent, Terms}
+use Rattle.resp_proxy.specs.Terms.{IsAdmitted, IsNoRequest, IsRequestOf, MayBeSent, Terms}
 use Rattle.resp_proxy.specs.Unfinished.{HasUnfinished, WhereUnfinished, terms_of}
 use Rattle.resp_proxy.specs.declared.client.Client.{Client}
 use Rattle.resp_proxy.specs.declared.error.ClientError.{ClientError}
 use Rattle.resp_proxy.specs.declared.intake.Intake.{Intake}
 use Rattle.resp_proxy.specs.declared.unfinished.Unfinished.{Unfinished}
 use Rattle.resp_scan.specs.Whole.{BeginsWith}
-use Rattle.resp_value.specs.Canonical.{canonical_text}
 use Rattle.resp_value.specs.Rules.{rules_under}
 use Rattle.resp_value.specs.Spellings.{IsSpelling}
 use Rattle.resp_value.specs.Words.{command_of}
@@ -107,11 +107,6 @@ pub record Carries (terms : Terms) (who : ClientId) (text : List ℕ) (old new :
   pub does : Does terms name arguments text deed
   pub passed : WherePassed old (λ p. HasPassed new (with_one who deed p))
 
--- the canonical text of a command of these words was queued, if it may be sent, or answered
-pub record CarriesWords (terms : Terms) (who : ClientId) (words : List (List ℕ)) (old new : Multiplexed) : Type 0 where
-  pub carries : Carries terms who (canonical_text Two (command_of words)) old new
-  pub same : carries.name ∷ carries.arguments ≡ words
-
 -- this was done with a part of the bytes
 pub record TakesPart (terms : Terms) (who : ClientId) (text : List ℕ) (old new : Multiplexed) : Type 0 where
   pub deed : Deed
@@ -131,19 +126,6 @@ TakesArray terms who front piece begun (Whole used) old new =
     HasBegun terms.rules begun [] × TakesPart terms who (front ++ take used piece) old new
 TakesArray terms who front piece begun (Aside used text) old new =
     HasBegun terms.rules begun [] × SetsAside terms (front ++ take used piece) text.items old new
-
--- the text is the whole line of these bytes
-pub record EndsLine (terms : Terms) (content text : List ℕ) : Type 0 where
-  pub lines : terms.lines ≡ true
-  pub within : IsWithinLine content
-  pub whole : text ≡ content ++ 10 ∷ []
-  pub begins : BeginsLine text
-
--- a line goes on in the piece, or begins with it
-pub record GoesOn (terms : Terms) (front piece : List ℕ) : Type 0 where
-  pub lines : terms.lines ≡ true
-  pub within : IsWithinLine front
-  pub begins : BeginsLine (front ++ piece)
 
 -- a part was taken that is a line and ends in the piece, or no line ends in it
 abbrev pub TakesLine : Terms → ClientId → List ℕ → List ℕ → List ℕ → Option ℕ → Multiplexed → Multiplexed → Type 0

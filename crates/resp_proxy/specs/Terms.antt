@@ -1,12 +1,11 @@
 -- Which bytes of a client are commands, and which commands are sent to the server.
-use Rattle.std.specs.Prelude.{◌≡◌, ◌≢◌, ◌⊎◌, ℕ, ◌≤◌, Bool, true, List, [], ◌∷◌, ◌++◌, length, map, Contains}
+use Rattle.std.specs.Prelude.{◌≡◌, ◌⊎◌, ℕ, Bool, true, List, [], ◌∷◌, ◌++◌, map, Contains}
 use Rattle.std.specs.Char.{to_ascii_lowercase}
-use Rattle.std.specs.List.{AllByRecursion}
 use Rattle.resp_commands.specs.Classes.{HasClass}
 use Rattle.resp_commands.specs.declared.command.Class.TheVariants as class
 use Rattle.resp_commands.specs.Names.{IsUnknown}
 use Rattle.resp_frames.specs.Requests.{IsEmptyArray}
-use Rattle.resp_line.specs.Lines.{AreWords}
+use Rattle.resp_line.specs.Inline.{IsLineOf}
 use Rattle.resp_value.specs.Canonical.{canonical_text}
 use Rattle.resp_value.specs.Rules.{Rules, rules_under}
 use Rattle.resp_value.specs.Spellings.{IsSpelling}
@@ -39,24 +38,6 @@ pub record IsAdmitted (terms : Terms) (name : List ℕ) : Type 0 where
 -- a command of these words is sent
 abbrev pub MayBeSent : Terms → List ℕ → List (List ℕ) → Type 0
 MayBeSent terms name arguments = HasClass name arguments class.Shared ⊎ IsAdmitted terms name
-
--- the text begins with a byte that begins no array
-abbrev pub BeginsLine : List ℕ → Type 0
-BeginsLine [] = ⊥
-BeginsLine (b ∷ rest) = b ≢ 42
-
--- the bytes are those of a line before its LF, or the first of them
-pub record IsWithinLine (content : List ℕ) : Type 0 where
-  pub no_end : AllByRecursion (λ b. b ≢ 10) content
-  pub short : length content ≤ 65536
-
--- the text is a line of these words, and its LF
-pub record IsLineOf (words : List (List ℕ)) (text : List ℕ) : Type 0 where
-  pub content : List ℕ
-  pub within : IsWithinLine content
-  pub whole : text ≡ content ++ 10 ∷ []
-  pub begins : BeginsLine text
-  pub are : AreWords words content
 
 -- The text is a command of these words, an array or a line. These bytes are sent for it: those of the array, or the words of
 -- the line as an array.

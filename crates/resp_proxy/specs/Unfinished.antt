@@ -1,10 +1,11 @@
 -- The command that a client has begun.
 use Rattle.std.specs.Prelude.{◌≡◌, ◌⊎◌, ℕ, true, List, []}
 use Rattle.resp_frames.specs.Framing.{HasBegun, IsReady, frame_rules}
+use Rattle.resp_line.specs.Inline.{BeginsLine, IsWithinLine}
 use Rattle.resp_proxy.specs.declared.intake.Intake.{Intake}
 use Rattle.resp_proxy.specs.declared.settings.Settings.{Settings}
 use Rattle.resp_proxy.specs.declared.unfinished.Unfinished.{Unfinished}
-use Rattle.resp_proxy.specs.Terms.{BeginsLine, IsWithinLine, Terms}
+use Rattle.resp_proxy.specs.Terms.{Terms}
 use Rattle.resp_value.specs.Rules.{rules_under}
 use Rattle.resp_value.specs.Words.{texts_of}
 use Rattle.resp_value.specs.declared.version.Version.TheVariants.{Two}

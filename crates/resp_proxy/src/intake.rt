@@ -3,9 +3,10 @@
 ghost use Rattle.std.specs.Prelude.{◌≡◌, List, ℕ, false, true, IfOk, IsTrue, OnErr, OnOk};
 ghost use Rattle.resp_frames.specs.Framing.{IsReady};
 ghost use Rattle.resp_frames.specs.Texts.{text_of};
+ghost use Rattle.resp_line.specs.Inline.{GoesOn};
 ghost use Rattle.resp_proxy.specs.Leaving.{IsForOwn};
-ghost use Rattle.resp_proxy.specs.Taking.{AdmitsText, GoesOn};
-ghost use Rattle.resp_proxy.specs.Terms.{BeginsLine, IsAmong, with_admitted};
+ghost use Rattle.resp_proxy.specs.Taking.{AdmitsText};
+ghost use Rattle.resp_proxy.specs.Terms.{IsAmong, with_admitted};
 ghost use Rattle.resp_proxy.specs.Unfinished.{HasArray, HasBytes, HasUnfinished, terms_by, terms_of};
 ghost use Rattle.resp_value.specs.Words.{texts_of};
 
@@ -14,6 +15,7 @@ use crate::settings::Settings;
 use crate::unfinished::Unfinished;
 use resp_commands::entry;
 use resp_frames::{CommandFrame, Frames};
+use resp_line::begins_line;
 use resp_scan::whole;
 use resp_value::version::Version;
 use std::alloc::{AllocError, Global};
@@ -67,7 +69,7 @@ impl Intake {
     /// Returns whether the next byte of a client belongs to a line.
     pub(crate) fn is_line(&self, unfinished: &Unfinished, piece: &[u8]) -> bool
         ensures line { (front : List ℕ) → HasUnfinished (terms_of self.now) unfinished.now front →
-            IsTrue result → GoesOn (terms_of self.now) front piece.now ×
+            IsTrue result → ((terms_of self.now).lines ≡ true) × GoesOn front piece.now ×
             HasBytes (terms_of self.now) unfinished.now front }
         ensures array { (front : List ℕ) → HasUnfinished (terms_of self.now) unfinished.now front →
             result ≡ false → HasArray (terms_of self.now) unfinished.now front }
@@ -99,16 +101,6 @@ impl Intake {
             return false;
         };
         entry(words.name).is_none() && is_among(&self.admitted, words.name)
-    }
-}
-
-/// Returns whether the bytes begin with a byte that begins no array.
-fn begins_line(piece: &[u8]) -> bool
-    ensures { IsTrue result → BeginsLine piece.now }
-{
-    match piece.first() {
-        Some(byte) => *byte != b'*',
-        None => false,
     }
 }
 

@@ -1,43 +1,50 @@
-use Rattle.std.proofs.Common.{◌++◌, ◌+◌, [], inl, subst, sym, take}
+use Rattle.std.proofs.Common.{◌∙◌, ◌++◌, [], ap, inl, refl, subst, sym, take}
 use Rattle.resp_frames.specs.Framing.{HasBegun}
+use Rattle.resp_line.specs.Inline.{HasText, IsArrayOf, ReadsLine, RejectsLine}
 use Rattle.resp_value.specs.Rules.{rules_under}
 use Rattle.resp_value.specs.declared.version.Version.TheVariants.{Two}
-use Rattle.resp_databases.proofs.LineEnds.{line_ended, line_too_long, line_too_long_before}
-use Rattle.resp_databases.proofs.Runs.{line_rejected, long_rejected}
+use Rattle.resp_databases.specs.Rejections.{OnRejection, Rejects}
+use Rattle.resp_databases.specs.Servers.{ServerState}
+use Rattle.resp_databases.proofs.Runs.{array_kept, line_command, line_done, line_rejected}
 use Rattle.resp_databases.proofs.databases.Databases.take_line.Goals as goal
 
 pub returns-in-Err-clause-rejected : goal.returns-in-Err-clause-rejected
-returns-in-Err-clause-rejected g c = λ on.
-    let front = c.args.client.now.line.items in
-    let piece = c.args.piece.now in
-    long_rejected c.args.self.now.limits (front ++ piece) (front ++ piece) c.in-Err.error (line_too_long front piece on c.in_default.ensures)
-    c.in-Err.ensures.long
+returns-in-Err-clause-rejected g c on =
+    let limits = c.args.self.now.limits in
+    let text = c.args.client.now.line.items ++ c.args.piece.now in
+    subst (OnRejection (Rejects limits text)) (sym c.rejection_of_line.ensures)
+    (line_rejected limits text c.in-Err.error
+    (subst (λ l. RejectsLine l text c.in-Err.error) (ap (λ (v : ServerState). v.limits) c.self.view_is) (c.in-Err.ensures.rejected on)))
 
-pub returns-in-Err-hold-clause-rejected : goal.returns-in-Err-hold-clause-rejected
-returns-in-Err-hold-clause-rejected g c = λ on.
+pub returns-in-Ok-clause-taken : goal.returns-in-Ok-clause-taken
+returns-in-Ok-clause-taken g c no_array on =
+    let server = c.args.self.now in
+    let limits = server.limits in
     let front = c.args.client.now.line.items in
     let piece = c.args.piece.now in
-    long_rejected c.args.self.now.limits (front ++ piece) (front ++ take c.in-Some.end piece) c.in-Err-hold.error
-    (line_too_long_before front piece c.in-Some.end on c.in-Some.ensures) c.in-Err-hold.ensures.long
-
-pub returns-in-Err-run_line-clause-rejected : goal.returns-in-Err-run_line-clause-rejected
-returns-in-Err-run_line-clause-rejected g c = λ on.
-    let front = c.args.client.now.line.items in
-    let piece = c.args.piece.now in
-    let hold = c.in_default-hold.ensures in
-    line_rejected c.args.self.now.limits front piece c.hold-2.new.line.items (c.in-Some.end + 1) c.in-Err-run_line.error
-    (line_ended front piece c.hold-2.new.line.items c.in-Some.end on c.in-Some.ensures hold.held hold.short) on.begins
-    c.in-Err-run_line.ensures.rejected
-
-pub returns-clause-taken : goal.returns-clause-taken
-returns-clause-taken g c = λ no_array on.
-    let front = c.args.client.now.line.items in
-    let piece = c.args.piece.now in
-    let hold = c.in_default-hold.ensures in (
+    let array = c.as_slice.result.now in
+    let between = record c.args.client.now { line = c.next_inline.new.line } in
+    let read = subst (λ l. ReadsLine l front piece between.line.items c.in-Ok-Some.field-0) (ap (λ (v : ServerState). v.limits) c.self.view_is)
+    (c.in-Ok-Some.ensures.read on) in
+    let (none, line) = subst (ReadsLine limits front piece between.line.items) c.in-Ok-Some.field-0-is read in
+    let is = subst (IsArrayOf limits line.content) (sym c.as_slice.ensures) (subst (HasText limits line.content) c.in-Some.is line.has) in (
       inl (record {
-        begun = subst (λ b. HasBegun (rules_under Two c.args.self.now.limits) b []) (sym c.run_line.ensures.same_begun.array) no_array;
-        no_line = c.new.ensures.items;
+        begun = subst (λ b. HasBegun (rules_under Two limits) b []) (sym c.in-Ok.ensures.same_begun.array) no_array;
+        no_line = c.in-Ok.ensures.same_begun.line ∙ none;
       }),
-      c.in_default-run_line.ensures.ran (front ++ take (c.in-Some.end + 1) piece)
-          (line_ended front piece c.hold-2.new.line.items c.in-Some.end on c.in-Some.ensures hold.held hold.short),
+      line_done c.no_spelling_begins_another.ensures (front ++ take c.in-Ok-Some.command.used piece) line.content array server c.run.new.self between
+          c.run.new.client line.line is c.in-Ok.ensures.done,
     )
+
+pub returns-clause-rejected : goal.returns-clause-rejected
+returns-clause-rejected g c on =
+    let limits = c.args.self.now.limits in
+    let front = c.args.client.now.line.items in
+    let piece = c.args.piece.now in
+    let array = c.as_slice.result.now in
+    let read = subst (λ l. ReadsLine l front piece c.next_inline.new.line.items c.in-Ok-Some.field-0) (ap (λ (v : ServerState). v.limits) c.self.view_is)
+    (c.in-Ok-Some.ensures.read on) in
+    let (none, line) = subst (ReadsLine limits front piece c.next_inline.new.line.items) c.in-Ok-Some.field-0-is read in
+    let is = subst (IsArrayOf limits line.content) (sym c.as_slice.ensures) (subst (HasText limits line.content) c.in-Some.is line.has) in
+    array_kept limits limits array (Rejects limits (front ++ piece)) c.in-Err-run.error refl (line_command limits line.content array is)
+    c.in-Err-run.ensures.no_command

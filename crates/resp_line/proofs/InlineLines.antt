@@ -1,14 +1,19 @@
 -- How the bytes of a line are taken.
-use Rattle.std.proofs.Common.{◌≡◌, ◌≢◌, ◌∙◌, ℕ, suc, ◌+◌, ◌<◌, ◌≤◌, true, List, [], ◌∷◌, ◌++◌, length, take, drop, get_or, None, Some, ap, append_assoc, arith, drop-cons, length-take-le, subst, sym}
+use Rattle.std.proofs.Common.{◌≡◌, ◌≢◌, ◌⊎◌, ◌∙◌, inl, inr, ℕ, suc, ◌+◌, ◌<◌, ◌≤◌, true, List, [], ◌∷◌, ◌++◌, length, take, drop, get_or, None, Some, ap, append_assoc, arith, drop-cons, length-take-le, subst, sym}
 use Rattle.std.specs.List.{AllByRecursion}
 use Rattle.std.proofs.Math.Seq.{take-add}
 use Rattle.std.proofs.lemmas.Bool.{eq-eqb, eqb-true}
 use Rattle.std.proofs.lemmas.List.{append-nil, get_or-take, take-append-drop}
 use Rattle.memchr.specs.Find.{IsFirstByte, is_byte}
 use Rattle.resp_value.proofs.FirstBytes.{all_append}
-use Rattle.resp_databases.specs.Parts.{BeginsLine, IsLineWith, IsWithinLine}
-use Rattle.resp_databases.specs.Rejections.{BeginsLongLine}
-use Rattle.resp_databases.specs.Taking.{GoesOn}
+use Rattle.resp_line.specs.Inline.{BeginsLine, BeginsLineThat, BeginsLongLine, GoesOn, IsArrayOf, IsLineWith, IsWithinLine, RejectsContent, RejectsLine}
+use Rattle.resp_line.specs.declared.inline.InlineError.{InlineError}
+use Rattle.resp_line.specs.declared.inline.InlineError.TheVariants.{LongLine, OutOfMemory, OverLimits, Quotes}
+use Rattle.resp_value.specs.Bounds.{Bounds}
+use Rattle.resp_value.specs.Rules.{rules_under}
+use Rattle.resp_value.specs.Spellings.{IsSpelling}
+use Rattle.resp_value.specs.Words.{command_of}
+use Rattle.resp_value.specs.declared.version.Version.TheVariants.{Two}
 
 -- no byte is an LF
 no_end : (bytes : List ℕ) → ((k : ℕ) → k < length bytes → get_or bytes k 0 ≡ 10 → ⊥) → AllByRecursion (λ b. b ≢ 10) bytes
@@ -44,10 +49,10 @@ without_end_before front piece end g (first, at) =
 
 -- no LF is in the piece, and the line goes on
 pub line_held : (front piece line : List ℕ) → GoesOn front piece → IsFirstByte (is_byte 10) piece None → line ≡ front ++ piece → length line ≤ 65536 →
-    IsWithinLine (front ++ piece)
+    IsWithinLine line
 line_held front piece line g nowhere is short = record {
-  no_end = without_end front piece g nowhere;
-  short = subst (λ l. length l ≤ 65536) is short;
+  no_end = subst (AllByRecursion (λ b. b ≢ 10)) (sym is) (without_end front piece g nowhere);
+  short = short;
 }
 
 -- no LF is in the piece, and the line goes on beyond its most bytes
@@ -88,3 +93,39 @@ line_too_long_before front piece end g found long = record {
   no_end = without_end_before front piece end g found;
   long = long;
 }
+
+-- a line is too long, or memory is out
+pub hold_rejected : (limits : Bounds) (text bytes : List ℕ) (e : InlineError) → (65536 < length bytes → BeginsLongLine text) →
+    (e ≡ OutOfMemory) ⊎ ((e ≡ LongLine) × (65536 < length bytes)) → RejectsLine limits text e
+hold_rejected limits text bytes e long (inl is) = subst (RejectsLine limits text) (sym is) tt
+hold_rejected limits text bytes e long (inr (is, more)) = subst (RejectsLine limits text) (sym is) (long more)
+
+line_that : (front piece content : List ℕ) (count : ℕ) (P : List ℕ → Type 0) → IsLineWith content (front ++ take count piece) → BeginsLine (front ++ piece) →
+    P content → BeginsLineThat (front ++ piece) P
+line_that front piece content count P line begins holds = record {
+  content = content;
+  rest = drop count piece;
+  whole = ap (λ t. front ++ t) (sym (take-append-drop count piece)) ∙ sym (append_assoc front (take count piece) (drop count piece)) ∙
+      ap (λ t. t ++ drop count piece) line.whole ∙ append_assoc content (10 ∷ []) (drop count piece);
+  begins = begins;
+  within = line.within;
+  holds = holds;
+}
+
+-- the line that ends in the piece is no command
+pub line_rejected : (limits : Bounds) (front piece content : List ℕ) (count : ℕ) (e : InlineError) → IsLineWith content (front ++ take count piece) →
+    BeginsLine (front ++ piece) → RejectsContent limits content e → RejectsLine limits (front ++ piece) e
+line_rejected limits front piece content count Quotes line begins r = line_that front piece content count _ line begins r
+line_rejected limits front piece content count OverLimits line begins r = line_that front piece content count _ line begins r
+line_rejected limits front piece content count LongLine line begins r = absurd r
+line_rejected limits front piece content count OutOfMemory line begins r = tt
+
+-- the array of a line is that of a name and arguments
+pub named_words : (limits : Bounds) (content array : List ℕ) → IsArrayOf limits content array →
+    (name : List ℕ) × (arguments : List (List ℕ)) × IsSpelling (rules_under Two limits) (command_of (name ∷ arguments)) array
+named_words limits content array a = of_words a.words a.some a.spelled
+  where
+    of_words : (words : List (List ℕ)) → 0 < length words → IsSpelling (rules_under Two limits) (command_of words) array →
+        (name : List ℕ) × (arguments : List (List ℕ)) × IsSpelling (rules_under Two limits) (command_of (name ∷ arguments)) array
+    of_words [] some spelled = absurd (omega (arith, some))
+    of_words (name ∷ arguments) some spelled = (name, arguments, spelled)
