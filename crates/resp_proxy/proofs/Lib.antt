@@ -9,7 +9,6 @@ pub mod Failings
 pub mod Gives
 pub mod Readings
 pub mod Others
-pub mod Leavings
 pub mod Refusals
 pub mod Moves
 pub mod Openings

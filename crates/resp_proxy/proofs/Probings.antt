@@ -19,12 +19,6 @@ use Rattle.resp_proxy.specs.Replying.{HasReplied, with_each_reply}
 abbrev pub Begins : List ℕ → Option (List ℕ) → Type 0
 Begins expected waiting = IfSome waiting (λ text. starts_with (λ a b. a == b) expected text ≡ true)
 
--- nobody was given anything
-pub same-step : (prober : Option ClientId) (expected : List ℕ) (mid new : Multiplexed) → AreInStep prober expected mid → KeepsBytes mid new →
-    AreInStep prober expected new
-same-step None expected mid new h kept = tt
-same-step (Some who) expected mid new h kept = subst (Begins expected) (sym (kept who)) h
-
 -- another client was given a reply, or the replies to probes are the expected ones
 pub next-step : (prober : Option ClientId) (expected : List ℕ) (client : ClientId) (mid new : Multiplexed) → AreInStep prober expected mid →
     KeepsOthers (client ∷ []) mid new → IsAnother prober client ⊎ AreInStep prober expected new → AreInStep prober expected new
@@ -32,11 +26,6 @@ next-step None expected client mid new h others either = tt
 next-step (Some who) expected client mid new h others (inl other) =
     subst (Begins expected) (sym (others who (none_of who client other))) h
 next-step (Some who) expected client mid new h others (inr here) = here
-
--- no reply ended, and nobody was given anything
-pub more-step : (prober : Option ClientId) (expected : List ℕ) (found : Option Replied) (mid new : Multiplexed) → found ≡ None →
-    AreInStep prober expected mid → IfNone found (KeepsBytes mid new) → AreInStep prober expected new
-more-step prober expected found mid new e h kept = same-step prober expected mid new h (subst (λ o. IfNone o (KeepsBytes mid new)) e kept)
 
 -- the reply that was given last is not the expected one
 pub falls : (prober : Option ClientId) (expected : List ℕ) (f f1 : Frames) (b b1 b2 : Begun) (old mid new : Multiplexed) (queued queued1 : List ClientId)

@@ -15,7 +15,7 @@ use Rattle.resp_proxy.specs.declared.error.ServerError.{ServerError}
 use Rattle.resp_proxy.specs.Replying.{HasReplied, RefusesReply, TakesReplies, with_each_reply}
 use Rattle.resp_proxy.specs.Telling.{Notes, Tells}
 use Rattle.resp_proxy.proofs.Takings.{kept-clients, rest-of, whole-rest}
-use Rattle.resp_proxy.proofs.Tellings.{answers-one, tells-none, tells-one}
+use Rattle.resp_proxy.proofs.Tellings.{answers-one, tells-one}
 use Rattle.resp_scan.specs.Reading.{HasNoValue, IsSpelled}
 use Rattle.resp_value.specs.Rules.{Rules}
 
@@ -142,12 +142,6 @@ begun-replied f f1 b b1 b2 old mid new queued queued1 piece used found h e more 
           (subst (λ rules. HasBegun rules b2 (after ++ rest-of used piece)) h.same_rules none.1),
       tt,
     ))
-
--- nobody more was replied to
-pub nobody-told : (found : Option Replied) (f f1 : Frames) (b b1 : Begun) (old mid new : Multiplexed) (queued queued1 : List ClientId) (piece : List ℕ) (used : ℕ) →
-    HasReplied f b old queued piece used f1 b1 mid queued1 → found ≡ None → IfNone found (KeepsBytes mid new) → Tells queued queued1 old new
-nobody-told found f f1 b b1 old mid new queued queued1 piece used h e none =
-    tells-none queued queued1 old mid new h.tells (subst (λ o. IfNone o (KeepsBytes mid new)) e none)
 
 -- the connection is not usable, since these bytes bring no reply
 pub end-replied : (f f1 : Frames) (b b1 b2 : Begun) (old mid new : Multiplexed) (queued queued1 : List ClientId) (piece : List ℕ) (used : ℕ) (e : ServerError) →

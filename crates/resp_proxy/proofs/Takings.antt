@@ -33,9 +33,6 @@ all-last : (P : Taken → Type 0) (ts : List Taken) (t : Taken) → AllByRecursi
 all-last P [] t all last = (last, tt)
 all-last P (u ∷ ts) t all last = (all.0, all-last P ts t all.1 last)
 
-pub keeps-clients : (m : Multiplexed) → KeepsClients m m
-keeps-clients m = record { are_open = λ who. refl; last = refl; bounds = refl }
-
 pub kept-clients : (old mid new : Multiplexed) → KeepsClients old mid → KeepsClients mid new → KeepsClients old new
 kept-clients old mid new first second = record {
   are_open = λ who. second.are_open who ∙ first.are_open who;

@@ -16,18 +16,6 @@ all-same : (P : ClientId → Type 0) (who : ClientId) (xs : List ClientId) → A
 all-same P who [] same here = tt
 all-same P who (x ∷ xs) same here = (subst P (sym same.0) here, all-same P who xs same.1 here)
 
--- nobody was replied to
-pub tells-nothing : (queued : List ClientId) (m : Multiplexed) → Tells queued queued m m
-tells-nothing queued m = record { added = []; behind = sym (append-nil queued); waited = tt; others = λ who none. refl }
-
-pub answers-nothing : (m : Multiplexed) → Answers m m
-answers-nothing m = record { answered = []; first = refl }
-
--- nobody more was replied to
-pub tells-none : (queued queued' : List ClientId) (old mid new : Multiplexed) → Tells queued queued' old mid → KeepsBytes mid new → Tells queued queued' old new
-tells-none queued queued' old mid new t kept =
-    record { added = t.added; behind = t.behind; waited = t.waited; others = λ who none. kept who ∙ t.others who none }
-
 -- one more client was replied to
 pub tells-one : (queued mid-queued queued' : List ClientId) (old mid new : Multiplexed) (who : ClientId) → Tells queued mid-queued old mid → Answers old mid →
     waiting_clients mid ≡ who ∷ waiting_clients new → KeepsOthers (who ∷ []) mid new → Notes who mid-queued queued' → Tells queued queued' old new
@@ -49,10 +37,6 @@ answers-one old mid new who a first = record {
   answered = a.answered ++ who ∷ [];
   first = a.first ∙ ap (λ ws. a.answered ++ ws) first ∙ sym (append_assoc a.answered (who ∷ []) (waiting_clients new));
 }
-
--- the client is queued
-pub noted-there : (who : ClientId) (queued : List ClientId) → Notes who queued (queued ++ who ∷ [])
-noted-there who queued = record { added = who ∷ []; behind = refl; only = (refl, tt); there = among_there who queued [] }
 
 take-next : (xs : List ClientId) (i : ℕ) (x : ClientId) → slice_get xs i ≡ Some x → take (suc i) xs ≡ take i xs ++ x ∷ []
 take-next [] zero x e = absurd (cc)
@@ -79,21 +63,8 @@ covers-one clients mid-queued queued' before who e covers n w none =
     ap (λ i. is_among w (take i clients)) next ∙ ap (is_among w) (take-next clients before who e) ∙
     none_both w (take before clients) (who ∷ []) (covers w kept.0) (none_of w who (is_other w who queued' none n.there))
 
-pub covers-all : (clients queued : List ClientId) (before count : ℕ) → count ≤ before → before ≤ count → Covers (take before clients) queued →
-    Covers (take count clients) queued
-covers-all clients queued before count enough few covers =
-    let same : before ≡ count = omega (arith, enough, few) in
-    subst (λ n. Covers (take n clients) queued) same covers
-
 -- clients of commands that waited were queued, and they were replied to
 pub tells-all : (queued queued' : List ClientId) (old new : Multiplexed) → NotesSome (waiting_clients old) queued queued' → Covers (begun_clients old) queued' →
     KeepsOthers (begun_clients old) old new → Tells queued queued' old new
 tells-all queued queued' old new n covers kept =
     record { added = n.added; behind = n.behind; waited = n.only; others = λ who none. kept who (covers who none) }
-
--- clients of commands that wait were queued
-pub tells-early : (queued queued' : List ClientId) (m : Multiplexed) → NotesSome (waiting_clients m) queued queued' → Tells queued queued' m m
-tells-early queued queued' m n = record { added = n.added; behind = n.behind; waited = n.only; others = λ who none. refl }
-
-pub notes-none : (clients queued : List ClientId) → NotesSome clients queued queued
-notes-none clients queued = record { added = []; behind = sym (append-nil queued); only = tt }
