@@ -1,5 +1,5 @@
 -- The replies and pushes that a client receives, and their text.
-use Rattle.std.specs.Prelude.{◌≡◌, ℕ, ◌+◌, Bool, true, false, List, length, Option, Result, Ok, Err}
+use Rattle.std.specs.Prelude.{◌≡◌, ℕ, ◌+◌, Bool, true, false, List, length, Option}
 use Rattle.resp_value.specs.Data.{Datum}
 use Rattle.resp_value.specs.Devices.{Appends}
 use Rattle.resp_value.specs.declared.cause.Cause.{Cause}
@@ -86,27 +86,15 @@ abbrev pub is_of_output : AskError → Bool
 is_of_output error.Output = true
 is_of_output _ = false
 
-abbrev pub failed_to_print : {X : Type 0} → Result X AskError → Bool
-failed_to_print (Ok x) = false
-failed_to_print (Err e) = is_of_output e
-
 -- whether a read of replies failed
 abbrev pub is_of_reader : AskError → Bool
 is_of_reader error.Read = true
 is_of_reader _ = false
 
-abbrev pub failed_to_read : {X : Type 0} → Result X AskError → Bool
-failed_to_read (Ok x) = false
-failed_to_read (Err e) = is_of_reader e
-
 -- whether a write to the server failed
 abbrev pub is_of_writer : AskError → Bool
 is_of_writer error.Write = true
 is_of_writer _ = false
-
-abbrev pub failed_to_write : {X : Type 0} → Result X AskError → Bool
-failed_to_write (Ok x) = false
-failed_to_write (Err e) = is_of_writer e
 
 -- an error of the connection, of the printed text or of memory, and no refusal of a command
 abbrev pub IsOfConnection : AskError → Type 0

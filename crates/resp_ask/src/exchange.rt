@@ -4,9 +4,9 @@ ghost use Rattle.std.specs.Prelude.{◌≡◌, ◌≢◌, ◌≤◌, ◌<◌, �
 ghost use Rattle.resp_value.specs.Devices.{Appends, failures_after};
 ghost use Rattle.resp_client.specs.Clients.{state_of};
 ghost use Rattle.resp_client.specs.Hearing.{KeepsReading, WhereTaken};
-ghost use Rattle.resp_turns.specs.Turns.{TellsEnd, WereRead};
+ghost use Rattle.resp_turns.specs.Turns.{WereRead, stopped_by};
 ghost use Rattle.resp_ask.specs.Exchanging.{SendsAll, SendsPart, sent_state};
-ghost use Rattle.resp_ask.specs.Hearing.{IsOfConnection, StopsHearing, Tells, failed_to_print, failed_to_read, failed_to_write};
+ghost use Rattle.resp_ask.specs.Hearing.{IsOfConnection, StopsHearing, Tells, is_of_output, is_of_reader, is_of_writer};
 
 use crate::error::AskError;
 use crate::hear::hear_until;
@@ -23,7 +23,7 @@ pub(crate) fn send_all<W: Sink>(writer: &mut W, client: &mut Client) -> Result<(
     ensures write_error { IfErr result (λ error. error ≡ AskError.Write) }
     ensures same_reading { KeepsReading client.old client.new }
     ensures failures { W.failures writer.new ≡
-        failures_after (failed_to_write result) (W.failures writer.old) }
+        failures_after (stopped_by is_of_writer result) (W.failures writer.old) }
 {
     let length = client.out().len();
     match write_all(writer, client.out()) {
@@ -74,11 +74,11 @@ pub fn exchange<R: Source, W: Sink, O: Sink>(
     ensures written { IfErr result (λ error. error ≢ AskError.Write →
         Appends (W.written writer.old) (W.written writer.new) (state_of client.old).out) }
     ensures write_failures { W.failures writer.new ≡
-        failures_after (failed_to_write result) (W.failures writer.old) }
+        failures_after (stopped_by is_of_writer result) (W.failures writer.old) }
     ensures read_failures { R.failures reader.new ≡
-        failures_after (failed_to_read result) (R.failures reader.old) }
+        failures_after (stopped_by is_of_reader result) (R.failures reader.old) }
     ensures print_failures { O.failures output.new ≡
-        failures_after (failed_to_print result) (O.failures output.old) }
+        failures_after (stopped_by is_of_output result) (O.failures output.old) }
     ensures never_refuses { IfErr result IsOfConnection }
 {
     if let Err(error) = send_all(writer, client) {

@@ -4,8 +4,8 @@ ghost use Rattle.std.specs.Prelude.{◌≡◌, ◌≤◌, ◌<◌, ◌++◌, ℕ
 ghost use Rattle.resp_value.specs.Devices.{failures_after};
 ghost use Rattle.resp_client.specs.Clients.{state_of};
 ghost use Rattle.resp_client.specs.Hearing.{WhereTaken};
-ghost use Rattle.resp_turns.specs.Turns.{TellsEnd, WereRead};
-ghost use Rattle.resp_ask.specs.Hearing.{IsOfConnection, StopsHearing, StopsTelling, Tells, error_of, failed_to_print, failed_to_read, failed_to_write};
+ghost use Rattle.resp_turns.specs.Turns.{TellsEnd, WereRead, stopped_by};
+ghost use Rattle.resp_ask.specs.Hearing.{IsOfConnection, StopsHearing, StopsTelling, Tells, error_of, is_of_output, is_of_reader, is_of_writer};
 
 use crate::error::AskError;
 use crate::tell::tell;
@@ -13,6 +13,7 @@ use crate::telling::Telling;
 use resp_client::Client;
 use resp_scan::event::Fault;
 use resp_session::laws;
+use resp_turns::{Halt, read_some};
 use resp_value::cause::Cause;
 use resp_value::device::{Sink, Source};
 
@@ -43,10 +44,10 @@ pub(crate) fn tell_piece<O: Sink>(
         telling.new (state_of client.old) (O.written output.old) (O.written output.new)
         (front ++ piece.now))) }
     ensures failures { O.failures output.new ≡
-        failures_after (failed_to_print result) (O.failures output.old) }
-    ensures not_read { failed_to_read result ≡ false }
+        failures_after (stopped_by is_of_output result) (O.failures output.old) }
+    ensures not_read { stopped_by is_of_reader result ≡ false }
     ensures not_ended { IsErrOf result AskError.Ended → ⊥ }
-    ensures not_written { failed_to_write result ≡ false }
+    ensures not_written { stopped_by is_of_writer result ≡ false }
     ensures never_refuses { IfErr result IsOfConnection }
 {
     laws::readings_go_on();
@@ -97,31 +98,30 @@ pub fn hear_until<R: Source, O: Sink>(
         (front ++ came))) }
     ensures few_wait { OnOk result (length (state_of client.new).waiting.asks ≤ left) }
     ensures read_failures { R.failures reader.new ≡
-        failures_after (failed_to_read result) (R.failures reader.old) }
+        failures_after (stopped_by is_of_reader result) (R.failures reader.old) }
     ensures print_failures { O.failures output.new ≡
-        failures_after (failed_to_print result) (O.failures output.old) }
+        failures_after (stopped_by is_of_output result) (O.failures output.old) }
     ensures end { IsErrOf result AskError.Ended →
         TellsEnd (R.remaining reader.old) (R.remaining reader.new) }
-    ensures not_written { failed_to_write result ≡ false }
+    ensures not_written { stopped_by is_of_writer result ≡ false }
     ensures never_refuses { IfErr result IsOfConnection }
 {
     laws::readings_go_on();
     // The contract of the loop needs the range of this number.
     let _errors = telling.errors;
-    for _turn in 0..MOST_READS {
-        if client.waiting() <= left {
-            return Ok(());
-        }
-        let count = match reader.read(buffer) {
+    let mut turns = MOST_READS;
+    while client.waiting() > left {
+        let count = match read_some(reader, buffer, &mut turns) {
             Ok(0) => return Err(AskError::Ended),
             Ok(count) => count,
-            Err(_) => return Err(AskError::Read),
+            Err(Halt::Failed) => return Err(AskError::Read),
+            Err(Halt::NoTurn) => return Err(AskError::TooManyTurns),
         };
         if let Err(error) = tell_piece(client, front(buffer, count), telling, output) {
             return Err(error);
         }
     }
-    Err(AskError::TooManyTurns)
+    Ok(())
 }
 
 /// Returns the first `count` bytes of a piece.

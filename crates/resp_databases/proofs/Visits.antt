@@ -20,7 +20,7 @@ use Rattle.resp_databases.specs.Rejections.{rejection_text}
 use Rattle.resp_databases.specs.Running.{standing_of, waiting_of}
 use Rattle.resp_databases.specs.Servers.{ServerState}
 use Rattle.resp_databases.specs.Taking.{Begins, DoesParts, Ends, HasUnfinished, IsOpenBefore, KeepsUnfinished, Progress, Takes, TakesFirst, WhereUnfinished, after_parts, after_rejection, after_request, closed, progress_of}
-use Rattle.resp_databases.specs.Visiting.{Answers, HadServed, Serves, ServesBy, ServesFirst, ServesPieces, StopsAnswering, StopsReading, StopsWriting, WhereOpen, WritesOut, LeavesRest, ends_by_read, with_written}
+use Rattle.resp_databases.specs.Visiting.{Answers, HadServed, Serves, ServesBy, ServesFirst, ServesPieces, StopsAnswering, StopsWriting, WhereOpen, WritesOut, LeavesRest, ends_by_read, with_written}
 use Rattle.resp_databases.specs.declared.client.Client.{Client}
 use Rattle.resp_databases.specs.declared.connection.Served.{Served}
 use Rattle.resp_databases.specs.declared.error.ServeError.{ServeError}
@@ -467,22 +467,6 @@ answering_unread f f' left e stops is = subst (StopsAnswering f f' left) is stop
 
 pub answering_turns : (f f' left : ℕ) (e : ServeError) → StopsAnswering f f' left e → e ≡ TooManyTurns → left ≡ 0
 answering_turns f f' left e stops is = subst (StopsAnswering f f' left) is stops
-
-pub reading_turns : {R : Type 0} → (f f' calls calls' : ℕ) (r r' : R) (left : ℕ) (e : ServeError) → StopsReading f f' calls calls' r r' left e →
-    e ≡ TooManyTurns → left ≡ 0
-reading_turns f f' calls calls' r r' left e stops is = (subst (StopsReading f f' calls calls' r r' left) is stops).0
-
-pub reading_real : {R : Type 0} → (f f' calls calls' : ℕ) (r r' : R) (left : ℕ) (e : ServeError) → StopsReading f f' calls calls' r r' left e →
-    e ≡ OutOfMemory → ⊥
-reading_real f f' calls calls' r r' left e stops is = subst (StopsReading f f' calls calls' r r' left) is stops
-
--- a read that stopped gave nothing
-pub read_nothing : {R : Type 0} → (remaining : R → Option (List ℕ)) (calls : R → ℕ) (f f' : ℕ) (r r' : R) (left : ℕ) (e : ServeError) →
-    StopsReading f f' (calls r) (calls r') r r' left e → WereRead (remaining r) (remaining r') [] → ReadsNothing remaining calls r r' (ends_by_read (Err e))
-read_nothing remaining calls f f' r r' left Read stops nothing = (nothing, stops.1)
-read_nothing remaining calls f f' r r' left TooManyTurns stops nothing = stops.1
-read_nothing remaining calls f f' r r' left Write stops nothing = absurd stops
-read_nothing remaining calls f f' r r' left OutOfMemory stops nothing = absurd stops
 
 -- the error of a result
 pub same_error : (end : Result Served ServeError) (e e' : ServeError) → end ≡ Err e → end ≡ Err e' → e ≡ e'

@@ -1,7 +1,7 @@
 -- What a connection reads, does and writes.
 use Rattle.std.specs.Prelude.{◌≡◌, ◌⊎◌, ℕ, ◌-◌, ◌<◌, Bool, true, false, List, [], ◌++◌, length, take, drop, Option, Result, Ok, Err}
 use Rattle.std.specs.List.{concat}
-use Rattle.resp_value.specs.Devices.{Appends, HasRisen, count_after}
+use Rattle.resp_value.specs.Devices.{Appends, HasRisen}
 use Rattle.resp_turns.specs.Pieces.{ReadsPieces}
 use Rattle.resp_turns.specs.Turns.{TellsEnd}
 use Rattle.resp_databases.specs.Parts.{Part}
@@ -59,21 +59,21 @@ pub record HadServed (bytes text : List ℕ) (old : ServerState) (before : Clien
   pub none_waits : waiting_of client ≡ []
   pub is_open : (standing_of client).closing ≡ false
 
+-- whether the error is a failed read
+abbrev pub is_of_reader : ServeError → Bool
+is_of_reader Read = true
+is_of_reader _ = false
+
+-- whether the error is a failed write
+abbrev pub is_of_writer : ServeError → Bool
+is_of_writer Write = true
+is_of_writer _ = false
+
 -- whether the last read returned nothing
 abbrev pub ends_by_read : Result Served ServeError → Bool
 ends_by_read (Ok Ended) = true
-ends_by_read (Err Read) = true
-ends_by_read _ = false
-
--- whether the call stopped because a read failed
-abbrev pub failed_to_read : {T : Type 0} → Result T ServeError → Bool
-failed_to_read (Err Read) = true
-failed_to_read _ = false
-
--- whether the call stopped because a write failed
-abbrev pub failed_to_write : {T : Type 0} → Result T ServeError → Bool
-failed_to_write (Err Write) = true
-failed_to_write _ = false
+ends_by_read (Ok Closed) = false
+ends_by_read (Err error) = is_of_reader error
 
 -- the bytes of the buffer that were read and not given to the server
 abbrev pub rest_in : Visit → List ℕ → List ℕ
@@ -141,13 +141,6 @@ StopsWriting failures failures' left _ = ⊥
 abbrev pub StopsAnswering : ℕ → ℕ → ℕ → ServeError → Type 0
 StopsAnswering failures failures' left OutOfMemory = Unit {0}
 StopsAnswering failures failures' left error = StopsWriting failures failures' left error
-
--- why a read stops: it failed, or no turn is left and it was not made
-abbrev pub StopsReading : {R : Type 0} → ℕ → ℕ → ℕ → ℕ → R → R → ℕ → ServeError → Type 0
-StopsReading failures failures' calls calls' reader reader' left Read =
-    HasRisen failures failures' × (calls' ≡ count_after 1 calls)
-StopsReading failures failures' calls calls' reader reader' left TooManyTurns = (left ≡ 0) × (reader' ≡ reader)
-StopsReading failures failures' calls calls' reader reader' left _ = ⊥
 
 -- if bytes of a piece are left, they could not be taken since more than `most` bytes waited, and some of these still
 -- wait

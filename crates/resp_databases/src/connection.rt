@@ -1,10 +1,10 @@
 //! The server's end of a connection.
 
-ghost use Rattle.std.specs.Prelude.{◌≡◌, ◌<◌, ◌≤◌, [], length, take, false, true, IfErr, IfOk, IsErrOf, OnErr, OnOk};
-ghost use Rattle.resp_value.specs.Devices.{count_after, failures_after};
-ghost use Rattle.resp_turns.specs.Turns.{Spends, SpendsAtMost, TellsEnd, WereRead};
+ghost use Rattle.std.specs.Prelude.{◌≡◌, ◌<◌, ◌≤◌, [], length, take, false, true, IfErr, IsErrOf, OnErr, OnOk};
+ghost use Rattle.resp_value.specs.Devices.{failures_after};
+ghost use Rattle.resp_turns.specs.Turns.{Spends, SpendsAtMost, stopped_by};
 ghost use Rattle.resp_databases.specs.Running.{standing_of, waiting_of};
-ghost use Rattle.resp_databases.specs.Visiting.{Answers, EndsVisit, FailsServing, LeavesRest, ServesPieces, StaysAfter, StopsAnswering, StopsReading, StopsWriting, WritesOut, failed_to_read, failed_to_write, rest_in};
+ghost use Rattle.resp_databases.specs.Visiting.{Answers, EndsVisit, FailsServing, LeavesRest, ServesPieces, StaysAfter, StopsAnswering, StopsWriting, WritesOut, is_of_reader, is_of_writer, rest_in};
 
 use crate::client::Client;
 use crate::databases::Databases;
@@ -76,9 +76,9 @@ pub fn serve<R: Source, W: Sink, S: BuildHasher + Copy>(
         (W.failures writer.new) (R.failures reader.old) (R.failures reader.new)) }
     // A device fails once if the error says so, and otherwise never.
     ensures write_failures { W.failures writer.new ≡
-        failures_after (failed_to_write result.end) (W.failures writer.old) }
+        failures_after (stopped_by is_of_writer result.end) (W.failures writer.old) }
     ensures read_failures { R.failures reader.new ≡
-        failures_after (failed_to_read result.end) (R.failures reader.old) }
+        failures_after (stopped_by is_of_reader result.end) (R.failures reader.old) }
     ensures turns { SpendsAtMost (W.calls writer.old) (W.calls writer.new) (R.calls reader.old)
         (R.calls reader.new) turns (IsErrOf result.end ServeError.TooManyTurns) }
     ensures same_server { databases.new ≡
@@ -89,10 +89,11 @@ pub fn serve<R: Source, W: Sink, S: BuildHasher + Copy>(
         return ended(Err(error));
     }
     while !client.closing {
-        let count = match read_piece(reader, buffer, &mut left) {
+        let count = match read_some(reader, buffer, &mut left) {
             Ok(0) => return ended(Ok(Served::Ended)),
             Ok(count) => count,
-            Err(error) => return ended(Err(error)),
+            Err(Halt::Failed) => return ended(Err(ServeError::Read)),
+            Err(Halt::NoTurn) => return ended(Err(ServeError::TooManyTurns)),
         };
         let answered = answer(writer, databases, client, &buffer[..count], &mut left, held);
         if let Err(error) = answered.end {
@@ -140,7 +141,7 @@ fn answer<W: Sink, S: BuildHasher + Copy>(
     ensures full { result.used < length piece.now →
         LeavesRest held (W.written writer.old) (W.written writer.new) client.new }
     ensures failures { W.failures writer.new ≡
-        failures_after (failed_to_write result.end) (W.failures writer.old) }
+        failures_after (stopped_by is_of_writer result.end) (W.failures writer.old) }
     ensures refusal { IfErr result.end (StopsAnswering (W.failures writer.old)
         (W.failures writer.new) turns.new) }
     ensures turns { Spends (W.calls writer.old) (W.calls writer.new) turns.old turns.new }
@@ -167,34 +168,6 @@ fn answer<W: Sink, S: BuildHasher + Copy>(
     Answered { used, end: Ok(()) }
 }
 
-/// Reads some bytes with one read. The number is 0 only at the end, or if there is no room.
-fn read_piece<R: Source>(
-    reader: &mut R,
-    buffer: &mut [u8],
-    turns: &mut u64,
-) -> Result<usize, ServeError>
-    ensures within { IfOk result (λ count. count ≤ length buffer.new) }
-    ensures same_room { length buffer.new ≡ length buffer.old }
-    ensures read { IfOk result (λ count. WereRead (R.remaining reader.old) (R.remaining reader.new)
-        (take count buffer.new)) }
-    ensures end { 0 < length buffer.old → IfOk result (λ count. count ≡ 0 →
-        TellsEnd (R.remaining reader.old) (R.remaining reader.new)) }
-    ensures unread { OnErr result (WereRead (R.remaining reader.old) (R.remaining reader.new) []) }
-    ensures failures { R.failures reader.new ≡
-        failures_after (failed_to_read result) (R.failures reader.old) }
-    ensures turns { Spends (R.calls reader.old) (R.calls reader.new) turns.old turns.new }
-    ensures once { OnOk result (R.calls reader.new ≡ count_after 1 (R.calls reader.old)) }
-    ensures refusal { IfErr result (StopsReading (R.failures reader.old) (R.failures reader.new)
-        (R.calls reader.old) (R.calls reader.new) reader.old reader.new turns.new) }
-    ensures onward { OnOk result (turns.new < turns.old) }
-{
-    match read_some(reader, buffer, turns) {
-        Ok(count) => Ok(count),
-        Err(Halt::Failed) => Err(ServeError::Read),
-        Err(Halt::NoTurn) => Err(ServeError::TooManyTurns),
-    }
-}
-
 /// Writes all bytes that wait.
 fn write_out<W: Sink>(
     writer: &mut W,
@@ -206,7 +179,7 @@ fn write_out<W: Sink>(
     ensures all { OnOk result (waiting_of client.new ≡ []) }
     ensures part { OnErr result (0 < length (waiting_of client.new)) }
     ensures failures { W.failures writer.new ≡
-        failures_after (failed_to_write result) (W.failures writer.old) }
+        failures_after (stopped_by is_of_writer result) (W.failures writer.old) }
     ensures refusal { IfErr result (StopsWriting (W.failures writer.old) (W.failures writer.new)
         turns.new) }
     ensures turns { Spends (W.calls writer.old) (W.calls writer.new) turns.old turns.new }

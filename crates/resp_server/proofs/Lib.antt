@@ -12,3 +12,4 @@ pub mod Turns
 pub mod WholeTurns
 pub mod AnsweredPieces
 pub mod AnsweredHubs
+pub mod Sending

@@ -8,3 +8,4 @@ pub mod Hubs
 pub mod PushRefusals
 pub mod Answering
 pub mod Handling
+pub mod Sending

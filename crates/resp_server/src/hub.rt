@@ -4,12 +4,15 @@ ghost use Rattle.std.specs.Prelude.{◌≡◌, ◌≢◌, ◌+◌, ◌≤◌, �
 ghost use Rattle.std.specs.Option.{option_map};
 ghost use Rattle.resp_value.specs.Canonical.{IsValue, canonical_text};
 ghost use Rattle.resp_value.specs.declared.version.Version.TheVariants.{Three};
+ghost use Rattle.resp_value.specs.Devices.{failures_after};
 ghost use Rattle.resp_encode.specs.Pushes.{push_of};
 ghost use Rattle.resp_session.specs.Stores.{value_at};
+ghost use Rattle.resp_turns.specs.Turns.{Halts, Spends, has_failed, stopped_by};
 ghost use Rattle.resp_server.specs.Answering.{TakesWithin};
 ghost use Rattle.resp_server.specs.PushRefusals.{IsPushVerdict};
 ghost use Rattle.resp_server.specs.Reading.{HasReadFront, HoldsNoIdleDecoder};
 ghost use Rattle.resp_server.specs.Handling.{WhereOpen, HasAnswered, HasCutShort, IfOutOfMemory};
+ghost use Rattle.resp_server.specs.Sending.{HasSent, HasSentPart, IsClosing};
 ghost use Rattle.resp_server.specs.declared.error.HubError.{HubError};
 ghost use Rattle.resp_server.specs.declared.error.OpenError.{OpenError};
 
@@ -20,6 +23,8 @@ use crate::push::queue_push;
 use crate::session::Session;
 use crate::shared::Shared;
 use crate::store::Store;
+use resp_turns::{Halt, write_text};
+use resp_value::device::Sink;
 use resp_value::limits::Limits;
 use resp_value::value::Value;
 use resp_value::version::Version;
@@ -42,6 +47,15 @@ pub struct Taken {
     pub used: usize,
     /// The number of commands that were run, including those with an error reply.
     pub commands: u64,
+}
+
+/// The result of writing the bytes that wait in a session.
+#[derive(Clone, Copy, Debug, PartialEq, Eq)]
+pub struct Sent {
+    /// Why writing stopped, if bytes still wait.
+    pub end: Result<(), Halt>,
+    /// Whether the session is closing, as [`Hub::is_closing`] returns it.
+    pub closing: bool,
 }
 
 /// Sessions over one store. Each session reads the commands of one client in version 2 (Redis
@@ -174,6 +188,43 @@ impl<S: BuildHasher> Hub<S> {
         };
         session.out.advance(count);
         Ok(())
+    }
+
+    /// Writes the bytes that wait in a session, with as many writes as they need, and removes those
+    /// that were written. Each write uses one of the turns that are left.
+    ///
+    /// # Errors
+    ///
+    /// `NoSession` if no session has this id. Then nothing is changed. If a write fails, writes no
+    /// byte or has no turn left, then [`Sent::end`] is an error, and the other bytes still wait.
+    pub fn write_out<W: Sink>(
+        &mut self,
+        id: u64,
+        writer: &mut W,
+        turns: &mut u64,
+    ) -> Result<Sent, NoSession>
+        ensures sent { IfOk result (λ sent. OnOk sent.end (HasSent self.old self.new id
+            (W.written writer.old) (W.written writer.new) [])) }
+        ensures part { IfOk result (λ sent. OnErr sent.end (HasSentPart self.old self.new id
+            (W.written writer.old) (W.written writer.new))) }
+        ensures closing { IfOk result (λ sent. IsClosing self.new id sent.closing) }
+        ensures failures { IfOk result (λ sent. W.failures writer.new ≡
+            failures_after (stopped_by has_failed sent.end) (W.failures writer.old)) }
+        ensures turns { Spends (W.calls writer.old) (W.calls writer.new) turns.old turns.new }
+        ensures halted { IfOk result (λ sent. IfErr sent.end (Halts (W.failures writer.old)
+            (W.failures writer.new) turns.new)) }
+        ensures none { OnErr result (seat_at self.old id ≡ None) }
+        ensures unchanged { OnErr result ((self.new ≡ self.old) × (writer.new ≡ writer.old) ×
+            (turns.new ≡ turns.old)) }
+    {
+        let Some(session) = self.sessions.get_mut(&id) else {
+            return Err(NoSession);
+        };
+        let written = write_text(writer, session.out.as_slice(), turns);
+        session.out.advance(written.count);
+        let closing = session.closing;
+        let end = written.end;
+        Ok(Sent { end, closing })
     }
 
     /// Returns whether a session accepts no more commands and pushes, after a protocol error or

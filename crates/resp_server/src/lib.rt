@@ -24,4 +24,4 @@ mod words;
 
 pub use entries::Entries;
 pub use error::{HubError, NoSession, OpenError, PushError};
-pub use hub::{Handled, Hub, Taken};
+pub use hub::{Handled, Hub, Sent, Taken};

@@ -2,13 +2,10 @@
 use Rattle.std.specs.List.{concat}
 use Rattle.std.proofs.Common.{◌≡◌, inl, inr, ℕ, ◌+◌, ◌-◌, ◌<◌, ◌≤◌, Bool, false, List, [], ◌∷◌, ◌++◌, length, take, drop, Option, refl, sym, ap, subst, ◌∙◌, append_assoc, arith}
 use Rattle.std.proofs.lemmas.Bool.{cases_lt}
-use Rattle.std.proofs.lemmas.List.{append-nil, drop-take, length-append, length-take-le, take-append-drop, take-append-le, take_all}
+use Rattle.std.proofs.lemmas.List.{append-nil, drop-take, length-append, take-append-drop, take-append-le, take_all}
 use Rattle.std.proofs.lemmas.List.Folds.{concat-append}
-use Rattle.resp_value.specs.Devices.{count_after}
-use Rattle.resp_turns.specs.Pieces.{GivesPiece, GivesPieces, ReadsNothing, ReadsPieces}
-use Rattle.resp_turns.specs.Turns.{WereRead, has_failed}
-use Rattle.resp_turns.specs.declared.halt.Halt.{Halt}
-use Rattle.resp_turns.specs.declared.halt.Halt.TheVariants.{Failed, NoTurn}
+use Rattle.resp_turns.specs.Pieces.{GivesPiece, GivesPieces, ReadsPieces}
+use Rattle.resp_turns.specs.Turns.{WereRead}
 use Rattle.resp_turns.proofs.Turning.{has_read_more, reads_none}
 
 -- nothing was read
@@ -22,12 +19,6 @@ pub only_pieces : {R : Type 0} → (most : ℕ) (remaining : R → Option (List 
 only_pieces most remaining calls failures a b pieces is_over given none =
     subst (ReadsPieces most remaining calls failures a b pieces) (sym none) (record { between = b; given = given; over = refl })
 
--- a read that halted gave nothing, if it was made
-pub halted : {R : Type 0} → (remaining : R → Option (List ℕ)) (calls : R → ℕ) (a b : R) (halt : Halt) → WereRead (remaining a) (remaining b) [] →
-    (halt ≡ Failed → calls b ≡ count_after 1 (calls a)) → (halt ≡ NoTurn → b ≡ a) → ReadsNothing remaining calls a b (has_failed halt)
-halted remaining calls a b Failed nothing once none = (nothing, once refl)
-halted remaining calls a b NoTurn nothing once none = none refl
-
 -- a piece more
 pub given_more : {R : Type 0} → (most : ℕ) (remaining : R → Option (List ℕ)) (calls failures : R → ℕ) (a b c : R) (pieces : List (List ℕ)) (piece : List ℕ) →
     GivesPieces most remaining calls failures a b pieces → GivesPiece most remaining calls failures b c piece →
@@ -37,18 +28,18 @@ given_more most remaining calls failures a b c [] piece same gives =
 given_more most remaining calls failures a b c (first ∷ pieces) piece (between, gives_first, given) gives =
     (between, gives_first, given_more most remaining calls failures between b c pieces piece given gives)
 
--- the first bytes of what a read moved into its room
-pub gives : {R : Type 0} → (most : ℕ) (remaining : R → Option (List ℕ)) (calls failures : R → ℕ) (a b c : R) (pieces : List (List ℕ)) (into : List ℕ) (n : ℕ) →
-    GivesPieces most remaining calls failures a b pieces → n ≤ length into → 0 < n → n ≤ most → WereRead (remaining b) (remaining c) (take n into) →
-    calls c ≡ count_after 1 (calls b) → failures c ≡ failures b → GivesPieces most remaining calls failures a c (pieces ++ take n into ∷ [])
-gives most remaining calls failures a b c pieces into n given within some short read once none_failed =
-    let long = length-take-le n into within in
-    given_more most remaining calls failures a b c pieces (take n into) given (record {
-      some = omega (arith, long);
-      short = omega (arith, long);
-      read = read;
-      once = once;
-      none_failed = none_failed;
+-- a piece more, which was read into room for fewer bytes
+pub gives : {R : Type 0} → (most room : ℕ) (remaining : R → Option (List ℕ)) (calls failures : R → ℕ) (a b c : R) (pieces : List (List ℕ)) (piece : List ℕ) →
+    room ≤ most → GivesPieces most remaining calls failures a b pieces → GivesPiece room remaining calls failures b c piece →
+    GivesPieces most remaining calls failures a c (pieces ++ piece ∷ [])
+gives most room remaining calls failures a b c pieces piece within given first =
+    let short = first.short in
+    given_more most remaining calls failures a b c pieces piece given (record {
+      some = first.some;
+      short = omega (arith, within, short);
+      read = first.read;
+      once = first.once;
+      none_failed = first.none_failed;
     })
 
 -- what was read are the pieces, joined

@@ -1,11 +1,10 @@
 -- Reads and writes one after another.
-use Rattle.std.proofs.Common.{◌≡◌, inl, inr, true, ℕ, zero, suc, ◌+◌, ◌<◌, ◌≤◌, List, [], ◌++◌, length, take, drop, Option, None, Some, Ok, Err, refl, sym, ap, subst, ◌∙◌, arith, append_assoc}
-use Rattle.std.specs.Prelude.{IfErr, IfOk, Result}
+use Rattle.std.proofs.Common.{◌≡◌, inl, inr, true, ℕ, zero, suc, ◌+◌, ◌<◌, ◌≤◌, List, [], ◌++◌, take, drop, Option, None, Some, Ok, Err, refl, sym, ap, subst, ◌∙◌, arith, append_assoc}
+use Rattle.std.specs.Prelude.{IfErr, IfOk, OnErr, OnOk, Result}
 use Rattle.std.proofs.lemmas.Bool.{cases_lt}
-use Rattle.std.proofs.lemmas.List.{append-nil, take-append-drop}
+use Rattle.std.proofs.lemmas.List.{append-nil}
 use Rattle.std.proofs.Math.Seq.{take-add}
-use Rattle.resp_value.specs.Devices.{Appends, HasRisen, Reads, ReadsFront, count_after, failures_after, last_count}
-use Rattle.resp_value.specs.declared.device.DeviceFault.{DeviceFault}
+use Rattle.resp_value.specs.Devices.{Appends, HasRisen, count_after, failures_after, last_count}
 use Rattle.resp_turns.specs.Turns.{WereRead, Spends, SpendsTurns, TellsEnd}
 
 -- Failures.
@@ -135,37 +134,18 @@ pub end_after : (a b c : Option (List ℕ)) (came : List ℕ) → WereRead a b c
 end_after None b c came first second = tt
 end_after (Some left) b c came (rest, parts, beyond) second = subst (λ z. TellsEnd z c) beyond second
 
--- more was read
-pub reads_more : (a b c : Option (List ℕ)) (came into : List ℕ) (n : ℕ) → WereRead a b came → Reads b c into (Ok n) → WereRead a c (came ++ take n into)
-reads_more None b c came into n first second = tt
-reads_more (Some left) b c came into n (rest, parts, beyond) second =
-    let read : ReadsFront rest c into n = subst (λ z. Reads z c into (Ok n)) beyond second in (
-      drop n rest,
-      parts ∙ ap (λ z. came ++ z) (sym (take-append-drop n rest) ∙ ap (λ z. z ++ drop n rest) (sym read.bytes))
-          ∙ sym (append_assoc came (take n into) (drop n rest)),
-      read.beyond,
-    )
-
--- a read that failed took nothing
-pub reads_failed : (a b c : Option (List ℕ)) (came into : List ℕ) (fault : DeviceFault) → WereRead a b came → Reads b c into (Err fault) → WereRead a c came
-reads_failed None b c came into fault first second = tt
-reads_failed (Some left) b c came into fault (rest, parts, beyond) second =
-    let same : c ≡ Some rest = subst (λ z. Reads z c into (Err fault)) beyond second in
-    (rest, parts, same)
-
--- where a read of some room gives nothing, a device that tells its bytes has none left
-pub reads_end : (a b c : Option (List ℕ)) (came into : List ℕ) (n : ℕ) → WereRead a b came → Reads b c into (Ok n) → n ≡ 0 → 0 < length into →
-    WereRead a c came × TellsEnd a c
-reads_end None b c came into n first second none room = (tt, tt)
-reads_end (Some left) b c came into zero (rest, parts, beyond) second none room =
-    let read : ReadsFront rest c into 0 = subst (λ z. Reads z c into (Ok 0)) beyond second in
-    let over : rest ≡ [] = read.at_end refl room in
-    ((rest, parts, read.beyond), read.beyond ∙ ap Some over)
-reads_end (Some left) b c came into (suc n) first second none room = absurd (omega (arith, none))
-
 -- what holds at an answer
 pub if_ok : {A : Type 0} → {E : Type 0} → (r : Result A E) (x : A) → r ≡ Ok x → (P : A → Type 0) → IfOk r P → P x
 if_ok r x is P p = subst (λ z. IfOk z P) is p
 
 pub if_err : {A : Type 0} → {E : Type 0} → (r : Result A E) (e : E) → r ≡ Err e → (P : E → Type 0) → IfErr r P → P e
 if_err r e is P p = subst (λ z. IfErr z P) is p
+
+-- what follows at a value, and at an error
+pub on_ok : {A E P Q : Type 0} (r : Result A E) → (P → Q) → OnOk r P → OnOk r Q
+on_ok (Ok x) f p = f p
+on_ok (Err e) f p = tt
+
+pub on_err : {A E P Q : Type 0} (r : Result A E) → (P → Q) → OnErr r P → OnErr r Q
+on_err (Ok x) f p = tt
+on_err (Err e) f p = f p

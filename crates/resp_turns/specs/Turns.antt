@@ -26,10 +26,10 @@ abbrev pub has_failed : Halt → Bool
 has_failed Failed = true
 has_failed NoTurn = false
 
--- whether a call stopped because the device failed
-abbrev pub is_failed : {T : Type 0} → Result T Halt → Bool
-is_failed (Ok x) = false
-is_failed (Err halt) = has_failed halt
+-- whether a call stopped with an error that passes this test
+abbrev pub stopped_by : {T E : Type 0} → (E → Bool) → Result T E → Bool
+stopped_by test (Ok x) = false
+stopped_by test (Err error) = test error
 
 -- a device that described its bytes states that no byte is left
 abbrev pub TellsEnd : Option (List ℕ) → Option (List ℕ) → Type 0

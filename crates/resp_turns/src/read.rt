@@ -1,8 +1,9 @@
 //! Reading a piece.
 
-ghost use Rattle.std.specs.Prelude.{◌≡◌, ◌<◌, ◌≤◌, [], length, take, IfOk, IfErr, IsErrOf, OnOk, OnErr};
-ghost use Rattle.resp_value.specs.Devices.{count_after, failures_after};
-ghost use Rattle.resp_turns.specs.Turns.{Halts, WereRead, Spends, TellsEnd, is_failed};
+ghost use Rattle.std.specs.Prelude.{◌≡◌, ◌<◌, ◌≤◌, length, take, true, IfOk, IfErr, OnOk};
+ghost use Rattle.resp_value.specs.Devices.{failures_after};
+ghost use Rattle.resp_turns.specs.Pieces.{GivesPiece, ReadsNothing};
+ghost use Rattle.resp_turns.specs.Turns.{Halts, Spends, TellsEnd, has_failed, stopped_by};
 
 use crate::halt::Halt;
 use resp_value::device::Source;
@@ -10,19 +11,17 @@ use resp_value::device::Source;
 /// Reads some bytes with one read. The number is 0 only at the end, or if there is no room.
 pub fn read_some<R: Source>(reader: &mut R, into: &mut [u8], turns: &mut u64) -> Result<usize, Halt>
     ensures within { IfOk result (λ count. count ≤ length into.new) }
-    ensures read { IfOk result (λ count. WereRead (R.remaining reader.old) (R.remaining reader.new)
-        (take count into.new)) }
+    ensures piece { IfOk result (λ count. 0 < count → GivesPiece (length into.old) R.remaining
+        R.calls R.failures reader.old reader.new (take count into.new)) }
+    ensures empty { IfOk result (λ count. count ≡ 0 →
+        ReadsNothing R.remaining R.calls reader.old reader.new true) }
     ensures end { 0 < length into.old → IfOk result (λ count. count ≡ 0 →
         TellsEnd (R.remaining reader.old) (R.remaining reader.new)) }
-    ensures unread { OnErr result (WereRead (R.remaining reader.old) (R.remaining reader.new) []) }
-    ensures none_failed { OnOk result (R.failures reader.new ≡ R.failures reader.old) }
+    ensures unread { IfErr result (λ halt.
+        ReadsNothing R.remaining R.calls reader.old reader.new (has_failed halt)) }
     ensures failures { R.failures reader.new ≡
-        failures_after (is_failed result) (R.failures reader.old) }
+        failures_after (stopped_by has_failed result) (R.failures reader.old) }
     ensures turns { Spends (R.calls reader.old) (R.calls reader.new) turns.old turns.new }
-    ensures once { OnOk result (R.calls reader.new ≡ count_after 1 (R.calls reader.old)) }
-    ensures failed_once { IsErrOf result Halt.Failed →
-        R.calls reader.new ≡ count_after 1 (R.calls reader.old) }
-    ensures not_once { IsErrOf result Halt.NoTurn → reader.new ≡ reader.old }
     ensures onward { OnOk result (turns.new < turns.old) }
     ensures halted { IfErr result (Halts (R.failures reader.old) (R.failures reader.new)
         turns.new) }

@@ -2,7 +2,7 @@
 
 ghost use Rattle.std.specs.Prelude.{◌≡◌, ◌<◌, ◌≤◌, drop, length, take, IfErr, OnOk, OnErr};
 ghost use Rattle.resp_value.specs.Devices.{Appends, failures_after};
-ghost use Rattle.resp_turns.specs.Turns.{Halts, Spends, is_failed};
+ghost use Rattle.resp_turns.specs.Turns.{Halts, Spends, has_failed, stopped_by};
 
 use crate::halt::Halt;
 use resp_value::device::Sink;
@@ -24,9 +24,8 @@ pub fn write_text<W: Sink>(writer: &mut W, text: &[u8], turns: &mut u64) -> Writ
     ensures whole { OnOk result.end (result.count ≡ length text.now) }
     ensures part { OnErr result.end (result.count < length text.now) }
     ensures onward { OnOk result.end (0 < length text.now → turns.new < turns.old) }
-    ensures none_failed { OnOk result.end (W.failures writer.new ≡ W.failures writer.old) }
     ensures failures { W.failures writer.new ≡
-        failures_after (is_failed result.end) (W.failures writer.old) }
+        failures_after (stopped_by has_failed result.end) (W.failures writer.old) }
     ensures turns { Spends (W.calls writer.old) (W.calls writer.new) turns.old turns.new }
     ensures halted { IfErr result.end (Halts (W.failures writer.old) (W.failures writer.new)
         turns.new) }

@@ -12,7 +12,7 @@ use Rattle.resp_server.specs.Answering.{state_with}
 use Rattle.resp_server.specs.Handling.{HasAnswered, WhereOpen}
 use Rattle.resp_server.specs.Hubs.{HubState, Seat, seat_at, seated, stocked}
 use Rattle.resp_wire.specs.Carrying.{HasBrought, HasClosed, StopsCarrying}
-use Rattle.resp_wire.specs.Serving.{IsClosing}
+use Rattle.resp_server.specs.Sending.{IsClosing}
 use Rattle.resp_wire.proofs.Seated.{at_open, seated_twice, where_open}
 use Rattle.resp_wire.proofs.ServedTexts.{seat_given, seat_with}
 

@@ -1,7 +1,7 @@
 -- Parts of a piece, answered one after another.
 use Rattle.std.specs.Prelude.{⊤}
 use Rattle.std.specs.List.{concat}
-use Rattle.std.proofs.Common.{◌≡◌, ◌⊎◌, inl, inr, ℕ, ◌+◌, ◌-◌, ◌<◌, ◌≤◌, Bool, true, false, List, [], ◌∷◌, ◌++◌, length, take, drop, arith, append_assoc, take_all, Option, Some, Result, Ok, Err, OnOk, OnErr, IfOk, IfErr, refl, sym, ap, subst, ◌∙◌, take-add, length-drop}
+use Rattle.std.proofs.Common.{◌≡◌, ◌⊎◌, inl, inr, ℕ, ◌+◌, ◌-◌, ◌<◌, ◌≤◌, Bool, true, List, [], ◌∷◌, ◌++◌, length, take, drop, arith, append_assoc, take_all, Option, Some, Result, Ok, Err, OnOk, OnErr, IfErr, refl, sym, ap, subst, ◌∙◌, take-add, length-drop}
 use Rattle.std.specs.Result.{is_ok}
 use Rattle.std.proofs.lemmas.Bool.{cases_lt}
 use Rattle.std.proofs.lemmas.List.{drop-take, length-append, take-append-drop, take-append-le}
@@ -13,16 +13,13 @@ use Rattle.resp_wire.specs.declared.error.ServeError.{ServeError}
 use Rattle.resp_wire.specs.declared.error.ServeError.TheVariants.{NoSession, OutOfMemory, Read, Write, TooManyTurns}
 use Rattle.resp_wire.proofs.Seated.{at_open, where_open}
 use Rattle.resp_turns.proofs.Pieces.{concat_more}
+use Rattle.resp_turns.proofs.Turning.{on_err}
 use Rattle.resp_wire.proofs.ServedTexts.{Stands, piece_serves, piece_stops, seat_given, seat_of, serves_piece, stands, stops_piece}
 
 -- the result of a part that was answered
 pub ok_end : (end : Result Bool ServeError) → is_ok end ≡ true → (closing : Bool) × (end ≡ Ok closing)
 ok_end (Ok closing) ok = (closing, refl)
 ok_end (Err error) ok = absurd (cc)
-
--- what holds of a part that was answered
-pub if_ok : (end : Result Bool ServeError) (closing : Bool) → end ≡ Ok closing → IfOk end (λ closing. closing ≡ false) → closing ≡ false
-if_ok end closing is not = subst (λ e. IfOk e (λ closing. closing ≡ false)) is not
 
 more_by : AnswersGoOn → AnswersAreAdded → (old cur new : HubState) (id : ℕ) (s : Seat) (front piece : List ℕ) (n m : ℕ)
     (held held' held'' : Option (List ℕ)) → seat_at old id ≡ Some s → (st : Stands old cur id s (front ++ take n piece) held held') →
@@ -64,13 +61,12 @@ pub ends_more : (total : ℕ) (old cur new : HubState) (id fails fails' fails'' 
 ends_more total old cur new id fails fails' fails'' left left' n m closing end a b =
     let bound : total + cur.limits.total ≡ total + old.limits.total = ap (λ l. total + l.total) a.same_limits in
     let part : EndsAnswering (total + old.limits.total) cur new id fails fails'' left' (record { used = m; end = end }) =
-    subst (λ z. EndsAnswering (total + old.limits.total) cur new id z fails'' left' (record { used = m; end = end })) a.none_failed
+    subst (λ z. EndsAnswering (total + old.limits.total) cur new id z fails'' left' (record { used = m; end = end })) a.failures
     (subst (λ z. EndsAnswering z cur new id fails' fails'' left' (record { used = m; end = end })) bound b) in
     record {
       closing = part.closing;
       is_open = part.is_open;
       sent = part.sent;
-      none_failed = part.none_failed;
       failures = part.failures;
       no_read = part.no_read;
       refusal = part.refusal;
@@ -138,10 +134,6 @@ still_few held old cur new id same before after few =
 -- what holds of a part that was not answered
 pub at_err : (end : Result Bool ServeError) (error : ServeError) → end ≡ Err error → (P : Type 0) → OnErr end P → P
 at_err end error is P = subst (λ e. OnErr e P) is
-
-on_err : {P Q : Type 0} (end : Result Bool ServeError) → (P → Q) → OnErr end P → OnErr end Q
-on_err (Ok closing) f p = tt
-on_err (Err error) f p = f p
 
 -- the first part of a piece
 pub first_overfills : (most : ℕ) (old new : HubState) (id : ℕ) (piece : List ℕ) (used : ℕ) (held held' : Option (List ℕ)) (end : Result Bool ServeError) →

@@ -10,7 +10,8 @@ use Rattle.resp_client.specs.Standing.{IsOfBytes}
 use Rattle.resp_server.specs.declared.error.PushError.{PushError}
 use Rattle.resp_server.specs.declared.error.PushError.TheVariants as push
 use Rattle.resp_wire.specs.Ends.{outcome_of_push}
-use Rattle.resp_wire.specs.Links.{is_of_link, stopped_by_link}
+use Rattle.resp_wire.specs.Links.{is_of_link}
+use Rattle.resp_turns.specs.Turns.{stopped_by}
 use Rattle.resp_wire.specs.Worlds.{CountsFailures, KeepFailures}
 
 -- a cause of bytes that come is none of a link
@@ -60,7 +61,7 @@ of_no_link {T} (Err c) memory = ap is_of_link memory
 
 -- where no link failed and the stop, if any, is for no cause of links
 pub counts_none : {L T : Type 0} (failures : L → ℕ) (client : ℕ) (old new : List L) (r : Result T Cause) → KeepFailures failures old new →
-    IfErr r (λ c. is_of_link c ≡ false) → CountsFailures failures client old new (stopped_by_link r)
+    IfErr r (λ c. is_of_link c ≡ false) → CountsFailures failures client old new (stopped_by is_of_link r)
 counts_none {L} {T} failures client old new (Ok x) keep none = keep
 counts_none {L} {T} failures client old new (Err c) keep none = subst (CountsFailures failures client old new) (sym none) keep
 

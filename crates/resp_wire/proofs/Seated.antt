@@ -1,13 +1,13 @@
 -- A hub with another session in the place of one.
-use Rattle.std.proofs.Common.{arith, length, take, drop, ◌≤◌, ◌≡◌, ℕ, ◌==◌, Bool, true, false, cond, Option, None, Some, List, [], ◌∷◌, IfSome, refl, sym, ap, subst, ◌∙◌}
+use Rattle.std.proofs.Common.{arith, length, ◌≤◌, ◌≡◌, ℕ, ◌==◌, Bool, true, false, cond, Option, None, Some, List, [], ◌∷◌, IfSome, refl, sym, ap, subst, ◌∙◌}
 use Rattle.std.specs.Option.{option_map}
-use Rattle.std.proofs.lemmas.List.{drop_all, length-append, take-append-drop}
-use Rattle.resp_value.specs.Devices.{Appends}
+use Rattle.std.proofs.lemmas.List.{length-append}
 use Rattle.resp_server.specs.Handling.{WhereOpen}
 use Rattle.resp_server.specs.Hubs.{HubState, Seat, WaitsAtMost, seat_at, seated, with_seat}
 use Rattle.resp_server.specs.Reading.{HasReadFront}
 use Rattle.resp_server.proofs.Seats.{put_there, with_same}
-use Rattle.resp_wire.specs.Serving.{HasSent, IsClosing, IsOpen, IsThere}
+use Rattle.resp_server.specs.Sending.{HasSent, IsClosing}
+use Rattle.resp_wire.specs.Serving.{IsOpen, IsThere}
 
 -- there stands then the new session
 pub seat_here : (hub : HubState) (id : ℕ) (old new : Seat) → seat_at hub id ≡ Some old → seat_at (seated hub id new) id ≡ Some new
@@ -83,33 +83,6 @@ there_by hub id closing (Some s) is e = (s, is)
 
 pub closing_is_there : (hub : HubState) (id : ℕ) (closing : Bool) → IsClosing hub id closing → IsThere hub id
 closing_is_there hub id closing is = there_by hub id closing (seat_at hub id) refl is
-
--- what was dropped of what waits in a session
-sent_by : (old new : HubState) (id : ℕ) (text : List ℕ) (count : ℕ) (held held' : Option (List ℕ)) (o : Option Seat) → seat_at old id ≡ o →
-    option_map (λ (s : Seat). s.out) o ≡ Some text → IfSome o (λ s. new ≡ seated old id (record s { out = drop count s.out })) →
-    Appends held held' (take count text) → HasSent old new id held held' (drop count text)
-sent_by old new id text count held held' None is out dropped appended = absurd (cc)
-sent_by old new id text count held held' (Some s) is out dropped appended =
-    let same : s.out ≡ text = cc in
-    record {
-      seat = s;
-      here = is;
-      text = take count text;
-      parts = same ∙ sym (take-append-drop count text);
-      appended = appended;
-      state = dropped ∙
-          ap (λ z. seated old id (record { version = s.version; out = drop count z; closing = s.closing; decoder = s.decoder })) same;
-    }
-
-pub sent_part : (old new : HubState) (id : ℕ) (text : List ℕ) (count : ℕ) (held held' : Option (List ℕ)) →
-    option_map (λ (s : Seat). s.out) (seat_at old id) ≡ Some text → count ≤ length text →
-    IfSome (seat_at old id) (λ s. new ≡ seated old id (record s { out = drop count s.out })) →
-    Appends held held' (take count text) → HasSent old new id held held' (drop count text)
-sent_part old new id text count held held' out within dropped appended =
-    sent_by old new id text count held held' (seat_at old id) refl out dropped appended
-
-pub all_dropped : (count : ℕ) (text : List ℕ) → count ≡ length text → drop count text ≡ []
-all_dropped count text whole = drop_all count text (omega (arith, whole))
 
 -- of a session that is closing or isn't there nothing is said
 pub not_open : (hub : HubState) (id : ℕ) (P : Seat → List ℕ → Type 0) → IsClosing hub id true → WhereOpen hub id P

@@ -6,47 +6,35 @@ use Rattle.resp_server.specs.Handling.{IfOutOfMemory}
 use Rattle.resp_server.specs.Hubs.{HubState, Seat}
 use Rattle.resp_server.specs.declared.error.HubError.{HubError}
 use Rattle.resp_server.specs.declared.error.HubError.TheVariants as hub
-use Rattle.resp_wire.specs.Serving.{FailsServing, HasSentPart, IsClosing, Serves, ServesClosing, StopsAnswering, StopsReading, StopsServing, StopsWriting}
+use Rattle.resp_server.specs.Sending.{HasSentPart, IsClosing}
+use Rattle.resp_turns.specs.Turns.{Halts}
+use Rattle.resp_turns.specs.declared.halt.Halt.{Halt}
+use Rattle.resp_turns.specs.declared.halt.Halt.TheVariants.{Failed, NoTurn}
+use Rattle.resp_wire.specs.Serving.{FailsServing, Serves, ServesClosing, StopsAnswering, StopsServing, read_error, write_error}
 use Rattle.resp_wire.specs.declared.error.ServeError.{ServeError}
 use Rattle.resp_wire.specs.declared.error.ServeError.TheVariants.{NoSession, OutOfMemory, Read, Write, TooManyTurns}
 
 -- a write that stopped leaves the rest
-pub stops_writing : (old given new : HubState) (id : ℕ) (s : Seat) (front came : List ℕ) (held held' : Option (List ℕ)) (waits : List ℕ)
-    (failures failures' left : ℕ) (error : ServeError) → StopsWriting failures failures' left error → 0 < length waits →
-    Serves old new id s (front ++ came) held held' waits → StopsServing old new id s front came held held' error
-stops_writing old given new id s front came held held' waits failures failures' left NoSession h some v = absurd h
-stops_writing old given new id s front came held held' waits failures failures' left OutOfMemory h some v = absurd h
-stops_writing old given new id s front came held held' waits failures failures' left Read h some v = absurd h
-stops_writing old given new id s front came held held' waits failures failures' left Write h some v = (waits, some, v)
-stops_writing old given new id s front came held held' waits failures failures' left TooManyTurns h some v = (waits, inl some, v)
+pub stops_writing : (old given new : HubState) (id : ℕ) (s : Seat) (front came : List ℕ) (held held' : Option (List ℕ)) (waits : List ℕ) (halt : Halt) →
+    0 < length waits → Serves old new id s (front ++ came) held held' waits → StopsServing old new id s front came held held' (write_error halt)
+stops_writing old given new id s front came held held' waits Failed some v = (waits, some, v)
+stops_writing old given new id s front came held held' waits NoTurn some v = (waits, inl some, v)
 
 -- a read that stopped leaves nothing
-pub stops_reading : (old new : HubState) (id : ℕ) (s : Seat) (front came : List ℕ) (held held' : Option (List ℕ))
-    (failures failures' left : ℕ) (error : ServeError) → StopsReading failures failures' left error →
-    Serves old new id s (front ++ came) held held' [] × IsClosing new id false → StopsServing old new id s front came held held' error
-stops_reading old new id s front came held held' failures failures' left NoSession h v = absurd h
-stops_reading old new id s front came held held' failures failures' left OutOfMemory h v = absurd h
-stops_reading old new id s front came held held' failures failures' left Read h v = v
-stops_reading old new id s front came held held' failures failures' left Write h v = absurd h
-stops_reading old new id s front came held held' failures failures' left TooManyTurns h v = ([], inr v.1, v.0)
+pub stops_reading : (old new : HubState) (id : ℕ) (s : Seat) (front came : List ℕ) (held held' : Option (List ℕ)) (halt : Halt) →
+    Serves old new id s (front ++ came) held held' [] × IsClosing new id false → StopsServing old new id s front came held held' (read_error halt)
+stops_reading old new id s front came held held' Failed v = v
+stops_reading old new id s front came held held' NoTurn v = ([], inr v.1, v.0)
 
 -- of a session that is closing
-pub stops_closing : (old new : HubState) (id : ℕ) (held held' : Option (List ℕ)) (failures failures' left : ℕ) (error : ServeError) →
-    StopsWriting failures failures' left error → HasSentPart old new id held held' →
-    ServesClosing old new id held held' (Err error)
-stops_closing old new id held held' failures failures' left NoSession h v = absurd h
-stops_closing old new id held held' failures failures' left OutOfMemory h v = absurd h
-stops_closing old new id held held' failures failures' left Read h v = absurd h
-stops_closing old new id held held' failures failures' left Write h v = v
-stops_closing old new id held held' failures failures' left TooManyTurns h v = v
+pub stops_closing : (old new : HubState) (id : ℕ) (held held' : Option (List ℕ)) (halt : Halt) → HasSentPart old new id held held' →
+    ServesClosing old new id held held' (Err (write_error halt))
+stops_closing old new id held held' Failed v = v
+stops_closing old new id held held' NoTurn v = v
 
-pub answering : (failures failures' left : ℕ) (error : ServeError) → StopsWriting failures failures' left error →
-    StopsAnswering failures failures' left error
-answering failures failures' left NoSession h = h
-answering failures failures' left OutOfMemory h = tt
-answering failures failures' left Read h = h
-answering failures failures' left Write h = h
-answering failures failures' left TooManyTurns h = h
+pub answering : (failures failures' left : ℕ) (halt : Halt) → Halts failures failures' left halt → StopsAnswering failures failures' left (write_error halt)
+answering failures failures' left Failed h = h
+answering failures failures' left NoTurn h = h
 
 pub fails_answering : (old : HubState) (id writes writes' reads reads' left : ℕ) (error : ServeError) → StopsAnswering writes writes' left error →
     FailsServing old id writes writes' reads reads' error
@@ -56,13 +44,10 @@ fails_answering old id writes writes' reads reads' left Read h = absurd h
 fails_answering old id writes writes' reads reads' left Write h = h
 fails_answering old id writes writes' reads reads' left TooManyTurns h = tt
 
-pub fails_reading : (old : HubState) (id writes writes' reads reads' left : ℕ) (error : ServeError) → StopsReading reads reads' left error →
-    FailsServing old id writes writes' reads reads' error
-fails_reading old id writes writes' reads reads' left NoSession h = absurd h
-fails_reading old id writes writes' reads reads' left OutOfMemory h = absurd h
-fails_reading old id writes writes' reads reads' left Read h = h
-fails_reading old id writes writes' reads reads' left Write h = absurd h
-fails_reading old id writes writes' reads reads' left TooManyTurns h = tt
+pub fails_reading : (old : HubState) (id writes writes' reads reads' left : ℕ) (halt : Halt) → Halts reads reads' left halt →
+    FailsServing old id writes writes' reads reads' (read_error halt)
+fails_reading old id writes writes' reads reads' left Failed h = h
+fails_reading old id writes writes' reads reads' left NoTurn h = tt
 
 -- Turns are too many only where none is left.
 pub no_turn_to_answer : (A : Type 0) (answer : Result A ServeError) (failures failures' left : ℕ) (error : ServeError) → answer ≡ Err error →
@@ -71,11 +56,9 @@ no_turn_to_answer A answer failures failures' left error here h is =
     let same : error ≡ TooManyTurns = let z = sym here ∙ is in cc in
     subst (StopsAnswering failures failures' left) same h
 
-pub no_turn_to_read : (A : Type 0) (answer : Result A ServeError) (failures failures' left : ℕ) (error : ServeError) → answer ≡ Err error →
-    StopsReading failures failures' left error → IsErrOf answer TooManyTurns → left ≡ 0
-no_turn_to_read A answer failures failures' left error here h is =
-    let same : error ≡ TooManyTurns = let z = sym here ∙ is in cc in
-    subst (StopsReading failures failures' left) same h
+pub no_turn_to_read : (failures failures' left : ℕ) (halt : Halt) → Halts failures failures' left halt → read_error halt ≡ TooManyTurns → left ≡ 0
+no_turn_to_read failures failures' left Failed h is = absurd (cc)
+no_turn_to_read failures failures' left NoTurn h is = h
 
 -- what waits is as long as it is
 pub within_out : (o : Option Seat) (text : List ℕ) (count : ℕ) → option_map (λ (s : Seat). s.out) o ≡ Some text → count ≤ length text →
@@ -89,8 +72,6 @@ memory_was_wanting hub.NoSession other P p = absurd (other refl)
 memory_was_wanting (hub.OutOfMemory commands) other P p = (commands, p)
 
 -- a write does not stop when out of memory
-pub not_of_memory : (A : Type 0) (answer : Result A ServeError) (failures failures' left : ℕ) (error : ServeError) → answer ≡ Err error →
-    StopsWriting failures failures' left error → IsErrOf answer OutOfMemory → ⊥
-not_of_memory A answer failures failures' left error here h is =
-    let same : error ≡ OutOfMemory = let z = sym here ∙ is in cc in
-    subst (StopsWriting failures failures' left) same h
+pub not_of_memory : (halt : Halt) → write_error halt ≡ OutOfMemory → ⊥
+not_of_memory Failed is = cc
+not_of_memory NoTurn is = cc

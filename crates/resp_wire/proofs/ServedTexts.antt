@@ -13,8 +13,9 @@ use Rattle.resp_server.specs.Answering.{TakesWithin, state_with}
 use Rattle.resp_server.specs.Handling.{HasAnswered, HasCutShort, WhereOpen}
 use Rattle.resp_server.specs.Hubs.{HubState, Seat, seat_at, seated, stocked}
 use Rattle.resp_server.specs.Reading.{HasReadFront, Reading}
+use Rattle.resp_server.specs.Sending.{HasSent, IsClosing}
 use Rattle.resp_server.proofs.AnsweredHubs.{used_up}
-use Rattle.resp_wire.specs.Serving.{AnswersBefore, HadAnswered, HasSent, IsClosing, IsOpen, IsThere, MayLeave, Serves, ServesFirst, StopsServing, WaitsMore}
+use Rattle.resp_wire.specs.Serving.{AnswersBefore, HadAnswered, IsOpen, IsThere, MayLeave, Serves, ServesFirst, StopsServing, WaitsMore}
 use Rattle.resp_wire.specs.declared.error.ServeError.{ServeError}
 use Rattle.resp_wire.specs.declared.error.ServeError.TheVariants.{NoSession, OutOfMemory, Read, Write, TooManyTurns}
 use Rattle.resp_wire.specs.declared.serve.Served.{Served}
@@ -244,12 +245,7 @@ pub answered_is_there : (old given : HubState) (id : ℕ) (s : Seat) (text : Lis
 answered_is_there old given id s text commands here a =
     let seat = seat_with a.version (s.out ++ a.reply) a.closing a.decoder in (seat, seat_given old given id s seat a.store here a.state)
 
--- so is one of which something was written, and it stays open
-pub sent_is_there : (old new : HubState) (id : ℕ) (held held' : Option (List ℕ)) (waits : List ℕ) → HasSent old new id held held' waits → IsThere new id
-sent_is_there old new id held held' waits h =
-    let seat = seat_with h.seat.version waits h.seat.closing h.seat.decoder in
-    (seat, ap (λ g. seat_at g id) h.state ∙ seat_here old id h.seat seat h.here)
-
+-- a session of which something was written stays open
 pub sent_is_open : (old new : HubState) (id : ℕ) (held held' : Option (List ℕ)) (waits : List ℕ) → IsOpen old id → HasSent old new id held held' waits →
     IsOpen new id
 sent_is_open old new id held held' waits o h =
@@ -262,6 +258,18 @@ sent_is_open old new id held held' waits o h =
       front = o.front;
       taken = subst (λ (t : Seat). HasReadFront t.decoder o.front) (sym same) o.taken;
     }
+
+-- a session stays open that has answered, and that is not closing once all is written
+pub stays_open : (old given new : HubState) (id : ℕ) (s : Seat) (text : List ℕ) (commands : ℕ) (held held' : Option (List ℕ)) (closing : Bool) →
+    seat_at old id ≡ Some s → HasAnswered old given id s text commands → HasSent given new id held held' [] → IsClosing new id closing → closing ≡ false →
+    IsOpen new id
+stays_open old given new id s text commands held held' closing here a sent is not =
+    let seat = seat_with a.version [] a.closing a.decoder in
+    let there = seat_given old new id s seat a.store here
+    (hub_sent old given new id s a.version (s.out ++ a.reply) a.closing a.decoder a.store held held' [] here a.state sent) in
+    let both : Some a.closing ≡ Some closing = sym (ap (option_map (λ (t : Seat). t.closing)) there) ∙ is in
+    let not_closing : a.closing ≡ false = cc in
+    record { seat = seat; here = there; not_closing = not_closing; front = a.rest; taken = a.taking not_closing }
 
 -- and it isn't closing
 pub open_is : (hub : HubState) (id : ℕ) → IsOpen hub id → IsClosing hub id false

@@ -60,11 +60,6 @@ is_of_link _ = false
 abbrev pub IsLinkCause : Cause → Type 0
 IsLinkCause cause = is_of_link cause ≡ true
 
--- whether a call stopped with a cause of links
-abbrev pub stopped_by_link : {X : Type 0} → Result X Cause → Bool
-stopped_by_link (Ok x) = false
-stopped_by_link (Err cause) = is_of_link cause
-
 -- the link's count of failures has risen, and the cause is one that a link may have
 abbrev pub FailsBy : ℕ → ℕ → Cause → Type 0
 FailsBy failures failures' cause = HasRisen failures failures' × IsLinkCause cause

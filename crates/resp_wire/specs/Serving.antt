@@ -1,13 +1,15 @@
 -- The results of a server's end, in terms of its hub and of the bytes written.
 use Rattle.std.specs.Prelude.{◌≡◌, ◌⊎◌, ℕ, ◌+◌, ◌-◌, ◌<◌, ◌≤◌, ◌^◌, Bool, true, false, List, [], ◌++◌, length, take, drop, Option, Some, None, Result, Ok, Err, IfSome, IfOk, IfErr, IsErrOf, OnOk}
 use Rattle.std.specs.List.{concat}
-use Rattle.std.specs.Option.{option_map}
 use Rattle.resp_value.specs.Devices.{Appends, HasRisen, failures_after}
 use Rattle.resp_server.specs.Handling.{HasAnswered, HasCutShort, WhereOpen}
-use Rattle.resp_server.specs.Hubs.{HubState, Seat, WaitsAtMost, seat_at, seated}
+use Rattle.resp_server.specs.Hubs.{HubState, Seat, WaitsAtMost, seat_at}
 use Rattle.resp_server.specs.Reading.{HasReadFront}
+use Rattle.resp_server.specs.Sending.{HasSent, HasSentPart, IsClosing}
 use Rattle.resp_turns.specs.Pieces.{ReadsPieces}
-use Rattle.resp_turns.specs.Turns.{Spends, TellsEnd}
+use Rattle.resp_turns.specs.Turns.{Spends, TellsEnd, stopped_by}
+use Rattle.resp_turns.specs.declared.halt.Halt.{Halt}
+use Rattle.resp_turns.specs.declared.halt.Halt.TheVariants.{Failed, NoTurn}
 use Rattle.resp_wire.specs.declared.error.ServeError.{ServeError}
 use Rattle.resp_wire.specs.declared.error.ServeError.TheVariants.{NoSession, OutOfMemory, Read, Write, TooManyTurns}
 use Rattle.resp_wire.specs.declared.serve.Answered.{Answered}
@@ -26,23 +28,6 @@ pub record IsOpen (hub : HubState) (id : ℕ) : Type 0 where
   pub not_closing : seat.closing ≡ false
   pub front : List ℕ
   pub taken : HasReadFront seat.decoder front
-
--- whether the session is closing
-abbrev pub IsClosing : HubState → ℕ → Bool → Type 0
-IsClosing hub id closing = option_map (λ (s : Seat). s.closing) (seat_at hub id) ≡ Some closing
-
--- the bytes that waited in a session were written except for this rest, and nothing else in the hub is changed
-pub record HasSent (old new : HubState) (id : ℕ) (held held' : Option (List ℕ)) (waits : List ℕ) : Type 0 where
-  pub seat : Seat
-  pub here : seat_at old id ≡ Some seat
-  pub text : List ℕ
-  pub parts : seat.out ≡ text ++ waits
-  pub appended : Appends held held' text
-  pub state : new ≡ seated old id (record seat { out = waits })
-
--- the first of the bytes that waited in a session were written, and some are left
-abbrev pub HasSentPart : HubState → HubState → ℕ → Option (List ℕ) → Option (List ℕ) → Type 0
-HasSentPart old new id held held' = (waits : List ℕ) × (0 < length waits) × HasSent old new id held held' waits
 
 -- After a text: the state of a hub that received it whole, and whose replies were then written except for this rest.
 pub record Serves (old new : HubState) (id : ℕ) (s : Seat) (text : List ℕ) (held held' : Option (List ℕ))
@@ -182,32 +167,21 @@ abbrev pub LeavesOverfull : {W : Type 0} → ℕ → (W → Option (List ℕ)) �
 LeavesOverfull most written writer writer' old new id rest = (rest ≡ [] → ⊥) →
     WhereOpen old id (λ s front. StopsOverfull most old new id s front (written writer) (written writer'))
 
--- whether a call stopped because a write failed
-abbrev pub failed_to_write : {T : Type 0} → Result T ServeError → Bool
-failed_to_write (Ok done) = false
-failed_to_write (Err error) = is_of_writer error
+-- the error of a call of which a write or a read moved no byte
+abbrev pub write_error : Halt → ServeError
+write_error Failed = Write
+write_error NoTurn = TooManyTurns
 
--- whether a call stopped because a read failed
-abbrev pub failed_to_read : {T : Type 0} → Result T ServeError → Bool
-failed_to_read (Ok done) = false
-failed_to_read (Err error) = is_of_reader error
-
--- why a write stops, with this many turns left
-abbrev pub StopsWriting : ℕ → ℕ → ℕ → ServeError → Type 0
-StopsWriting failures failures' left Write = HasRisen failures failures'
-StopsWriting failures failures' left TooManyTurns = left ≡ 0
-StopsWriting failures failures' left _ = ⊥
+abbrev pub read_error : Halt → ServeError
+read_error Failed = Read
+read_error NoTurn = TooManyTurns
 
 -- why answering stops: memory was out, or a write stopped
 abbrev pub StopsAnswering : ℕ → ℕ → ℕ → ServeError → Type 0
 StopsAnswering failures failures' left OutOfMemory = Unit {0}
-StopsAnswering failures failures' left error = StopsWriting failures failures' left error
-
--- why a read stops
-abbrev pub StopsReading : ℕ → ℕ → ℕ → ServeError → Type 0
-StopsReading failures failures' left Read = HasRisen failures failures'
-StopsReading failures failures' left TooManyTurns = left ≡ 0
-StopsReading failures failures' left _ = ⊥
+StopsAnswering failures failures' left Write = HasRisen failures failures'
+StopsAnswering failures failures' left TooManyTurns = left ≡ 0
+StopsAnswering failures failures' left _ = ⊥
 
 -- what a session was given of a piece is answered, and the replies are written
 abbrev pub AnswersGiven : HubState → HubState → ℕ → List ℕ → Option (List ℕ) → Option (List ℕ) → Answered → Type 0
@@ -222,9 +196,8 @@ pub record EndsAnswering (most : ℕ) (old new : HubState) (id fails fails' left
   pub closing : IfOk answered.end (IsClosing new id)
   pub is_open : IfOk answered.end (λ closing. closing ≡ false → IsOpen new id)
   pub sent : OnOk answered.end (WaitsAtMost 0 new id)
-  pub none_failed : OnOk answered.end (fails' ≡ fails)
-  pub failures : fails' ≡ failures_after (failed_to_write answered.end) fails
-  pub no_read : failed_to_read answered.end ≡ false
+  pub failures : fails' ≡ failures_after (stopped_by is_of_writer answered.end) fails
+  pub no_read : stopped_by is_of_reader answered.end ≡ false
   pub refusal : IfErr answered.end (StopsAnswering fails fails' left)
   pub same_limits : new.limits ≡ old.limits
   pub bounded : WaitsAtMost most old id → WaitsAtMost most new id

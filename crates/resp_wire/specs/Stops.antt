@@ -89,16 +89,6 @@ abbrev pub ends_by_read : Result (Unit {0}) AskError → Bool
 ends_by_read (Ok done) = false
 ends_by_read (Err error) = is_of_last_read error
 
--- whether a call stopped because a write failed
-abbrev pub failed_to_write : Result (Unit {0}) AskError → Bool
-failed_to_write (Ok done) = false
-failed_to_write (Err error) = is_of_writer error
-
--- whether a call stopped because a read failed
-abbrev pub failed_to_read : Result (Unit {0}) AskError → Bool
-failed_to_read (Ok done) = false
-failed_to_read (Err error) = is_of_reader error
-
 -- why bytes still wait to be written: a write failed, or no turn is left
 abbrev pub FailsWriting : ℕ → ℕ → List ℕ → AskError → Type 0
 FailsWriting failures failures' waits Write = HasRisen failures failures' × (0 < length waits)

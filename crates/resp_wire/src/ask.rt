@@ -9,9 +9,9 @@ ghost use Rattle.resp_value.specs.Devices.{Appends, failures_after};
 ghost use Rattle.resp_wire.specs.Hearing.{HearsAll, WaitsBefore};
 ghost use Rattle.resp_wire.specs.Asking.{SendsAll, sent};
 ghost use Rattle.resp_wire.specs.Asks.{HearsPieces, StopsAsking};
-ghost use Rattle.resp_wire.specs.Stops.{FailsReading, FailsWriting, KeepsFault, QueuesFirst, StopsListening, StopsQueueing, ends_by_read, error_at, failed_to_read, failed_to_write, is_of_last_read, is_of_reader, is_of_writer};
+ghost use Rattle.resp_wire.specs.Stops.{FailsReading, FailsWriting, KeepsFault, QueuesFirst, StopsListening, StopsQueueing, ends_by_read, error_at, is_of_last_read, is_of_reader, is_of_writer};
 ghost use Rattle.resp_turns.specs.Pieces.{ReadsPieces};
-ghost use Rattle.resp_turns.specs.Turns.{Halts, Spends, SpendsAtMost, has_failed};
+ghost use Rattle.resp_turns.specs.Turns.{Halts, Spends, SpendsAtMost, has_failed, stopped_by};
 ghost use Rattle.std.specs.List.{concat};
 
 use crate::asked::{Asked, Request};
@@ -20,7 +20,7 @@ use crate::hear::hear_piece;
 use crate::pieces::{PIECE, front};
 use resp_client::{Client, SendError};
 use resp_session::laws;
-use resp_turns::{Halt, write_text};
+use resp_turns::{Halt, read_some, write_text};
 use resp_value::device::{Sink, Source};
 
 /// Queues the requests, writes all waiting bytes, and reads until no command waits for a reply. The
@@ -95,9 +95,9 @@ pub fn ask<R: Source, W: Sink>(
 
     // A device fails once if the error says so, and otherwise never.
     ensures write_failures { W.failures writer.new ≡
-        failures_after (failed_to_write result) (W.failures writer.old) }
+        failures_after (stopped_by is_of_writer result) (W.failures writer.old) }
     ensures read_failures { R.failures reader.new ≡
-        failures_after (failed_to_read result) (R.failures reader.old) }
+        failures_after (stopped_by is_of_reader result) (R.failures reader.old) }
 
     ensures refusal { IfErr result (StopsAsking 4096 W.written W.failures R.remaining R.calls
         R.failures client.old client.new requests.now writer.old writer.new reader.old reader.new
@@ -145,9 +145,9 @@ pub fn ask_with<R: Source, W: Sink>(
 
     // A device fails once if the error says so, and otherwise never.
     ensures write_failures { W.failures writer.new ≡
-        failures_after (failed_to_write result) (W.failures writer.old) }
+        failures_after (stopped_by is_of_writer result) (W.failures writer.old) }
     ensures read_failures { R.failures reader.new ≡
-        failures_after (failed_to_read result) (R.failures reader.old) }
+        failures_after (stopped_by is_of_reader result) (R.failures reader.old) }
 
     ensures refusal { IfErr result (StopsAsking (length buffer.old) W.written W.failures
         R.remaining R.calls R.failures client.old client.new requests.now writer.old writer.new
@@ -172,7 +172,8 @@ fn queue(client: &mut Client, requests: &[Request]) -> Result<(), AskError>
     ensures all_queued { OnOk result (QueuesFirst client.old client.new requests.now
         (length requests.now)) }
     ensures refusal { IfErr result (StopsQueueing client.old client.new requests.now) }
-    ensures no_device { (failed_to_write result ≡ false) × (failed_to_read result ≡ false) }
+    ensures no_device { (stopped_by is_of_writer result ≡ false) ×
+        (stopped_by is_of_reader result ≡ false) }
     ensures same_reading { KeepsReading client.old client.new }
 {
     for index in 0..requests.len() {
@@ -217,8 +218,8 @@ fn send_all<W: Sink>(writer: &mut W, client: &mut Client, turns: &mut u64) -> Re
     ensures all { OnOk result ((state_of client.new).out ≡ []) }
     ensures same_reading { KeepsReading client.old client.new }
     ensures failures { W.failures writer.new ≡
-        failures_after (failed_to_write result) (W.failures writer.old) }
-    ensures no_read { failed_to_read result ≡ false }
+        failures_after (stopped_by is_of_writer result) (W.failures writer.old) }
+    ensures no_read { stopped_by is_of_reader result ≡ false }
     ensures turns { Spends (W.calls writer.old) (W.calls writer.new) turns.old turns.new }
     ensures refusal { IfErr result (FailsWriting (W.failures writer.old) (W.failures writer.new)
         (state_of client.new).out) }
@@ -264,8 +265,8 @@ fn hear_all<R: Source>(
         (front ++ concat pieces)) × WaitsBefore (state_of client.old) heard.old front pieces) }
     ensures all_answered { OnOk result ((state_of client.new).waiting.asks ≡ []) }
     ensures failures { R.failures reader.new ≡
-        failures_after (failed_to_read result) (R.failures reader.old) }
-    ensures no_write { failed_to_write result ≡ false }
+        failures_after (stopped_by is_of_reader result) (R.failures reader.old) }
+    ensures no_write { stopped_by is_of_writer result ≡ false }
     ensures turns { Spends (R.calls reader.old) (R.calls reader.new) turns.old turns.new }
     ensures refusal { IfErr result (FailsReading (R.failures reader.old) (R.failures reader.new)
         (R.remaining reader.old) (R.remaining reader.new) (state_of client.new)) }
@@ -275,14 +276,11 @@ fn hear_all<R: Source>(
     laws::readings_go_on();
     laws::hearing_goes_on();
     while client.waiting() > 0 {
-        if *turns == 0 {
-            return Err(AskError::TooManyTurns);
-        }
-        *turns -= 1;
-        let count = match reader.read(buffer) {
+        let count = match read_some(reader, buffer, turns) {
             Ok(0) => return Err(AskError::Ended),
             Ok(count) => count,
-            Err(_) => return Err(AskError::Read),
+            Err(Halt::Failed) => return Err(AskError::Read),
+            Err(Halt::NoTurn) => return Err(AskError::TooManyTurns),
         };
         if let Err(error) = hear_piece(client, front(buffer, count), heard) {
             return Err(error);

@@ -10,7 +10,8 @@ ghost use Rattle.resp_server.specs.Handling.{WhereOpen};
 ghost use Rattle.resp_server.specs.Hubs.{Seat, seat_at, seated};
 ghost use Rattle.resp_wire.specs.Carrying.{HasBrought, HearsOn, StopsCarrying, StopsShowing, cause_of};
 ghost use Rattle.resp_wire.specs.Hearing.{HearsAll};
-ghost use Rattle.resp_wire.specs.Links.{Carries, is_of_link, stopped_by_link};
+ghost use Rattle.resp_wire.specs.Links.{Carries, is_of_link};
+ghost use Rattle.resp_turns.specs.Turns.{stopped_by};
 
 use crate::asked::Asked;
 use crate::error::AskError;
@@ -50,7 +51,7 @@ pub(crate) fn carry_to_server<L: Link, S: BuildHasher>(
     ensures honest { L.is_honest link.old → L.is_honest link.new }
     ensures none_failed { OnOk result (L.failures link.new ≡ L.failures link.old) }
     ensures failures { L.failures link.new ≡
-        failures_after (stopped_by_link result) (L.failures link.old) }
+        failures_after (stopped_by is_of_link result) (L.failures link.old) }
 {
     laws::answers_go_on();
     laws::answers_are_added();
@@ -97,7 +98,7 @@ pub(crate) fn carry_to_client<L: Link, S: BuildHasher>(
     ensures honest { L.is_honest link.old → L.is_honest link.new }
     ensures none_failed { OnOk result (L.failures link.new ≡ L.failures link.old) }
     ensures failures { L.failures link.new ≡
-        failures_after (stopped_by_link result) (L.failures link.old) }
+        failures_after (stopped_by is_of_link result) (L.failures link.old) }
 {
     laws::readings_go_on();
     laws::hearing_goes_on();
@@ -147,7 +148,7 @@ fn give<L: Link, S: BuildHasher>(
     ensures honest { L.is_honest link.old → L.is_honest link.new }
     ensures none_failed { OnOk result (L.failures link.new ≡ L.failures link.old) }
     ensures failures { L.failures link.new ≡
-        failures_after (stopped_by_link result) (L.failures link.old) }
+        failures_after (stopped_by is_of_link result) (L.failures link.old) }
 {
     let length = room.len();
     if let Err(fault) = link.carry(Direction::ToServer, front(client.out(), length), room) {
@@ -209,7 +210,7 @@ fn show<L: Link, S: BuildHasher>(
     ensures honest { L.is_honest link.old → L.is_honest link.new }
     ensures none_failed { OnOk result (L.failures link.new ≡ L.failures link.old) }
     ensures failures { L.failures link.new ≡
-        failures_after (stopped_by_link result) (L.failures link.old) }
+        failures_after (stopped_by is_of_link result) (L.failures link.old) }
 {
     let length = room.len();
     let Ok(out) = hub.out(id) else {

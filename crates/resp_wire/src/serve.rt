@@ -1,17 +1,18 @@
 //! The server's end of a connection.
 
-ghost use Rattle.std.specs.Prelude.{◌≡◌, ◌≢◌, ◌+◌, ◌-◌, ◌<◌, ◌≤◌, ◌^◌, ◌++◌, ℕ, List, [], length, take, true, false, None, Err, IfSome, IfOk, IfErr, IsErrOf, OnOk, OnErr};
+ghost use Rattle.std.specs.Prelude.{◌≡◌, ◌≢◌, ◌+◌, ◌-◌, ◌<◌, ◌≤◌, ◌^◌, [], length, take, true, false, None, Err, IfSome, IfOk, IfErr, IsErrOf, OnOk, OnErr};
 ghost use Rattle.resp_server.specs.Hubs.{Seat, WaitsAtMost, seat_at};
 ghost use Rattle.resp_server.specs.Handling.{HasAnswered, WhereOpen};
+ghost use Rattle.resp_server.specs.Sending.{HasSent, HasSentPart, IsClosing};
 ghost use Rattle.resp_value.specs.Devices.{failures_after};
-ghost use Rattle.resp_wire.specs.Serving.{AnswersPiece, EndsBy, FailsServing, HasSent, HasSentPart, IsClosing, IsOpen, IsThere, LeavesOverfull, LeavesRest, Overfills, Serves, ServesClosing, ServesPieces, StopsAnswering, StopsReading, StopsServing, StopsWriting, failed_to_read, failed_to_write, rest_in, is_of_reader, is_of_writer};
-ghost use Rattle.resp_turns.specs.Turns.{Halts, Spends, SpendsAtMost, SpendsTurns, has_failed};
+ghost use Rattle.resp_wire.specs.Serving.{AnswersPiece, EndsBy, FailsServing, IsOpen, IsThere, LeavesOverfull, LeavesRest, Overfills, ServesClosing, ServesPieces, is_of_reader, is_of_writer, read_error, rest_in, write_error};
+ghost use Rattle.resp_turns.specs.Turns.{Halts, Spends, SpendsAtMost, SpendsTurns, has_failed, stopped_by};
 
 use crate::error::ServeError;
 use crate::pieces::{PIECE, beyond, front};
 use resp_server::{Hub, HubError};
 use resp_session::laws;
-use resp_turns::{Halt, read_some, write_text};
+use resp_turns::{Halt, read_some};
 use resp_value::device::{Sink, Source};
 use std::hash::BuildHasher;
 use std::ops::Range;
@@ -98,9 +99,9 @@ pub fn serve<R: Source, W: Sink, S: BuildHasher>(
         (W.failures writer.new) (R.failures reader.old) (R.failures reader.new)) }
     // A device fails once if the error says so, and otherwise never.
     ensures write_failures { W.failures writer.new ≡
-        failures_after (failed_to_write result) (W.failures writer.old) }
+        failures_after (stopped_by is_of_writer result) (W.failures writer.old) }
     ensures read_failures { R.failures reader.new ≡
-        failures_after (failed_to_read result) (R.failures reader.old) }
+        failures_after (stopped_by is_of_reader result) (R.failures reader.old) }
     ensures no_session { seat_at hub.old id ≡ None → (result ≡ Err ServeError.NoSession) ×
         (hub.new ≡ hub.old) × (reader.new ≡ reader.old) × (writer.new ≡ writer.old) }
     ensures turns { SpendsAtMost (W.calls writer.old) (W.calls writer.new) (R.calls reader.old)
@@ -165,9 +166,9 @@ pub fn serve_with<R: Source, W: Sink, S: BuildHasher>(
         (W.failures writer.new) (R.failures reader.old) (R.failures reader.new)) }
     // A device fails once if the error says so, and otherwise never.
     ensures write_failures { W.failures writer.new ≡
-        failures_after (failed_to_write result.end) (W.failures writer.old) }
+        failures_after (stopped_by is_of_writer result.end) (W.failures writer.old) }
     ensures read_failures { R.failures reader.new ≡
-        failures_after (failed_to_read result.end) (R.failures reader.old) }
+        failures_after (stopped_by is_of_reader result.end) (R.failures reader.old) }
     ensures no_session { seat_at hub.old id ≡ None → (result.end ≡ Err ServeError.NoSession) ×
         (hub.new ≡ hub.old) × (reader.new ≡ reader.old) × (writer.new ≡ writer.old) }
     ensures turns { SpendsAtMost (W.calls writer.old) (W.calls writer.new) (R.calls reader.old)
@@ -184,12 +185,12 @@ pub fn serve_with<R: Source, W: Sink, S: BuildHasher>(
         return serve_open(reader, writer, hub, id, &mut left, buffer, held);
     }
     match write_out(writer, hub, id, &mut left) {
-        Ok(()) => Visit {
+        Ok(_) => Visit {
             end: Ok(Served::Closed),
             rest: 0..0,
         },
-        Err(error) => Visit {
-            end: Err(error),
+        Err(halt) => Visit {
+            end: Err(unwritten(halt)),
             rest: 0..0,
         },
     }
@@ -224,18 +225,18 @@ fn serve_open<R: Source, W: Sink, S: BuildHasher>(
     ensures refusal { IfErr result.end (FailsServing hub.old id (W.failures writer.old)
         (W.failures writer.new) (R.failures reader.old) (R.failures reader.new)) }
     ensures write_failures { W.failures writer.new ≡
-        failures_after (failed_to_write result.end) (W.failures writer.old) }
+        failures_after (stopped_by is_of_writer result.end) (W.failures writer.old) }
     ensures read_failures { R.failures reader.new ≡
-        failures_after (failed_to_read result.end) (R.failures reader.old) }
+        failures_after (stopped_by is_of_reader result.end) (R.failures reader.old) }
     ensures turns { SpendsTurns (W.calls writer.old) (W.calls writer.new)
         (R.calls reader.old) (R.calls reader.new) turns.old turns.new }
     ensures no_turn_left { IsErrOf result.end ServeError.TooManyTurns → turns.new ≡ 0 }
 {
     laws::answers_go_on();
     laws::answers_are_added();
-    if let Err(error) = write_out(writer, hub, id, turns) {
+    if let Err(halt) = write_out(writer, hub, id, turns) {
         return Visit {
-            end: Err(error),
+            end: Err(unwritten(halt)),
             rest: 0..0,
         };
     }
@@ -335,54 +336,43 @@ fn answer_part<W: Sink, S: BuildHasher>(
         }
     };
     let used = taken.used;
-    if let Err(error) = write_out(writer, hub, id, turns) {
-        return Answered {
+    match write_out(writer, hub, id, turns) {
+        Ok(closing) => Answered {
             used,
-            end: Err(error),
-        };
-    }
-    let Ok(closing) = hub.is_closing(id) else {
-        return Answered {
+            end: Ok(closing),
+        },
+        Err(halt) => Answered {
             used,
-            end: Err(ServeError::NoSession),
-        };
-    };
-    Answered {
-        used,
-        end: Ok(closing),
+            end: Err(unwritten(halt)),
+        },
     }
 }
 
-/// Writes all bytes that wait in the session.
+/// Writes all bytes that wait in the session, and returns whether it is closing.
 fn write_out<W: Sink, S: BuildHasher>(
     writer: &mut W,
     hub: &mut Hub<S>,
     id: u64,
     turns: &mut u64,
-) -> Result<(), ServeError>
+) -> Result<bool, Halt>
     requires { IsThere hub.old id }
     ensures sent { OnOk result (HasSent hub.old hub.new id (W.written writer.old)
         (W.written writer.new) []) }
+    ensures closing { IfOk result (IsClosing hub.new id) }
     ensures part { OnErr result (HasSentPart hub.old hub.new id (W.written writer.old)
         (W.written writer.new)) }
-    ensures none_failed { OnOk result (W.failures writer.new ≡ W.failures writer.old) }
     ensures failures { W.failures writer.new ≡
-        failures_after (failed_to_write result) (W.failures writer.old) }
-    ensures no_read { failed_to_read result ≡ false }
-    ensures refusal { IfErr result (StopsWriting (W.failures writer.old) (W.failures writer.new)
+        failures_after (stopped_by has_failed result) (W.failures writer.old) }
+    ensures halted { IfErr result (Halts (W.failures writer.old) (W.failures writer.new)
         turns.new) }
     ensures turns { Spends (W.calls writer.old) (W.calls writer.new) turns.old turns.new }
 {
-    let Ok(out) = hub.out(id) else {
-        return Err(ServeError::NoSession);
+    let Ok(sent) = hub.write_out(id, writer, turns) else {
+        return Err(Halt::NoTurn);
     };
-    let written = write_text(writer, out, turns);
-    let Ok(()) = hub.sent(id, written.count) else {
-        return Err(ServeError::NoSession);
-    };
-    match written.end {
-        Ok(()) => Ok(()),
-        Err(halt) => Err(unwritten(halt)),
+    match sent.end {
+        Ok(()) => Ok(sent.closing),
+        Err(halt) => Err(halt),
     }
 }
 
@@ -399,8 +389,7 @@ fn unanswered(error: HubError) -> ServeError
 
 /// Returns the error of the call for a read that moved no byte.
 fn unread(halt: Halt) -> ServeError
-    ensures stops { (failures failures' left : ℕ) → Halts failures failures' left halt →
-        StopsReading failures failures' left result }
+    ensures error { result ≡ read_error halt }
     ensures of_reader { is_of_reader result ≡ has_failed halt }
     ensures not_of_writer { is_of_writer result ≡ false }
 {
@@ -412,8 +401,7 @@ fn unread(halt: Halt) -> ServeError
 
 /// Returns the error of the call for a write that moved no byte.
 fn unwritten(halt: Halt) -> ServeError
-    ensures stops { (failures failures' left : ℕ) → Halts failures failures' left halt →
-        StopsWriting failures failures' left result }
+    ensures error { result ≡ write_error halt }
     ensures of_writer { is_of_writer result ≡ has_failed halt }
     ensures not_of_reader { is_of_reader result ≡ false }
 {

@@ -12,7 +12,8 @@ ghost use Rattle.resp_session.specs.Worlds as session;
 ghost use Rattle.resp_session.specs.Worlds.{client_of, connection_at, new_world};
 ghost use Rattle.resp_wire.specs.Ends.{outcome_of_push};
 ghost use Rattle.resp_wire.specs.Happening.{AreOpened, Fails, Happens, IsOpenEnd, MayLackMemory, RunsTo, StopsAt};
-ghost use Rattle.resp_wire.specs.Links.{stopped_by_link};
+ghost use Rattle.resp_wire.specs.Links.{is_of_link};
+ghost use Rattle.resp_turns.specs.Turns.{stopped_by};
 ghost use Rattle.resp_wire.specs.Worlds.{CountsFailures, KeepFailures, LinksAfter, OthersStay, Shows, event_of, pushes_with, requests_of, stop_is_of_link, values_in};
 
 use crate::asked::{Asked, Request};
@@ -235,7 +236,7 @@ impl<L: Link, S: BuildHasher + Drop> World<L, S> {
             (KeepFailures L.failures self.old.links self.new.links) }
         ensures links { CountsFailures L.failures (client_of (event_of event.now))
             self.old.links self.new.links
-            (stopped_by_link result) }
+            (stopped_by is_of_link result) }
         ensures traffic { IfOk result
             (LinksAfter L.traffic self.old self.new (event_of event.now)) }
         ensures others { OthersStay (client_of (event_of event.now)) self.old.links
@@ -272,7 +273,7 @@ impl<L: Link, S: BuildHasher + Drop> World<L, S> {
         ensures none_failed { OnOk result
             (KeepFailures L.failures self.old.links self.new.links) }
         ensures links { CountsFailures L.failures number self.old.links self.new.links
-            (stopped_by_link result) }
+            (stopped_by is_of_link result) }
         ensures same_links { self.new.links ≡ self.old.links }
         ensures as_many { length self.new.ends ≡ length self.old.ends }
     {
@@ -295,7 +296,7 @@ impl<L: Link, S: BuildHasher + Drop> World<L, S> {
         ensures none_failed { OnOk result
             (KeepFailures L.failures self.old.links self.new.links) }
         ensures links { CountsFailures L.failures number self.old.links self.new.links
-            (stopped_by_link result) }
+            (stopped_by is_of_link result) }
         ensures same_links { self.new.links ≡ self.old.links }
         ensures as_many { length self.new.ends ≡ length self.old.ends }
     {
@@ -318,7 +319,7 @@ impl<L: Link, S: BuildHasher + Drop> World<L, S> {
         ensures none_failed { OnOk result
             (KeepFailures L.failures self.old.links self.new.links) }
         ensures links { CountsFailures L.failures number self.old.links self.new.links
-            (stopped_by_link result) }
+            (stopped_by is_of_link result) }
         ensures traffic { IfOk result
             (LinksAfter L.traffic self.old self.new (session.ToServer number count)) }
         ensures others { OthersStay number self.old.links self.new.links }
@@ -356,7 +357,7 @@ impl<L: Link, S: BuildHasher + Drop> World<L, S> {
         ensures none_failed { OnOk result
             (KeepFailures L.failures self.old.links self.new.links) }
         ensures links { CountsFailures L.failures number self.old.links self.new.links
-            (stopped_by_link result) }
+            (stopped_by is_of_link result) }
         ensures traffic { IfOk result
             (LinksAfter L.traffic self.old self.new (session.ToClient number count)) }
         ensures others { OthersStay number self.old.links self.new.links }
@@ -393,7 +394,7 @@ impl<L: Link, S: BuildHasher + Drop> World<L, S> {
         ensures none_failed { OnOk result
             (KeepFailures L.failures self.old.links self.new.links) }
         ensures links { CountsFailures L.failures number self.old.links self.new.links
-            (stopped_by_link result) }
+            (stopped_by is_of_link result) }
         ensures same_links { self.new.links ≡ self.old.links }
         ensures as_many { length self.new.ends ≡ length self.old.ends }
     {
@@ -418,7 +419,7 @@ impl<L: Link, S: BuildHasher + Drop> World<L, S> {
         ensures none_failed { OnOk result
             (KeepFailures L.failures self.old.links self.new.links) }
         ensures links { CountsFailures L.failures number self.old.links self.new.links
-            (stopped_by_link result) }
+            (stopped_by is_of_link result) }
         ensures same_links { self.new.links ≡ self.old.links }
         ensures as_many { length self.new.ends ≡ length self.old.ends }
     {

@@ -7,8 +7,8 @@ use Rattle.resp_turns.specs.Pieces.{GivesPieces}
 use Rattle.resp_turns.specs.Turns.{Spends}
 use Rattle.resp_wire.proofs.ask.hear_all.Given as goal
 
-abbrev pub invariant-loop-turns : goal.invariant-loop-turns
-invariant-loop-turns g l = record {
+abbrev pub invariant-loop-reader : goal.invariant-loop-reader
+invariant-loop-reader g l = record {
   heard : (pieces : List (List ℕ)) ×
       GivesPieces (length l.fn.buffer) g.R.Source.remaining g.R.Source.calls g.R.Source.failures l.fn.reader l.reader pieces ×
       WhereTaken l.fn.client (λ front. HearsAll (state_of l.fn.client) l.client l.fn.heard l.heard (front ++ concat pieces) ×
@@ -17,5 +17,5 @@ invariant-loop-turns g l = record {
   none_failed : g.R.Source.failures l.reader ≡ g.R.Source.failures l.fn.reader;
 }
 
-abbrev pub decreases-loop-turns : goal.decreases-loop-turns
-decreases-loop-turns g l = l.turns
+abbrev pub decreases-loop-reader : goal.decreases-loop-reader
+decreases-loop-reader g l = l.turns

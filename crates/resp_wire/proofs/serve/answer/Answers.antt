@@ -1,7 +1,7 @@
-use Rattle.std.proofs.Common.{◌+◌, length, sym, ap, subst, ◌∙◌, arith, length-drop}
+use Rattle.std.proofs.Common.{◌≡◌, ◌+◌, false, length, sym, ap, subst, ◌∙◌, arith, length-drop}
 use Rattle.resp_wire.specs.Serving.{AnswersGiven, EndsAnswering}
-use Rattle.resp_wire.proofs.AnsweredParts.{ends_more, first_overfills, if_ok, ok_end, part_more, part_overfills}
-use Rattle.resp_turns.proofs.Turning.{spends_more}
+use Rattle.resp_wire.proofs.AnsweredParts.{ends_more, first_overfills, ok_end, part_more, part_overfills}
+use Rattle.resp_turns.proofs.Turning.{if_ok, spends_more}
 use Rattle.resp_wire.proofs.serve.answer.Goals as goal
 
 pub loop-answered-init : goal.loop-answered-init
@@ -20,7 +20,7 @@ answer_part-part-requires-clause-is_open g c =
     let (closing, is) = ok_end c.loop-answered.answered.end (sym c.is_ok.ensures.value ∙ c.if-is_ok.true) in
     let ends = subst (λ e. EndsAnswering (c.args.held + c.args.hub.now.limits.total) c.args.hub.now c.loop-answered.hub c.args.id
     (g.W.Sink.failures c.args.writer.now) (g.W.Sink.failures c.loop-answered.writer) c.loop-answered.turns (record { used = n; end = e })) is i.part.ends in
-    ends.is_open (if_ok c.loop-answered.answered.end closing is (i.more c.loop-answered-test.true))
+    ends.is_open (if_ok c.loop-answered.answered.end closing is (λ b. b ≡ false) (i.more c.loop-answered-test.true))
 
 pub answer_part-part-requires-clause-none_waits : goal.answer_part-part-requires-clause-none_waits
 answer_part-part-requires-clause-none_waits g c =
@@ -56,7 +56,7 @@ loop-answered-preserved g c =
     let before = subst (λ e. AnswersGiven old cur id piece held held' (record { used = n; end = e })) is i.part.given in
     let p = c.answer_part-part.ensures.part in
     let after = subst (λ text. AnswersGiven cur new id text held' held'' part) c.beyond.ensures p.given in
-    let open_now = ends.is_open (if_ok c.loop-answered.answered.end closing is (i.more c.loop-answered-test.true)) in
+    let open_now = ends.is_open (if_ok c.loop-answered.answered.end closing is (λ b. b ≡ false) (i.more c.loop-answered-test.true)) in
     let left = ap length c.beyond.ensures ∙ length-drop n piece in
     let within = p.within in
     let test = c.loop-answered-test.true in

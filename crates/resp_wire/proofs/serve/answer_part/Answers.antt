@@ -4,8 +4,8 @@ use Rattle.resp_server.specs.Handling.{HasCutShort}
 use Rattle.resp_server.specs.Hubs.{HubState}
 use Rattle.resp_server.specs.declared.error.HubError.TheVariants as hub
 use Rattle.resp_wire.specs.Serving.{StopsAnswering, StopsServing, is_of_reader, is_of_writer}
-use Rattle.resp_wire.proofs.Seated.{at_open, is_open, none_is_few, not_there, open_is_there, sent_few, sent_none, where_open}
-use Rattle.resp_wire.proofs.ServedTexts.{answered_at, answered_is_there, first_waits, goes_on, sent_is_there, serves_given, takes_at, uses_all, waits_more}
+use Rattle.resp_wire.proofs.Seated.{at_open, none_is_few, not_there, open_is_there, sent_few, sent_none, where_open}
+use Rattle.resp_wire.proofs.ServedTexts.{answered_at, answered_is_there, first_waits, goes_on, serves_given, stays_open, takes_at, uses_all, waits_more}
 use Rattle.resp_wire.proofs.ServeStops.{answering, memory_was_wanting, not_of_memory, stops_writing}
 use Rattle.resp_turns.proofs.Turning.{spends_nothing}
 use Rattle.resp_wire.proofs.serve.answer_part.Goals as goal
@@ -38,7 +38,6 @@ returns-in-Err-clause-part g c =
         closing = tt;
         is_open = tt;
         sent = tt;
-        none_failed = tt;
         failures = subst (λ error. fails ≡ failures_after (is_of_writer error) fails) (sym c.unanswered.ensures) refl;
         no_read = ap is_of_reader c.unanswered.ensures;
         refusal = subst (StopsAnswering fails fails c.args.turns.now) (sym c.unanswered.ensures) tt;
@@ -79,21 +78,21 @@ returns-in-Err-write_out-clause-part g c =
       within = takes.within;
       given = where_open old id _ (λ s here not_closing front taken. (
         tt,
-        stops_writing old given new id s front piece held held' waits fails fails' c.write_out.new.turns c.in-Err-write_out.error
-            c.in-Err-write_out.ensures.refusal some
+        subst (StopsServing old new id s front piece held held') (sym c.unwritten.ensures.error)
+            (stops_writing old given new id s front piece held held' waits c.in-Err-write_out.halt some
             (serves_given old given new id s (front ++ piece) held held' waits c.in-Ok.taken.commands
-            (answered_at old given id piece c.in-Ok.taken.commands c.in-Ok.ensures.answered s front here not_closing taken) sent),
+            (answered_at old given id piece c.in-Ok.taken.commands c.in-Ok.ensures.answered s front here not_closing taken) sent)),
       ));
       whole = uses_all c.args.held (length o.seat.out) (length there.0.out) there.0.closing size used takes;
-      no_memory = λ is. absurd (not_of_memory _ _ fails fails' c.write_out.new.turns c.in-Err-write_out.error refl c.in-Err-write_out.ensures.refusal is);
+      no_memory = λ is. absurd (not_of_memory c.in-Err-write_out.halt (let z = c.unwritten.ensures.error in cc));
       ends = record {
         closing = tt;
         is_open = tt;
         sent = tt;
-        none_failed = tt;
-        failures = c.in-Err-write_out.ensures.failures;
-        no_read = c.in-Err-write_out.ensures.no_read;
-        refusal = answering fails fails' c.write_out.new.turns c.in-Err-write_out.error c.in-Err-write_out.ensures.refusal;
+        failures = subst (λ b. fails' ≡ failures_after b fails) (sym c.unwritten.ensures.of_writer) c.in-Err-write_out.ensures.failures;
+        no_read = c.unwritten.ensures.not_of_reader;
+        refusal = subst (StopsAnswering fails fails' c.write_out.new.turns) (sym c.unwritten.ensures.error)
+            (answering fails fails' c.write_out.new.turns c.in-Err-write_out.halt c.in-Err-write_out.ensures.halted);
         same_limits = ap (λ (h : HubState). h.limits) sent.state ∙ ap (λ (h : HubState). h.limits) answered.state;
         bounded = λ few. sent_few given new id held held' waits (c.args.held + old.limits.total) sent (c.bytes_within.ensures.bounded few);
       };
@@ -121,18 +120,8 @@ returns-in-Err-write_out-clause-full g c less =
       sent = c.in-Err-write_out.ensures.part;
     }
 
-pub returns-in_default-is_closing-clause-part : goal.returns-in_default-is_closing-clause-part
-returns-in_default-is_closing-clause-part g c = absurd (not_there c.write_out.new.hub c.args.id
-    (sent_is_there c.bytes_within.new.self c.write_out.new.hub c.args.id (g.W.Sink.written c.args.writer.now) (g.W.Sink.written c.write_out.new.writer) _
-    c.in_default.ensures.sent) c.in_default-is_closing.ensures.none)
-
-pub returns-in_default-is_closing-clause-full : goal.returns-in_default-is_closing-clause-full
-returns-in_default-is_closing-clause-full g c = absurd (not_there c.write_out.new.hub c.args.id
-    (sent_is_there c.bytes_within.new.self c.write_out.new.hub c.args.id (g.W.Sink.written c.args.writer.now) (g.W.Sink.written c.write_out.new.writer) _
-    c.in_default.ensures.sent) c.in_default-is_closing.ensures.none)
-
-pub returns-clause-more : goal.returns-clause-more
-returns-clause-more g c =
+pub returns-in-Ok-write_out-clause-more : goal.returns-in-Ok-write_out-clause-more
+returns-in-Ok-write_out-clause-more g c less =
     let o = c.requires.is_open in
     let old = c.args.hub.now in
     let given = c.bytes_within.new.self in
@@ -142,12 +131,12 @@ returns-clause-more g c =
     let there = answered_is_there old given c.args.id o.seat (o.front ++ piece) c.in-Ok.taken.commands o.here
     (answered_at old given c.args.id piece c.in-Ok.taken.commands c.in-Ok.ensures.answered o.seat o.front o.here o.not_closing o.taken) in
     goes_on given c.write_out.new.hub c.args.id c.args.held (length o.seat.out) size used (g.W.Sink.written c.args.writer.now)
-    (g.W.Sink.written c.write_out.new.writer) [] c.in-Ok-is_closing.closing there
-    (takes_at old given c.args.id o.seat c.args.held size used o.here there c.in-Ok.ensures.within) c.in_default.ensures.sent
-    c.in-Ok-is_closing.ensures.closing
+    (g.W.Sink.written c.write_out.new.writer) [] c.in-Ok-write_out.closing there
+    (takes_at old given c.args.id o.seat c.args.held size used o.here there c.in-Ok.ensures.within) c.in-Ok-write_out.ensures.sent
+    c.in-Ok-write_out.ensures.closing less
 
-pub returns-clause-part : goal.returns-clause-part
-returns-clause-part g c =
+pub returns-in-Ok-write_out-clause-part : goal.returns-in-Ok-write_out-clause-part
+returns-in-Ok-write_out-clause-part g c =
     let old = c.args.hub.now in
     let given = c.bytes_within.new.self in
     let new = c.write_out.new.hub in
@@ -158,7 +147,7 @@ returns-clause-part g c =
     let o = c.requires.is_open in
     let held = g.W.Sink.written c.args.writer.now in
     let held' = g.W.Sink.written c.write_out.new.writer in
-    let sent = c.in_default.ensures.sent in
+    let sent = c.in-Ok-write_out.ensures.sent in
     let answered = answered_at old given id piece c.in-Ok.taken.commands c.in-Ok.ensures.answered o.seat o.front o.here o.not_closing o.taken in
     let there = answered_is_there old given id o.seat (o.front ++ piece) c.in-Ok.taken.commands o.here answered in
     let takes = takes_at old given id o.seat c.args.held size used o.here there c.in-Ok.ensures.within in
@@ -172,11 +161,11 @@ returns-clause-part g c =
       whole = uses_all c.args.held (length o.seat.out) (length there.0.out) there.0.closing size used takes;
       no_memory = λ is. absurd (cc);
       ends = record {
-        closing = c.in-Ok-is_closing.ensures.closing;
-        is_open = λ not. is_open new id c.in-Ok-is_closing.closing c.in-Ok-is_closing.ensures.closing not c.is_closing.ensures.taking;
+        closing = c.in-Ok-write_out.ensures.closing;
+        is_open = stays_open old given new id o.seat (o.front ++ piece) c.in-Ok.taken.commands held held' c.in-Ok-write_out.closing o.here answered sent
+            c.in-Ok-write_out.ensures.closing;
         sent = sent_none given new id held held' sent;
-        none_failed = c.in_default.ensures.none_failed;
-        failures = c.in_default.ensures.none_failed;
+        failures = c.in-Ok-write_out.ensures.failures;
         no_read = refl;
         refusal = tt;
         same_limits = ap (λ (h : HubState). h.limits) sent.state ∙ ap (λ (h : HubState). h.limits) answered.state;

@@ -6,9 +6,8 @@ use Rattle.resp_server.specs.Handling.{HasAnswered, WhereOpen}
 use Rattle.resp_server.specs.Hubs.{HubState}
 use Rattle.resp_wire.specs.Serving.{AnswersBefore, AnswersGiven, EndsAnswering, FailsServing, Serves, StopsServing, is_of_reader}
 use Rattle.resp_turns.specs.Pieces.{ReadsNothing}
-use Rattle.resp_turns.specs.Turns.{WereRead}
 use Rattle.resp_wire.proofs.AnsweredParts.{at_err, given_whole, may_leave, part_stops, still_few, stops_overfull}
-use Rattle.resp_turns.proofs.Pieces.{all_read, gives, halted, none_left, only_pieces, rest_of, some_left}
+use Rattle.resp_turns.proofs.Pieces.{all_read, gives, none_left, only_pieces, rest_of, some_left}
 use Rattle.resp_wire.proofs.Seated.{at_open, sent_few, sent_none, where_open}
 use Rattle.resp_wire.proofs.ServedTexts.{leaves_none, nothing_before, open_is, piece_serves, sent_is_open, serves_nothing}
 use Rattle.resp_wire.proofs.ServeStops.{fails_reading, no_turn_to_read, stops_reading, stops_writing}
@@ -26,15 +25,14 @@ returns-in-Err-clause-served g c =
       [],
       [],
       refl,
-      leaves_none (Err c.in-Err.error),
-      only_pieces (length c.args.buffer.now) g.R.Source.remaining g.R.Source.calls g.R.Source.failures c.args.reader.now c.args.reader.now [] (is_of_reader c.in-Err.error) refl
-          c.in-Err.ensures.no_read,
+      leaves_none (Err c.unwritten.result),
+      only_pieces (length c.args.buffer.now) g.R.Source.remaining g.R.Source.calls g.R.Source.failures c.args.reader.now c.args.reader.now []
+          (is_of_reader c.unwritten.result) refl c.unwritten.ensures.not_of_reader,
       where_open old id _ (λ s here not_closing front taken. (
         tt,
-        stops_writing old old new id s front [] held held' waits (g.W.Sink.failures c.args.writer.now) (g.W.Sink.failures c.write_out.new.writer)
-            c.write_out.new.turns c.in-Err.error c.in-Err.ensures.refusal some
-            (serves_nothing old new id s front held held' waits
-            (at_open old id (λ t f. HasAnswered old old id t f 0) s front c.requires.waiting here not_closing taken) sent),
+        subst (StopsServing old new id s front [] held held') (sym c.unwritten.ensures.error)
+            (stops_writing old old new id s front [] held held' waits c.in-Err.halt some (serves_nothing old new id s front held held' waits
+            (at_open old id (λ t f. HasAnswered old old id t f 0) s front c.requires.waiting here not_closing taken) sent)),
         nothing_before old id s front held held',
       )),
     )
@@ -69,7 +67,7 @@ loop-count-init g c =
       bounded = sent_few old new id held held' [] (c.args.held + old.limits.total) sent;
       spends = spends_writes (g.W.Sink.calls c.args.writer.now) (g.W.Sink.calls c.write_out.new.writer) (g.R.Source.calls c.args.reader.now) c.args.turns.now
           c.write_out.new.turns c.write_out.ensures.turns;
-      writes = c.in_default.ensures.none_failed;
+      writes = c.in_default.ensures.failures;
       reads = refl;
     }
 
@@ -89,11 +87,7 @@ returns-in-Ok-eq0-clause-served g c =
       record {
         between = c.loop-count.reader;
         given = given;
-        over = (
-          subst (λ n. WereRead (g.R.Source.remaining c.loop-count.reader) (g.R.Source.remaining c.read_some.new.reader) (take n c.read_some.new.into)) none
-              c.in-Ok-eq0.ensures.read,
-          c.in-Ok-eq0.ensures.once,
-        );
+        over = c.in-Ok-eq0.ensures.empty none;
       },
       where_open old id _ (λ s here not_closing front taken.
           let (v, each) = at_open old id (λ t f. Serves old cur id t (f ++ concat pieces) held held' [] × AnswersBefore old id t f pieces held held') s front
@@ -133,28 +127,27 @@ returns-in-Err-read_some-clause-served g c =
         between = c.loop-count.reader;
         given = given;
         over = subst (ReadsNothing g.R.Source.remaining g.R.Source.calls c.loop-count.reader c.read_some.new.reader) (sym c.unread.ensures.of_reader)
-            (halted g.R.Source.remaining g.R.Source.calls c.loop-count.reader c.read_some.new.reader c.in-Err-read_some.halt
-            c.in-Err-read_some.ensures.unread (λ e. c.in-Err-read_some.ensures.failed_once (ap Err e))
-            (λ e. c.in-Err-read_some.ensures.not_once (ap Err e)));
+            c.in-Err-read_some.ensures.unread;
       },
       where_open old id _ (λ s here not_closing front taken.
           let (v, each) = at_open old id (λ t f. Serves old cur id t (f ++ concat pieces) held held' [] × AnswersBefore old id t f pieces held held') s front
           served here not_closing taken in (
             tt,
-            stops_reading old cur id s front (concat pieces) held held' (g.R.Source.failures c.loop-count.reader)
-                (g.R.Source.failures c.read_some.new.reader) c.read_some.new.turns c.unread.result
-                (c.unread.ensures.stops _ _ _ c.in-Err-read_some.ensures.halted) (v, open_is cur id c.loop-count.invariant.is_open),
+            subst (StopsServing old cur id s front (concat pieces) held held') (sym c.unread.ensures.error)
+                (stops_reading old cur id s front (concat pieces) held held' c.in-Err-read_some.halt (v, open_is cur id c.loop-count.invariant.is_open)),
             each,
           )),
     )
 
 pub returns-in-Err-read_some-clause-refusal : goal.returns-in-Err-read_some-clause-refusal
 returns-in-Err-read_some-clause-refusal g c =
-    subst (λ n. FailsServing c.args.hub.now c.args.id (g.W.Sink.failures c.args.writer.now) (g.W.Sink.failures c.loop-count.writer) n
-    (g.R.Source.failures c.read_some.new.reader) c.unread.result) c.loop-count.invariant.reads
-    (fails_reading c.args.hub.now c.args.id (g.W.Sink.failures c.args.writer.now) (g.W.Sink.failures c.loop-count.writer)
-    (g.R.Source.failures c.loop-count.reader) (g.R.Source.failures c.read_some.new.reader) c.read_some.new.turns c.unread.result
-    (c.unread.ensures.stops _ _ _ c.in-Err-read_some.ensures.halted))
+    let writes = g.W.Sink.failures c.args.writer.now in
+    let writes' = g.W.Sink.failures c.loop-count.writer in
+    let reads' = g.R.Source.failures c.read_some.new.reader in
+    subst (λ n. FailsServing c.args.hub.now c.args.id writes writes' n reads' c.unread.result) c.loop-count.invariant.reads
+    (subst (FailsServing c.args.hub.now c.args.id writes writes' (g.R.Source.failures c.loop-count.reader) reads') (sym c.unread.ensures.error)
+    (fails_reading c.args.hub.now c.args.id writes writes' (g.R.Source.failures c.loop-count.reader) reads' c.read_some.new.turns
+    c.in-Err-read_some.halt c.in-Err-read_some.ensures.halted))
 
 pub returns-in-Err-read_some-clause-turns : goal.returns-in-Err-read_some-clause-turns
 returns-in-Err-read_some-clause-turns g c = spends_both (g.W.Sink.calls c.args.writer.now) (g.W.Sink.calls c.loop-count.writer)
@@ -165,8 +158,8 @@ returns-in-Err-read_some-clause-turns g c = spends_both (g.W.Sink.calls c.args.w
 pub returns-in-Err-read_some-clause-no_turn_left :
     goal.returns-in-Err-read_some-clause-no_turn_left
 returns-in-Err-read_some-clause-no_turn_left g c is =
-    no_turn_to_read _ _ (g.R.Source.failures c.loop-count.reader) (g.R.Source.failures c.read_some.new.reader) c.read_some.new.turns c.unread.result refl
-    (c.unread.ensures.stops _ _ _ c.in-Err-read_some.ensures.halted) is
+    no_turn_to_read (g.R.Source.failures c.loop-count.reader) (g.R.Source.failures c.read_some.new.reader) c.read_some.new.turns c.in-Err-read_some.halt
+    c.in-Err-read_some.ensures.halted (let z = c.unread.ensures.error in cc)
 
 pub returns-in-Err-end-clause-served : goal.returns-in-Err-end-clause-served
 returns-in-Err-end-clause-served g c =
@@ -188,9 +181,8 @@ returns-in-Err-end-clause-served g c =
     c.answer-answered.ensures.part.given in
     let size : length c.front.result.now ≡ n = ap length c.front.ensures ∙ length-take-le n into c.in-Ok.ensures.within in
     let within : used ≤ n = omega (arith, c.answer-answered.ensures.part.within, size) in
-    let given_all = gives (length c.args.buffer.now) g.R.Source.remaining g.R.Source.calls g.R.Source.failures c.args.reader.now c.loop-count.reader c.read_some.new.reader pieces into n
-    given
-    c.in-Ok.ensures.within (search rules) (search rules) c.in-Ok.ensures.read c.in-Ok.ensures.once c.in-Ok.ensures.none_failed in (
+    let given_all = gives (length c.args.buffer.now) _ g.R.Source.remaining g.R.Source.calls g.R.Source.failures c.args.reader.now c.loop-count.reader
+    c.read_some.new.reader pieces (take n into) (search rules) given (c.in-Ok.ensures.piece (search rules)) in (
       pieces ++ take n into ∷ [],
       concat pieces ++ take used (take n into),
       rest_of pieces into n used within,
@@ -235,9 +227,8 @@ returns-in-Ok-true-clause-served g c =
     let held'' = g.W.Sink.written c.answer-answered.new.writer in
     let cur = c.loop-count.hub in
     let new = c.answer-answered.new.hub in
-    let given_all = gives (length c.args.buffer.now) g.R.Source.remaining g.R.Source.calls g.R.Source.failures c.args.reader.now c.loop-count.reader c.read_some.new.reader pieces into n
-    given
-    c.in-Ok.ensures.within (search rules) (search rules) c.in-Ok.ensures.read c.in-Ok.ensures.once c.in-Ok.ensures.none_failed in (
+    let given_all = gives (length c.args.buffer.now) _ g.R.Source.remaining g.R.Source.calls g.R.Source.failures c.args.reader.now c.loop-count.reader
+    c.read_some.new.reader pieces (take n into) (search rules) given (c.in-Ok.ensures.piece (search rules)) in (
       pieces ++ take n into ∷ [],
       concat (pieces ++ take n into ∷ []),
       sym (append-nil (concat (pieces ++ take n into ∷ []))),
@@ -280,8 +271,8 @@ loop-count-preserved g c =
     record {
       served = (
         more,
-        gives (length c.args.buffer.now) g.R.Source.remaining g.R.Source.calls g.R.Source.failures c.args.reader.now c.loop-count.reader c.read_some.new.reader pieces into n given
-            c.in-Ok.ensures.within (search rules) (search rules) c.in-Ok.ensures.read c.in-Ok.ensures.once c.in-Ok.ensures.none_failed,
+        gives (length c.args.buffer.now) _ g.R.Source.remaining g.R.Source.calls g.R.Source.failures c.args.reader.now c.loop-count.reader
+            c.read_some.new.reader pieces (take n into) (search rules) given (c.in-Ok.ensures.piece (search rules)),
         where_open old id _ (λ s here not_closing front taken.
             let (v, _, each) = at_open old id (λ t f. Serves old new id t (f ++ concat more) held held'' [] × ⊤ × AnswersBefore old id t f more held held'') s
             front all here not_closing taken in
@@ -294,6 +285,6 @@ loop-count-preserved g c =
       spends = spends_both (g.W.Sink.calls c.args.writer.now) (g.W.Sink.calls c.loop-count.writer) (g.W.Sink.calls c.answer-answered.new.writer)
           (g.R.Source.calls c.args.reader.now) (g.R.Source.calls c.loop-count.reader) (g.R.Source.calls c.read_some.new.reader) c.args.turns.now
           c.loop-count.turns c.read_some.new.turns c.answer-answered.new.turns c.loop-count.invariant.spends c.read_some.ensures.turns c.answer-answered.ensures.part.spends;
-      writes = ends.none_failed ∙ c.loop-count.invariant.writes;
-      reads = c.in-Ok.ensures.none_failed ∙ c.loop-count.invariant.reads;
+      writes = ends.failures ∙ c.loop-count.invariant.writes;
+      reads = c.in-Ok.ensures.failures ∙ c.loop-count.invariant.reads;
     }

@@ -24,7 +24,7 @@ loop-count-preserved g c =
       read = (
         came ++ take c.in-Ok.more c.read_some.new.into,
         has_read_more (g.R.Source.remaining c.args.to.now) (g.R.Source.remaining c.loop-count.to) (g.R.Source.remaining c.read_some.new.reader) came
-            (take c.in-Ok.more c.read_some.new.into) read c.in-Ok.ensures.read,
+            (take c.in-Ok.more c.read_some.new.into) read (c.in-Ok.ensures.piece (search rules)).read,
       );
       none_failed = search rules;
     }

@@ -14,7 +14,8 @@ use Rattle.resp_wire.proofs.worlds.Places.{world_of}
 use Rattle.resp_wire.specs.Happening.{MayLackMemory}
 use Rattle.resp_wire.proofs.worlds.Lacking.{push_lacks}
 use Rattle.resp_wire.specs.Worlds.{CountsFailures}
-use Rattle.resp_wire.specs.Links.{is_of_link, stopped_by_link}
+use Rattle.resp_wire.specs.Links.{is_of_link}
+use Rattle.resp_turns.specs.Turns.{stopped_by}
 use Rattle.resp_wire.proofs.LinkStops.{counts_none, push_of_no_link}
 use Rattle.resp_wire.proofs.world.World.push.Goals as goal
 
@@ -82,6 +83,6 @@ pub returns-in-Err-clause-links : goal.returns-in-Err-clause-links
 returns-in-Err-clause-links g c =
     let s = c.self.inside in
     let r = c.outcome_of_push.result in
-    subst (λ (z : WorldState g.row.L.Denot). CountsFailures g.L.Link.failures c.args.number z.links s.links.items (stopped_by_link r)) c.self.view_is
+    subst (λ (z : WorldState g.row.L.Denot). CountsFailures g.L.Link.failures c.args.number z.links s.links.items (stopped_by is_of_link r)) c.self.view_is
     (counts_none g.L.Link.failures c.args.number s.links.items s.links.items r refl
     (subst (λ o. IfErr o (λ k. is_of_link k ≡ false)) (sym c.outcome_of_push.ensures) (push_of_no_link c.in-Err.error)))

@@ -11,7 +11,8 @@ use Rattle.resp_wire.proofs.worlds.Places.{world_of}
 use Rattle.resp_wire.specs.Happening.{MayLackMemory}
 use Rattle.resp_wire.proofs.worlds.Lacking.{if_err, send_lacks}
 use Rattle.resp_wire.specs.Worlds.{CountsFailures}
-use Rattle.resp_wire.specs.Links.{stopped_by_link}
+use Rattle.resp_wire.specs.Links.{is_of_link}
+use Rattle.resp_turns.specs.Turns.{stopped_by}
 use Rattle.resp_wire.proofs.LinkStops.{counts_none, of_no_link}
 use Rattle.resp_wire.proofs.world.World.send.Goals as goal
 
@@ -43,5 +44,5 @@ returns-clause-memory g c =
 pub returns-clause-links : goal.returns-clause-links
 returns-clause-links g c =
     let s = c.self.inside in
-    subst (λ (z : WorldState g.row.L.Denot). CountsFailures g.L.Link.failures c.args.number z.links s.links.items (stopped_by_link c.send.result)) c.self.view_is
+    subst (λ (z : WorldState g.row.L.Denot). CountsFailures g.L.Link.failures c.args.number z.links s.links.items (stopped_by is_of_link c.send.result)) c.self.view_is
     (counts_none g.L.Link.failures c.args.number s.links.items s.links.items c.send.result refl (of_no_link c.send.result c.send.ensures.memory))

@@ -13,7 +13,8 @@ use Rattle.resp_wire.specs.Happening.{MayLackMemory}
 use Rattle.resp_wire.proofs.worlds.Lacking.{all_errs, to_client_lacks}
 use Rattle.resp_wire.specs.Worlds.{CountsFailures, OthersStay}
 use Rattle.resp_wire.proofs.LinkTraffic.{others_stay}
-use Rattle.resp_wire.specs.Links.{is_of_link, stopped_by_link}
+use Rattle.resp_wire.specs.Links.{is_of_link}
+use Rattle.resp_turns.specs.Turns.{stopped_by}
 use Rattle.resp_wire.proofs.LinkStops.{counts_none, counts_one, of_no_link}
 use Rattle.resp_wire.proofs.world.World.to_client.Goals as goal
 
@@ -108,7 +109,7 @@ returns-clause-links g c =
     let s = c.self.inside in
     let n = c.args.number in
     let link' = c.carry_to_client-carried.new.link in
-    subst (λ (z : WorldState g.row.L.Denot). CountsFailures g.L.Link.failures n z.links (set s.links.items (n - 1) link') (stopped_by_link c.keep.result))
+    subst (λ (z : WorldState g.row.L.Denot). CountsFailures g.L.Link.failures n z.links (set s.links.items (n - 1) link') (stopped_by is_of_link c.keep.result))
     c.self.view_is (counts_none g.L.Link.failures n s.links.items (set s.links.items (n - 1) link') c.keep.result
     (keep_failures g.L.Link.failures s.links.items (n - 1) c.index_mut.result.now link' c.index_mut.ensures.value c.in_default.ensures.none_failed)
     (of_no_link c.keep.result c.keep.ensures.memory))
