@@ -36,19 +36,6 @@ one_digit_more text many n byte rest after b is low high next e = record {
   whole = b.whole ∙ ap (λ l. b.digits ++ l) is ∙ sym (append_assoc b.digits (byte ∷ []) after);
 }
 
--- digits and CR LF
-pub number_found : (text : List ℕ) (many n : ℕ) (rest after : List ℕ) → HasDigits text many n rest → 0 < many → rest ≡ crlf after →
-    BeginsWithNumber text n after
-number_found text many n rest after b some ends = record {
-  digits = b.digits;
-  counted = ((let size = b.size in omega (arith, size, some), b.are), b.counted);
-  whole = b.whole ∙ ap (λ l. b.digits ++ l) ends;
-}
-
--- no byte has been read
-pub no_byte_yet : (text : List ℕ) (many : ℕ) → many ≡ 0 → BeginsWithLine text many text
-no_byte_yet text many none = record { line = []; is_line = tt; sized = sym none; whole = refl }
-
 -- one byte more
 pub one_byte_more : (text : List ℕ) (many byte : ℕ) (rest after : List ℕ) → BeginsWithLine text many rest → rest ≡ byte ∷ after → IsPlain byte →
     (next : ℕ) → next ≡ many + 1 → BeginsWithLine text next after

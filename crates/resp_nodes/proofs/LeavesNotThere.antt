@@ -1,5 +1,6 @@
 -- Leaves that are not there.
-use Rattle.std.proofs.Common.{◌≡◌, ℕ, pos, neg_ℤ, ◌≤ℤ◌, ◌<ℤ◌, Bool, true, false, drop, get_or, ◌+◌, ◌^◌, ◌≤◌, List, [], ◌∷◌, ◌++◌, length, refl, sym, ap, ◌∙◌, arith, append_assoc, length-append, length-drop}
+use Rattle.std.proofs.Common.{◌≡◌, ℕ, pos, neg_ℤ, ◌≤ℤ◌, ◌<ℤ◌, Bool, true, false, ◌⊎◌, ◌==◌, inl, inr, subst, drop, get_or, ◌+◌, ◌^◌, ◌≤◌, List, [], ◌∷◌, ◌++◌, length, refl, sym, ap, ◌∙◌, arith, append_assoc, length-append, length-drop}
+use Rattle.std.specs.Bool.{MatchBool}
 use Rattle.resp_value.specs.Bytes.{IsLine, crlf}
 use Rattle.resp_value.specs.LocalRules.{LeafKeeps}
 use Rattle.resp_value.specs.Numbers.{Unsigned, Plus, Minus, IsNumber, number}
@@ -47,10 +48,6 @@ first_of_leaf l at buffer rest e =
     let (cs, h) = leaf_begins l in
     sym (first_of_rest buffer at) ∙ ap (λ z. get_or z 0 0) e ∙ ap (λ z. get_or ((z ++ crlf (leaf_rest l)) ++ rest) 0 0) h
 
--- the first byte of a leaf is this one
-apart : (at : ℕ) (buffer rest : List ℕ) (byte : ℕ) (l : Leaf) → get_or buffer at 0 ≡ byte → drop at buffer ≡ leaf_text l ++ rest → byte ≡ leaf_byte l
-apart at buffer rest byte l is e = sym is ∙ first_of_leaf l at buffer rest e
-
 -- the bytes of a leaf of one line, after the first
 after_first : (c : ℕ) (s : List ℕ) (at : ℕ) (buffer rest : List ℕ) → drop at buffer ≡ ((c ∷ s) ++ crlf []) ++ rest → drop (at + 1) buffer ≡ s ++ crlf rest
 after_first c s at buffer rest e = rest_after (c ∷ []) at buffer (s ++ crlf rest) (e ∙ append_assoc (c ∷ s) (crlf []) rest)
@@ -73,50 +70,60 @@ a_string : (r : Rules) (c : ℕ) (digits s : List ℕ) (at : ℕ) (buffer rest :
 a_string r c digits s at buffer rest is few e none =
     none s rest few (record { digits = digits; counted = is; whole = after_first_of_string c digits s at buffer rest e })
 
+-- what is known of the leaf that is there
+abbrev IsThere : Rules → ℕ → List ℕ → ℕ → List ℕ → Leaf → Type 0
+IsThere r level buffer at rest l = IsLeaf l × LeafKeeps r WithinItems level l × (drop at buffer ≡ leaf_text l ++ rest)
+
+-- the plain leaves that begin with this byte
+abbrev OfByte : (Leaf → Type 0) → ℕ → Type 0
+OfByte P b =
+    MatchBool (b == 36) (((digits s : List ℕ) × P (string Bulk digits s)) ⊎ P (null BulkNull))
+    (MatchBool (b == 42) (P (null ArrayNull))
+    (MatchBool (b == 58) (((digits : List ℕ) × P (numeral Int Unsigned digits)) ⊎ ((digits : List ℕ) × P (numeral Int Minus digits)))
+    (MatchBool (b == 43) ((s : List ℕ) × P (line Simple s))
+    (MatchBool (b == 45) ((s : List ℕ) × P (line Error s))
+    (MatchBool (b == 44) ((s : List ℕ) × P (line Double s))
+    (MatchBool (b == 95) (P (null PlainNull))
+    (MatchBool (b == 35) ((on : Bool) × P (truth on))
+    (MatchBool (b == 33) ((digits s : List ℕ) × P (string BulkError digits s))
+    ((format digits s : List ℕ) × P (string (Verbatim format) digits s))))))))))
+
+of_byte : (P : Leaf → Type 0) (level : ℕ) (l : Leaf) → IsPlainLeaf level l → P l → OfByte P (leaf_byte l)
+of_byte P level (line Simple s) plain p = (s, p)
+of_byte P level (line Error s) plain p = (s, p)
+of_byte P level (line Double s) plain p = (s, p)
+of_byte P level (numeral Int Unsigned digits) plain p = inl (digits, p)
+of_byte P level (numeral Int Plus digits) plain p = absurd plain
+of_byte P level (numeral Int Minus digits) plain p = inr (digits, p)
+of_byte P level (numeral Big sign digits) plain p = absurd plain
+of_byte P level (null BulkNull) plain p = inr p
+of_byte P level (null ArrayNull) plain p = p
+of_byte P level (null PlainNull) plain p = p
+of_byte P level (truth on) plain p = (on, p)
+of_byte P level (string Bulk digits s) plain p = inl (digits, s, p)
+of_byte P level (string BulkError digits s) plain p = (digits, s, p)
+of_byte P level (string (Verbatim format) digits s) plain p = (format, digits, s, p)
+of_byte P level (chunked chunks zeros) plain p = absurd plain
+
+leaf_at : (r : Rules) (level : ℕ) (buffer : List ℕ) (at b : ℕ) → get_or buffer at 0 ≡ b → (has : HasLeaf r level buffer at) →
+    OfByte (IsThere r level buffer at has.rest) b
+leaf_at r level buffer at b first has =
+    subst (OfByte (IsThere r level buffer at has.rest)) (sym (first_of_leaf has.leaf at buffer has.rest has.whole) ∙ first)
+    (of_byte (IsThere r level buffer at has.rest) level has.leaf has.plain (has.is_leaf, has.keeps, has.whole))
+
 -- a bulk string or a null
 pub no_dollar : (r : Rules) (level : ℕ) (buffer : List ℕ) (at : ℕ) → get_or buffer at 0 ≡ 36 → NoString r.limits.length (drop (at + 1) buffer) →
     NoNull (drop (at + 1) buffer) → HasLeaf r level buffer at → ⊥
-no_dollar r level buffer at first no_string no_null has = go has.leaf has.is_leaf has.keeps has.plain has.whole
+no_dollar r level buffer at first no_string no_null has = go (leaf_at r level buffer at 36 first has)
   where
-    go : (l : Leaf) → IsLeaf l → LeafKeeps r WithinItems level l → IsPlainLeaf level l → drop at buffer ≡ leaf_text l ++ has.rest → ⊥
-    go (line Simple s) is keeps plain e = let b = apart at buffer has.rest _ (line Simple s) first e in omega (arith, b)
-    go (line Error s) is keeps plain e = let b = apart at buffer has.rest _ (line Error s) first e in omega (arith, b)
-    go (line Double s) is keeps plain e = let b = apart at buffer has.rest _ (line Double s) first e in omega (arith, b)
-    go (numeral Int Unsigned digits) is keeps plain e = let b = apart at buffer has.rest _ (numeral Int Unsigned digits) first e in omega (arith, b)
-    go (numeral Int Plus digits) is keeps plain e = absurd plain
-    go (numeral Int Minus digits) is keeps plain e = let b = apart at buffer has.rest _ (numeral Int Minus digits) first e in omega (arith, b)
-    go (numeral Big sign digits) is keeps plain e = absurd plain
-    go (null BulkNull) is keeps plain e = no_null has.rest (after_first 36 (45 ∷ 49 ∷ []) at buffer has.rest e)
-    go (null ArrayNull) is keeps plain e = let b = apart at buffer has.rest _ (null ArrayNull) first e in omega (arith, b)
-    go (null PlainNull) is keeps plain e = let b = apart at buffer has.rest _ (null PlainNull) first e in omega (arith, b)
-    go (truth true) is keeps plain e = let b = apart at buffer has.rest _ (truth true) first e in omega (arith, b)
-    go (truth false) is keeps plain e = let b = apart at buffer has.rest _ (truth false) first e in omega (arith, b)
-    go (string Bulk digits s) is keeps plain e = a_string r 36 digits s at buffer has.rest is.0 (keeps WithinLength (omega arith)) e no_string
-    go (string BulkError digits s) is keeps plain e = let b = apart at buffer has.rest _ (string BulkError digits s) first e in omega (arith, b)
-    go (string (Verbatim format) digits s) is keeps plain e = let b = apart at buffer has.rest _ (string (Verbatim format) digits s) first e in omega (arith, b)
-    go (chunked chunks zeros) is keeps plain e = absurd plain
+    go : OfByte (IsThere r level buffer at has.rest) 36 → ⊥
+    go (inl (digits, s, (is, keeps, e))) = a_string r 36 digits s at buffer has.rest is.0 (keeps WithinLength (omega arith)) e no_string
+    go (inr (is, keeps, e)) = no_null has.rest (after_first 36 (45 ∷ 49 ∷ []) at buffer has.rest e)
 
 -- a null of an array
 pub no_star : (r : Rules) (level : ℕ) (buffer : List ℕ) (at : ℕ) → get_or buffer at 0 ≡ 42 → NoNull (drop (at + 1) buffer) → HasLeaf r level buffer at → ⊥
-no_star r level buffer at first no_null has = go has.leaf has.is_leaf has.keeps has.plain has.whole
-  where
-    go : (l : Leaf) → IsLeaf l → LeafKeeps r WithinItems level l → IsPlainLeaf level l → drop at buffer ≡ leaf_text l ++ has.rest → ⊥
-    go (line Simple s) is keeps plain e = let b = apart at buffer has.rest _ (line Simple s) first e in omega (arith, b)
-    go (line Error s) is keeps plain e = let b = apart at buffer has.rest _ (line Error s) first e in omega (arith, b)
-    go (line Double s) is keeps plain e = let b = apart at buffer has.rest _ (line Double s) first e in omega (arith, b)
-    go (numeral Int Unsigned digits) is keeps plain e = let b = apart at buffer has.rest _ (numeral Int Unsigned digits) first e in omega (arith, b)
-    go (numeral Int Plus digits) is keeps plain e = absurd plain
-    go (numeral Int Minus digits) is keeps plain e = let b = apart at buffer has.rest _ (numeral Int Minus digits) first e in omega (arith, b)
-    go (numeral Big sign digits) is keeps plain e = absurd plain
-    go (null BulkNull) is keeps plain e = let b = apart at buffer has.rest _ (null BulkNull) first e in omega (arith, b)
-    go (null ArrayNull) is keeps plain e = no_null has.rest (after_first 42 (45 ∷ 49 ∷ []) at buffer has.rest e)
-    go (null PlainNull) is keeps plain e = let b = apart at buffer has.rest _ (null PlainNull) first e in omega (arith, b)
-    go (truth true) is keeps plain e = let b = apart at buffer has.rest _ (truth true) first e in omega (arith, b)
-    go (truth false) is keeps plain e = let b = apart at buffer has.rest _ (truth false) first e in omega (arith, b)
-    go (string Bulk digits s) is keeps plain e = let b = apart at buffer has.rest _ (string Bulk digits s) first e in omega (arith, b)
-    go (string BulkError digits s) is keeps plain e = let b = apart at buffer has.rest _ (string BulkError digits s) first e in omega (arith, b)
-    go (string (Verbatim format) digits s) is keeps plain e = let b = apart at buffer has.rest _ (string (Verbatim format) digits s) first e in omega (arith, b)
-    go (chunked chunks zeros) is keeps plain e = absurd plain
+no_star r level buffer at first no_null has =
+    let (is, keeps, e) = leaf_at r level buffer at 42 first has in no_null has.rest (after_first 42 (45 ∷ 49 ∷ []) at buffer has.rest e)
 
 -- the greatest integer
 at_most : (digits : List ℕ) → (neg_ℤ (pos (2 ^ 63)) ≤ℤ pos (number digits)) × (pos (number digits) <ℤ pos (2 ^ 63)) → number digits ≤ 9223372036854775807
@@ -130,214 +137,68 @@ at_least digits h = let low = h.0 in grind (arith, low)
 -- an integer
 pub no_integer : (r : Rules) (level : ℕ) (buffer : List ℕ) (at : ℕ) → get_or buffer at 0 ≡ 58 → NoNumber 9223372036854775807 (drop (at + 1) buffer) →
     NoNumberBelow 9223372036854775808 (drop (at + 1) buffer) → HasLeaf r level buffer at → ⊥
-no_integer r level buffer at first no_number no_below has = go has.leaf has.is_leaf has.keeps has.plain has.whole
+no_integer r level buffer at first no_number no_below has = go (leaf_at r level buffer at 58 first has)
   where
-    go : (l : Leaf) → IsLeaf l → LeafKeeps r WithinItems level l → IsPlainLeaf level l → drop at buffer ≡ leaf_text l ++ has.rest → ⊥
-    go (line Simple s) is keeps plain e = let b = apart at buffer has.rest _ (line Simple s) first e in omega (arith, b)
-    go (line Error s) is keeps plain e = let b = apart at buffer has.rest _ (line Error s) first e in omega (arith, b)
-    go (line Double s) is keeps plain e = let b = apart at buffer has.rest _ (line Double s) first e in omega (arith, b)
-    go (numeral Int Unsigned digits) is keeps plain e =
+    go : OfByte (IsThere r level buffer at has.rest) 58 → ⊥
+    go (inl (digits, (is, keeps, e))) =
         no_number (number digits) has.rest (at_most digits (keeps InRange (omega arith)))
         (record { digits = digits; counted = (is, refl); whole = after_first 58 digits at buffer has.rest e })
-    go (numeral Int Plus digits) is keeps plain e = absurd plain
-    go (numeral Int Minus digits) is keeps plain e =
+    go (inr (digits, (is, keeps, e))) =
         no_below (number digits) (digits ++ crlf has.rest) has.rest (at_least digits (keeps InRange (omega arith)))
         (after_first 58 (45 ∷ digits) at buffer has.rest e) (record { digits = digits; counted = (is, refl); whole = refl })
-    go (numeral Big sign digits) is keeps plain e = absurd plain
-    go (null BulkNull) is keeps plain e = let b = apart at buffer has.rest _ (null BulkNull) first e in omega (arith, b)
-    go (null ArrayNull) is keeps plain e = let b = apart at buffer has.rest _ (null ArrayNull) first e in omega (arith, b)
-    go (null PlainNull) is keeps plain e = let b = apart at buffer has.rest _ (null PlainNull) first e in omega (arith, b)
-    go (truth true) is keeps plain e = let b = apart at buffer has.rest _ (truth true) first e in omega (arith, b)
-    go (truth false) is keeps plain e = let b = apart at buffer has.rest _ (truth false) first e in omega (arith, b)
-    go (string Bulk digits s) is keeps plain e = let b = apart at buffer has.rest _ (string Bulk digits s) first e in omega (arith, b)
-    go (string BulkError digits s) is keeps plain e = let b = apart at buffer has.rest _ (string BulkError digits s) first e in omega (arith, b)
-    go (string (Verbatim format) digits s) is keeps plain e = let b = apart at buffer has.rest _ (string (Verbatim format) digits s) first e in omega (arith, b)
-    go (chunked chunks zeros) is keeps plain e = absurd plain
 
 -- a simple string
 pub no_simple : (r : Rules) (level : ℕ) (buffer : List ℕ) (at : ℕ) → get_or buffer at 0 ≡ 43 → NoLine r.limits.length (drop (at + 1) buffer) →
     HasLeaf r level buffer at → ⊥
-no_simple r level buffer at first no_line has = go has.leaf has.is_leaf has.keeps has.plain has.whole
-  where
-    go : (l : Leaf) → IsLeaf l → LeafKeeps r WithinItems level l → IsPlainLeaf level l → drop at buffer ≡ leaf_text l ++ has.rest → ⊥
-    go (line Simple s) is keeps plain e = a_line r 43 s at buffer has.rest is.0 (keeps WithinLength (omega arith)) e no_line
-    go (line Error s) is keeps plain e = let b = apart at buffer has.rest _ (line Error s) first e in omega (arith, b)
-    go (line Double s) is keeps plain e = let b = apart at buffer has.rest _ (line Double s) first e in omega (arith, b)
-    go (numeral Int Unsigned digits) is keeps plain e = let b = apart at buffer has.rest _ (numeral Int Unsigned digits) first e in omega (arith, b)
-    go (numeral Int Plus digits) is keeps plain e = absurd plain
-    go (numeral Int Minus digits) is keeps plain e = let b = apart at buffer has.rest _ (numeral Int Minus digits) first e in omega (arith, b)
-    go (numeral Big sign digits) is keeps plain e = absurd plain
-    go (null BulkNull) is keeps plain e = let b = apart at buffer has.rest _ (null BulkNull) first e in omega (arith, b)
-    go (null ArrayNull) is keeps plain e = let b = apart at buffer has.rest _ (null ArrayNull) first e in omega (arith, b)
-    go (null PlainNull) is keeps plain e = let b = apart at buffer has.rest _ (null PlainNull) first e in omega (arith, b)
-    go (truth true) is keeps plain e = let b = apart at buffer has.rest _ (truth true) first e in omega (arith, b)
-    go (truth false) is keeps plain e = let b = apart at buffer has.rest _ (truth false) first e in omega (arith, b)
-    go (string Bulk digits s) is keeps plain e = let b = apart at buffer has.rest _ (string Bulk digits s) first e in omega (arith, b)
-    go (string BulkError digits s) is keeps plain e = let b = apart at buffer has.rest _ (string BulkError digits s) first e in omega (arith, b)
-    go (string (Verbatim format) digits s) is keeps plain e = let b = apart at buffer has.rest _ (string (Verbatim format) digits s) first e in omega (arith, b)
-    go (chunked chunks zeros) is keeps plain e = absurd plain
+no_simple r level buffer at first no_line has =
+    let (s, (is, keeps, e)) = leaf_at r level buffer at 43 first has in
+    a_line r 43 s at buffer has.rest is.0 (keeps WithinLength (omega arith)) e no_line
 
 -- an error
 pub no_error : (r : Rules) (level : ℕ) (buffer : List ℕ) (at : ℕ) → get_or buffer at 0 ≡ 45 → NoLine r.limits.length (drop (at + 1) buffer) →
     HasLeaf r level buffer at → ⊥
-no_error r level buffer at first no_line has = go has.leaf has.is_leaf has.keeps has.plain has.whole
-  where
-    go : (l : Leaf) → IsLeaf l → LeafKeeps r WithinItems level l → IsPlainLeaf level l → drop at buffer ≡ leaf_text l ++ has.rest → ⊥
-    go (line Simple s) is keeps plain e = let b = apart at buffer has.rest _ (line Simple s) first e in omega (arith, b)
-    go (line Error s) is keeps plain e = a_line r 45 s at buffer has.rest is.0 (keeps WithinLength (omega arith)) e no_line
-    go (line Double s) is keeps plain e = let b = apart at buffer has.rest _ (line Double s) first e in omega (arith, b)
-    go (numeral Int Unsigned digits) is keeps plain e = let b = apart at buffer has.rest _ (numeral Int Unsigned digits) first e in omega (arith, b)
-    go (numeral Int Plus digits) is keeps plain e = absurd plain
-    go (numeral Int Minus digits) is keeps plain e = let b = apart at buffer has.rest _ (numeral Int Minus digits) first e in omega (arith, b)
-    go (numeral Big sign digits) is keeps plain e = absurd plain
-    go (null BulkNull) is keeps plain e = let b = apart at buffer has.rest _ (null BulkNull) first e in omega (arith, b)
-    go (null ArrayNull) is keeps plain e = let b = apart at buffer has.rest _ (null ArrayNull) first e in omega (arith, b)
-    go (null PlainNull) is keeps plain e = let b = apart at buffer has.rest _ (null PlainNull) first e in omega (arith, b)
-    go (truth true) is keeps plain e = let b = apart at buffer has.rest _ (truth true) first e in omega (arith, b)
-    go (truth false) is keeps plain e = let b = apart at buffer has.rest _ (truth false) first e in omega (arith, b)
-    go (string Bulk digits s) is keeps plain e = let b = apart at buffer has.rest _ (string Bulk digits s) first e in omega (arith, b)
-    go (string BulkError digits s) is keeps plain e = let b = apart at buffer has.rest _ (string BulkError digits s) first e in omega (arith, b)
-    go (string (Verbatim format) digits s) is keeps plain e = let b = apart at buffer has.rest _ (string (Verbatim format) digits s) first e in omega (arith, b)
-    go (chunked chunks zeros) is keeps plain e = absurd plain
+no_error r level buffer at first no_line has =
+    let (s, (is, keeps, e)) = leaf_at r level buffer at 45 first has in
+    a_line r 45 s at buffer has.rest is.0 (keeps WithinLength (omega arith)) e no_line
 
 -- a double
 pub no_double : (r : Rules) (level : ℕ) (buffer : List ℕ) (at : ℕ) → get_or buffer at 0 ≡ 44 → NoLine r.limits.length (drop (at + 1) buffer) →
     HasLeaf r level buffer at → ⊥
-no_double r level buffer at first no_line has = go has.leaf has.is_leaf has.keeps has.plain has.whole
-  where
-    go : (l : Leaf) → IsLeaf l → LeafKeeps r WithinItems level l → IsPlainLeaf level l → drop at buffer ≡ leaf_text l ++ has.rest → ⊥
-    go (line Simple s) is keeps plain e = let b = apart at buffer has.rest _ (line Simple s) first e in omega (arith, b)
-    go (line Error s) is keeps plain e = let b = apart at buffer has.rest _ (line Error s) first e in omega (arith, b)
-    go (line Double s) is keeps plain e = a_line r 44 s at buffer has.rest is.0 (keeps WithinLength (omega arith)) e no_line
-    go (numeral Int Unsigned digits) is keeps plain e = let b = apart at buffer has.rest _ (numeral Int Unsigned digits) first e in omega (arith, b)
-    go (numeral Int Plus digits) is keeps plain e = absurd plain
-    go (numeral Int Minus digits) is keeps plain e = let b = apart at buffer has.rest _ (numeral Int Minus digits) first e in omega (arith, b)
-    go (numeral Big sign digits) is keeps plain e = absurd plain
-    go (null BulkNull) is keeps plain e = let b = apart at buffer has.rest _ (null BulkNull) first e in omega (arith, b)
-    go (null ArrayNull) is keeps plain e = let b = apart at buffer has.rest _ (null ArrayNull) first e in omega (arith, b)
-    go (null PlainNull) is keeps plain e = let b = apart at buffer has.rest _ (null PlainNull) first e in omega (arith, b)
-    go (truth true) is keeps plain e = let b = apart at buffer has.rest _ (truth true) first e in omega (arith, b)
-    go (truth false) is keeps plain e = let b = apart at buffer has.rest _ (truth false) first e in omega (arith, b)
-    go (string Bulk digits s) is keeps plain e = let b = apart at buffer has.rest _ (string Bulk digits s) first e in omega (arith, b)
-    go (string BulkError digits s) is keeps plain e = let b = apart at buffer has.rest _ (string BulkError digits s) first e in omega (arith, b)
-    go (string (Verbatim format) digits s) is keeps plain e = let b = apart at buffer has.rest _ (string (Verbatim format) digits s) first e in omega (arith, b)
-    go (chunked chunks zeros) is keeps plain e = absurd plain
+no_double r level buffer at first no_line has =
+    let (s, (is, keeps, e)) = leaf_at r level buffer at 44 first has in
+    a_line r 44 s at buffer has.rest is.0 (keeps WithinLength (omega arith)) e no_line
 
 -- a double, which the limits do not allow
 pub no_double_allowed : (r : Rules) (level : ℕ) (buffer : List ℕ) (at : ℕ) → get_or buffer at 0 ≡ 44 → r.limits.doubles ≡ false → HasLeaf r level buffer at → ⊥
-no_double_allowed r level buffer at first off has = go has.leaf has.is_leaf has.keeps has.plain has.whole
-  where
-    go : (l : Leaf) → IsLeaf l → LeafKeeps r WithinItems level l → IsPlainLeaf level l → drop at buffer ≡ leaf_text l ++ has.rest → ⊥
-    go (line Simple s) is keeps plain e = let b = apart at buffer has.rest _ (line Simple s) first e in omega (arith, b)
-    go (line Error s) is keeps plain e = let b = apart at buffer has.rest _ (line Error s) first e in omega (arith, b)
-    go (line Double s) is keeps plain e = keeps NoDouble (omega arith) off
-    go (numeral Int Unsigned digits) is keeps plain e = let b = apart at buffer has.rest _ (numeral Int Unsigned digits) first e in omega (arith, b)
-    go (numeral Int Plus digits) is keeps plain e = absurd plain
-    go (numeral Int Minus digits) is keeps plain e = let b = apart at buffer has.rest _ (numeral Int Minus digits) first e in omega (arith, b)
-    go (numeral Big sign digits) is keeps plain e = absurd plain
-    go (null BulkNull) is keeps plain e = let b = apart at buffer has.rest _ (null BulkNull) first e in omega (arith, b)
-    go (null ArrayNull) is keeps plain e = let b = apart at buffer has.rest _ (null ArrayNull) first e in omega (arith, b)
-    go (null PlainNull) is keeps plain e = let b = apart at buffer has.rest _ (null PlainNull) first e in omega (arith, b)
-    go (truth true) is keeps plain e = let b = apart at buffer has.rest _ (truth true) first e in omega (arith, b)
-    go (truth false) is keeps plain e = let b = apart at buffer has.rest _ (truth false) first e in omega (arith, b)
-    go (string Bulk digits s) is keeps plain e = let b = apart at buffer has.rest _ (string Bulk digits s) first e in omega (arith, b)
-    go (string BulkError digits s) is keeps plain e = let b = apart at buffer has.rest _ (string BulkError digits s) first e in omega (arith, b)
-    go (string (Verbatim format) digits s) is keeps plain e = let b = apart at buffer has.rest _ (string (Verbatim format) digits s) first e in omega (arith, b)
-    go (chunked chunks zeros) is keeps plain e = absurd plain
+no_double_allowed r level buffer at first off has =
+    let (s, (is, keeps, e)) = leaf_at r level buffer at 44 first has in keeps NoDouble (omega arith) off
 
 -- a null of version 3
 pub no_plain_null : (r : Rules) (level : ℕ) (buffer : List ℕ) (at : ℕ) → get_or buffer at 0 ≡ 95 → ((rest : List ℕ) → drop (at + 1) buffer ≡ crlf rest →
     ⊥) → HasLeaf r level buffer at → ⊥
-no_plain_null r level buffer at first no_end has = go has.leaf has.is_leaf has.keeps has.plain has.whole
-  where
-    go : (l : Leaf) → IsLeaf l → LeafKeeps r WithinItems level l → IsPlainLeaf level l → drop at buffer ≡ leaf_text l ++ has.rest → ⊥
-    go (line Simple s) is keeps plain e = let b = apart at buffer has.rest _ (line Simple s) first e in omega (arith, b)
-    go (line Error s) is keeps plain e = let b = apart at buffer has.rest _ (line Error s) first e in omega (arith, b)
-    go (line Double s) is keeps plain e = let b = apart at buffer has.rest _ (line Double s) first e in omega (arith, b)
-    go (numeral Int Unsigned digits) is keeps plain e = let b = apart at buffer has.rest _ (numeral Int Unsigned digits) first e in omega (arith, b)
-    go (numeral Int Plus digits) is keeps plain e = absurd plain
-    go (numeral Int Minus digits) is keeps plain e = let b = apart at buffer has.rest _ (numeral Int Minus digits) first e in omega (arith, b)
-    go (numeral Big sign digits) is keeps plain e = absurd plain
-    go (null BulkNull) is keeps plain e = let b = apart at buffer has.rest _ (null BulkNull) first e in omega (arith, b)
-    go (null ArrayNull) is keeps plain e = let b = apart at buffer has.rest _ (null ArrayNull) first e in omega (arith, b)
-    go (null PlainNull) is keeps plain e = no_end has.rest (after_first 95 [] at buffer has.rest e)
-    go (truth true) is keeps plain e = let b = apart at buffer has.rest _ (truth true) first e in omega (arith, b)
-    go (truth false) is keeps plain e = let b = apart at buffer has.rest _ (truth false) first e in omega (arith, b)
-    go (string Bulk digits s) is keeps plain e = let b = apart at buffer has.rest _ (string Bulk digits s) first e in omega (arith, b)
-    go (string BulkError digits s) is keeps plain e = let b = apart at buffer has.rest _ (string BulkError digits s) first e in omega (arith, b)
-    go (string (Verbatim format) digits s) is keeps plain e = let b = apart at buffer has.rest _ (string (Verbatim format) digits s) first e in omega (arith, b)
-    go (chunked chunks zeros) is keeps plain e = absurd plain
+no_plain_null r level buffer at first no_end has =
+    let (is, keeps, e) = leaf_at r level buffer at 95 first has in no_end has.rest (after_first 95 [] at buffer has.rest e)
 
 -- a boolean
 pub no_truth : (r : Rules) (level : ℕ) (buffer : List ℕ) (at : ℕ) → get_or buffer at 0 ≡ 35 → ((b : Bool) (rest : List ℕ) →
     drop at buffer ≡ truth_line b ++ crlf rest → ⊥) → HasLeaf r level buffer at → ⊥
-no_truth r level buffer at first no_line has = go has.leaf has.is_leaf has.keeps has.plain has.whole
-  where
-    go : (l : Leaf) → IsLeaf l → LeafKeeps r WithinItems level l → IsPlainLeaf level l → drop at buffer ≡ leaf_text l ++ has.rest → ⊥
-    go (line Simple s) is keeps plain e = let b = apart at buffer has.rest _ (line Simple s) first e in omega (arith, b)
-    go (line Error s) is keeps plain e = let b = apart at buffer has.rest _ (line Error s) first e in omega (arith, b)
-    go (line Double s) is keeps plain e = let b = apart at buffer has.rest _ (line Double s) first e in omega (arith, b)
-    go (numeral Int Unsigned digits) is keeps plain e = let b = apart at buffer has.rest _ (numeral Int Unsigned digits) first e in omega (arith, b)
-    go (numeral Int Plus digits) is keeps plain e = absurd plain
-    go (numeral Int Minus digits) is keeps plain e = let b = apart at buffer has.rest _ (numeral Int Minus digits) first e in omega (arith, b)
-    go (numeral Big sign digits) is keeps plain e = absurd plain
-    go (null BulkNull) is keeps plain e = let b = apart at buffer has.rest _ (null BulkNull) first e in omega (arith, b)
-    go (null ArrayNull) is keeps plain e = let b = apart at buffer has.rest _ (null ArrayNull) first e in omega (arith, b)
-    go (null PlainNull) is keeps plain e = let b = apart at buffer has.rest _ (null PlainNull) first e in omega (arith, b)
-    go (truth true) is keeps plain e = no_line true has.rest (e ∙ append_assoc (truth_line true) (crlf []) has.rest)
-    go (truth false) is keeps plain e = no_line false has.rest (e ∙ append_assoc (truth_line false) (crlf []) has.rest)
-    go (string Bulk digits s) is keeps plain e = let b = apart at buffer has.rest _ (string Bulk digits s) first e in omega (arith, b)
-    go (string BulkError digits s) is keeps plain e = let b = apart at buffer has.rest _ (string BulkError digits s) first e in omega (arith, b)
-    go (string (Verbatim format) digits s) is keeps plain e = let b = apart at buffer has.rest _ (string (Verbatim format) digits s) first e in omega (arith, b)
-    go (chunked chunks zeros) is keeps plain e = absurd plain
+no_truth r level buffer at first no_line has =
+    let (on, (is, keeps, e)) = leaf_at r level buffer at 35 first has in no_line on has.rest (e ∙ append_assoc (truth_line on) (crlf []) has.rest)
 
 -- a bulk error
 pub no_bulk_error : (r : Rules) (level : ℕ) (buffer : List ℕ) (at : ℕ) → get_or buffer at 0 ≡ 33 → NoString r.limits.length (drop (at + 1) buffer) →
     HasLeaf r level buffer at → ⊥
-no_bulk_error r level buffer at first no_string has = go has.leaf has.is_leaf has.keeps has.plain has.whole
-  where
-    go : (l : Leaf) → IsLeaf l → LeafKeeps r WithinItems level l → IsPlainLeaf level l → drop at buffer ≡ leaf_text l ++ has.rest → ⊥
-    go (line Simple s) is keeps plain e = let b = apart at buffer has.rest _ (line Simple s) first e in omega (arith, b)
-    go (line Error s) is keeps plain e = let b = apart at buffer has.rest _ (line Error s) first e in omega (arith, b)
-    go (line Double s) is keeps plain e = let b = apart at buffer has.rest _ (line Double s) first e in omega (arith, b)
-    go (numeral Int Unsigned digits) is keeps plain e = let b = apart at buffer has.rest _ (numeral Int Unsigned digits) first e in omega (arith, b)
-    go (numeral Int Plus digits) is keeps plain e = absurd plain
-    go (numeral Int Minus digits) is keeps plain e = let b = apart at buffer has.rest _ (numeral Int Minus digits) first e in omega (arith, b)
-    go (numeral Big sign digits) is keeps plain e = absurd plain
-    go (null BulkNull) is keeps plain e = let b = apart at buffer has.rest _ (null BulkNull) first e in omega (arith, b)
-    go (null ArrayNull) is keeps plain e = let b = apart at buffer has.rest _ (null ArrayNull) first e in omega (arith, b)
-    go (null PlainNull) is keeps plain e = let b = apart at buffer has.rest _ (null PlainNull) first e in omega (arith, b)
-    go (truth true) is keeps plain e = let b = apart at buffer has.rest _ (truth true) first e in omega (arith, b)
-    go (truth false) is keeps plain e = let b = apart at buffer has.rest _ (truth false) first e in omega (arith, b)
-    go (string Bulk digits s) is keeps plain e = let b = apart at buffer has.rest _ (string Bulk digits s) first e in omega (arith, b)
-    go (string BulkError digits s) is keeps plain e = a_string r 33 digits s at buffer has.rest is.0 (keeps WithinLength (omega arith)) e no_string
-    go (string (Verbatim format) digits s) is keeps plain e = let b = apart at buffer has.rest _ (string (Verbatim format) digits s) first e in omega (arith, b)
-    go (chunked chunks zeros) is keeps plain e = absurd plain
+no_bulk_error r level buffer at first no_string has =
+    let (digits, s, (is, keeps, e)) = leaf_at r level buffer at 33 first has in
+    a_string r 33 digits s at buffer has.rest is.0 (keeps WithinLength (omega arith)) e no_string
 
 -- a verbatim string
 pub no_verbatim : (r : Rules) (level : ℕ) (buffer : List ℕ) (at : ℕ) → get_or buffer at 0 ≡ 61 → NoVerbatim r.limits.length (drop (at + 1) buffer) →
     HasLeaf r level buffer at → ⊥
-no_verbatim r level buffer at first no_string has = go has.leaf has.is_leaf has.keeps has.plain has.whole
-  where
-    go : (l : Leaf) → IsLeaf l → LeafKeeps r WithinItems level l → IsPlainLeaf level l → drop at buffer ≡ leaf_text l ++ has.rest → ⊥
-    go (line Simple s) is keeps plain e = let b = apart at buffer has.rest _ (line Simple s) first e in omega (arith, b)
-    go (line Error s) is keeps plain e = let b = apart at buffer has.rest _ (line Error s) first e in omega (arith, b)
-    go (line Double s) is keeps plain e = let b = apart at buffer has.rest _ (line Double s) first e in omega (arith, b)
-    go (numeral Int Unsigned digits) is keeps plain e = let b = apart at buffer has.rest _ (numeral Int Unsigned digits) first e in omega (arith, b)
-    go (numeral Int Plus digits) is keeps plain e = absurd plain
-    go (numeral Int Minus digits) is keeps plain e = let b = apart at buffer has.rest _ (numeral Int Minus digits) first e in omega (arith, b)
-    go (numeral Big sign digits) is keeps plain e = absurd plain
-    go (null BulkNull) is keeps plain e = let b = apart at buffer has.rest _ (null BulkNull) first e in omega (arith, b)
-    go (null ArrayNull) is keeps plain e = let b = apart at buffer has.rest _ (null ArrayNull) first e in omega (arith, b)
-    go (null PlainNull) is keeps plain e = let b = apart at buffer has.rest _ (null PlainNull) first e in omega (arith, b)
-    go (truth true) is keeps plain e = let b = apart at buffer has.rest _ (truth true) first e in omega (arith, b)
-    go (truth false) is keeps plain e = let b = apart at buffer has.rest _ (truth false) first e in omega (arith, b)
-    go (string Bulk digits s) is keeps plain e = let b = apart at buffer has.rest _ (string Bulk digits s) first e in omega (arith, b)
-    go (string BulkError digits s) is keeps plain e = let b = apart at buffer has.rest _ (string BulkError digits s) first e in omega (arith, b)
-    go (string (Verbatim format) digits s) is keeps plain e =
-        no_string format s has.rest is.1.0 (keeps WithinLength (omega arith))
-        (record { digits = digits; counted = is.0; whole = after_first_of_string 61 digits (format ++ 58 ∷ s) at buffer has.rest e })
-    go (chunked chunks zeros) is keeps plain e = absurd plain
+no_verbatim r level buffer at first no_string has =
+    let (format, digits, s, (is, keeps, e)) = leaf_at r level buffer at 61 first has in
+    no_string format s has.rest is.1.0 (keeps WithinLength (omega arith))
+    (record { digits = digits; counted = is.0; whole = after_first_of_string 61 digits (format ++ 58 ∷ s) at buffer has.rest e })
 
 -- the leaves of version 2 begin with these bytes
 pub no_other_in_two : (r : Rules) (level : ℕ) (buffer : List ℕ) (at : ℕ) → (get_or buffer at 0 ≡ 36 → ⊥) → (get_or buffer at 0 ≡ 58 → ⊥) →
@@ -386,12 +247,3 @@ no_other_in_three r level buffer at not_95 not_35 not_44 not_33 not_61 has two =
     go (string BulkError digits s) plain two e = not_33 (first_of_leaf (string BulkError digits s) at buffer has.rest e)
     go (string (Verbatim format) digits s) plain two e = not_61 (first_of_leaf (string (Verbatim format) digits s) at buffer has.rest e)
     go (chunked chunks zeros) plain two e = absurd plain
-
--- there is no leaf after the last byte
-pub no_leaf_at_end : (r : Rules) (level : ℕ) (buffer : List ℕ) (at : ℕ) → length buffer ≤ at → HasLeaf r level buffer at → ⊥
-no_leaf_at_end r level buffer at past has =
-    let long = ap length has.whole in
-    let left = length-drop at buffer in
-    let whole = length-append (leaf_text has.leaf) has.rest in
-    let parts = length-append (leaf_line has.leaf) (crlf (leaf_rest has.leaf)) in
-    omega (arith, long, left, whole, parts, past)

@@ -149,13 +149,6 @@ line_marks text size after b =
 pub after_line : (text : List ℕ) (size : ℕ) (rest : List ℕ) → BeginsWithLine text size rest → drop size text ≡ rest
 after_line text size rest b = ap (λ k. drop k text) (sym b.sized) ∙ after_part b.line text rest b.whole
 
--- CR LF from a place on, by its bytes
-pub crlf_bytes : (at : ℕ) (text rest : List ℕ) → drop at text ≡ crlf rest → at < length text → (get_or text at 0 ≡ 13) × (get_or text (at + 1) 0 ≡ 10)
-crlf_bytes at text rest e within = (
-  sym (first_of_rest text at) ∙ ap (λ z. get_or z 0 0) e,
-  sym (first_of_rest text (at + 1)) ∙ ap (λ z. get_or z 0 0) (rest_after (13 ∷ []) at text (10 ∷ rest) e),
-)
-
 -- two numbers of which neither is less
 pub neither_less : (a b : ℕ) → (a < b → ⊥) → (b < a → ⊥) → a ≡ b
 neither_less zero zero p q = refl
