@@ -320,6 +320,6 @@ sees_told s new front piece used kept whole (seen.Value told) spelled is enough 
     (hears s new (front ++ take used piece) kept whole false None spelled is enough after takes h.1 h.2)
 sees_told s new front piece used kept whole seen.Nothing spelled is enough after takes h = absurd h
 sees_told s new front piece used kept whole seen.Passed spelled is enough after takes h = absurd h
-sees_told s new front piece used kept whole (seen.Command number words) spelled is enough after takes h = absurd h
+sees_told s new front piece used kept whole (seen.Command number words lengths) spelled is enough after takes h = absurd h
 sees_told s new front piece used kept whole (seen.NotCommand number) spelled is enough after takes h = absurd h
 sees_told s new front piece used kept whole (seen.Refused cause at where') spelled is enough after takes h = absurd h

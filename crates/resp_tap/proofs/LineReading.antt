@@ -108,7 +108,7 @@ line_told unique now old new line text words used seen.Nothing some are same spe
 line_told unique now old new line text words used seen.Passed some are same spelled times (inl sees) =
     absurd (no_other words Nothing some refl (sym sees.means ∙ only_value unique (tap_state old.tap) words text used sees.value spelled sees.spelled ∙
     call_is words some))
-line_told unique now old new line text words used (seen.Command number words') some are same spelled times (inl sees) =
+line_told unique now old new line text words used (seen.Command number words' lengths) some are same spelled times (inl sees) =
     let equal : words ≡ words' = same_words words words' some sees.some
     (sym (call_is words some) ∙ sym (only_value unique (tap_state old.tap) words text used sees.value spelled sees.spelled) ∙ sees.means) in record {
       some = sees.some;
@@ -138,8 +138,8 @@ line_told unique now old new line text words used seen.Nothing some are same spe
     absurd (lacks_none (tap_state old.tap) new.tap text used seen.Nothing refl lacks.1)
 line_told unique now old new line text words used seen.Passed some are same spelled times (inr lacks) =
     absurd (lacks_none (tap_state old.tap) new.tap text used seen.Passed refl lacks.1)
-line_told unique now old new line text words used (seen.Command number words') some are same spelled times (inr lacks) =
-    absurd (lacks_none (tap_state old.tap) new.tap text used (seen.Command number words') refl lacks.1)
+line_told unique now old new line text words used (seen.Command number words' lengths) some are same spelled times (inr lacks) =
+    absurd (lacks_none (tap_state old.tap) new.tap text used (seen.Command number words' lengths) refl lacks.1)
 line_told unique now old new line text words used (seen.NotCommand number) some are same spelled times (inr lacks) =
     absurd (lacks_none (tap_state old.tap) new.tap text used (seen.NotCommand number) refl lacks.1)
 line_told unique now old new line text words used (seen.Reply number kept) some are same spelled times (inr lacks) =
@@ -193,7 +193,7 @@ by_end : (now : Option Moment) (lines lines' : Lines) (old new : TimedTap) (piec
     EndsLine now lines lines' old new piece used what → TellsLine now lines lines' old new piece used what
 by_end now lines lines' old new piece line used seen.Nothing so ends = absurd so
 by_end now lines lines' old new piece line used seen.Passed so ends = ends
-by_end now lines lines' old new piece line used (seen.Command number words) so ends = ends
+by_end now lines lines' old new piece line used (seen.Command number words lengths) so ends = ends
 by_end now lines lines' old new piece line used (seen.NotCommand number) so ends = ends
 by_end now lines lines' old new piece line used (seen.Refused cause at where') so ends = ends
 by_end now lines lines' old new piece line used (seen.Reply number kept) so ends = ends

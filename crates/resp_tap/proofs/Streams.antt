@@ -489,7 +489,7 @@ server_tells three limits most x s new request rest piece used (seen.Value kept)
 server_tells three limits most x s new request rest piece used (seen.Refused cause at where') h sees fine = absurd fine
 server_tells three limits most x s new request rest piece used (seen.NotCommand number) h sees fine = absurd fine
 server_tells three limits most x s new request rest piece used seen.Passed h sees fine = absurd sees
-server_tells three limits most x s new request rest piece used (seen.Command number words) h sees fine = absurd sees
+server_tells three limits most x s new request rest piece used (seen.Command number words lengths) h sees fine = absurd sees
 
 -- ---- a piece of either side
 

@@ -16,11 +16,11 @@ both_hold : (before after : ℕ) (some : Bool) → before < after → some ≡ t
 both_hold before after some less is = grind (arith, less, is)
 
 one_more : (f : Filter) (p : TextOptions) (now : Option Moment) (is_line is_chosen : Bool) (what : Seen) (number : ℕ) (words : List (List ℕ)) (before after : ℕ)
-    (old new : List Note) → what ≡ seen.Command number words → before < after → is_selective f ≡ true → IsAdded f p now is_line is_chosen words old new →
+    (old new : List Note) → what ≡ seen.Command number words lengths → before < after → is_selective f ≡ true → IsAdded f p now is_line is_chosen words old new →
     NotesAfter f p now is_line is_chosen what before after old new
 one_more f p now is_line is_chosen what number words before after old new is less some added =
     subst (λ w. NotesBy (nat_lt before after && is_selective f) f p now is_line is_chosen w (before - after) old new) (sym is)
-    (subst (λ b. NotesBy b f p now is_line is_chosen (seen.Command number words) (before - after) old new) (sym (both_hold before after (is_selective f) less some)) added)
+    (subst (λ b. NotesBy b f p now is_line is_chosen (seen.Command number words lengths) (before - after) old new) (sym (both_hold before after (is_selective f) less some)) added)
 
 pub returns-in-Command-clause-notes : goal.returns-in-Command-clause-notes
 returns-in-Command-clause-notes c =

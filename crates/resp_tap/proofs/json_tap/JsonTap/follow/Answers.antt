@@ -11,10 +11,10 @@ is_more : (before after : ℕ) → before < after → nat_lt before after ≡ tr
 is_more before after less = search rules
 
 one_more : (is_chosen : Bool) (what : Seen) (number : ℕ) (words : List (List ℕ)) (before after : ℕ) (old new : List Called) →
-    what ≡ seen.Command number words → before < after → IsKept is_chosen words old new → CalledAfter is_chosen what before after old new
+    what ≡ seen.Command number words lengths → before < after → IsKept is_chosen words old new → CalledAfter is_chosen what before after old new
 one_more is_chosen what number words before after old new is less kept =
     subst (λ w. CalledBy (nat_lt before after) is_chosen w (before - after) old new) (sym is)
-    (subst (λ b. CalledBy b is_chosen (seen.Command number words) (before - after) old new) (sym (is_more before after less)) kept)
+    (subst (λ b. CalledBy b is_chosen (seen.Command number words lengths) (before - after) old new) (sym (is_more before after less)) kept)
 
 pub returns-in-Command-clause-calls : goal.returns-in-Command-clause-calls
 returns-in-Command-clause-calls c =
