@@ -43,13 +43,13 @@ use Rattle.resp_tap.specs.declared.tap.Tap.{Tap}
 -- ---- words
 
 -- the first n + 1 bytes of a text are a word of at most n bytes exactly if the text is
-same_word : (n : ℕ) (text word : List ℕ) → length word ≤ n → bytes_eq (take (suc n) text) word ≡ bytes_eq text word
+pub same_word : (n : ℕ) (text word : List ℕ) → length word ≤ n → bytes_eq (take (suc n) text) word ≡ bytes_eq text word
 same_word n [] word few = refl
 same_word n (x ∷ xs) [] few = refl
 same_word zero (x ∷ xs) (y ∷ ys) few = absurd (omega (arith, few))
 same_word (suc n) (x ∷ xs) (y ∷ ys) few = ap (λ b. nat_eq x y && b) (same_word n xs ys (omega (arith, few)))
 
-same_name : (n : ℕ) (name word : List ℕ) → length name ≤ n → is_name name (take (suc n) word) ≡ is_name name word
+pub same_name : (n : ℕ) (name word : List ℕ) → length name ≤ n → is_name name (take (suc n) word) ≡ is_name name word
 same_name n name word few =
     ap (λ w. bytes_eq w name) (sym (take-map to_ascii_lowercase (suc n) word)) ∙ same_word n (map to_ascii_lowercase word) name few
 
@@ -63,7 +63,7 @@ verb_by a b c e f g =
     if g then Some Sunsubscribe else
     None
 
-same_verb_named : (n : ℕ) (word : List ℕ) → 12 ≤ n → verb_named (take (suc n) word) ≡ verb_named word
+pub same_verb_named : (n : ℕ) (word : List ℕ) → 12 ≤ n → verb_named (take (suc n) word) ≡ verb_named word
 same_verb_named n word enough = λ i. verb_by
     (same_name n (codes "subscribe") word (omega (arith, enough)) i)
     (same_name n (codes "unsubscribe") word (omega (arith, enough)) i)

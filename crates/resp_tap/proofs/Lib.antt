@@ -11,3 +11,6 @@ pub mod Fronts
 pub mod PieceLemmas
 pub mod KeyPlaces
 pub mod LineReading
+pub mod KeptWords
+pub mod KeptPrinting
+pub mod WholeCommands

@@ -17,6 +17,7 @@ use Rattle.resp_value.specs.declared.cause.Cause.TheVariants as causes
 use Rattle.resp_value.specs.declared.version.Version.TheVariants.{Two}
 use Rattle.resp_session.specs.Commands.{Call, Meaning, NoCommand, Nothing, array_meaning, meaning_of}
 use Rattle.resp_session.proofs.CommandWords.{meaning_of-command_of}
+use Rattle.resp_tap.specs.SeenOf.{words_by}
 use Rattle.resp_tap.specs.Lined.{BeginsLine, EndsLine, EndsSo, IsInLine, IsNoLine, TellsLine}
 use Rattle.resp_tap.specs.Taps.{TapState, tap_state, with_refused_command}
 use Rattle.resp_tap.specs.Times.{KeepsTimes}
@@ -58,16 +59,12 @@ call_is : (words : List (List ℕ)) → 0 < length words → meaning_of (command
 call_is [] some = absurd (omega (arith, some))
 call_is (name ∷ arguments) some = meaning_of-command_of name arguments
 
-abbrev words_in : Meaning → List (List ℕ)
-words_in (Call name arguments) = name ∷ arguments
-words_in _ = []
-
 -- commands with the same meaning have the same words
-same_words : (words words' : List (List ℕ)) → 0 < length words → 0 < length words' → array_meaning (Some words) ≡ array_meaning (Some words') →
+pub same_words : (words words' : List (List ℕ)) → 0 < length words → 0 < length words' → array_meaning (Some words) ≡ array_meaning (Some words') →
     words ≡ words'
 same_words [] words' some some' same = absurd (omega (arith, some))
 same_words (name ∷ arguments) [] some some' same = absurd (omega (arith, some'))
-same_words (name ∷ arguments) (name' ∷ arguments') some some' same = ap words_in same
+same_words (name ∷ arguments) (name' ∷ arguments') some some' same = ap words_by same
 
 abbrev is_call : Meaning → Bool
 is_call (Call name arguments) = true
@@ -78,7 +75,7 @@ calls [] some = absurd (omega (arith, some))
 calls (name ∷ arguments) some = refl
 
 -- words are a command
-no_other : (words : List (List ℕ)) (m : Meaning) → 0 < length words → is_call m ≡ false → m ≡ array_meaning (Some words) → ⊥
+pub no_other : (words : List (List ℕ)) (m : Meaning) → 0 < length words → is_call m ≡ false → m ≡ array_meaning (Some words) → ⊥
 no_other words m some other same =
     let e : true ≡ false = sym (calls words some) ∙ sym (ap is_call same) ∙ other in cc
 
@@ -109,10 +106,12 @@ line_told unique now old new line text words used seen.Passed some are same spel
     absurd (no_other words Nothing some refl (sym sees.means ∙ only_value unique (tap_state old.tap) words text used sees.value spelled sees.spelled ∙
     call_is words some))
 line_told unique now old new line text words used (seen.Command number words' lengths) some are same spelled times (inl sees) =
-    let equal : words ≡ words' = same_words words words' some sees.some
+    let equal : words ≡ sees.whole = same_words words sees.whole some sees.some
     (sym (call_is words some) ∙ sym (only_value unique (tap_state old.tap) words text used sees.value spelled sees.spelled) ∙ sees.means) in record {
+      whole = sees.whole;
       some = sees.some;
       are = subst (λ ws. AreWords ws line) equal are;
+      are_kept = sees.are_kept;
       numbered = sees.numbered;
       after = sees.after;
       takes = sees.takes;

@@ -61,7 +61,7 @@ request_waits s new front piece used seen.Nothing h = waits_as s (tap_state new)
 request_waits s new front piece used seen.Passed h = waits_as s (tap_state new) (ap (λ (z : TapState). z.line) h.after)
 request_waits s new front piece used (seen.Command number words lengths) h =
     subst (λ (l : LineState). WaitsOneMore s.line l) (sym (ap (λ (z : TapState). z.line) h.after))
-    (sent_by s.line.is_lost (s.commands + 1) (command_kind words) s.line refl)
+    (sent_by s.line.is_lost (s.commands + 1) (command_kind h.whole) s.line refl)
 request_waits s new front piece used (seen.NotCommand number) h = waits_as s (tap_state new) (ap (λ (z : TapState). z.line) h.after)
 request_waits s new front piece used (seen.Refused cause at where') h = waits_as s (tap_state new) (ap (λ (z : TapState). z.line) h.after)
 request_waits s new front piece used (seen.Reply number kept) h = absurd h

@@ -393,16 +393,16 @@ pub(crate) fn write_words<W: Sink>(
 {
     let mut index = 0;
     // The lengths of the longer words from this one on.
-    let mut lengths = lengths;
+    let mut longer = lengths;
     // How many words from this one on are secret because of a word before it.
     let mut left = 0;
     while index < words.len() {
         let word = words.word(index);
-        let (count, later) = length_of(word, options.kept.most, lengths);
+        let (count, later) = length_of(word, options.kept.most, longer);
         let is_secret = secrets.hides(index, left);
         write_shown(word, count, is_secret, options.shown.most, writer)?;
         left = secrets.left_after(left, word);
-        lengths = later;
+        longer = later;
         index += 1;
     }
     Ok(())

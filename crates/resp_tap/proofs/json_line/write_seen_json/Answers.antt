@@ -1,4 +1,4 @@
-use Rattle.std.proofs.Common.{subst, sym}
+use Rattle.std.proofs.Common.{◌∙◌, ℕ, Option, ap, subst, sym}
 use Rattle.std.specs.Prelude.{Some}
 use Rattle.resp_value.specs.Data.{Datum}
 use Rattle.resp_print.specs.Written.{WritesText}
@@ -9,20 +9,20 @@ use Rattle.resp_tap.proofs.json_line.write_seen_json.Goals as goal
 
 pub returns-in-Reply : goal.returns-in-Reply
 returns-in-Reply g c =
-    subst (λ what. (whole : Datum) → IsKeptIn (Some 1024) whole what →
+    subst (λ what. (most : Option ℕ) (whole : Datum) → IsKeptIn (Some 1024) most whole what →
     WritesText (g.W.Sink.written c.args.writer.now) (g.W.Sink.written c.write_reply.new.writer)
     (g.W.Sink.failures c.args.writer.now) (g.W.Sink.failures c.write_reply.new.writer) c.write_reply.result
-    (seen_json c.args.facts c.args.name.now whole what)) (sym c.in-Reply.is) (λ whole kept.
+    (seen_json c.args.facts c.args.name.now whole what)) (sym c.in-Reply.is) (λ most whole kept.
     subst (λ text. WritesText (g.W.Sink.written c.args.writer.now) (g.W.Sink.written c.write_reply.new.writer)
     (g.W.Sink.failures c.args.writer.now) (g.W.Sink.failures c.write_reply.new.writer) c.write_reply.result text)
     (reply_as c.args.facts _ c.args.name.now whole _ kept) c.write_reply.ensures)
 
 pub returns-in-Value : goal.returns-in-Value
 returns-in-Value g c =
-    subst (λ what. (whole : Datum) → IsKeptIn (Some 1024) whole what →
+    subst (λ what. (most : Option ℕ) (whole : Datum) → IsKeptIn (Some 1024) most whole what →
     WritesText (g.W.Sink.written c.args.writer.now) (g.W.Sink.written c.write_unpaired.new.writer)
     (g.W.Sink.failures c.args.writer.now) (g.W.Sink.failures c.write_unpaired.new.writer) c.write_unpaired.result
-    (seen_json c.args.facts c.args.name.now whole what)) (sym c.in-Value.is) (λ whole kept.
+    (seen_json c.args.facts c.args.name.now whole what)) (sym c.in-Value.is) (λ most whole kept.
     subst (λ text. WritesText (g.W.Sink.written c.args.writer.now) (g.W.Sink.written c.write_unpaired.new.writer)
     (g.W.Sink.failures c.args.writer.now) (g.W.Sink.failures c.write_unpaired.new.writer) c.write_unpaired.result text)
     (unpaired_as c.args.facts whole _ kept) c.write_unpaired.ensures)
