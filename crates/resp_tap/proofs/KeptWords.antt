@@ -1,5 +1,5 @@
 -- The kept part of a command's words tells of the command what a tap tells.
-use Rattle.std.proofs.Common.{◌≡◌, ◌∙◌, ◌⊎◌, inl, inr, ℕ, suc, zero, ◌+◌, ◌<◌, ◌≤◌, ◌||◌, ◌&&◌, ◌%◌, ◌==◌, Bool, true, false, List, [], ◌∷◌, ◌++◌, length, nat_lt, take, map, max, Option, Global, refl, sym, ap, subst, arith, codes, take-take}
+use Rattle.std.proofs.Common.{◌≡◌, ◌∙◌, ◌⊎◌, inl, inr, ℕ, suc, zero, ◌+◌, ◌<◌, ◌≤◌, ◌||◌, ◌&&◌, ◌%◌, ◌==◌, Bool, true, false, List, [], ◌∷◌, ◌++◌, length, nat_lt, take, map, max, Option, Global, MatchOption, refl, sym, ap, subst, arith, codes, take-take}
 use Rattle.std.specs.Prelude.{None, Some, Vec, is_some, eqb, if◌then◌else◌, slice_index_or, option_map}
 use Rattle.std.specs.Char.{to_ascii_lowercase, to_ascii_uppercase}
 use Rattle.std.specs.List.{AllByRecursion, list_any}
@@ -69,7 +69,7 @@ unanswered_kept n words enough = λ i.
 
 ends_kept : (n : ℕ) (name : List ℕ) (words : List (List ℕ)) → 64 ≤ n → ends_pairing (kept_part n name) (each n words) ≡ ends_pairing name words
 ends_kept n name words enough = λ i.
-    any_kept n unpairing_names name (omega (arith, enough), omega (arith, enough), omega (arith, enough), tt) i ||
+    any_kept n unpairing_names name (omega (arith, enough), (omega (arith, enough), (omega (arith, enough), tt))) i ||
     (same_name n (codes "client") name (omega (arith, enough)) i && begins_kept n (codes "reply") words (omega (arith, enough)) i) ||
     (same_name n (codes "script") name (omega (arith, enough)) i && begins_kept n (codes "debug") words (omega (arith, enough)) i) ||
     (same_name n (codes "replconf") name (omega (arith, enough)) i &&
@@ -99,20 +99,7 @@ secrets_kept n (name ∷ words) enough = λ i.
 
 settings_kept : (n : ℕ) (word : List ℕ) → 64 ≤ n →
     list_any (λ name. is_name name (kept_part n word)) secret_settings ≡ list_any (λ name. is_name name word) secret_settings
-settings_kept n word enough = any_kept n secret_settings word (
-  omega (arith, enough),
-  omega (arith, enough),
-  omega (arith, enough),
-  omega (arith, enough),
-  omega (arith, enough),
-  omega (arith, enough),
-  omega (arith, enough),
-  omega (arith, enough),
-  omega (arith, enough),
-  omega (arith, enough),
-  omega (arith, enough),
-  tt,
-)
+settings_kept n word enough = any_kept n secret_settings word (omega (arith, enough), (omega (arith, enough), (omega (arith, enough), (omega (arith, enough), (omega (arith, enough), (omega (arith, enough), (omega (arith, enough), (omega (arith, enough), (omega (arith, enough), (omega (arith, enough), (omega (arith, enough), tt)))))))))))
 
 after_kept : (n : ℕ) (secrets : Secrets) (word : List ℕ) → 64 ≤ n → secrets_after secrets (kept_part n word) ≡ secrets_after secrets word
 after_kept n Absent word enough = refl
@@ -221,26 +208,7 @@ end_kept n true b' words j same few = subcommand_kept n words j few ∙ ap (λ b
 end_kept n false b' words j same few = ap (λ b. take j (if b then subcommand_name words else [])) same
 
 containers_kept : (n : ℕ) (word : List ℕ) → 64 ≤ n → has_subcommands (kept_part n word) ≡ has_subcommands word
-containers_kept n word enough = any_kept n containers word (
-  omega (arith, enough),
-  omega (arith, enough),
-  omega (arith, enough),
-  omega (arith, enough),
-  omega (arith, enough),
-  omega (arith, enough),
-  omega (arith, enough),
-  omega (arith, enough),
-  omega (arith, enough),
-  omega (arith, enough),
-  omega (arith, enough),
-  omega (arith, enough),
-  omega (arith, enough),
-  omega (arith, enough),
-  omega (arith, enough),
-  omega (arith, enough),
-  omega (arith, enough),
-  tt,
-)
+containers_kept n word enough = any_kept n containers word (omega (arith, enough), (omega (arith, enough), (omega (arith, enough), (omega (arith, enough), (omega (arith, enough), (omega (arith, enough), (omega (arith, enough), (omega (arith, enough), (omega (arith, enough), (omega (arith, enough), (omega (arith, enough), (omega (arith, enough), (omega (arith, enough), (omega (arith, enough), (omega (arith, enough), (omega (arith, enough), (omega (arith, enough), tt)))))))))))))))))
 
 counted_kept : (n : ℕ) (words : List (List ℕ)) → 64 ≤ n → table_name (each n words) ≡ table_name words
 counted_kept n [] enough = refl
