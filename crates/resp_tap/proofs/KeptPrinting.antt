@@ -22,10 +22,10 @@ pub record Here (most : Option ℕ) (whole : List (List ℕ)) (index : ℕ) (wor
 pub here : (shown most : Option ℕ) (whole words : List (List ℕ)) (lengths : List ℕ) (index : ℕ) (word : List ℕ) → AreKeptOf shown most whole words lengths →
     index < length words → word ≡ get_or words index [] → Here most whole index word
 here shown most whole words lengths index word are below is =
-    let same : length words ≡ length whole = ap length are.words ∙ length-map whole (word_within most) in
+    let same : length words ≡ length whole = ap length are.first_bytes ∙ length-map whole (word_within most) in
     let within : index < length whole = omega (arith, same, below) in record {
       below = within;
-      part = is ∙ ap (λ ws. get_or ws index []) are.words ∙ get_or-map (word_within most) whole index [] [] within;
+      part = is ∙ ap (λ ws. get_or ws index []) are.first_bytes ∙ get_or-map (word_within most) whole index [] [] within;
     }
 
 pub next_lengths : (most : Option ℕ) (whole : List (List ℕ)) (index : ℕ) (longer : List ℕ) → index < length whole →
@@ -45,8 +45,8 @@ same_after shown most whole words lengths secrets word part left next are is nex
 -- the first bytes that are shown are among those that are kept
 shown_kept : (shown most : Option ℕ) (word : List ℕ) → IsEnough shown most → shown_part shown (word_within most word) ≡ shown_part shown word
 shown_kept shown None word enough = refl
-shown_kept None (Some n) word enough = absurd enough
-shown_kept (Some shown) (Some n) word enough = take-take shown (suc n) word (let few = enough.1 in omega (arith, few))
+shown_kept None (Some n) word enough = absurd ((enough n refl).1 refl)
+shown_kept (Some shown) (Some n) word enough = take-take shown (suc n) word (let few = (enough n refl).2 shown refl in omega (arith, few))
 
 pub is_printed : (shown most : Option ℕ) (whole words : List (List ℕ)) (lengths : List ℕ) (word part : List ℕ) (count : ℕ) → AreKeptOf shown most whole words lengths →
     part ≡ word_within most word → count ≡ length word → IsPrintedAs shown word part count

@@ -1,8 +1,9 @@
 -- The kept part of a command's words tells of the command what a tap tells.
-use Rattle.std.proofs.Common.{◌≡◌, ◌∙◌, ◌⊎◌, inl, inr, ℕ, suc, zero, ◌+◌, ◌<◌, ◌≤◌, ◌||◌, ◌&&◌, ◌%◌, ◌==◌, Bool, true, false, List, [], ◌∷◌, ◌++◌, length, nat_lt, take, map, max, Option, Global, MatchOption, refl, sym, ap, subst, arith, codes, take-take}
-use Rattle.std.specs.Prelude.{None, Some, Vec, is_some, eqb, if◌then◌else◌, slice_index_or, option_map}
+use Rattle.std.proofs.Common.{◌≡◌, ◌≢◌, ◌∙◌, ◌⊎◌, inl, inr, ℕ, suc, zero, ◌+◌, ◌<◌, ◌≤◌, ◌||◌, ◌&&◌, ◌%◌, ◌==◌, Bool, true, false, List, [], ◌∷◌, ◌++◌, length, nat_lt, take, map, max, Option, Global, MatchOption, refl, sym, ap, subst, arith, codes, take-take}
+use Rattle.std.specs.Prelude.{⊤, None, Some, Vec, is_some, eqb, if◌then◌else◌, slice_index_or, option_map}
 use Rattle.std.specs.Char.{to_ascii_lowercase, to_ascii_uppercase}
 use Rattle.std.specs.List.{AllByRecursion, list_any}
+use Rattle.std.specs.Option.{ForSome}
 use Rattle.std.specs.Str.{bytes_eq}
 use Rattle.std.proofs.lemmas.List.{length-map, take-map}
 use Rattle.resp_cut.specs.Cuts.{kept_part}
@@ -113,8 +114,7 @@ after_kept n OfSettings word enough = λ i. if settings_kept n word enough i the
 
 -- at least 64 bytes are kept, if not all are
 least : (shown : Option ℕ) (n : ℕ) → IsEnough shown (Some n) → 64 ≤ n
-least None n enough = absurd enough
-least (Some shown) n enough = enough.0
+least shown n enough = (enough n refl).0
 
 pub same_secrets_after : (shown most : Option ℕ) (secrets : Secrets) (word : List ℕ) → IsEnough shown most →
     secrets_after secrets (word_within most word) ≡ secrets_after secrets word
@@ -279,15 +279,27 @@ tells_within shown None whole enough = subst (TellsTheCommand None whole) (sym (
 tells_within shown (Some n) whole enough = tells_part shown n whole (least shown n enough)
 
 pub kept_words_tell_the_same : KeptWordsTellTheSame
-kept_words_tell_the_same shown most whole words lengths are = subst (TellsTheCommand most whole) (sym are.words) (tells_within shown most whole are.enough)
+kept_words_tell_the_same shown most whole words lengths are = subst (TellsTheCommand most whole) (sym are.first_bytes) (tells_within shown most whole are.enough)
+
+abbrev bytes_or : Option ℕ → ℕ
+bytes_or None = 0
+bytes_or (Some bytes) = bytes
+
+kept_enough : (least shown kept : ℕ) → Some (max shown (max least 64)) ≡ Some kept →
+    (64 ≤ kept) × (Some shown ≢ None) × ForSome (Some shown) (λ bytes. bytes ≤ kept)
+kept_enough least shown kept is =
+    let same : max shown (max least 64) ≡ kept = ap bytes_or is in (
+      omega (arith, same),
+      (λ none. absurd (cc)),
+      λ bytes shown_is. let equal : shown ≡ bytes = ap bytes_or shown_is in omega (arith, same, equal),
+    )
 
 enough_for : (least : ℕ) (shown : Option ℕ) → IsEnough shown (kept_for least shown)
-enough_for least None = tt
-enough_for least (Some shown) = (omega arith, omega arith)
+enough_for least None = λ kept is. absurd (cc)
+enough_for least (Some shown) = λ kept is. kept_enough least shown kept is
 
 enough_by : (b : Bool) (least : ℕ) (shown : Option ℕ) → IsEnough shown (if b then None else kept_for least shown)
-enough_by true least None = tt
-enough_by true least (Some shown) = tt
+enough_by true least shown = λ kept is. absurd (cc)
 enough_by false least shown = enough_for least shown
 
 suffices_for : (f : Filter) (shown : Option ℕ) → f.key ≡ None → Suffices (kept_for (longest_name f.names.items) shown) f

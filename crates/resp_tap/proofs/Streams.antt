@@ -264,7 +264,7 @@ command_told : VersionThreeSpellsWhatTwoDoes → (limits : Bounds) (most held : 
 command_told three limits most held x s t request rest bytes number [] words lengths h some same v spelled means numbered are = absurd (omega (arith, some))
 command_told three limits most held x s t request rest bytes number (name ∷ arguments) words lengths h some same v spelled means numbered are =
     client_command three limits most held x s t request rest bytes number name arguments (words, lengths) h same v spelled means numbered
-    ((λ i. (are.words i, are.lengths i)) ∙ ap (λ k. (words_within k (name ∷ arguments), word_lengths k (name ∷ arguments))) h.same_kept)
+    ((λ i. (are.first_bytes i, are.longer i)) ∙ ap (λ k. (words_within k (name ∷ arguments), word_lengths k (name ∷ arguments))) h.same_kept)
 
 -- more bytes of a value
 client_awaits : (limits : Bounds) (most held : Option ℕ) (x : Told) (s t : TapState) (request rest bytes : List ℕ) → SoFar limits most held x s request rest → t ≡ s →
@@ -287,7 +287,7 @@ client_awaits limits most held x s t request rest bytes h same none = record {
 }
 
 -- one more result of a side, and the bytes that were read of its value that is not whole
-abbrev Next : Side → Bounds → Option ℕ → Told → Tap → List ℕ → List ℕ → Type 0
+abbrev Next : Side → Bounds → Option ℕ → Option ℕ → Told → Tap → List ℕ → List ℕ → Type 0
 Next Client limits most held x t request rest = (request' : List ℕ) × HasTakenRequest t request' × SoFar limits most held x (tap_state t) request' rest
 Next Server limits most held x t request rest = (rest' : List ℕ) × HasTakenValue t rest' × SoFar limits most held x (tap_state t) request rest'
 

@@ -1,5 +1,5 @@
 -- The kept part of a value is a command exactly if the value is one, and its words are the kept parts of the words.
-use Rattle.std.proofs.Common.{◌≡◌, ◌∙◌, ℕ, ◌+◌, ◌<◌, Bool, true, false, List, [], ◌∷◌, ◌++◌, length, map, nat_lt, Option, refl, sym, ap, subst, arith}
+use Rattle.std.proofs.Common.{◌≡◌, ◌≢◌, ◌∙◌, ◌⊎◌, ℕ, ◌+◌, ◌^◌, ◌<◌, ◌≤◌, Bool, true, false, List, [], ◌∷◌, ◌++◌, length, map, nat_lt, Option, refl, sym, ap, subst, arith}
 use Rattle.std.specs.Prelude.{None, Some, option_map}
 use Rattle.resp_cut.specs.Cuts.{cut, cut_each, cut_lengths, kept_part, lengths_of_each, longer}
 use Rattle.resp_value.specs.Data.{Datum, Data, Array, Set, Map, Attr, Push, scalar, aggregate, none, more}
@@ -8,6 +8,14 @@ use Rattle.resp_session.specs.Commands.{Call, Meaning, NoCommand, Nothing, array
 use Rattle.resp_tap.specs.Kinds.{command_kind}
 use Rattle.resp_tap.specs.Parts.{AreKeptOf, IsEnough, IsKeptOf, cut_within, lengths_within, word_lengths, word_within, words_within}
 use Rattle.resp_tap.specs.SeenOf.{words_by, words_in}
+use Rattle.resp_tap.specs.Taps.{TapState}
+use Rattle.resp_tap.specs.Watching.{IsLeftOut}
+use Rattle.resp_tap.specs.Lines.{due_of}
+use Rattle.resp_tap.specs.declared.kind.CommandKind.{CommandKind}
+use Rattle.resp_value.specs.Values.{datum_of}
+use Rattle.resp_value.specs.declared.cause.Cause.{Cause}
+use Rattle.resp_value.specs.declared.cause.Cause.TheVariants as causes
+use Rattle.resp_cut.specs.declared.cut_value.CutValue.{CutValue}
 use Rattle.resp_tap.proofs.LineReading.{no_other, same_words}
 
 -- ---- the words of an array
@@ -75,7 +83,7 @@ pub record WholeCommand (most : Option ℕ) (whole : Datum) (words : List (List 
   pub all : List (List ℕ)
   pub some : 0 < length all
   pub means : meaning_of whole ≡ array_meaning (Some all)
-  pub words : words ≡ words_within most all
+  pub first_bytes : words ≡ words_within most all
   pub lengths : lengths_within most whole ≡ word_lengths most all
 
 of_array : (n : ℕ) (xs : Data) (words : List (List ℕ)) (contents : Option (List (List ℕ))) → bulk_contents xs ≡ contents → 0 < length words →
@@ -86,7 +94,7 @@ of_array n xs words (Some (name ∷ arguments)) are some same = record {
   all = name ∷ arguments;
   some = omega arith;
   means = ap array_meaning are;
-  words = same_words words (map (kept_part n) (name ∷ arguments)) some (omega arith) (sym same);
+  first_bytes = same_words words (map (kept_part n) (name ∷ arguments)) some (omega arith) (sym same);
   lengths = lengths_kept n xs (name ∷ arguments) are;
 }
 
@@ -119,7 +127,7 @@ no_lengths (word ∷ words) = no_lengths words
 
 pub whole_command : (most : Option ℕ) (whole : Datum) (words : List (List ℕ)) → 0 < length words →
     meaning_of (cut_within most whole) ≡ array_meaning (Some words) → WholeCommand most whole words
-whole_command None whole words some same = record { all = words; some = some; means = same; words = all_words words; lengths = no_lengths words }
+whole_command None whole words some same = record { all = words; some = some; means = same; first_bytes = all_words words; lengths = no_lengths words }
 whole_command (Some n) whole words some same = of_part n whole words some same
 
 -- ---- no command
@@ -168,3 +176,23 @@ whole_nothing (Some n) whole same = nothing_by n (meaning_of whole) (sym (meanin
 pub whole_no_command : (most : Option ℕ) (whole : Datum) → meaning_of (cut_within most whole) ≡ NoCommand → meaning_of whole ≡ NoCommand
 whole_no_command None whole same = same
 whole_no_command (Some n) whole same = no_command_by n (meaning_of whole) (sym (meaning_kept n whole) ∙ same)
+
+-- ---- a command that a tap has read
+
+pub command_read : (shown most : Option ℕ) (whole : Datum) (kept : CutValue) (words : List (List ℕ)) → IsEnough shown most → IsKeptOf most whole kept →
+    0 < length words → array_meaning (Some words) ≡ meaning_of (datum_of kept.value) →
+    (command : WholeCommand most whole words) × AreKeptOf shown most command.all words kept.lengths.items
+command_read shown most whole kept words enough is some means =
+    let command = whole_command most whole words some (sym (ap meaning_of is.value) ∙ sym means) in (
+      command,
+      record { enough = enough; first_bytes = command.first_bytes; longer = is.lengths ∙ command.lengths },
+    )
+
+-- why a command is left out depends on how it is answered
+abbrev IsLeftOutBy : TapState → CommandKind → Cause → Type 0
+IsLeftOutBy s kind cause =
+    ((cause ≡ causes.TooMany) × ((2 ^ 20 ≤ length s.line.due) ⊎ (2 ^ 63 ≤ s.commands))) ⊎
+    ((cause ≡ causes.OutOfMemory) × (s.line.is_lost ≡ false) × (due_of (s.commands + 1) kind s.line.is_open ≢ []))
+
+pub left_out_whole : (s : TapState) (words all : List (List ℕ)) (cause : Cause) → command_kind words ≡ command_kind all → IsLeftOut s words cause → IsLeftOut s all cause
+left_out_whole s words all cause same left = subst (λ kind. IsLeftOutBy s kind cause) same left

@@ -1,5 +1,6 @@
 -- What is kept of the values of a server and of the commands of a client.
-use Rattle.std.specs.Prelude.{◌≡◌, ◌≤◌, ⊤, ⊥, ℕ, max, length, map, List, [], ◌∷◌, ◌++◌, Option, None, Some}
+use Rattle.std.specs.Prelude.{◌≡◌, ◌≢◌, ◌≤◌, ℕ, max, length, map, List, [], ◌∷◌, ◌++◌, Option, None, Some}
+use Rattle.std.specs.Option.{ForSome}
 use Rattle.resp_cut.specs.Cuts.{cut, cut_lengths, kept_part, longer}
 use Rattle.resp_cut.specs.declared.cut_value.CutValue.{CutValue}
 use Rattle.resp_value.specs.Data.{Datum}
@@ -49,15 +50,13 @@ word_lengths most (word ∷ words) = length_within most (length word) ++ word_le
 -- Enough is kept of each word if so many bytes are shown: the whole word, or at least the bytes that are shown, and 64. A
 -- tap compares words with texts of at most 24 bytes, and prints at most 64 bytes of a name.
 abbrev pub IsEnough : Option ℕ → Option ℕ → Type 0
-IsEnough shown None = ⊤
-IsEnough None (Some most) = ⊥
-IsEnough (Some shown) (Some most) = (64 ≤ most) × (shown ≤ most)
+IsEnough shown most = ForSome most (λ kept. (64 ≤ kept) × (shown ≢ None) × ForSome shown (λ bytes. bytes ≤ kept))
 
 -- this is kept of the words of a command
 pub record AreKeptOf (shown most : Option ℕ) (whole words : List (List ℕ)) (lengths : List ℕ) : Type 0 where
   pub enough : IsEnough shown most
-  pub words : words ≡ words_within most whole
-  pub lengths : lengths ≡ word_lengths most whole
+  pub first_bytes : words ≡ words_within most whole
+  pub longer : lengths ≡ word_lengths most whole
 
 -- the bytes that are kept of each word if so many are shown, and at least so many
 abbrev pub kept_for : ℕ → Option ℕ → Option ℕ

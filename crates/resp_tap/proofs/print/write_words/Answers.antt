@@ -18,13 +18,13 @@ returns-in_err-write_shown g c = λ whole are.
     let word = get_or whole index [] in
     let all = words_text p.shown.most (redacted_after secrets [] whole) in
     let rest = words_text p.shown.most (redacted_after secrets (take (index + 1) whole) (drop (index + 1) whole)) in
-    let counted = c.length_of.ensures word (word_lengths p.kept.most (drop (index + 1) whole)) at.part
+    let counted = c.length_of-count.ensures word (word_lengths p.kept.most (drop (index + 1) whole)) at.part
     (next_lengths p.kept.most whole index c.loop-index.longer.now at.below (c.loop-index.invariant.longer whole are)) in
     let is_secret = c.hides-is_secret.ensures (take index whole) (before_kept whole index at.below) (c.loop-index.invariant.left whole are) in
     let next = next_shown p.shown.most secrets whole index word (shown_word c.hides-is_secret.result word) c.hides-is_secret.result at.below refl is_secret refl in
     write_failed c.from_residual.result all (word_text p.shown.most (shown_word c.hides-is_secret.result word)) rest _ _ _ _ _ _
     (printed_as all _ _ _ _ _ _ next (c.loop-index.invariant.printed whole are)) c.from_residual.ensures.0
-    (c.in_err-write_shown.ensures word (is_printed p.shown.most p.kept.most whole words c.args.lengths.now word c.word-word.result.now c.length_of.result.0 are at.part counted.0))
+    (c.in_err-write_shown.ensures word (is_printed p.shown.most p.kept.most whole words c.args.lengths.now word c.word-word.result.now c.length_of-count.result.0 are at.part counted.0))
 
 pub loop-index-preserved : goal.loop-index-preserved
 loop-index-preserved g c =
@@ -42,18 +42,18 @@ loop-index-preserved g c =
           (c.loop-index.invariant.left whole are);
       longer = λ whole are.
           let at = here p.shown.most p.kept.most whole words c.args.lengths.now index c.word-word.result.now are below c.word-word.ensures in
-          (c.length_of.ensures (get_or whole index []) (word_lengths p.kept.most (drop (index + 1) whole)) at.part
+          (c.length_of-count.ensures (get_or whole index []) (word_lengths p.kept.most (drop (index + 1) whole)) at.part
           (next_lengths p.kept.most whole index c.loop-index.longer.now at.below (c.loop-index.invariant.longer whole are))).1;
       printed = λ whole are.
           let at = here p.shown.most p.kept.most whole words c.args.lengths.now index c.word-word.result.now are below c.word-word.ensures in
           let word = get_or whole index [] in
           let all = words_text p.shown.most (redacted_after secrets [] whole) in
           let rest = words_text p.shown.most (redacted_after secrets (take (index + 1) whole) (drop (index + 1) whole)) in
-          let counted = c.length_of.ensures word (word_lengths p.kept.most (drop (index + 1) whole)) at.part
+          let counted = c.length_of-count.ensures word (word_lengths p.kept.most (drop (index + 1) whole)) at.part
           (next_lengths p.kept.most whole index c.loop-index.longer.now at.below (c.loop-index.invariant.longer whole are)) in
           let is_secret = c.hides-is_secret.ensures (take index whole) (before_kept whole index at.below) (c.loop-index.invariant.left whole are) in
           let next = next_shown p.shown.most secrets whole index word (shown_word c.hides-is_secret.result word) c.hides-is_secret.result at.below refl is_secret refl in
           printed_more all (word_text p.shown.most (shown_word c.hides-is_secret.result word)) rest _ _ _ _ _ _
           (printed_as all _ _ _ _ _ _ next (c.loop-index.invariant.printed whole are))
-          (c.in_ok-write_shown.ensures word (is_printed p.shown.most p.kept.most whole words c.args.lengths.now word c.word-word.result.now c.length_of.result.0 are at.part counted.0));
+          (c.in_ok-write_shown.ensures word (is_printed p.shown.most p.kept.most whole words c.args.lengths.now word c.word-word.result.now c.length_of-count.result.0 are at.part counted.0));
     }
