@@ -13,17 +13,17 @@ returns-in_err-write_quoted g c = λ whole is.
     let end = word_end c.args.most c.args.count in
     let shown = c.shown_part.result.now in
     let r = c.from_residual-in_err-write_quoted.result in
-    subst (λ n. WritesText _ _ _ _ r (codes " \"" ++ (quoted_text (shown_part c.args.most whole) ++ word_end c.args.most n))) is.1
-    (subst (WritesText _ _ _ _ r) (ap (λ part. codes " \"" ++ (quoted_text part ++ end)) (c.shown_part.ensures ∙ is.0))
+    subst (WritesText _ _ _ _ r) (ap (λ part. codes " \"" ++ (quoted_text part ++ end)) (c.shown_part.ensures ∙ is.0) ∙
+    ap (λ n. codes " \"" ++ (quoted_text (shown_part c.args.most whole) ++ word_end c.args.most n)) is.1)
     (writes_next r _ _ _ _ _ _ (codes " \"") (quoted_text shown ++ end) c.in_ok-write_text.ensures
-    (writes_part r _ _ _ _ (quoted_text shown) end c.from_residual-in_err-write_quoted.ensures.0 c.in_err-write_quoted.ensures)))
+    (writes_part r _ _ _ _ (quoted_text shown) end c.from_residual-in_err-write_quoted.ensures.0 c.in_err-write_quoted.ensures))
 
 pub returns : goal.returns
 returns g c = λ whole is.
     let end = word_end c.args.most c.args.count in
     let shown = c.shown_part.result.now in
     let r = c.write_word_end.result in
-    subst (λ n. WritesText _ _ _ _ r (codes " \"" ++ (quoted_text (shown_part c.args.most whole) ++ word_end c.args.most n))) is.1
-    (subst (WritesText _ _ _ _ r) (ap (λ part. codes " \"" ++ (quoted_text part ++ end)) (c.shown_part.ensures ∙ is.0))
+    subst (WritesText _ _ _ _ r) (ap (λ part. codes " \"" ++ (quoted_text part ++ end)) (c.shown_part.ensures ∙ is.0) ∙
+    ap (λ n. codes " \"" ++ (quoted_text (shown_part c.args.most whole) ++ word_end c.args.most n)) is.1)
     (writes_next r _ _ _ _ _ _ (codes " \"") (quoted_text shown ++ end) c.in_ok-write_text.ensures
-    (writes_next r _ _ _ _ _ _ (quoted_text shown) end c.in_ok-write_quoted.ensures c.write_word_end.ensures)))
+    (writes_next r _ _ _ _ _ _ (quoted_text shown) end c.in_ok-write_quoted.ensures c.write_word_end.ensures))

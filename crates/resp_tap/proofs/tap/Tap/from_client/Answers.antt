@@ -21,5 +21,5 @@ returns-in-Some-clause-seen c = λ reads front taken.
     (λ i. record (tap_state old) { kept = shown i; reads_commands = reading i })
     (c.command_of.ensures.seen ends.takes ends.whole front piece used
     (subst (λ (r : Rules). IsSpelling r ends.whole text) old.request_rules ends.spelling)
-    (subst (λ most. IsKeptOf most ends.whole c.command_of-arg-1) (sym shown)
-    (subst (λ k. IsKeptOf old.requests.shown.most ends.whole k) (sym c.in-Some.kept-is) ends.is_kept)))
+    (subst (λ k. IsKeptOf c.feed.new.self.shown.most ends.whole k) (sym c.in-Some.kept-is)
+    (subst (λ most. IsKeptOf most ends.whole kept) (sym shown) ends.is_kept)))
