@@ -14,3 +14,4 @@ pub mod LineReading
 pub mod KeptWords
 pub mod KeptPrinting
 pub mod WholeCommands
+pub mod NoteLemmas
