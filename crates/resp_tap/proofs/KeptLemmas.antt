@@ -264,10 +264,6 @@ same_depth (Some n) x = depth_kept n x
 pub kept_parts_tell_the_same : KeptPartsTellTheSame
 kept_parts_tell_the_same most whole kept is = (ap is_refusal is.value ∙ same_refusal most whole, ap depth is.value ∙ same_depth most whole)
 
--- if all bytes are shown, the whole value is kept
-pub kept_whole : (most : Option ℕ) (whole : Datum) (kept : CutValue) → most ≡ None → IsKeptOf most whole kept → datum_of kept.value ≡ whole
-kept_whole most whole kept all is = is.value ∙ ap (λ m. cut_within m whole) all
-
 -- a value that was read has no text of 2^64 bytes
 longest_read : (r : Rules) (x : Datum) (text : List ℕ) → IsSpelling r x text → AreBounds r.limits → longest x ≤ 18446744073709551615
 longest_read r x text spelled bounds =

@@ -9,9 +9,7 @@ ghost use Rattle.resp_tap.specs.SeenOf.{IsKeptIn};
 ghost use Rattle.resp_tap.specs.Secrets.{printed_words};
 ghost use Rattle.resp_tap.specs.Texts.{heading, inline_end, inline_line, levels_of, line_text, shown_text, words_line};
 
-use crate::print::{
-    TextOptions, printed, write_numbered_line, write_seen, write_words_line,
-};
+use crate::print::{TextOptions, printed, write_numbered_line, write_seen, write_words_line};
 use crate::seen::Seen;
 use crate::stamp::{Stamp, write_ending};
 use resp_print::print_error::PrintError;

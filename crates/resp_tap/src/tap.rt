@@ -140,12 +140,7 @@ impl Tap {
 
     /// Returns a tap of a new connection, as [`Tap::new`] does, that keeps one byte more of each word
     /// of the client than this part.
-    pub(crate) fn keeping(
-        alloc: Global,
-        limits: &Limits,
-        shown: ShownPart,
-        kept: ShownPart,
-    ) -> Tap
+    pub(crate) fn keeping(alloc: Global, limits: &Limits, shown: ShownPart, kept: ShownPart) -> Tap
         requires { IsEnough shown.most kept.most }
         ensures nothing_passed { tap_state result ≡ new_tap limits.now shown.most kept.most }
         ensures nothing_requested { HasTakenRequest result [] }

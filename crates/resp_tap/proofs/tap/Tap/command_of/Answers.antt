@@ -37,14 +37,17 @@ returns-in-Err-clause-seen c = λ taken whole front piece used spelled is.
     let (command, are) = command_read shown most whole c.args.kept words old.enough is c.in-Command.ensures.has_name c.in-Command.ensures.meaning in
     let numbered : c.saturating_add-number.result ≡ old.commands + 1 = search rules in
     record {
-      refused = inr (record {
-        value = whole;
-        words = command.all;
-        spelled = spelled;
-        means = command.means;
-        left_out = left_out_whole (tap_state old) words command.all c.in-Err.cause
-            (kept_words_tell_the_same shown most command.all words c.args.kept.lengths.items are).kind c.in-Err.ensures.refusal;
-      }, refl);
+      refused = inr (
+        record {
+          value = whole;
+          words = command.all;
+          spelled = spelled;
+          means = command.means;
+          left_out = left_out_whole (tap_state old) words command.all c.in-Err.cause
+              (kept_words_tell_the_same shown most command.all words c.args.kept.lengths.items are).kind c.in-Err.ensures.refusal;
+        },
+        refl,
+      );
       place = ap place.Command numbered;
       after = c.stop_commands.ensures.after ∙ ap with_refused_command c.in-Err.ensures.unchanged;
     }
