@@ -37,12 +37,7 @@ pub(crate) struct Tapping {
 
 /// Returns a tap of a new connection for this filter.
 fn tap_of(alloc: Global, shown: ShownPart, filter: &Filter) -> FilteredTap {
-    FilteredTap::new(
-        alloc,
-        &Limits::standard().with_doubles(true),
-        shown,
-        filter,
-    )
+    FilteredTap::new(alloc, &Limits::standard().with_doubles(true), shown, filter)
 }
 
 impl Subject for Tapping {
