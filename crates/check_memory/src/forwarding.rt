@@ -66,7 +66,7 @@ pub(crate) fn of_filtered_tap(alloc: Global) -> Outcome {
         client: 1,
         shows_passwords: false,
     };
-    let mut tap = FilteredTap::new(alloc, &Limits::standard(), ShownPart::all());
+    let mut tap = FilteredTap::new(alloc, &Limits::standard(), ShownPart::all(), &filter);
     let Ok(mut text) = MemorySink::new(alloc, 4_096, 4_096) else {
         return Outcome::OutOfMemory;
     };
@@ -97,7 +97,7 @@ pub(crate) fn of_long_reply(alloc: Global) -> Outcome {
         client: 1,
         shows_passwords: false,
     };
-    let mut tap = FilteredTap::new(alloc, &Limits::standard(), ShownPart::first(12));
+    let mut tap = FilteredTap::new(alloc, &Limits::standard(), ShownPart::first(12), &filter);
     let Ok(mut text) = MemorySink::new(alloc, 4_096, 4_096) else {
         return Outcome::OutOfMemory;
     };
@@ -125,7 +125,7 @@ pub(crate) fn of_json_tap(alloc: Global) -> Outcome {
         of_day: 0,
         steady: 0,
     };
-    let mut tap = JsonTap::new(alloc, &Limits::standard());
+    let mut tap = JsonTap::new(alloc, &Limits::standard(), &filter);
     let Ok(mut text) = MemorySink::new(alloc, 4_096, 4_096) else {
         return Outcome::OutOfMemory;
     };
@@ -150,7 +150,8 @@ pub(crate) fn of_json_tap(alloc: Global) -> Outcome {
 
 /// A command that is counted with its reply, and the table of it.
 pub(crate) fn of_counted_tap(alloc: Global) -> Outcome {
-    let mut tap = CountedTap::new(alloc, &Limits::standard());
+    let filter = Filter::all(alloc);
+    let mut tap = CountedTap::new(alloc, &Limits::standard(), &filter);
     let Ok(mut counts) = Counts::new(alloc) else {
         return Outcome::OutOfMemory;
     };

@@ -35,16 +35,17 @@ pub(crate) struct Tapping {
     filter: Filter,
 }
 
-/// Returns a tap of a new connection.
-fn tap_of(alloc: Global, shown: ShownPart) -> FilteredTap {
-    FilteredTap::new(alloc, &Limits::standard().with_doubles(true), shown)
+/// Returns a tap of a new connection for this filter.
+fn tap_of(alloc: Global, shown: ShownPart, filter: &Filter) -> FilteredTap {
+    FilteredTap::new(alloc, &Limits::standard().with_doubles(true), shown, filter)
 }
 
 impl Subject for Tapping {
     fn new(alloc: Global) -> Result<Tapping> {
+        let filter = Filter::all(alloc);
         Ok(Tapping {
             alloc,
-            tap: tap_of(alloc, ShownPart::all()),
+            tap: tap_of(alloc, ShownPart::all(), &filter),
             counting: None,
             now: None,
             printing: Printing {
@@ -52,7 +53,7 @@ impl Subject for Tapping {
                 shows_passwords: false,
             },
             shown: ShownPart::all(),
-            filter: Filter::all(alloc),
+            filter,
         })
     }
 
@@ -95,14 +96,19 @@ impl Subject for Tapping {
 impl Tapping {
     /// `tap LIMITS` begins a tap of a new connection.
     fn renew(&mut self, limits: &str) -> Result<()> {
-        self.tap = FilteredTap::new(self.alloc, &bounds::limits(limits)?, self.shown);
+        self.tap = FilteredTap::new(
+            self.alloc,
+            &bounds::limits(limits)?,
+            self.shown,
+            &self.filter,
+        );
         Ok(())
     }
 
     /// `shown BYTES` begins a tap of a new connection that shows this many bytes of each text.
     fn set_shown(&mut self, bytes: &str) -> Result<()> {
         self.shown = ShownPart::first(bytes.parse()?);
-        self.tap = tap_of(self.alloc, self.shown);
+        self.tap = tap_of(self.alloc, self.shown, &self.filter);
         Ok(())
     }
 
@@ -147,14 +153,14 @@ impl Tapping {
 
     /// `arrays` taps a new connection, of which no line is a command.
     fn read_arrays(&mut self) -> Result<()> {
-        self.tap = tap_of(self.alloc, self.shown).with_lines(false);
+        self.tap = tap_of(self.alloc, self.shown, &self.filter).with_lines(false);
         Ok(())
     }
 
     /// `count` begins to count the commands of a new connection, and prints them no more.
     fn begin_counting(&mut self) -> Result<()> {
         let limits = Limits::standard().with_doubles(true);
-        let tap = CountedTap::new(self.alloc, &limits);
+        let tap = CountedTap::new(self.alloc, &limits, &self.filter);
         self.counting = Some((tap, Counts::new(self.alloc)?));
         Ok(())
     }

@@ -43,13 +43,13 @@ use Rattle.resp_tap.specs.declared.tap.Tap.{Tap}
 -- ---- words
 
 -- the first n + 1 bytes of a text are a word of at most n bytes exactly if the text is
-same_word : (n : ℕ) (text word : List ℕ) → length word ≤ n → bytes_eq (take (suc n) text) word ≡ bytes_eq text word
+pub same_word : (n : ℕ) (text word : List ℕ) → length word ≤ n → bytes_eq (take (suc n) text) word ≡ bytes_eq text word
 same_word n [] word few = refl
 same_word n (x ∷ xs) [] few = refl
 same_word zero (x ∷ xs) (y ∷ ys) few = absurd (omega (arith, few))
 same_word (suc n) (x ∷ xs) (y ∷ ys) few = ap (λ b. nat_eq x y && b) (same_word n xs ys (omega (arith, few)))
 
-same_name : (n : ℕ) (name word : List ℕ) → length name ≤ n → is_name name (take (suc n) word) ≡ is_name name word
+pub same_name : (n : ℕ) (name word : List ℕ) → length name ≤ n → is_name name (take (suc n) word) ≡ is_name name word
 same_name n name word few =
     ap (λ w. bytes_eq w name) (sym (take-map to_ascii_lowercase (suc n) word)) ∙ same_word n (map to_ascii_lowercase word) name few
 
@@ -63,7 +63,7 @@ verb_by a b c e f g =
     if g then Some Sunsubscribe else
     None
 
-same_verb_named : (n : ℕ) (word : List ℕ) → 12 ≤ n → verb_named (take (suc n) word) ≡ verb_named word
+pub same_verb_named : (n : ℕ) (word : List ℕ) → 12 ≤ n → verb_named (take (suc n) word) ≡ verb_named word
 same_verb_named n word enough = λ i. verb_by
     (same_name n (codes "subscribe") word (omega (arith, enough)) i)
     (same_name n (codes "unsubscribe") word (omega (arith, enough)) i)
@@ -264,10 +264,6 @@ same_depth (Some n) x = depth_kept n x
 pub kept_parts_tell_the_same : KeptPartsTellTheSame
 kept_parts_tell_the_same most whole kept is = (ap is_refusal is.value ∙ same_refusal most whole, ap depth is.value ∙ same_depth most whole)
 
--- if all bytes are shown, the whole value is kept
-pub kept_whole : (most : Option ℕ) (whole : Datum) (kept : CutValue) → most ≡ None → IsKeptOf most whole kept → datum_of kept.value ≡ whole
-kept_whole most whole kept all is = is.value ∙ ap (λ m. cut_within m whole) all
-
 -- a value that was read has no text of 2^64 bytes
 longest_read : (r : Rules) (x : Datum) (text : List ℕ) → IsSpelling r x text → AreBounds r.limits → longest x ≤ 18446744073709551615
 longest_read r x text spelled bounds =
@@ -320,6 +316,6 @@ sees_told s new front piece used kept whole (seen.Value told) spelled is enough 
     (hears s new (front ++ take used piece) kept whole false None spelled is enough after takes h.1 h.2)
 sees_told s new front piece used kept whole seen.Nothing spelled is enough after takes h = absurd h
 sees_told s new front piece used kept whole seen.Passed spelled is enough after takes h = absurd h
-sees_told s new front piece used kept whole (seen.Command number words) spelled is enough after takes h = absurd h
+sees_told s new front piece used kept whole (seen.Command number words lengths) spelled is enough after takes h = absurd h
 sees_told s new front piece used kept whole (seen.NotCommand number) spelled is enough after takes h = absurd h
 sees_told s new front piece used kept whole (seen.Refused cause at where') spelled is enough after takes h = absurd h

@@ -11,3 +11,7 @@ pub mod Fronts
 pub mod PieceLemmas
 pub mod KeyPlaces
 pub mod LineReading
+pub mod KeptWords
+pub mod KeptPrinting
+pub mod WholeCommands
+pub mod NoteLemmas

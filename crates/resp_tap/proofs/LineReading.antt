@@ -17,6 +17,7 @@ use Rattle.resp_value.specs.declared.cause.Cause.TheVariants as causes
 use Rattle.resp_value.specs.declared.version.Version.TheVariants.{Two}
 use Rattle.resp_session.specs.Commands.{Call, Meaning, NoCommand, Nothing, array_meaning, meaning_of}
 use Rattle.resp_session.proofs.CommandWords.{meaning_of-command_of}
+use Rattle.resp_tap.specs.SeenOf.{words_by}
 use Rattle.resp_tap.specs.Lined.{BeginsLine, EndsLine, EndsSo, IsInLine, IsNoLine, TellsLine}
 use Rattle.resp_tap.specs.Taps.{TapState, tap_state, with_refused_command}
 use Rattle.resp_tap.specs.Times.{KeepsTimes}
@@ -58,16 +59,12 @@ call_is : (words : List (List ℕ)) → 0 < length words → meaning_of (command
 call_is [] some = absurd (omega (arith, some))
 call_is (name ∷ arguments) some = meaning_of-command_of name arguments
 
-abbrev words_in : Meaning → List (List ℕ)
-words_in (Call name arguments) = name ∷ arguments
-words_in _ = []
-
 -- commands with the same meaning have the same words
-same_words : (words words' : List (List ℕ)) → 0 < length words → 0 < length words' → array_meaning (Some words) ≡ array_meaning (Some words') →
+pub same_words : (words words' : List (List ℕ)) → 0 < length words → 0 < length words' → array_meaning (Some words) ≡ array_meaning (Some words') →
     words ≡ words'
 same_words [] words' some some' same = absurd (omega (arith, some))
 same_words (name ∷ arguments) [] some some' same = absurd (omega (arith, some'))
-same_words (name ∷ arguments) (name' ∷ arguments') some some' same = ap words_in same
+same_words (name ∷ arguments) (name' ∷ arguments') some some' same = ap words_by same
 
 abbrev is_call : Meaning → Bool
 is_call (Call name arguments) = true
@@ -78,7 +75,7 @@ calls [] some = absurd (omega (arith, some))
 calls (name ∷ arguments) some = refl
 
 -- words are a command
-no_other : (words : List (List ℕ)) (m : Meaning) → 0 < length words → is_call m ≡ false → m ≡ array_meaning (Some words) → ⊥
+pub no_other : (words : List (List ℕ)) (m : Meaning) → 0 < length words → is_call m ≡ false → m ≡ array_meaning (Some words) → ⊥
 no_other words m some other same =
     let e : true ≡ false = sym (calls words some) ∙ sym (ap is_call same) ∙ other in cc
 
@@ -108,11 +105,13 @@ line_told unique now old new line text words used seen.Nothing some are same spe
 line_told unique now old new line text words used seen.Passed some are same spelled times (inl sees) =
     absurd (no_other words Nothing some refl (sym sees.means ∙ only_value unique (tap_state old.tap) words text used sees.value spelled sees.spelled ∙
     call_is words some))
-line_told unique now old new line text words used (seen.Command number words') some are same spelled times (inl sees) =
-    let equal : words ≡ words' = same_words words words' some sees.some
+line_told unique now old new line text words used (seen.Command number words' lengths) some are same spelled times (inl sees) =
+    let equal : words ≡ sees.whole = same_words words sees.whole some sees.some
     (sym (call_is words some) ∙ sym (only_value unique (tap_state old.tap) words text used sees.value spelled sees.spelled) ∙ sees.means) in record {
+      whole = sees.whole;
       some = sees.some;
       are = subst (λ ws. AreWords ws line) equal are;
+      are_kept = sees.are_kept;
       numbered = sees.numbered;
       after = sees.after;
       takes = sees.takes;
@@ -138,8 +137,8 @@ line_told unique now old new line text words used seen.Nothing some are same spe
     absurd (lacks_none (tap_state old.tap) new.tap text used seen.Nothing refl lacks.1)
 line_told unique now old new line text words used seen.Passed some are same spelled times (inr lacks) =
     absurd (lacks_none (tap_state old.tap) new.tap text used seen.Passed refl lacks.1)
-line_told unique now old new line text words used (seen.Command number words') some are same spelled times (inr lacks) =
-    absurd (lacks_none (tap_state old.tap) new.tap text used (seen.Command number words') refl lacks.1)
+line_told unique now old new line text words used (seen.Command number words' lengths) some are same spelled times (inr lacks) =
+    absurd (lacks_none (tap_state old.tap) new.tap text used (seen.Command number words' lengths) refl lacks.1)
 line_told unique now old new line text words used (seen.NotCommand number) some are same spelled times (inr lacks) =
     absurd (lacks_none (tap_state old.tap) new.tap text used (seen.NotCommand number) refl lacks.1)
 line_told unique now old new line text words used (seen.Reply number kept) some are same spelled times (inr lacks) =
@@ -193,7 +192,7 @@ by_end : (now : Option Moment) (lines lines' : Lines) (old new : TimedTap) (piec
     EndsLine now lines lines' old new piece used what → TellsLine now lines lines' old new piece used what
 by_end now lines lines' old new piece line used seen.Nothing so ends = absurd so
 by_end now lines lines' old new piece line used seen.Passed so ends = ends
-by_end now lines lines' old new piece line used (seen.Command number words) so ends = ends
+by_end now lines lines' old new piece line used (seen.Command number words lengths) so ends = ends
 by_end now lines lines' old new piece line used (seen.NotCommand number) so ends = ends
 by_end now lines lines' old new piece line used (seen.Refused cause at where') so ends = ends
 by_end now lines lines' old new piece line used (seen.Reply number kept) so ends = ends

@@ -68,10 +68,11 @@ next_shown most secrets words index word shown is_secret below is secret as_show
     ap (λ z. word_text most z ++ words_text most (redacted_after secrets (take (index + 1) words) rest)) (sym same)
 
 -- the words that are left after the next word
-pub left_at_next : (secrets : Secrets) (words : List (List ℕ)) (index : ℕ) (word : List ℕ) (left : ℕ) → index < length words →
-    word ≡ get_or words index [] → AreLeft secrets (take index words ++ word ∷ []) left → AreLeft secrets (take (index + 1) words) left
-left_at_next secrets words index word left below is are =
-    subst (λ z. AreLeft secrets z left) (ap (λ w. take index words ++ w ∷ []) is ∙ sym (take_more words index [] below)) are
+pub left_at_next : (secrets : Secrets) (words : List (List ℕ)) (index : ℕ) (left next : ℕ) → index < length words →
+    next ≡ max (secrets_after secrets (get_or words index [])) (left - 1) → AreLeft secrets (take index words) left → AreLeft secrets (take (index + 1) words) next
+left_at_next secrets words index left next below is are =
+    subst (λ z. AreLeft secrets z next) (sym (take_more words index [] below))
+    (are_left_after secrets (take index words) (get_or words index []) left next is are)
 
 -- the line of words that are equal
 pub words_line_as : {X E : Type 0} (most : Option ℕ) (r : Result X E) (a b : Option (List ℕ)) (f g : ℕ) (words words' : List (List ℕ)) → words ≡ words' →

@@ -1,5 +1,5 @@
 -- What is told of both sides of a connection, piece by piece.
-use Rattle.std.proofs.Common.{◌≡◌, ◌⊎◌, inl, inr, ℕ, ◌+◌, ◌≤◌, ◌||◌, Bool, true, false, List, [], ◌∷◌, ◌++◌, length, map, take, drop, Option, refl, sym, ap, subst, ◌∙◌, arith, append_assoc}
+use Rattle.std.proofs.Common.{◌≡◌, ◌⊎◌, inl, inr, ℕ, ◌+◌, ◌<◌, ◌≤◌, ◌||◌, Bool, true, false, List, [], ◌∷◌, ◌++◌, length, map, take, drop, Option, refl, sym, ap, subst, ◌∙◌, arith, append_assoc}
 use Rattle.std.specs.Prelude.{Result, None, Some, if◌then◌else◌}
 use Rattle.std.specs.List.{AllByRecursion}
 use Rattle.std.proofs.lemmas.List.{append-nil, length-append, map-append, take-append-drop, take-append-le, take_all, take_at}
@@ -17,14 +17,14 @@ use Rattle.resp_value.specs.declared.version.Version.{Version}
 use Rattle.resp_scan.specs.Reading.{HasNoValue}
 use Rattle.resp_decode.proofs.Feeding.{no_value_at_start}
 use Rattle.resp_session.specs.Answers.{BeginsNoValue}
-use Rattle.resp_session.specs.Commands.{Call, Nothing, meaning_of}
+use Rattle.resp_session.specs.Commands.{Call, Nothing, array_meaning, meaning_of}
 use Rattle.resp_session.specs.Heard.{is_push, pushes_of}
 use Rattle.resp_session.proofs.TextsInPieces.{spellings-append}
 use Rattle.resp_print.specs.declared.print_error.PrintError.{PrintError}
 use Rattle.resp_tap.specs.Kinds.{command_kind}
 use Rattle.resp_tap.specs.Lines.{LineState, ReadsLine, asking, due_of, is_listening, is_unasked, line_after, line_sent, line_with, new_line, next_version, number_for, numbered, open_after, paired, settled, version_by}
-use Rattle.resp_tap.specs.Streams.{Arrival, Arrive, IsNoError, IsRest, NoError, Numbered, Part, TellsTheConnection, by_side, client_bytes, command_in, commands_of, each, numbered_commands, part_of, push_in, reply_in, reply_part, server_bytes, told, words_of}
-use Rattle.resp_tap.specs.Parts.{IsKeptOf}
+use Rattle.resp_tap.specs.Streams.{Arrival, Arrive, IsNoError, IsRest, NoError, Part, TellsTheConnection, WordsPart, by_side, client_bytes, command_in, command_part, commands_of, each, numbered_commands, part_of, push_in, reply_in, reply_part, server_bytes, told, words_of}
+use Rattle.resp_tap.specs.Parts.{AreKeptOf, IsKeptOf, word_lengths, words_within}
 use Rattle.resp_tap.specs.Taps.{TapState, at_front, new_tap, tap_state, with_command, with_value}
 use Rattle.resp_tap.specs.Watches.{KeepsOther, SeesFirst, WatchesAll}
 use Rattle.resp_tap.specs.Watching.{HasTakenRequest, HasTakenValue, HearsValue, SeesRequest, SeesValue, request_rules}
@@ -78,12 +78,12 @@ same_but_line (byte ∷ front) piece s = (s.line, s.reading, refl)
 
 record Told : Type 0 where
   client : List ℕ
-  commands : List Numbered
+  commands : List (ℕ × WordsPart)
   server : List ℕ
   replies : List (ℕ × Part)
   pushes : List Part
 
-abbrev told_more : Told → Side → List ℕ → List Numbered → List (ℕ × Part) → List Part → Told
+abbrev told_more : Told → Side → List ℕ → List (ℕ × WordsPart) → List (ℕ × Part) → List Part → Told
 told_more x side bytes commands replies pushes = record {
   client = x.client ++ by_side side bytes [];
   commands = x.commands ++ commands;
@@ -109,16 +109,17 @@ record Replies (limits : Bounds) (most : Option ℕ) (x : Told) (commands : List
   opened : s.line.is_open ≡ (asking commands).is_open
 
 -- what is told of both, where these bytes of each were read of a value that is not whole
-record SoFar (limits : Bounds) (most : Option ℕ) (x : Told) (s : TapState) (request rest : List ℕ) : Type 0 where
+record SoFar (limits : Bounds) (most held : Option ℕ) (x : Told) (s : TapState) (request rest : List ℕ) : Type 0 where
   values : List Datum
   front : List ℕ
   whole : x.client ≡ front ++ request
   spelled : AreSpellings (request_rules limits) values front
   no_more : HasNoValue request
-  commands : x.commands ≡ numbered_commands 1 (commands_of values)
+  commands : x.commands ≡ map (command_part held) (numbered_commands 1 (commands_of values))
   count : s.commands ≡ length (commands_of values)
   same_limits : s.limits ≡ limits
   same_shown : s.shown ≡ most
+  same_kept : s.kept ≡ held
   reads_commands : s.reads_commands ≡ true
   reads_replies : s.reads_replies ≡ true
   replies : s.line.is_lost ≡ false → Replies limits most x (commands_of values) s rest
@@ -143,9 +144,9 @@ used_whole : (piece : List ℕ) (used : ℕ) → used ≡ length piece → take 
 used_whole piece used all = ap (λ n. take n piece) all ∙ take_all (length piece) piece (omega arith)
 
 -- one more value of the client, which is no command
-client_ignored : (limits : Bounds) (most : Option ℕ) (x : Told) (s t : TapState) (request rest bytes : List ℕ) → SoFar limits most x s request rest → t ≡ s → (v : Datum) →
-    IsSpelling (request_rules s.limits) v (request ++ bytes) → meaning_of v ≡ Nothing → SoFar limits most (told_more x Client bytes [] [] []) t [] rest
-client_ignored limits most x s t request rest bytes h same v spelled means =
+client_ignored : (limits : Bounds) (most held : Option ℕ) (x : Told) (s t : TapState) (request rest bytes : List ℕ) → SoFar limits most held x s request rest → t ≡ s → (v : Datum) →
+    IsSpelling (request_rules s.limits) v (request ++ bytes) → meaning_of v ≡ Nothing → SoFar limits most held (told_more x Client bytes [] [] []) t [] rest
+client_ignored limits most held x s t request rest bytes h same v spelled means =
     let commands : commands_of (h.values ++ v ∷ []) ≡ commands_of h.values = commands_more h.values v ∙ ap (λ m. commands_of h.values ++ words_of m) means ∙
     append-nil (commands_of h.values) in
     record {
@@ -155,10 +156,11 @@ client_ignored limits most x s t request rest bytes h same v spelled means =
       spelled = spellings-append (request_rules limits) h.values (v ∷ []) h.front (request ++ bytes) h.spelled
           (request ++ bytes, [], subst (λ l. IsSpelling (request_rules l) v (request ++ bytes)) h.same_limits spelled, refl, sym (append-nil (request ++ bytes)));
       no_more = no_value_at_start;
-      commands = append-nil x.commands ∙ h.commands ∙ ap (numbered_commands 1) (sym commands);
+      commands = append-nil x.commands ∙ h.commands ∙ ap (λ l. map (command_part held) (numbered_commands 1 l)) (sym commands);
       count = ap (λ (z : TapState). z.commands) same ∙ h.count ∙ ap length (sym commands);
       same_limits = ap (λ (z : TapState). z.limits) same ∙ h.same_limits;
       same_shown = ap (λ (z : TapState). z.shown) same ∙ h.same_shown;
+      same_kept = ap (λ (z : TapState). z.kept) same ∙ h.same_kept;
       reads_commands = ap (λ (z : TapState). z.reads_commands) same ∙ h.reads_commands;
       reads_replies = ap (λ (z : TapState). z.reads_replies) same ∙ h.reads_replies;
       replies = λ found. subst (λ c. Replies limits most (told_more x Client bytes [] [] []) c t rest) (sym commands)
@@ -215,13 +217,14 @@ sent_found true n kind l is found = absurd (
     let e : true ≡ false = sym same ∙ found in cc)
 
 -- one more command
-client_command : VersionThreeSpellsWhatTwoDoes → (limits : Bounds) (most : Option ℕ) (x : Told) (s t : TapState) (request rest bytes : List ℕ) (number : ℕ) (name : List ℕ) (arguments : List (List ℕ)) →
-    SoFar limits most x s request rest → t ≡ with_command (command_kind (name ∷ arguments)) s → (v : Datum) → IsSpelling (request_rules s.limits) v (request ++ bytes) →
+client_command : VersionThreeSpellsWhatTwoDoes → (limits : Bounds) (most held : Option ℕ) (x : Told) (s t : TapState) (request rest bytes : List ℕ) (number : ℕ) (name : List ℕ) (arguments : List (List ℕ)) (part : WordsPart) →
+    SoFar limits most held x s request rest → t ≡ with_command (command_kind (name ∷ arguments)) s → (v : Datum) → IsSpelling (request_rules s.limits) v (request ++ bytes) →
     meaning_of v ≡ Call name arguments → number ≡ s.commands + 1 →
-    SoFar limits most (told_more x Client bytes ((number, name ∷ arguments) ∷ []) [] []) t [] rest
-client_command three limits most x s t request rest bytes number name arguments h same v spelled means numbered =
+    part ≡ (words_within held (name ∷ arguments), word_lengths held (name ∷ arguments)) →
+    SoFar limits most held (told_more x Client bytes ((number, part) ∷ []) [] []) t [] rest
+client_command three limits most held x s t request rest bytes number name arguments part h same v spelled means numbered kept =
     let words = name ∷ arguments in
-    let y = told_more x Client bytes ((number, words) ∷ []) [] [] in
+    let y = told_more x Client bytes ((number, part) ∷ []) [] [] in
     let commands : commands_of (h.values ++ v ∷ []) ≡ commands_of h.values ++ words ∷ [] =
     commands_more h.values v ∙ ap (λ m. commands_of h.values ++ words_of m) means in
     let number_is : number ≡ 1 + length (commands_of h.values) = let c = h.count in omega (arith, numbered, c) in
@@ -234,11 +237,16 @@ client_command three limits most x s t request rest bytes number name arguments 
       spelled = spellings-append (request_rules limits) h.values (v ∷ []) h.front (request ++ bytes) h.spelled
           (request ++ bytes, [], subst (λ l. IsSpelling (request_rules l) v (request ++ bytes)) h.same_limits spelled, refl, sym (append-nil (request ++ bytes)));
       no_more = no_value_at_start;
-      commands = ap (λ l. l ++ (number, words) ∷ []) h.commands ∙ ap (λ n. numbered_commands 1 (commands_of h.values) ++ (n, words) ∷ []) number_is ∙
-          sym (numbered_more 1 (commands_of h.values) words) ∙ ap (numbered_commands 1) (sym commands);
+      commands = ap (λ l. l ++ (number, part) ∷ []) h.commands ∙
+          ap (λ p. map (command_part held) (numbered_commands 1 (commands_of h.values)) ++ (number, p) ∷ []) kept ∙
+          sym (map-append (command_part held) (numbered_commands 1 (commands_of h.values)) ((number, words) ∷ [])) ∙
+          ap (λ n. map (command_part held) (numbered_commands 1 (commands_of h.values) ++ (n, words) ∷ [])) number_is ∙
+          ap (map (command_part held)) (sym (numbered_more 1 (commands_of h.values) words)) ∙
+          ap (λ l. map (command_part held) (numbered_commands 1 l)) (sym commands);
       count = ap (λ (z : TapState). z.commands) same ∙ counted ∙ ap length (sym commands);
       same_limits = ap (λ (z : TapState). z.limits) same ∙ h.same_limits;
       same_shown = ap (λ (z : TapState). z.shown) same ∙ h.same_shown;
+      same_kept = ap (λ (z : TapState). z.kept) same ∙ h.same_kept;
       reads_commands = ap (λ (z : TapState). z.reads_commands) same ∙ h.reads_commands;
       reads_replies = ap (λ (z : TapState). z.reads_replies) same ∙ h.reads_replies;
       replies = λ found.
@@ -249,10 +257,19 @@ client_command three limits most x s t request rest bytes number name arguments 
           (h.replies was)));
     }
 
+command_told : VersionThreeSpellsWhatTwoDoes → (limits : Bounds) (most held : Option ℕ) (x : Told) (s t : TapState) (request rest bytes : List ℕ) (number : ℕ)
+    (whole words : List (List ℕ)) (lengths : List ℕ) → SoFar limits most held x s request rest → 0 < length whole → t ≡ with_command (command_kind whole) s →
+    (v : Datum) → IsSpelling (request_rules s.limits) v (request ++ bytes) → meaning_of v ≡ array_meaning (Some whole) → number ≡ s.commands + 1 →
+    AreKeptOf s.shown s.kept whole words lengths → SoFar limits most held (told_more x Client bytes ((number, (words, lengths)) ∷ []) [] []) t [] rest
+command_told three limits most held x s t request rest bytes number [] words lengths h some same v spelled means numbered are = absurd (omega (arith, some))
+command_told three limits most held x s t request rest bytes number (name ∷ arguments) words lengths h some same v spelled means numbered are =
+    client_command three limits most held x s t request rest bytes number name arguments (words, lengths) h same v spelled means numbered
+    ((λ i. (are.first_bytes i, are.longer i)) ∙ ap (λ k. (words_within k (name ∷ arguments), word_lengths k (name ∷ arguments))) h.same_kept)
+
 -- more bytes of a value
-client_awaits : (limits : Bounds) (most : Option ℕ) (x : Told) (s t : TapState) (request rest bytes : List ℕ) → SoFar limits most x s request rest → t ≡ s →
-    HasNoValue (request ++ bytes) → SoFar limits most (told_more x Client bytes [] [] []) t (request ++ bytes) rest
-client_awaits limits most x s t request rest bytes h same none = record {
+client_awaits : (limits : Bounds) (most held : Option ℕ) (x : Told) (s t : TapState) (request rest bytes : List ℕ) → SoFar limits most held x s request rest → t ≡ s →
+    HasNoValue (request ++ bytes) → SoFar limits most held (told_more x Client bytes [] [] []) t (request ++ bytes) rest
+client_awaits limits most held x s t request rest bytes h same none = record {
   values = h.values;
   front = h.front;
   whole = ap (λ l. l ++ bytes) h.whole ∙ append_assoc h.front request bytes;
@@ -262,6 +279,7 @@ client_awaits limits most x s t request rest bytes h same none = record {
   count = ap (λ (z : TapState). z.commands) same ∙ h.count;
   same_limits = ap (λ (z : TapState). z.limits) same ∙ h.same_limits;
   same_shown = ap (λ (z : TapState). z.shown) same ∙ h.same_shown;
+  same_kept = ap (λ (z : TapState). z.kept) same ∙ h.same_kept;
   reads_commands = ap (λ (z : TapState). z.reads_commands) same ∙ h.reads_commands;
   reads_replies = ap (λ (z : TapState). z.reads_replies) same ∙ h.reads_replies;
   replies = λ found. same_replies limits most x (told_more x Client bytes [] [] []) (commands_of h.values) s t rest (append-nil x.server) (append-nil x.replies)
@@ -269,43 +287,43 @@ client_awaits limits most x s t request rest bytes h same none = record {
 }
 
 -- one more result of a side, and the bytes that were read of its value that is not whole
-abbrev Next : Side → Bounds → Option ℕ → Told → Tap → List ℕ → List ℕ → Type 0
-Next Client limits most x t request rest = (request' : List ℕ) × HasTakenRequest t request' × SoFar limits most x (tap_state t) request' rest
-Next Server limits most x t request rest = (rest' : List ℕ) × HasTakenValue t rest' × SoFar limits most x (tap_state t) request rest'
+abbrev Next : Side → Bounds → Option ℕ → Option ℕ → Told → Tap → List ℕ → List ℕ → Type 0
+Next Client limits most held x t request rest = (request' : List ℕ) × HasTakenRequest t request' × SoFar limits most held x (tap_state t) request' rest
+Next Server limits most held x t request rest = (rest' : List ℕ) × HasTakenValue t rest' × SoFar limits most held x (tap_state t) request rest'
 
-client_tells : VersionThreeSpellsWhatTwoDoes → (limits : Bounds) (most : Option ℕ) (x : Told) (s : TapState) (new : Tap) (request rest piece : List ℕ) (used : ℕ) (what : Seen) →
-    SoFar limits most x s request rest → SeesRequest s new request piece used what → IsNoError what →
-    Next Client limits most (told_more x Client (take used piece) (command_in what) (reply_in what) (push_in what)) new request rest
-client_tells three limits most x s new request rest piece used seen.Nothing h sees fine =
+client_tells : VersionThreeSpellsWhatTwoDoes → (limits : Bounds) (most held : Option ℕ) (x : Told) (s : TapState) (new : Tap) (request rest piece : List ℕ) (used : ℕ) (what : Seen) →
+    SoFar limits most held x s request rest → SeesRequest s new request piece used what → IsNoError what →
+    Next Client limits most held (told_more x Client (take used piece) (command_in what) (reply_in what) (push_in what)) new request rest
+client_tells three limits most held x s new request rest piece used seen.Nothing h sees fine =
     let bytes = used_whole piece used sees.whole_piece in (
       request ++ piece,
       sees.takes,
-      subst (λ b. SoFar limits most (told_more x Client b [] [] []) (tap_state new) (request ++ piece) rest) (sym bytes)
-          (client_awaits limits most x s (tap_state new) request rest piece h sees.after sees.no_value),
+      subst (λ b. SoFar limits most held (told_more x Client b [] [] []) (tap_state new) (request ++ piece) rest) (sym bytes)
+          (client_awaits limits most held x s (tap_state new) request rest piece h sees.after sees.no_value),
     )
-client_tells three limits most x s new request rest piece used seen.Passed h sees fine =
-    ([], sees.takes, client_ignored limits most x s (tap_state new) request rest (take used piece) h sees.after sees.value sees.spelled sees.means)
-client_tells three limits most x s new request rest piece used (seen.Command number []) h sees fine = absurd (let some = sees.some in omega (arith, some))
-client_tells three limits most x s new request rest piece used (seen.Command number (name ∷ arguments)) h sees fine = (
+client_tells three limits most held x s new request rest piece used seen.Passed h sees fine =
+    ([], sees.takes, client_ignored limits most held x s (tap_state new) request rest (take used piece) h sees.after sees.value sees.spelled sees.means)
+client_tells three limits most held x s new request rest piece used (seen.Command number words lengths) h sees fine = (
   [],
   sees.takes,
-  client_command three limits most x s (tap_state new) request rest (take used piece) number name arguments h sees.after sees.value sees.spelled sees.means sees.numbered,
+  command_told three limits most held x s (tap_state new) request rest (take used piece) number sees.whole words lengths.items h sees.some sees.after sees.value
+      sees.spelled sees.means sees.numbered sees.are_kept,
 )
-client_tells three limits most x s new request rest piece used (seen.NotCommand number) h sees fine = absurd fine
-client_tells three limits most x s new request rest piece used (seen.Refused cause at where') h sees fine = absurd fine
-client_tells three limits most x s new request rest piece used (seen.Reply number kept) h sees fine = absurd sees
-client_tells three limits most x s new request rest piece used (seen.Push members lengths) h sees fine = absurd sees
-client_tells three limits most x s new request rest piece used (seen.Value kept) h sees fine = absurd sees
+client_tells three limits most held x s new request rest piece used (seen.NotCommand number) h sees fine = absurd fine
+client_tells three limits most held x s new request rest piece used (seen.Refused cause at where') h sees fine = absurd fine
+client_tells three limits most held x s new request rest piece used (seen.Reply number kept) h sees fine = absurd sees
+client_tells three limits most held x s new request rest piece used (seen.Push members lengths) h sees fine = absurd sees
+client_tells three limits most held x s new request rest piece used (seen.Value kept) h sees fine = absurd sees
 
 -- ---- the server's side
 
 -- a value that does not change what is known of the client
-server_on : (limits : Bounds) (most : Option ℕ) (x : Told) (s t : TapState) (request rest rest' bytes : List ℕ) (replies : List (ℕ × Part)) (pushes : List Part) →
-    (h : SoFar limits most x s request rest) → t.commands ≡ s.commands → t.limits ≡ s.limits → t.shown ≡ s.shown → t.reads_commands ≡ s.reads_commands →
+server_on : (limits : Bounds) (most held : Option ℕ) (x : Told) (s t : TapState) (request rest rest' bytes : List ℕ) (replies : List (ℕ × Part)) (pushes : List Part) →
+    (h : SoFar limits most held x s request rest) → t.commands ≡ s.commands → t.limits ≡ s.limits → t.shown ≡ s.shown → t.kept ≡ s.kept → t.reads_commands ≡ s.reads_commands →
     t.reads_replies ≡ s.reads_replies →
     (t.line.is_lost ≡ false → Replies limits most (told_more x Server bytes [] replies pushes) (commands_of h.values) t rest') →
-    SoFar limits most (told_more x Server bytes [] replies pushes) t request rest'
-server_on limits most x s t request rest rest' bytes replies pushes h commands same shown reads reads' told = record {
+    SoFar limits most held (told_more x Server bytes [] replies pushes) t request rest'
+server_on limits most held x s t request rest rest' bytes replies pushes h commands same shown kept reads reads' told = record {
   values = h.values;
   front = h.front;
   whole = append-nil x.client ∙ h.whole;
@@ -315,6 +333,7 @@ server_on limits most x s t request rest rest' bytes replies pushes h commands s
   count = commands ∙ h.count;
   same_limits = same ∙ h.same_limits;
   same_shown = shown ∙ h.same_shown;
+  same_kept = kept ∙ h.same_kept;
   reads_commands = reads ∙ h.reads_commands;
   reads_replies = reads' ∙ h.reads_replies;
   replies = told;
@@ -423,30 +442,30 @@ found_waiting s t rest piece after found =
     ap (λ (l : LineState). l.is_lost) (sym (line_at_front rest piece s begun')) ∙ begun'
 
 -- one more value of the server, told in this way
-one_value : VersionThreeSpellsWhatTwoDoes → (limits : Bounds) (most : Option ℕ) (x : Told) (s : TapState) (new : Tap) (request rest piece bytes : List ℕ)
-    (kept : CutValue) (b : Bool) (n : Option ℕ) (replied : List (ℕ × Part)) (pushed : List Part) → SoFar limits most x s request rest →
+one_value : VersionThreeSpellsWhatTwoDoes → (limits : Bounds) (most held : Option ℕ) (x : Told) (s : TapState) (new : Tap) (request rest piece bytes : List ℕ)
+    (kept : CutValue) (b : Bool) (n : Option ℕ) (replied : List (ℕ × Part)) (pushed : List Part) → SoFar limits most held x s request rest →
     (hears : HearsValue (at_front rest piece s) new (rest ++ bytes) kept b n) →
     map (reply_part most) (numbered (number_for (at_front rest piece s).line hears.whole) hears.whole) ≡ replied →
     map (part_of most) (pushes_of (hears.whole ∷ [])) ≡ pushed →
-    Next Server limits most (told_more x Server bytes [] replied pushed) new request rest
-one_value three limits most x s new request rest piece bytes kept b n replied pushed h hears number push =
+    Next Server limits most held (told_more x Server bytes [] replied pushed) new request rest
+one_value three limits most held x s new request rest piece bytes kept b n replied pushed h hears number push =
     let v = hears.whole in
     let t = tap_state new in
     let (l', v', front) = same_but_line rest piece s in
     let from : t ≡ with_value v (record s { line = l'; reading = v' }) = hears.after ∙ ap (with_value v) front in (
       [],
       hears.takes,
-      server_on limits most x s t request rest [] bytes replied pushed h (ap (λ (z : TapState). z.commands) from)
-          (ap (λ (z : TapState). z.limits) from) (ap (λ (z : TapState). z.shown) from) (ap (λ (z : TapState). z.reads_commands) from)
+      server_on limits most held x s t request rest [] bytes replied pushed h (ap (λ (z : TapState). z.commands) from)
+          (ap (λ (z : TapState). z.limits) from) (ap (λ (z : TapState). z.shown) from) (ap (λ (z : TapState). z.kept) from) (ap (λ (z : TapState). z.reads_commands) from)
           (ap (λ (z : TapState). z.reads_replies) from) (λ found.
           value_told three limits most x (commands_of h.values) s t rest piece bytes v replied pushed (h.replies (found_before s t rest piece v hears.after found))
           h.same_limits found hears.spelled hears.after number push),
     )
 
 -- what is kept of a value is the part of it that is told
-part_is : (limits : Bounds) (most : Option ℕ) (x : Told) (s : TapState) (request rest piece : List ℕ) (whole : Datum) (kept : CutValue) →
-    SoFar limits most x s request rest → IsKeptOf (at_front rest piece s).shown whole kept → part_of most whole ≡ (datum_of kept.value, kept.lengths.items)
-part_is limits most x s request rest piece whole kept h is =
+part_is : (limits : Bounds) (most held : Option ℕ) (x : Told) (s : TapState) (request rest piece : List ℕ) (whole : Datum) (kept : CutValue) →
+    SoFar limits most held x s request rest → IsKeptOf (at_front rest piece s).shown whole kept → part_of most whole ≡ (datum_of kept.value, kept.lengths.items)
+part_is limits most held x s request rest piece whole kept h is =
     let (l', v', front) = same_but_line rest piece s in
     let shown : (at_front rest piece s).shown ≡ most = ap (λ (z : TapState). z.shown) front ∙ h.same_shown in
     let here : IsKeptOf most whole kept = subst (λ m. IsKeptOf m whole kept) shown is in
@@ -456,40 +475,40 @@ part_is limits most x s request rest piece whole kept h is =
 pushes_of_one : (b : Bool) (v : Datum) → is_push v ≡ b → pushes_of (v ∷ []) ≡ (if b then v ∷ [] else [])
 pushes_of_one b v is = ap (λ b. if b then v ∷ [] else []) is
 
-server_tells : VersionThreeSpellsWhatTwoDoes → (limits : Bounds) (most : Option ℕ) (x : Told) (s : TapState) (new : Tap) (request rest piece : List ℕ) (used : ℕ) (what : Seen) →
-    SoFar limits most x s request rest → SeesValue (at_front rest piece s) new rest piece used what → IsNoError what →
-    Next Server limits most (told_more x Server (take used piece) (command_in what) (reply_in what) (push_in what)) new request rest
-server_tells three limits most x s new request rest piece used seen.Nothing h sees fine =
+server_tells : VersionThreeSpellsWhatTwoDoes → (limits : Bounds) (most held : Option ℕ) (x : Told) (s : TapState) (new : Tap) (request rest piece : List ℕ) (used : ℕ) (what : Seen) →
+    SoFar limits most held x s request rest → SeesValue (at_front rest piece s) new rest piece used what → IsNoError what →
+    Next Server limits most held (told_more x Server (take used piece) (command_in what) (reply_in what) (push_in what)) new request rest
+server_tells three limits most held x s new request rest piece used seen.Nothing h sees fine =
     let t = tap_state new in
     let bytes = used_whole piece used sees.whole_piece in
     let (l', v', front) = same_but_line rest piece s in
     let from = sees.after ∙ front in (
       rest ++ piece,
       sees.takes,
-      subst (λ b. SoFar limits most (told_more x Server b [] [] []) t request (rest ++ piece)) (sym bytes)
-          (server_on limits most x s t request rest (rest ++ piece) piece [] [] h (ap (λ (z : TapState). z.commands) from) (ap (λ (z : TapState). z.limits) from) (ap (λ (z : TapState). z.shown) from)
+      subst (λ b. SoFar limits most held (told_more x Server b [] [] []) t request (rest ++ piece)) (sym bytes)
+          (server_on limits most held x s t request rest (rest ++ piece) piece [] [] h (ap (λ (z : TapState). z.commands) from) (ap (λ (z : TapState). z.limits) from) (ap (λ (z : TapState). z.shown) from) (ap (λ (z : TapState). z.kept) from)
           (ap (λ (z : TapState). z.reads_commands) from) (ap (λ (z : TapState). z.reads_replies) from) (λ found.
           value_awaits limits most x (commands_of h.values) s t rest piece (h.replies (found_waiting s t rest piece sees.after found)) h.same_limits found sees.after
           sees.no_value sees.viable)),
     )
-server_tells three limits most x s new request rest piece used (seen.Reply number kept) h sees fine =
-    one_value three limits most x s new request rest piece (take used piece) kept false (Some number) (reply_in (seen.Reply number kept)) [] h sees
+server_tells three limits most held x s new request rest piece used (seen.Reply number kept) h sees fine =
+    one_value three limits most held x s new request rest piece (take used piece) kept false (Some number) (reply_in (seen.Reply number kept)) [] h sees
     (ap (λ n. map (reply_part most) (numbered n sees.whole)) sees.numbered ∙
-    ap (λ p. (number, p) ∷ []) (part_is limits most x s request rest piece sees.whole kept h sees.is_kept))
+    ap (λ p. (number, p) ∷ []) (part_is limits most held x s request rest piece sees.whole kept h sees.is_kept))
     (ap (map (part_of most)) (pushes_of_one false sees.whole sees.pushed))
-server_tells three limits most x s new request rest piece used (seen.Push members lengths) h sees fine =
+server_tells three limits most held x s new request rest piece used (seen.Push members lengths) h sees fine =
     let kept : CutValue = record { value = value.Push members; lengths = lengths } in
-    one_value three limits most x s new request rest piece (take used piece) kept true None [] (push_in (seen.Push members lengths)) h sees
+    one_value three limits most held x s new request rest piece (take used piece) kept true None [] (push_in (seen.Push members lengths)) h sees
     (ap (λ n. map (reply_part most) (numbered n sees.whole)) sees.numbered)
     (ap (map (part_of most)) (pushes_of_one true sees.whole sees.pushed) ∙
-    ap (λ p. p ∷ []) (part_is limits most x s request rest piece sees.whole kept h sees.is_kept))
-server_tells three limits most x s new request rest piece used (seen.Value kept) h sees fine =
-    one_value three limits most x s new request rest piece (take used piece) kept false None [] [] h sees
+    ap (λ p. p ∷ []) (part_is limits most held x s request rest piece sees.whole kept h sees.is_kept))
+server_tells three limits most held x s new request rest piece used (seen.Value kept) h sees fine =
+    one_value three limits most held x s new request rest piece (take used piece) kept false None [] [] h sees
     (ap (λ n. map (reply_part most) (numbered n sees.whole)) sees.numbered) (ap (map (part_of most)) (pushes_of_one false sees.whole sees.pushed))
-server_tells three limits most x s new request rest piece used (seen.Refused cause at where') h sees fine = absurd fine
-server_tells three limits most x s new request rest piece used (seen.NotCommand number) h sees fine = absurd fine
-server_tells three limits most x s new request rest piece used seen.Passed h sees fine = absurd sees
-server_tells three limits most x s new request rest piece used (seen.Command number words) h sees fine = absurd sees
+server_tells three limits most held x s new request rest piece used (seen.Refused cause at where') h sees fine = absurd fine
+server_tells three limits most held x s new request rest piece used (seen.NotCommand number) h sees fine = absurd fine
+server_tells three limits most held x s new request rest piece used seen.Passed h sees fine = absurd sees
+server_tells three limits most held x s new request rest piece used (seen.Command number words lengths) h sees fine = absurd sees
 
 -- ---- a piece of either side
 
@@ -499,25 +518,25 @@ Taken Client t own = HasTakenRequest t own
 Taken Server t own = HasTakenValue t own
 
 -- what was told, where these bytes were read of a value of the other side that is not whole
-record Tells (side : Side) (limits : Bounds) (most : Option ℕ) (x : Told) (t : Tap) (other : List ℕ) : Type 0 where
+record Tells (side : Side) (limits : Bounds) (most held : Option ℕ) (x : Told) (t : Tap) (other : List ℕ) : Type 0 where
   own : List ℕ
   taken : Taken side t own
-  so_far : SoFar limits most x (tap_state t) (by_side side own other) (by_side side other own)
+  so_far : SoFar limits most held x (tap_state t) (by_side side own other) (by_side side other own)
 
-result_tells : VersionThreeSpellsWhatTwoDoes → (side : Side) (limits : Bounds) (most : Option ℕ) (x : Told) (now : Option Moment) (old new : TimedTap) (piece : List ℕ) (used : ℕ) (what : Seen)
-    (other : List ℕ) → Tells side limits most x old.tap other → SeesFirst side now old new piece used what → IsNoError what →
-    Tells side limits most (told_more x side (take used piece) (command_in what) (reply_in what) (push_in what)) new.tap other
-result_tells laws Client limits most x now old new piece used what other h sees fine =
+result_tells : VersionThreeSpellsWhatTwoDoes → (side : Side) (limits : Bounds) (most held : Option ℕ) (x : Told) (now : Option Moment) (old new : TimedTap) (piece : List ℕ) (used : ℕ) (what : Seen)
+    (other : List ℕ) → Tells side limits most held x old.tap other → SeesFirst side now old new piece used what → IsNoError what →
+    Tells side limits most held (told_more x side (take used piece) (command_in what) (reply_in what) (push_in what)) new.tap other
+result_tells laws Client limits most held x now old new piece used what other h sees fine =
     let first = sees.read h.so_far.reads_commands h.own h.taken in
     elim first.0 [
       | inl told ↦
-          let (request, taken, so_far) = client_tells laws limits most x (tap_state old.tap) new.tap h.own other piece used what h.so_far told fine in
+          let (request, taken, so_far) = client_tells laws limits most held x (tap_state old.tap) new.tap h.own other piece used what h.so_far told fine in
           record { own = request; taken = taken; so_far = so_far }
       | inr lacks ↦ absurd (subst IsNoError lacks.1.told fine)
     ]
-result_tells laws Server limits most x now old new piece used what other h sees fine =
+result_tells laws Server limits most held x now old new piece used what other h sees fine =
     let first = sees.read h.so_far.reads_replies h.own h.taken in
-    let (rest, taken, so_far) = server_tells laws limits most x (tap_state old.tap) new.tap other h.own piece used what h.so_far first.0 fine in
+    let (rest, taken, so_far) = server_tells laws limits most held x (tap_state old.tap) new.tap other h.own piece used what h.so_far first.0 fine in
     record { own = rest; taken = taken; so_far = so_far }
 
 both_client : (side : Side) (a b : List ℕ) → by_side side a [] ++ by_side side b [] ≡ by_side side (a ++ b) []
@@ -544,7 +563,7 @@ told_none x Server = λ i. record {
   pushes = append-nil x.pushes i;
 }
 
-told_twice : (x : Told) (side : Side) (a b whole : List ℕ) (c d : List Numbered) (p q : List (ℕ × Part)) (u v : List Part) → a ++ b ≡ whole →
+told_twice : (x : Told) (side : Side) (a b whole : List ℕ) (c d : List (ℕ × WordsPart)) (p q : List (ℕ × Part)) (u v : List Part) → a ++ b ≡ whole →
     told_more (told_more x side a c p u) side b d q v ≡ told_more x side whole (c ++ d) (p ++ q) (u ++ v)
 told_twice x side a b whole c d p q u v is =
     let client = append_assoc x.client (by_side side a []) (by_side side b []) ∙ ap (λ z. x.client ++ z) (both_client side a b) ∙
@@ -562,42 +581,42 @@ told_twice x side a b whole c d p q u v is =
 abbrev all_told : Told → Side → List ℕ → List Seen → Told
 all_told x side piece what = told_more x side piece (each command_in what) (each reply_in what) (each push_in what)
 
-piece_tells : VersionThreeSpellsWhatTwoDoes → (side : Side) (limits : Bounds) (most : Option ℕ) (printing : Printing) (now : Option Moment) (what : List Seen) (x : Told) (old new : TimedTap)
+piece_tells : VersionThreeSpellsWhatTwoDoes → (side : Side) (limits : Bounds) (most held : Option ℕ) (printing : Printing) (now : Option Moment) (what : List Seen) (x : Told) (old new : TimedTap)
     (piece : List ℕ) (before after : Option (List ℕ)) (failures failures' : ℕ) (result : Result (Unit {0}) PrintError) (other : List ℕ) →
-    Tells side limits most x old.tap other → WatchesAll printing side now what old new piece before after failures failures' result →
-    AllByRecursion IsNoError what → Tells side limits most (all_told x side piece what) new.tap other
-piece_tells laws side limits most printing now [] x old new piece before after failures failures' result other h watches fine =
+    Tells side limits most held x old.tap other → WatchesAll printing side now what old new piece before after failures failures' result →
+    AllByRecursion IsNoError what → Tells side limits most held (all_told x side piece what) new.tap other
+piece_tells laws side limits most held printing now [] x old new piece before after failures failures' result other h watches fine =
     let (none, same, _, _, _) = watches in
-    subst (λ z. Tells side limits most (told_more x side z [] [] []) new.tap other) (sym none)
-    (subst (λ z. Tells side limits most z new.tap other) (sym (told_none x side)) (subst (λ (t : TimedTap). Tells side limits most x t.tap other) (sym same) h))
-piece_tells laws side limits most printing now (first ∷ what) x old new piece before after failures failures' result other h watches fine =
+    subst (λ z. Tells side limits most held (told_more x side z [] [] []) new.tap other) (sym none)
+    (subst (λ z. Tells side limits most held z new.tap other) (sym (told_none x side)) (subst (λ (t : TimedTap). Tells side limits most held x t.tap other) (sym same) h))
+piece_tells laws side limits most held printing now (first ∷ what) x old new piece before after failures failures' result other h watches fine =
     let (next, used, written, failed, printed, later, sees, prints, is, more) = watches in
     let now_told = told_more x side (take used piece) (command_in first) (reply_in first) (push_in first) in
-    let step = result_tells laws side limits most x now old next piece used first other h sees fine.0 in
-    subst (λ z. Tells side limits most z new.tap other)
+    let step = result_tells laws side limits most held x now old next piece used first other h sees fine.0 in
+    subst (λ z. Tells side limits most held z new.tap other)
     (told_twice x side (take used piece) (drop used piece) piece (command_in first) (each command_in what) (reply_in first) (each reply_in what)
     (push_in first) (each push_in what) (take-append-drop used piece))
-    (piece_tells laws side limits most printing now what now_told next new (drop used piece) written after failed failures' later other step more fine.1)
+    (piece_tells laws side limits most held printing now what now_told next new (drop used piece) written after failed failures' later other step more fine.1)
 
 -- ---- the pieces of a connection
 
-record TellsBoth (limits : Bounds) (most : Option ℕ) (x : Told) (t : Tap) : Type 0 where
+record TellsBoth (limits : Bounds) (most held : Option ℕ) (x : Told) (t : Tap) : Type 0 where
   request : List ℕ
   rest : List ℕ
   requested : HasTakenRequest t request
   answered : HasTakenValue t rest
-  so_far : SoFar limits most x (tap_state t) request rest
+  so_far : SoFar limits most held x (tap_state t) request rest
 
-arrival_tells : VersionThreeSpellsWhatTwoDoes → (side : Side) (limits : Bounds) (most : Option ℕ) (printing : Printing) (now : Option Moment) (what : List Seen) (x : Told) (old new : TimedTap)
-    (piece : List ℕ) (before after : Option (List ℕ)) (failures failures' : ℕ) (result : Result (Unit {0}) PrintError) → TellsBoth limits most x old.tap →
+arrival_tells : VersionThreeSpellsWhatTwoDoes → (side : Side) (limits : Bounds) (most held : Option ℕ) (printing : Printing) (now : Option Moment) (what : List Seen) (x : Told) (old new : TimedTap)
+    (piece : List ℕ) (before after : Option (List ℕ)) (failures failures' : ℕ) (result : Result (Unit {0}) PrintError) → TellsBoth limits most held x old.tap →
     WatchesAll printing side now what old new piece before after failures failures' result → KeepsOther side old.tap new.tap →
-    AllByRecursion IsNoError what → TellsBoth limits most (all_told x side piece what) new.tap
-arrival_tells laws Client limits most printing now what x old new piece before after failures failures' result h watches keeps fine =
-    let m = piece_tells laws Client limits most printing now what x old new piece before after failures failures' result h.rest
+    AllByRecursion IsNoError what → TellsBoth limits most held (all_told x side piece what) new.tap
+arrival_tells laws Client limits most held printing now what x old new piece before after failures failures' result h watches keeps fine =
+    let m = piece_tells laws Client limits most held printing now what x old new piece before after failures failures' result h.rest
     (record { own = h.request; taken = h.requested; so_far = h.so_far }) watches fine in
     record { request = m.own; rest = h.rest; requested = m.taken; answered = keeps h.rest h.answered; so_far = m.so_far }
-arrival_tells laws Server limits most printing now what x old new piece before after failures failures' result h watches keeps fine =
-    let m = piece_tells laws Server limits most printing now what x old new piece before after failures failures' result h.request
+arrival_tells laws Server limits most held printing now what x old new piece before after failures failures' result h watches keeps fine =
+    let m = piece_tells laws Server limits most held printing now what x old new piece before after failures failures' result h.request
     (record { own = h.rest; taken = h.answered; so_far = h.so_far }) watches fine in
     record { request = h.request; rest = m.own; requested = keeps h.request h.requested; answered = m.taken; so_far = m.so_far }
 
@@ -622,21 +641,21 @@ with_first x a arrivals = λ i. record {
   pushes = append_assoc x.pushes (each push_in a.told) (told push_in arrivals) i;
 }
 
-arrivals_tell : VersionThreeSpellsWhatTwoDoes → (limits : Bounds) (most : Option ℕ) (arrivals : List Arrival) (x : Told) (old new : TimedTap) → TellsBoth limits most x old.tap → Arrive old new arrivals → NoError arrivals →
-    TellsBoth limits most (with_all x arrivals) new.tap
-arrivals_tell laws limits most [] x old new h same fine =
-    subst (λ z. TellsBoth limits most z new.tap) (sym (with_none x)) (subst (λ (t : TimedTap). TellsBoth limits most x t.tap) (sym same) h)
-arrivals_tell laws limits most (a ∷ arrivals) x old new h (next, arrives, more) fine =
-    let step = arrival_tells laws a.side limits most arrives.printing arrives.now a.told x old next a.piece arrives.before arrives.after arrives.failures
+arrivals_tell : VersionThreeSpellsWhatTwoDoes → (limits : Bounds) (most held : Option ℕ) (arrivals : List Arrival) (x : Told) (old new : TimedTap) → TellsBoth limits most held x old.tap → Arrive old new arrivals → NoError arrivals →
+    TellsBoth limits most held (with_all x arrivals) new.tap
+arrivals_tell laws limits most held [] x old new h same fine =
+    subst (λ z. TellsBoth limits most held z new.tap) (sym (with_none x)) (subst (λ (t : TimedTap). TellsBoth limits most held x t.tap) (sym same) h)
+arrivals_tell laws limits most held (a ∷ arrivals) x old new h (next, arrives, more) fine =
+    let step = arrival_tells laws a.side limits most held arrives.printing arrives.now a.told x old next a.piece arrives.before arrives.after arrives.failures
     arrives.failures' arrives.result h arrives.watched arrives.other_side fine.0 in
-    subst (λ z. TellsBoth limits most z new.tap) (with_first x a arrivals) (arrivals_tell laws limits most arrivals (all_told x a.side a.piece a.told) next new step more fine.1)
+    subst (λ z. TellsBoth limits most held z new.tap) (with_first x a arrivals) (arrivals_tell laws limits most held arrivals (all_told x a.side a.piece a.told) next new step more fine.1)
 
 abbrev nothing_told : Told
 nothing_told = record { client = []; commands = []; server = []; replies = []; pushes = [] }
 
 -- nothing was read of a new connection
-begins : (limits : Bounds) (most : Option ℕ) → SoFar limits most nothing_told (new_tap limits most) [] []
-begins limits most = record {
+begins : (limits : Bounds) (most held : Option ℕ) → SoFar limits most held nothing_told (new_tap limits most held) [] []
+begins limits most held = record {
   values = [];
   front = [];
   whole = refl;
@@ -646,6 +665,7 @@ begins limits most = record {
   count = refl;
   same_limits = refl;
   same_shown = refl;
+  same_kept = refl;
   reads_commands = refl;
   reads_replies = refl;
   replies = λ found. record {
@@ -672,13 +692,13 @@ rest_is limits s rest (inr (n, within, reading, none, viable)) =
     inr (n, within, none, subst (λ version. IsViable (rules_under version limits) WithinTotal rest) reading viable)
 
 pub tells_the_connection : VersionThreeSpellsWhatTwoDoes → TellsTheConnection
-tells_the_connection three limits most old new arrivals fresh requested answered arrive fine =
-    let m = arrivals_tell three limits most arrivals nothing_told old new (record {
+tells_the_connection three limits most held old new arrivals fresh requested answered arrive fine =
+    let m = arrivals_tell three limits most held arrivals nothing_told old new (record {
       request = [];
       rest = [];
       requested = requested;
       answered = answered;
-      so_far = subst (λ s. SoFar limits most nothing_told s [] []) (sym fresh) (begins limits most);
+      so_far = subst (λ s. SoFar limits most held nothing_told s [] []) (sym fresh) (begins limits most held);
     }) arrive fine in
     let h = m.so_far in (
       record {

@@ -59,9 +59,9 @@ request_waits : (s : TapState) (new : Tap) (front piece : List ℕ) (used : ℕ)
     WaitsOneMore s.line (tap_state new).line
 request_waits s new front piece used seen.Nothing h = waits_as s (tap_state new) (ap (λ (z : TapState). z.line) h.after)
 request_waits s new front piece used seen.Passed h = waits_as s (tap_state new) (ap (λ (z : TapState). z.line) h.after)
-request_waits s new front piece used (seen.Command number words) h =
+request_waits s new front piece used (seen.Command number words lengths) h =
     subst (λ (l : LineState). WaitsOneMore s.line l) (sym (ap (λ (z : TapState). z.line) h.after))
-    (sent_by s.line.is_lost (s.commands + 1) (command_kind words) s.line refl)
+    (sent_by s.line.is_lost (s.commands + 1) (command_kind h.whole) s.line refl)
 request_waits s new front piece used (seen.NotCommand number) h = waits_as s (tap_state new) (ap (λ (z : TapState). z.line) h.after)
 request_waits s new front piece used (seen.Refused cause at where') h = waits_as s (tap_state new) (ap (λ (z : TapState). z.line) h.after)
 request_waits s new front piece used (seen.Reply number kept) h = absurd h
@@ -159,7 +159,7 @@ answer_waits s new front piece used (seen.Push members lengths) h = value_seen_w
 answer_waits s new front piece used (seen.Value kept) h = value_seen_waits s (tap_state new) h.whole (ap (λ (z : TapState). z.line) h.after)
 answer_waits s new front piece used (seen.Refused cause at where') h = same_waits s (tap_state new) (ap (λ (z : TapState). z.line) h.after)
 answer_waits s new front piece used seen.Passed h = absurd h
-answer_waits s new front piece used (seen.Command number words) h = absurd h
+answer_waits s new front piece used (seen.Command number words lengths) h = absurd h
 answer_waits s new front piece used (seen.NotCommand number) h = absurd h
 
 -- the same of what it is read as before its first byte
@@ -199,7 +199,7 @@ unheard_waits s new front piece used (seen.Push members lengths) h un = absurd (
 unheard_waits s new front piece used (seen.Value kept) h un = absurd (cc)
 unheard_waits s new front piece used (seen.Refused cause at where') h un = ap (λ (z : TapState). length z.line.due) h.after
 unheard_waits s new front piece used seen.Passed h un = absurd h
-unheard_waits s new front piece used (seen.Command number words) h un = absurd h
+unheard_waits s new front piece used (seen.Command number words lengths) h un = absurd h
 unheard_waits s new front piece used (seen.NotCommand number) h un = absurd h
 
 pub unheard_waits_at_front : (s : TapState) (new : Tap) (front piece : List ℕ) (used : ℕ) (what : Seen) →

@@ -29,7 +29,7 @@ chosen_called f (Some called) = called.is_chosen
 -- Whether the command of a result is let through by its words: the words that were sent, or what is kept of them for the
 -- reply.
 abbrev pub IsChosenCalled : Filter → Option Called → Seen → Bool → Type 0
-IsChosenCalled f kept (seen.Command number words) is_chosen = Chooses f words is_chosen
+IsChosenCalled f kept (seen.Command number words lengths) is_chosen = Chooses f words is_chosen
 IsChosenCalled f kept what is_chosen = is_chosen ≡ chosen_called f kept
 
 -- the next command that waits was added with its name; or memory for it was out, or nothing is kept of a command before it
@@ -39,7 +39,7 @@ IsKept is_chosen words old new = (new ≡ old) ⊎
 
 -- after a result, by which one more command waits or this many wait no more
 abbrev pub CalledBy : Bool → Bool → Seen → ℕ → List Called → List Called → Type 0
-CalledBy true is_chosen (seen.Command number words) gone old new = IsKept is_chosen words old new
+CalledBy true is_chosen (seen.Command number words lengths) gone old new = IsKept is_chosen words old new
 CalledBy more is_chosen what gone old new = new ≡ drop gone old
 
 -- What is kept after a result, if this many commands waited before it and after it: that of a new command is added, and

@@ -68,6 +68,6 @@ heard_by number is_refused n =
 
 -- the name after a result
 abbrev pub named_after : Seen → Naming → Naming
-named_after (seen.Command number words) n = asked_by number (name_asked words) n
+named_after (seen.Command number words lengths) n = asked_by number (name_asked words) n
 named_after (seen.Reply number kept) n = heard_by number (is_refusal (datum_of kept.value)) n
 named_after _ n = n

@@ -83,7 +83,7 @@ ReleasesCall gone f asked heard rows rows' =
 
 -- what is kept and counted after a result, by which one more command waits or this many wait no more
 abbrev pub CountsBy : Bool → Filter → ℕ → Seen → Heard → ℕ → ℕ → ℕ → List Asked → List Asked → List Row → List Row → Type 0
-CountsBy true f client (seen.Command number words) heard before gone at old new rows rows' =
+CountsBy true f client (seen.Command number words lengths) heard before gone at old new rows rows' =
     AsksCall f client words before heard.bytes old new rows rows'
 CountsBy more f client what heard before gone at old new rows rows' =
     (new ≡ drop gone old) × ReleasesCall gone f (slice_get old at) heard rows rows'

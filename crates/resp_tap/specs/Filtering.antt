@@ -6,7 +6,7 @@ use Rattle.resp_print.specs.declared.print_error.PrintError.{PrintError}
 use Rattle.resp_tap.specs.Lines.{asked_at}
 use Rattle.resp_tap.specs.Noted.{IsChosen, NotesAfter, filtered_text}
 use Rattle.resp_tap.specs.Options.{options_of}
-use Rattle.resp_tap.specs.SeenOf.{IsKeptIn}
+use Rattle.resp_tap.specs.SeenOf.{IsKeptIn, with_whole}
 use Rattle.resp_tap.specs.Taps.{tap_state}
 use Rattle.resp_tap.specs.Texts.{levels_of}
 use Rattle.resp_tap.specs.Times.{HasTimes, stamp_of, waits_in}
@@ -26,13 +26,14 @@ abbrev pub note_of : FilteredTap → Option Note
 note_of t = slice_get t.notes.items (asked_at (tap_state t.timed.tap).line.due)
 
 -- The first result in a piece: it is reported as without a filter, and that of a line too. Its command is let through by
--- its words or is not. What is kept of the commands that wait follows them.
+-- its words or is not. What is kept of the commands that wait follows the whole words.
 pub record SeesFiltered (filter : Filter) (printing : Printing) (side : Side) (now : Option Moment) (old new : FilteredTap)
     (piece : List ℕ) (used : ℕ) (what : Seen) (is_line is_chosen : Bool) : Type 0 where
   pub seen : SeesLined now side old.lines new.lines old.timed new.timed piece used what is_line
   pub chosen : IsChosen filter (note_of old) what is_chosen
-  pub notes : NotesAfter filter (options_of printing old.timed.tap) now is_line is_chosen what (waits_in old.timed) (waits_in new.timed) old.notes.items
-      new.notes.items
+  pub notes : (whole : Datum) → IsKeptIn (tap_state old.timed.tap).shown (tap_state old.timed.tap).kept whole what →
+      NotesAfter filter (options_of printing old.timed.tap) now is_line is_chosen (with_whole whole what) (waits_in old.timed)
+      (waits_in new.timed) old.notes.items new.notes.items
   pub name : naming_of new.name ≡ named_after what (naming_of old.name)
 
 -- The text of the result is printed as far as the filter lets it through and writes succeed. A reply is judged by what is
@@ -43,7 +44,7 @@ pub record PrintsFiltered (filter : Filter) (printing : Printing) (now : Option 
   pub asked : Option ℕ
   pub of_command : (times : List ℕ) → HasTimes old.timed times →
       asked ≡ slice_get times (asked_at (tap_state old.timed.tap).line.due)
-  pub text : (whole : Datum) → IsKeptIn (tap_state old.timed.tap).shown whole what →
+  pub text : (whole : Datum) → IsKeptIn (tap_state old.timed.tap).shown (tap_state old.timed.tap).kept whole what →
       Prints before after failures failures' printed (filtered_text filter (options_of printing old.timed.tap) is_line is_chosen
       (note_of old) (stamp_of now asked what) whole what) (levels_of what)
 

@@ -1,12 +1,14 @@
 -- Which commands, replies and other results a filter lets through.
-use Rattle.std.specs.Prelude.{◌≡◌, ◌⊎◌, ⊤, ℕ, Bool, true, false, not, ◌&&◌, ◌||◌, ◌==◌, List, map, nat_lt, vec_len, Option, None, Some, is_some, MatchOption}
+use Rattle.std.specs.Prelude.{◌≡◌, ◌⊎◌, ⊤, ℕ, Bool, true, false, not, ◌&&◌, ◌||◌, ◌==◌, List, [], ◌∷◌, length, map, max, ◌≤◌, nat_lt, vec_len, Option, None, Some, Vec, is_some, if◌then◌else◌, MatchOption}
 use Rattle.std.specs.Bool.{MatchBool}
 use Rattle.std.specs.Char.{to_ascii_lowercase}
 use Rattle.std.specs.List.{list_any}
 use Rattle.std.specs.Str.{bytes_eq}
+use Rattle.std.proofs.Common.{Global}
 use Rattle.resp_value.specs.Values.{datum_of}
 use Rattle.resp_session.specs.Reading.{is_refusal}
 use Rattle.resp_tap.specs.Keyed.{IsKeyed, IsUnkeyed, name_in}
+use Rattle.resp_tap.specs.Parts.{kept_for}
 use Rattle.resp_tap.specs.declared.end.Cut.{Cut}
 use Rattle.resp_tap.specs.declared.filter.Filter.{Filter}
 use Rattle.resp_tap.specs.declared.seen.Seen.{Seen}
@@ -40,6 +42,21 @@ DropsWords f words = (keeps_name f words ≡ false) ⊎ MatchOption f.key ⊥ (�
 abbrev pub Chooses : Filter → List (List ℕ) → Bool → Type 0
 Chooses f words is_chosen = MatchBool is_chosen (KeepsWords f words) (DropsWords f words)
 
+-- the bytes of the longest of these names
+abbrev pub longest_name : List (Vec ℕ Global) → ℕ
+longest_name [] = 0
+longest_name (name ∷ names) = max (length name.items) (longest_name names)
+
+-- The bytes that are kept of each word for a filter, if so many are shown: whole words if a glob is compared with keys, and
+-- otherwise as many as the longest name of the filter has.
+abbrev pub kept_by : Filter → Option ℕ → Option ℕ
+kept_by f shown = if is_some f.key then None else kept_for (longest_name f.names.items) shown
+
+-- Enough is kept of each word for a filter: whole words, or, if the filter has no key, the bytes of its longest name.
+abbrev pub Suffices : Option ℕ → Filter → Type 0
+Suffices None f = ⊤
+Suffices (Some most) f = (f.key ≡ None) × (longest_name f.names.items ≤ most)
+
 -- whether the lines about this client are let through
 abbrev pub keeps_number : Option ℕ → ℕ → Bool
 keeps_number None client = true
@@ -71,7 +88,7 @@ keeps_loose f is_error = keeps_all f && keeps_answer f is_error None
 abbrev pub keeps_seen : Filter → Bool → Option ℕ → Seen → Bool
 keeps_seen f is_chosen waited seen.Nothing = false
 keeps_seen f is_chosen waited seen.Passed = false
-keeps_seen f is_chosen waited (seen.Command number words) = not (is_by_reply f) && is_chosen
+keeps_seen f is_chosen waited (seen.Command number words lengths) = not (is_by_reply f) && is_chosen
 keeps_seen f is_chosen waited (seen.Reply number kept) = is_chosen && keeps_answer f (is_refusal (datum_of kept.value)) waited
 keeps_seen f is_chosen waited (seen.Push members lengths) = keeps_loose f false
 keeps_seen f is_chosen waited (seen.Value kept) = keeps_loose f (is_refusal (datum_of kept.value))

@@ -7,6 +7,7 @@ use Rattle.resp_value.specs.Data.{Array, Set, Map, Attr, Push, Scalar, Null, Int
 use Rattle.resp_value.specs.Data as d
 use Rattle.resp_tap.specs.Called.{command_name}
 use Rattle.resp_tap.specs.Digits.{time_text}
+use Rattle.resp_tap.specs.SeenOf.{words_in}
 use Rattle.resp_tap.specs.declared.end.Cut.{Cut}
 use Rattle.resp_tap.specs.declared.json_line.Facts.{Facts}
 use Rattle.resp_tap.specs.declared.seen.Place.{Place}
@@ -154,7 +155,8 @@ refused_json facts name at where' = front_json facts.client (codes ",\"kind\":\"
 abbrev pub seen_json : Facts → List ℕ → Datum → Seen → List ℕ
 seen_json facts name whole seen.Nothing = []
 seen_json facts name whole seen.Passed = []
-seen_json facts name whole (seen.Command number words) = command_json facts number (command_name words) (length words)
+seen_json facts name whole (seen.Command number words lengths) =
+    command_json facts number (command_name (words_in whole)) (length (words_in whole))
 seen_json facts name whole (seen.Reply number kept) = reply_json facts number name whole
 seen_json facts name whole (seen.Push members lengths) = push_json facts
 seen_json facts name whole (seen.Value kept) = unpaired_json facts whole

@@ -37,7 +37,7 @@ KeepsTaken Server old new = new.sent ≡ old.sent
 abbrev pub called_of : JsonTap → Option Called
 called_of t = slice_get t.calls.items (asked_at (tap_state t.timed.tap).line.due)
 
--- the line of a result, if the filter lets it through; that of a result of the server is the line of this whole value
+-- the line of a result, if the filter lets it through: that of this whole command or value
 abbrev pub kept_json : Filter → Facts → Bool → List ℕ → Datum → Seen → List ℕ
 kept_json f facts is_chosen name whole what =
     if keeps f facts.client is_chosen facts.waited what then seen_json facts name whole what else []
@@ -69,8 +69,8 @@ pub record PrintsJson (f : Filter) (client : ℕ) (now : Moment) (old : JsonTap)
     of_day = now.of_day;
     waited = waited_of now asked what;
   }
-  pub text : (whole : Datum) → IsKeptIn (Some 1024) whole what → Prints before after failures failures' printed
-      (kept_json f facts is_chosen (name_of_called (called_of old)) whole what) 0
+  pub text : (whole : Datum) → IsKeptIn (Some 1024) (tap_state old.timed.tap).kept whole what →
+      Prints before after failures failures' printed (kept_json f facts is_chosen (name_of_called (called_of old)) whole what) 0
 
 -- These are all results in a piece, in order. Each result is printed before the next one is read. The first error of
 -- printing is told.

@@ -12,6 +12,7 @@ use Rattle.resp_value.specs.declared.cause.Cause.{Cause}
 use Rattle.resp_value.specs.declared.cause.Cause.TheVariants as causes
 use Rattle.resp_value.specs.declared.version.Version.TheVariants.{Two}
 use Rattle.resp_tap.specs.Kinds.{command_kind}
+use Rattle.resp_tap.specs.Parts.{AreKeptOf}
 use Rattle.resp_tap.specs.Taps.{TapState, tap_state, with_command, with_refused_command}
 use Rattle.resp_tap.specs.Times.{KeepsTimes}
 use Rattle.resp_tap.specs.Watches.{SeesFirst}
@@ -73,20 +74,22 @@ pub record RefusesLine (line : List ℕ) (old new : TimedTap) (cause : Cause) (a
   pub place : where' ≡ place.Command ((tap_state old.tap).commands + 1)
   pub after : tap_state new.tap ≡ with_refused_command (tap_state old.tap)
 
--- the words of a line are the next command
-pub record GivesLine (now : Option Moment) (line : List ℕ) (old new : TimedTap) (number : ℕ) (words : List (List ℕ)) :
-    Type 0 where
-  pub some : 0 < length words
-  pub are : AreWords words line
+-- the words of a line are the next command, of which this is kept
+pub record GivesLine (now : Option Moment) (line : List ℕ) (old new : TimedTap) (number : ℕ) (words : List (List ℕ))
+    (lengths : List ℕ) : Type 0 where
+  pub whole : List (List ℕ)
+  pub some : 0 < length whole
+  pub are : AreWords whole line
+  pub are_kept : AreKeptOf (tap_state old.tap).shown (tap_state old.tap).kept whole words lengths
   pub numbered : number ≡ (tap_state old.tap).commands + 1
-  pub after : tap_state new.tap ≡ with_command (command_kind words) (tap_state old.tap)
+  pub after : tap_state new.tap ≡ with_command (command_kind whole) (tap_state old.tap)
   pub takes : HasTakenRequest new.tap []
   pub times : KeepsTimes now old new
 
 -- what is told at the end of a line
 abbrev pub EndsSo : Option Moment → List ℕ → TimedTap → TimedTap → Seen → Type 0
 EndsSo now line old new seen.Passed = AreWords [] line × (new ≡ old)
-EndsSo now line old new (seen.Command number words) = GivesLine now line old new number words
+EndsSo now line old new (seen.Command number words lengths) = GivesLine now line old new number words lengths.items
 EndsSo now line old new (seen.Refused cause at where') = RefusesLine line old new cause at where'
 EndsSo now line old new _ = ⊥
 

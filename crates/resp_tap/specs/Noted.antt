@@ -46,7 +46,7 @@ IsAdded f p now is_line is_chosen words old new = (new ≡ old) ⊎
 
 -- after a result, by which one more command waits or this many wait no more
 abbrev pub NotesBy : Bool → Filter → TextOptions → Option Moment → Bool → Bool → Seen → ℕ → List Note → List Note → Type 0
-NotesBy true f p now is_line is_chosen (seen.Command number words) gone old new =
+NotesBy true f p now is_line is_chosen (seen.Command number words lengths) gone old new =
     IsAdded f p now is_line is_chosen words old new
 NotesBy more f p now is_line is_chosen what gone old new = new ≡ drop gone old
 
@@ -90,15 +90,15 @@ chosen_by f (Some note) = note.is_chosen
 -- Whether the command of a result is let through by its words: the words that were sent, or what is kept of them for the
 -- reply.
 abbrev pub IsChosen : Filter → Option Note → Seen → Bool → Type 0
-IsChosen f kept (seen.Command number words) is_chosen = Chooses f words is_chosen
+IsChosen f kept (seen.Command number words lengths) is_chosen = Chooses f words is_chosen
 IsChosen f kept what is_chosen = is_chosen ≡ chosen_by f kept
 
 abbrev pub waited_in : Option Stamp → Option ℕ
 waited_in None = None
 waited_in (Some stamp) = stamp.waited
 
--- The lines of a result through a filter. `note` is what is kept of the command that the next reply belongs to, and those
--- of a result of the server are the lines of this whole value.
+-- The lines of a result through a filter. `note` is what is kept of the command that the next reply belongs to, and the
+-- lines of a command or of a result of the server are those of this whole value.
 abbrev pub filtered_text : Filter → TextOptions → Bool → Bool → Option Note → Option Stamp → Datum → Seen → List ℕ
 filtered_text f p is_line is_chosen note stamp whole what =
     if keeps f p.client is_chosen (waited_in stamp) what

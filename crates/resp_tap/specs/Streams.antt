@@ -13,7 +13,7 @@ use Rattle.resp_session.specs.Heard.{numbered_replies, pushes_of}
 use Rattle.resp_print.specs.declared.print_error.PrintError.{PrintError}
 use Rattle.resp_tap.specs.Kinds.{command_kind}
 use Rattle.resp_tap.specs.Lines.{LineState, ReadsLine, asking, next_version, paired}
-use Rattle.resp_tap.specs.Parts.{cut_within, lengths_within}
+use Rattle.resp_tap.specs.Parts.{cut_within, lengths_within, word_lengths, words_within}
 use Rattle.resp_tap.specs.Taps.{new_tap, tap_state}
 use Rattle.resp_tap.specs.Watches.{KeepsOther, WatchesAll}
 use Rattle.resp_tap.specs.Watching.{HasTakenRequest, HasTakenValue, request_rules}
@@ -68,8 +68,16 @@ server_bytes (a ∷ arrivals) = by_side a.side [] a.piece ++ server_bytes arriva
 abbrev pub Numbered : Type 0
 Numbered = ℕ × List (List ℕ)
 
-abbrev pub command_in : Seen → List Numbered
-command_in (seen.Command number words) = (number, words) ∷ []
+-- what is kept of the words of a command: the first bytes of each word, and the lengths of the longer words
+abbrev pub WordsPart : Type 0
+WordsPart = List (List ℕ) × List ℕ
+
+-- the same of a command with its number
+abbrev pub command_part : Option ℕ → Numbered → ℕ × WordsPart
+command_part kept command = (command.0, (words_within kept command.1, word_lengths kept command.1))
+
+abbrev pub command_in : Seen → List (ℕ × WordsPart)
+command_in (seen.Command number words lengths) = (number, (words, lengths.items)) ∷ []
 command_in _ = []
 
 -- what is kept of a value: one byte more of each text than is shown, and the lengths of the longer texts
@@ -130,12 +138,13 @@ abbrev pub IsRest : Bounds → LineState → List ℕ → Type 0
 IsRest limits l rest = (rest ≡ []) ⊎ ((n : ℕ) × (n ≤ length l.due) × HasNoValue rest ×
     IsViable (rules_under (next_version (record l { due = take n l.due })) limits) WithinTotal rest)
 
--- The commands that were told are those of the client's bytes, which are cut into values, numbered from 1.
-pub record TellsCommands (limits : Bounds) (arrivals : List Arrival) : Type 0 where
+-- The commands that were told are those of the client's bytes, which are cut into values, numbered from 1. Of each command
+-- the part is told that is kept.
+pub record TellsCommands (limits : Bounds) (kept : Option ℕ) (arrivals : List Arrival) : Type 0 where
   pub values : List Datum
   pub rest : List ℕ
   pub cut : Cut (request_rules limits) (client_bytes arrivals) values rest
-  pub commands : told command_in arrivals ≡ numbered_commands 1 (commands_of values)
+  pub commands : told command_in arrivals ≡ map (command_part kept) (numbered_commands 1 (commands_of values))
 
 -- The replies and the pushes that were told are those of the server's bytes, which are read while all of these commands
 -- wait. Each reply has the number of the command that it belongs to. Of each value the part is told that is kept.
@@ -154,10 +163,10 @@ pub record TellsReplies (limits : Bounds) (most : Option ℕ) (arrivals : List A
 -- Of a new connection: if no error was told, the commands are told. If no value has arrived that no command asked for,
 -- the replies are told too.
 abbrev pub TellsTheConnection : Type 0
-TellsTheConnection = (limits : Bounds) (most : Option ℕ) (old new : TimedTap) (arrivals : List Arrival) →
-    tap_state old.tap ≡ new_tap limits most →
+TellsTheConnection = (limits : Bounds) (most kept : Option ℕ) (old new : TimedTap) (arrivals : List Arrival) →
+    tap_state old.tap ≡ new_tap limits most kept →
     HasTakenRequest old.tap [] → HasTakenValue old.tap [] → Arrive old new arrivals → NoError arrivals →
-    (commands : TellsCommands limits arrivals) ×
+    (commands : TellsCommands limits kept arrivals) ×
     ((tap_state new.tap).line.is_lost ≡ false → TellsReplies limits most arrivals (commands_of commands.values))
 
 -- a kind of commands with exactly one reply

@@ -14,6 +14,8 @@ pub record TapState : Type 0 where
   pub limits : Bounds
   -- the most bytes of each text of the server that are shown, if not all are
   pub shown : Option ℕ
+  -- the most bytes of each word of the client that are kept, apart from one more, if not all are
+  pub kept : Option ℕ
   -- the number of commands that were read
   pub commands : ℕ
   -- the commands that wait, and what is known of the connection
@@ -29,6 +31,7 @@ abbrev pub tap_state : Tap → TapState
 tap_state t = record {
   limits = t.limits;
   shown = t.values.shown.most;
+  kept = t.requests.shown.most;
   commands = t.commands;
   line = line_of t.line;
   reading = t.values.version;
@@ -37,10 +40,11 @@ tap_state t = record {
 }
 
 -- a new connection: nothing was read, and the version is 2
-abbrev pub new_tap : Bounds → Option ℕ → TapState
-new_tap limits most = record {
+abbrev pub new_tap : Bounds → Option ℕ → Option ℕ → TapState
+new_tap limits shown kept = record {
   limits = limits;
-  shown = most;
+  shown = shown;
+  kept = kept;
   commands = 0;
   line = new_line;
   reading = Two;

@@ -1,5 +1,5 @@
 -- The lines that are printed.
-use Rattle.std.specs.Prelude.{ℕ, ◌+◌, Bool, List, [], ◌++◌, Option, codes, decimal, length, if◌then◌else◌}
+use Rattle.std.specs.Prelude.{◌≡◌, ℕ, ◌+◌, Bool, List, [], ◌++◌, Option, codes, decimal, length, if◌then◌else◌}
 use Rattle.std.specs.List.{flat_map}
 use Rattle.resp_value.specs.Causes.{name_of}
 use Rattle.resp_value.specs.Data.{Datum, depth}
@@ -7,6 +7,7 @@ use Rattle.resp_value.specs.Values.{datum_of}
 use Rattle.resp_value.specs.declared.value.Value.TheVariants as value
 use Rattle.resp_print.specs.Shown.{is_cut, lines_within, quoted_text, shown_part}
 use Rattle.resp_tap.specs.Secrets.{printed_words}
+use Rattle.resp_tap.specs.SeenOf.{words_in}
 use Rattle.resp_tap.specs.Stamps.{ending_text}
 use Rattle.resp_tap.specs.declared.print.TextOptions.{TextOptions}
 use Rattle.resp_tap.specs.declared.seen.Place.{Place}
@@ -22,6 +23,10 @@ word_end most count = if is_cut most count then codes "\" .. " ++ decimal count 
 -- the part of a word that is printed, in quotes, after a space
 abbrev pub word_text : Option ℕ → List ℕ → List ℕ
 word_text most word = codes " \"" ++ (quoted_text (shown_part most word) ++ word_end most (length word))
+
+-- a word of so many bytes is printed as this word
+abbrev pub IsPrintedAs : Option ℕ → List ℕ → List ℕ → ℕ → Type 0
+IsPrintedAs most whole word count = (shown_part most word ≡ shown_part most whole) × (count ≡ length whole)
 
 -- words in quotes, each after a space
 abbrev pub words_text : Option ℕ → List (List ℕ) → List ℕ
@@ -101,9 +106,10 @@ refused_text client stamp (NotCommand number) = refusal_text client (codes "NotC
 refused_text client stamp (Refused cause at where') = refusal_text client (name_of cause) at where' stamp
 refused_text client stamp what = []
 
--- the lines of a result, with or without a stamp; those of a result of the server are the lines of this whole value
+-- The lines of a result, with or without a stamp. Those of a command, or of a result of the server, are the lines of this
+-- whole value.
 abbrev pub seen_text : TextOptions → Option Stamp → Datum → Seen → List ℕ
-seen_text p stamp whole (Command number words) = command_text p number stamp words
+seen_text p stamp whole (Command number words lengths) = command_text p number stamp (words_in whole)
 seen_text p stamp whole (Reply number kept) = reply_text p number stamp whole
 seen_text p stamp whole (Push members lengths) = push_text p stamp whole
 seen_text p stamp whole (Value kept) = value_text p stamp whole
@@ -111,8 +117,8 @@ seen_text p stamp whole what = refused_text p.client stamp what
 
 -- the lines of a result of a line
 abbrev pub line_text : TextOptions → Option Stamp → Datum → Seen → List ℕ
-line_text p stamp whole (Command number words) =
-    inline_line p.client number stamp ++ words_line p.shown.most (printed_words p.shows_passwords words)
+line_text p stamp whole (Command number words lengths) =
+    inline_line p.client number stamp ++ words_line p.shown.most (printed_words p.shows_passwords (words_in whole))
 line_text p stamp whole what = seen_text p stamp whole what
 
 -- the lines of a result, which is that of a line or is not

@@ -52,14 +52,14 @@ pub record SeesFirst (side : Side) (now : Option Moment) (old new : TimedTap) (p
       SeesSent side now (tap_state old.tap) new.tap front piece used what × KeepsTimes now old new)
   pub unread : is_read_of side (tap_state old.tap) ≡ false → (new ≡ old) × (used ≡ length piece) × (what ≡ seen.Nothing)
 
--- The text of the result is printed, as far as writes succeed: of a value of the server that of the whole value, of which
+-- The text of the result is printed, as far as writes succeed: that of the whole command or of the whole value, of which
 -- only a part is kept. If times are printed, the text of a reply has the time of the command that it answers.
 pub record PrintsSeen (printing : Printing) (now : Option Moment) (old : TimedTap) (what : Seen) (before after : Option (List ℕ))
     (failures failures' : ℕ) (printed : Result (Unit {0}) PrintError) : Type 0 where
   pub asked : Option ℕ
   pub of_command : (times : List ℕ) → HasTimes old times → asked ≡ slice_get times (asked_at (tap_state old.tap).line.due)
-  pub text : (whole : Datum) → IsKeptIn (tap_state old.tap).shown whole what → Prints before after failures failures' printed
-      (seen_text (options_of printing old.tap) (stamp_of now asked what) whole what) (levels_of what)
+  pub text : (whole : Datum) → IsKeptIn (tap_state old.tap).shown (tap_state old.tap).kept whole what →
+      Prints before after failures failures' printed (seen_text (options_of printing old.tap) (stamp_of now asked what) whole what) (levels_of what)
 
 -- the first of two results of printing that is an error
 abbrev pub first_error : Result (Unit {0}) PrintError → Result (Unit {0}) PrintError → Result (Unit {0}) PrintError

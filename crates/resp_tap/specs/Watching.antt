@@ -15,7 +15,7 @@ use Rattle.resp_session.specs.Commands.{NoCommand, Nothing, array_meaning, meani
 use Rattle.resp_session.specs.Heard.{is_push}
 use Rattle.resp_tap.specs.Kinds.{command_kind}
 use Rattle.resp_tap.specs.Lines.{LineState, due_of, number_for}
-use Rattle.resp_tap.specs.Parts.{IsKeptOf}
+use Rattle.resp_tap.specs.Parts.{AreKeptOf, IsKeptOf}
 use Rattle.resp_tap.specs.Sides.{HasSent, RefusesSide}
 use Rattle.resp_tap.specs.Taps.{TapState, tap_state, with_command, with_refused_command, with_refused_reply, with_value}
 use Rattle.resp_tap.specs.declared.kind.CommandKind.{CommandKind}
@@ -69,15 +69,18 @@ KeepsRequest old new = (front : List ℕ) → HasTakenRequest old front → HasT
 abbrev pub KeepsValue : Tap → Tap → Type 0
 KeepsValue old new = (front : List ℕ) → HasTakenValue old front → HasTakenValue new front
 
--- the client's text is the next command, with these words, of which the first is its name
-pub record GivesCommand (s : TapState) (new : Tap) (written : List ℕ) (number : ℕ) (words : List (List ℕ)) :
-    Type 0 where
-  pub some : 0 < length words
+-- The client's text is the next command, of whose words this is kept. The first word is its name, and how the command is
+-- answered follows from the whole words.
+pub record GivesCommand (s : TapState) (new : Tap) (written : List ℕ) (number : ℕ) (words : List (List ℕ))
+    (lengths : List ℕ) : Type 0 where
+  pub whole : List (List ℕ)
+  pub some : 0 < length whole
   pub value : Datum
   pub spelled : IsSpelling (request_rules s.limits) value written
-  pub means : meaning_of value ≡ array_meaning (Some words)
+  pub means : meaning_of value ≡ array_meaning (Some whole)
+  pub are_kept : AreKeptOf s.shown s.kept whole words lengths
   pub numbered : number ≡ s.commands + 1
-  pub after : tap_state new ≡ with_command (command_kind words) s
+  pub after : tap_state new ≡ with_command (command_kind whole) s
   pub takes : HasTakenRequest new []
 
 -- the client's text is an empty array or a null, which is ignored
@@ -138,8 +141,8 @@ pub record RefusesRequestAt (s : TapState) (new : Tap) (front piece : List ℕ) 
 abbrev pub SeesRequest : TapState → Tap → List ℕ → List ℕ → ℕ → Seen → Type 0
 SeesRequest s new front piece used seen.Nothing = AwaitsRequest s new (front ++ piece) piece used
 SeesRequest s new front piece used seen.Passed = GivesNothing s new (front ++ take used piece)
-SeesRequest s new front piece used (seen.Command number words) =
-    GivesCommand s new (front ++ take used piece) number words
+SeesRequest s new front piece used (seen.Command number words lengths) =
+    GivesCommand s new (front ++ take used piece) number words lengths.items
 SeesRequest s new front piece used (seen.NotCommand number) = GivesNoCommand s new (front ++ take used piece) number
 SeesRequest s new front piece used (seen.Refused cause at where') =
     RefusesRequestAt s new front piece used cause at where'

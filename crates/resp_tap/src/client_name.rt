@@ -111,7 +111,7 @@ impl ClientName {
         ensures { naming_of self.new ≡ named_after seen.now (naming_of self.old) }
     {
         match seen {
-            Seen::Command { number, words } => self.ask(*number, words),
+            Seen::Command { number, words, .. } => self.ask(*number, words),
             Seen::Reply { number, value } => self.hear(*number, is_refusal(&value.value)),
             _ => {}
         }

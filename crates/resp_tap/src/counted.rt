@@ -5,6 +5,7 @@ ghost use Rattle.resp_print.specs.Printed.{Prints};
 ghost use Rattle.resp_tap.specs.ClientNames.{naming_of};
 ghost use Rattle.resp_tap.specs.CountedTaps.{CountsAll, PrintsCounted, SeesCounted, counted_text};
 ghost use Rattle.resp_tap.specs.Ends.{CutsOff};
+ghost use Rattle.resp_tap.specs.Filters.{kept_by};
 ghost use Rattle.resp_tap.specs.Counting.{AnswersCall, AsksCall, CountsAfter, CountsSeen, IsCounted, IsPlaceFor, KeepsTaken, ReleasesCall, is_error, left_of, taken_of};
 ghost use Rattle.resp_counts.specs.Names.{table_name};
 ghost use Rattle.resp_counts.specs.Rows.{MayAddRow};
@@ -116,10 +117,13 @@ pub struct CountedTap {
 }
 
 impl CountedTap {
-    /// Returns a tap of a new connection, which is read within these limits. At most 13 bytes of each
-    /// text of the server are kept. A line of the client is a command too. It allocates nothing.
-    pub fn new(alloc: Global, limits: &Limits) -> CountedTap
-        ensures nothing_passed { tap_state result.timed.tap ≡ new_tap limits.now (Some 12) }
+    /// Returns a tap of a new connection for this filter, which is read within these limits. At most 13
+    /// bytes of each text of the server are kept. If the filter has a key, whole words of the client
+    /// are kept, and otherwise at most 65 bytes of each, or one more than its longest name has. A line
+    /// of the client is a command too. It allocates nothing.
+    pub fn new(alloc: Global, limits: &Limits, filter: &Filter) -> CountedTap
+        ensures nothing_passed { tap_state result.timed.tap ≡
+            new_tap limits.now (Some 12) (kept_by filter.now (Some 12)) }
         ensures nothing_requested { HasTakenRequest result.timed.tap [] }
         ensures nothing_answered { HasTakenValue result.timed.tap [] }
         ensures reads_lines { result.lines.are_read ≡ true }
@@ -127,8 +131,9 @@ impl CountedTap {
         ensures nothing_asked { result.asked.items ≡ [] }
         ensures no_name { (naming_of result.name).name ≡ [] }
     {
+        let shown = ShownPart::first(0);
         CountedTap {
-            timed: TimedTap::new(alloc, limits, ShownPart::first(0)),
+            timed: TimedTap::keeping(alloc, limits, shown, filter.kept_part(shown)),
             lines: Lines::new(alloc, true),
             asked: VecDeque::new(alloc),
             sent: 0,

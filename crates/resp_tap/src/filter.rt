@@ -2,12 +2,14 @@
 
 ghost use Rattle.std.specs.Prelude.{◌≡◌, [], None, false};
 ghost use Rattle.std.specs.List.{list_any};
-ghost use Rattle.resp_tap.specs.Filters.{Chooses, has_no_name, is_by_reply, is_late, is_selective, keeps, keeps_all, keeps_answer, keeps_client, keeps_connected, keeps_end, keeps_ends, keeps_gone, keeps_loose, keeps_name, keeps_seen, same_name};
+ghost use Rattle.resp_tap.specs.Filters.{Chooses, has_no_name, is_by_reply, is_late, is_selective, kept_by, keeps, keeps_all, keeps_answer, keeps_client, keeps_connected, keeps_end, keeps_ends, keeps_gone, keeps_loose, keeps_name, keeps_seen, longest_name, same_name};
+ghost use Rattle.resp_tap.specs.Parts.{IsEnough};
 
 use crate::end::Cut;
 use crate::keys::{has_key, name_in};
 use crate::line::is_refusal;
 use crate::seen::Seen;
+use crate::shown_part::ShownPart;
 use resp_session::words::Words;
 use std::alloc::Global;
 
@@ -76,6 +78,19 @@ fn is_among(names: &[Vec<u8>], name: &[u8]) -> bool
     false
 }
 
+/// Returns the number of bytes of the longest of these names.
+fn longest_name(names: &[Vec<u8>]) -> usize
+    ensures { result ≡ longest_name names.now }
+{
+    let mut longest = 0;
+    let mut index = 0;
+    while index < names.len() {
+        longest = names[index].len().max(longest);
+        index += 1;
+    }
+    longest
+}
+
 impl Filter {
     /// Returns a filter that everything passes. It allocates nothing.
     pub fn all(alloc: Global) -> Filter
@@ -94,6 +109,18 @@ impl Filter {
             client: None,
             connections: false,
         }
+    }
+
+    /// Returns the part of each word of a command that is kept, if so much of a text is shown: enough to
+    /// decide whether the filter lets the command through.
+    pub(crate) fn kept_part(&self, shown: ShownPart) -> ShownPart
+        ensures kept { result.most ≡ kept_by self.now shown.most }
+        ensures enough { IsEnough shown.most result.most }
+    {
+        if self.key.is_some() {
+            return ShownPart::all();
+        }
+        shown.of_words(longest_name(self.names.as_slice()))
     }
 
     /// Returns whether the lines about a client are printed.

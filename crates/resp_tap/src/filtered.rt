@@ -1,15 +1,19 @@
 //! A tap whose traffic is printed through a filter.
 
-ghost use Rattle.std.specs.Prelude.{◌≡◌, ◌<◌, ◌≤◌, ◌-◌, Bool, List, [], length, drop, true};
+ghost use Rattle.std.specs.Prelude.{◌≡◌, ◌<◌, ◌≤◌, ◌-◌, ℕ, Bool, List, [], length, drop, true};
 ghost use Rattle.resp_tap.specs.ClientNames.{naming_of};
 ghost use Rattle.resp_tap.specs.Ends.{CutsOff};
 ghost use Rattle.resp_tap.specs.Filtering.{FiltersAll, PrintsFiltered, SeesFiltered};
+ghost use Rattle.resp_tap.specs.Filters.{kept_by};
 ghost use Rattle.resp_tap.specs.Noted.{IsAdded, NotesAfter, NotesBy};
+ghost use Rattle.resp_tap.specs.Parts.{AreKeptOf};
+ghost use Rattle.resp_tap.specs.SeenOf.{IsKeptIn, with_whole};
 ghost use Rattle.resp_tap.specs.Taps.{new_tap, tap_state};
 ghost use Rattle.resp_tap.specs.Times.{waits_in};
 ghost use Rattle.resp_tap.specs.Watches.{KeepsOther};
 ghost use Rattle.resp_tap.specs.Watching.{HasTakenRequest, HasTakenValue};
 ghost use Rattle.resp_tap.specs.declared.seen.Seen.{Seen};
+ghost use Rattle.resp_value.specs.Data.{Datum};
 
 use crate::client_name::ClientName;
 use crate::end::Cut;
@@ -52,11 +56,14 @@ pub struct FilteredTap {
 }
 
 impl FilteredTap {
-    /// Returns a tap of a new connection, which is read within these limits. It keeps one byte
-    /// more of each text of the server than is shown. A line of the client is a command too. The call
-    /// allocates nothing.
-    pub fn new(alloc: Global, limits: &Limits, shown: ShownPart) -> FilteredTap
-        ensures nothing_passed { tap_state result.timed.tap ≡ new_tap limits.now shown.most }
+    /// Returns a tap of a new connection for this filter, which is read within these limits. It keeps
+    /// one byte more of each text of the server than is shown. If the filter has a key, it keeps whole
+    /// words of the client. Otherwise it keeps one byte more of each word than is shown, or than the
+    /// longest name of the filter has, and at least 65. A line of the client is a command too. The
+    /// call allocates nothing.
+    pub fn new(alloc: Global, limits: &Limits, shown: ShownPart, filter: &Filter) -> FilteredTap
+        ensures nothing_passed { tap_state result.timed.tap ≡
+            new_tap limits.now shown.most (kept_by filter.now shown.most) }
         ensures nothing_requested { HasTakenRequest result.timed.tap [] }
         ensures nothing_answered { HasTakenValue result.timed.tap [] }
         ensures reads_lines { result.lines.are_read ≡ true }
@@ -66,7 +73,7 @@ impl FilteredTap {
     {
         FilteredTap {
             alloc,
-            timed: TimedTap::new(alloc, limits, shown),
+            timed: TimedTap::keeping(alloc, limits, shown, filter.kept_part(shown)),
             lines: Lines::new(alloc, true),
             notes: VecDeque::new(alloc),
             name: ClientName::new(),
@@ -117,7 +124,9 @@ impl FilteredTap {
         is_chosen: bool,
         seen: &Seen,
     )
-        ensures notes { NotesAfter filter.now options now is_line is_chosen seen.now before
+        ensures notes { (whole : Datum) →
+            IsKeptIn options.shown.most options.kept.most whole seen.now →
+            NotesAfter filter.now options now is_line is_chosen (with_whole whole seen.now) before
             (waits_in self.old.timed) self.old.notes.items self.new.notes.items }
         ensures same_tap { self.new.timed ≡ self.old.timed }
         ensures same_lines { self.new.lines ≡ self.old.lines }
@@ -125,8 +134,11 @@ impl FilteredTap {
     {
         let after = self.timed.tap.waiting();
         match seen {
-            Seen::Command { words, .. } if before < after && filter.is_selective() => {
-                self.add(filter, options, now, before, is_line, is_chosen, words);
+            Seen::Command { words, lengths, .. } if before < after && filter.is_selective() => {
+                let lengths = lengths.as_slice();
+                self.add(
+                    filter, options, now, before, is_line, is_chosen, words, lengths,
+                );
             }
             _ => self.drop_first(before.saturating_sub(after)),
         }
@@ -142,8 +154,11 @@ impl FilteredTap {
         is_line: bool,
         is_chosen: bool,
         words: &Words,
+        lengths: &[u64],
     )
-        ensures notes { IsAdded filter.now options now is_line is_chosen words.now self.old.notes.items
+        ensures notes { (whole : List (List ℕ)) →
+            AreKeptOf options.shown.most options.kept.most whole words.now lengths.now →
+            IsAdded filter.now options now is_line is_chosen whole self.old.notes.items
             self.new.notes.items }
         ensures same_tap { self.new.timed ≡ self.old.timed }
         ensures same_lines { self.new.lines ≡ self.old.lines }
@@ -156,7 +171,7 @@ impl FilteredTap {
         }
         let alloc = self.alloc;
         let note = note_of(
-            alloc, filter, options, now, is_line, is_chosen, words, behind,
+            alloc, filter, options, now, is_line, is_chosen, words, lengths, behind,
         );
         if let Ok(note) = note {
             let _ = self.notes.push_back(note);
@@ -238,7 +253,7 @@ pub fn watch_filtered_some<W: Sink>(
 /// From [samples](../../samples/src/tapping.rt):
 ///
 /// ```rust
-/// let mut tap = FilteredTap::new(alloc, &Limits::standard(), ShownPart::all());
+/// let mut tap = FilteredTap::new(alloc, &Limits::standard(), ShownPart::all(), &filter);
 /// let mut text = MemorySink::new(alloc, 4_096, 4_096)?;
 /// let printing = Printing {
 ///     client: 1,

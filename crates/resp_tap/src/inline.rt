@@ -1,16 +1,15 @@
 //! The lines of commands that came as lines.
 
-ghost use Rattle.std.specs.Prelude.{◌++◌};
+ghost use Rattle.std.specs.Prelude.{◌++◌, ℕ, List};
 ghost use Rattle.resp_print.specs.Printed.{Prints};
 ghost use Rattle.resp_print.specs.Written.{WritesText};
 ghost use Rattle.resp_value.specs.Data.{Datum};
+ghost use Rattle.resp_tap.specs.Parts.{AreKeptOf};
 ghost use Rattle.resp_tap.specs.SeenOf.{IsKeptIn};
 ghost use Rattle.resp_tap.specs.Secrets.{printed_words};
 ghost use Rattle.resp_tap.specs.Texts.{heading, inline_end, inline_line, levels_of, line_text, shown_text, words_line};
 
-use crate::print::{
-    TextOptions, printed, secrets_for, write_numbered_line, write_seen, write_words_line,
-};
+use crate::print::{TextOptions, printed, write_numbered_line, write_seen, write_words_line};
 use crate::seen::Seen;
 use crate::stamp::{Stamp, write_ending};
 use resp_print::print_error::PrintError;
@@ -69,19 +68,17 @@ fn write_inline<W: Sink>(
     number: u64,
     stamp: Option<Stamp>,
     words: &Words,
+    lengths: &[u64],
     writer: &mut W,
 ) -> Result<(), DeviceFault>
-    ensures { WritesText (W.written writer.old) (W.written writer.new) (W.failures writer.old)
+    ensures { (whole : List (List ℕ)) →
+        AreKeptOf options.shown.most options.kept.most whole words.now lengths.now →
+        WritesText (W.written writer.old) (W.written writer.new) (W.failures writer.old)
         (W.failures writer.new) result (inline_line options.client number stamp ++
-        words_line options.shown.most (printed_words options.shows_passwords words.now)) }
+        words_line options.shown.most (printed_words options.shows_passwords whole)) }
 {
     write_inline_line(options.client, number, stamp, writer)?;
-    write_words_line(
-        words,
-        secrets_for(options, words),
-        options.shown.most,
-        writer,
-    )
+    write_words_line(options, words, lengths, writer)
 }
 
 /// Writes the lines of a result of a line.
@@ -91,14 +88,19 @@ fn write_of_line<W: Sink>(
     seen: &Seen,
     writer: &mut W,
 ) -> Result<(), PrintError>
-    ensures { (whole : Datum) → IsKeptIn options.shown.most whole seen.now →
+    ensures { (whole : Datum) → IsKeptIn options.shown.most options.kept.most whole seen.now →
         Prints (W.written writer.old) (W.written writer.new) (W.failures writer.old)
         (W.failures writer.new) result (line_text options stamp whole seen.now)
         (levels_of seen.now) }
 {
     match seen {
-        Seen::Command { number, words } => {
-            printed(write_inline(options, *number, stamp, words, writer))
+        Seen::Command {
+            number,
+            words,
+            lengths,
+        } => {
+            let lengths = lengths.as_slice();
+            printed(write_inline(options, *number, stamp, words, lengths, writer))
         }
         _ => write_seen(options, stamp, seen, writer),
     }
@@ -116,7 +118,7 @@ pub(crate) fn write_shown<W: Sink>(
     seen: &Seen,
     writer: &mut W,
 ) -> Result<(), PrintError>
-    ensures { (whole : Datum) → IsKeptIn options.shown.most whole seen.now →
+    ensures { (whole : Datum) → IsKeptIn options.shown.most options.kept.most whole seen.now →
         Prints (W.written writer.old) (W.written writer.new) (W.failures writer.old)
         (W.failures writer.new) result (shown_text is_line options stamp whole seen.now)
         (levels_of seen.now) }

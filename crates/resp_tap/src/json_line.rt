@@ -1,6 +1,6 @@
 //! The lines of JSON of commands, replies, pushes and connections.
 
-ghost use Rattle.std.specs.Prelude.{◌≡◌, ◌++◌, ◌<◌, Some, codes, length};
+ghost use Rattle.std.specs.Prelude.{◌≡◌, ◌++◌, ◌<◌, ℕ, Option, Some, codes, length};
 ghost use Rattle.resp_json.specs.Json.{text_json};
 ghost use Rattle.resp_print.specs.Written.{WritesText};
 ghost use Rattle.resp_value.specs.Data.{Datum};
@@ -328,13 +328,13 @@ pub(crate) fn write_seen_json<W: Sink>(
     seen: &Seen,
     writer: &mut W,
 ) -> Result<(), DeviceFault>
-    ensures { (whole : Datum) → IsKeptIn (Some 1024) whole seen.now →
+    ensures { (kept : Option ℕ) (whole : Datum) → IsKeptIn (Some 1024) kept whole seen.now →
         WritesText (W.written writer.old) (W.written writer.new) (W.failures writer.old)
         (W.failures writer.new) result (seen_json facts name.now whole seen.now) }
 {
     match seen {
         Seen::Nothing | Seen::Passed => Ok(()),
-        Seen::Command { number, words } => write_words(facts, *number, words, writer),
+        Seen::Command { number, words, .. } => write_words(facts, *number, words, writer),
         Seen::Reply { number, value } => write_reply(facts, *number, name, &value.value, writer),
         Seen::Push { .. } => write_push(facts, writer),
         Seen::Value(value) => write_unpaired(facts, &value.value, writer),
@@ -347,7 +347,7 @@ pub(crate) fn write_seen_json<W: Sink>(
     }
 }
 
-/// Writes the line of a command with these words.
+/// Writes the line of a command, of whose words this is kept.
 fn write_words<W: Sink>(
     facts: Facts,
     number: u64,

@@ -1,11 +1,12 @@
 //! A tap whose traffic is printed as JSON.
 
-ghost use Rattle.std.specs.Prelude.{◌≡◌, ◌+◌, ◌<◌, ◌≤◌, ℕ, Bool, List, [], Some, length, drop, min, true};
+ghost use Rattle.std.specs.Prelude.{◌≡◌, ◌+◌, ◌<◌, ◌≤◌, ℕ, Bool, List, [], Option, Some, length, drop, min, true};
 ghost use Rattle.resp_print.specs.Printed.{Prints};
 ghost use Rattle.resp_tap.specs.Called.{CalledAfter, IsKept};
 ghost use Rattle.resp_tap.specs.ClientNames.{naming_of};
 ghost use Rattle.resp_tap.specs.Counting.{left_of};
 ghost use Rattle.resp_tap.specs.Ends.{CutsOff};
+ghost use Rattle.resp_tap.specs.Filters.{kept_by};
 ghost use Rattle.resp_tap.specs.JsonTaps.{KeepsTaken, PrintsAll, PrintsJson, SeesJson, kept_json, taken_of};
 ghost use Rattle.resp_value.specs.Data.{Datum};
 ghost use Rattle.resp_tap.specs.SeenOf.{IsKeptIn};
@@ -57,10 +58,13 @@ pub struct JsonTap {
 }
 
 impl JsonTap {
-    /// Returns a tap of a new connection, which is read within these limits. At most 1,025 bytes of
-    /// each text of the server are kept. A line of the client is a command too. It allocates nothing.
-    pub fn new(alloc: Global, limits: &Limits) -> JsonTap
-        ensures nothing_passed { tap_state result.timed.tap ≡ new_tap limits.now (Some 1024) }
+    /// Returns a tap of a new connection for this filter, which is read within these limits. At most
+    /// 1,025 bytes of each text of the server are kept. If the filter has a key, whole words of the
+    /// client are kept, and otherwise at most 1,025 bytes of each, or one more than its longest name
+    /// has. A line of the client is a command too. It allocates nothing.
+    pub fn new(alloc: Global, limits: &Limits, filter: &Filter) -> JsonTap
+        ensures nothing_passed { tap_state result.timed.tap ≡
+            new_tap limits.now (Some 1024) (kept_by filter.now (Some 1024)) }
         ensures nothing_requested { HasTakenRequest result.timed.tap [] }
         ensures nothing_answered { HasTakenValue result.timed.tap [] }
         ensures reads_lines { result.lines.are_read ≡ true }
@@ -69,8 +73,9 @@ impl JsonTap {
         ensures no_bytes { (result.sent ≡ 0) × (result.received ≡ 0) }
         ensures no_name { (naming_of result.name).name ≡ [] }
     {
+        let shown = ShownPart::first(SHOWN);
         JsonTap {
-            timed: TimedTap::new(alloc, limits, ShownPart::first(SHOWN)),
+            timed: TimedTap::keeping(alloc, limits, shown, filter.kept_part(shown)),
             lines: Lines::new(alloc, true),
             calls: VecDeque::new(alloc),
             sent: 0,
@@ -197,7 +202,7 @@ fn write_kept<W: Sink>(
     seen: &Seen,
     writer: &mut W,
 ) -> Result<(), PrintError>
-    ensures { (whole : Datum) → IsKeptIn (Some 1024) whole seen.now →
+    ensures { (kept : Option ℕ) (whole : Datum) → IsKeptIn (Some 1024) kept whole seen.now →
         Prints (W.written writer.old) (W.written writer.new) (W.failures writer.old)
         (W.failures writer.new) result
         (kept_json filter.now facts is_chosen name.now whole seen.now) 0 }
@@ -274,9 +279,9 @@ pub fn watch_json_some<W: Sink>(
 /// From [samples](../../samples/src/tapping.rt):
 ///
 /// ```rust
-/// let mut tap = JsonTap::new(alloc, &Limits::standard());
-/// let mut text = MemorySink::new(alloc, 4_096, 4_096)?;
 /// let all = Filter::all(alloc);
+/// let mut tap = JsonTap::new(alloc, &Limits::standard(), &all);
+/// let mut text = MemorySink::new(alloc, 4_096, 4_096)?;
 /// watch_json(&mut tap, &all, 1, Side::Client, b"*1\r\n$4\r\nPING\r\n", sent, &mut text)?;
 /// watch_json(&mut tap, &all, 1, Side::Server, b"-ERR no\r\n", heard, &mut text)?;
 /// print!(rt; "{}", str::from_utf8(text.bytes())?)?;

@@ -1,6 +1,6 @@
 //! Facts about the definitions. Each function does nothing; its contract states the fact.
 
-ghost use Rattle.resp_tap.specs.KeptLaws.{KeptPartsTellTheSame};
+ghost use Rattle.resp_tap.specs.KeptLaws.{EnoughIsKept, KeptPartsTellTheSame, KeptWordsTellTheSame};
 ghost use Rattle.resp_tap.specs.SecretLaws.{SecretsAreRedactedSo};
 ghost use Rattle.resp_tap.specs.Streams.{CountsReplies, TellsTheConnection};
 ghost use Rattle.resp_tap.specs.TimeLaws.{PrintsAsPlayed, TimesAreToldSo};
@@ -49,4 +49,15 @@ pub fn replies_are_counted()
 /// filter, the counts and the name of a connection follow the whole values.
 pub fn kept_parts_tell_the_same()
     ensures { KeptPartsTellTheSame }
+{}
+
+/// The kept part of a command is answered as the whole command, has the same secret words, and gives
+/// the connection the same name. A filter for which enough is kept decides the same.
+pub fn kept_words_tell_the_same()
+    ensures { KeptWordsTellTheSame }
+{}
+
+/// A tap that is made for a filter keeps enough of each word for what is shown, and for the filter.
+pub fn enough_is_kept()
+    ensures { EnoughIsKept }
 {}

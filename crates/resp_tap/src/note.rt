@@ -1,9 +1,10 @@
 //! What is kept of a command that waits, while a filter is used.
 
-ghost use Rattle.std.specs.Prelude.{◌++◌, ◌≡◌, ◌≤◌, [], false, true, length, take, IfOk, codes, if◌then◌else◌, option_map};
+ghost use Rattle.std.specs.Prelude.{◌++◌, ◌≡◌, ◌≤◌, ℕ, List, [], false, true, length, take, IfOk, codes, if◌then◌else◌, option_map};
 ghost use Rattle.resp_print.specs.Printed.{Prints};
 ghost use Rattle.resp_print.specs.Written.{WritesText};
 ghost use Rattle.resp_value.specs.Data.{Datum};
+ghost use Rattle.resp_tap.specs.Parts.{AreKeptOf};
 ghost use Rattle.resp_tap.specs.SeenOf.{IsKeptIn};
 ghost use Rattle.resp_tap.specs.Filters.{is_by_reply};
 ghost use Rattle.resp_tap.specs.Noted.{IsChosen, IsNote, before_text, deferred_text, filtered_text, kept_line, line_end, room_behind, room_for, shown_words, stamp_on, waited_in};
@@ -75,13 +76,16 @@ pub(crate) fn note_of(
     is_line: bool,
     is_chosen: bool,
     words: &Words,
+    lengths: &[u64],
     behind: usize,
 ) -> Result<Note, AllocError>
-    ensures { IfOk result (IsNote options now is_line is_chosen words.now
+    ensures { (whole : List (List ℕ)) →
+        AreKeptOf options.shown.most options.kept.most whole words.now lengths.now →
+        IfOk result (IsNote options now is_line is_chosen whole
         (room_for filter.now is_chosen behind)) }
 {
     let room = filter.room_for(is_chosen, behind);
-    let (text, is_whole) = first_bytes(alloc, options, words, room)?;
+    let (text, is_whole) = first_bytes(alloc, options, words, lengths, room)?;
     Ok(Note {
         of_day: of_day(now),
         is_line,
@@ -110,26 +114,27 @@ fn first_bytes(
     alloc: Global,
     options: TextOptions,
     words: &Words,
+    lengths: &[u64],
     room: usize,
 ) -> Result<(Vec<u8>, bool), AllocError>
     requires { room ≤ 1024 }
-    ensures bytes { IfOk result (λ kept. kept.0.items ≡ take room (shown_words options words.now)) }
-    ensures whole { IfOk result (λ kept. kept.1 ≡ true →
-        length (shown_words options words.now) ≤ room) }
-    ensures part { IfOk result (λ kept. kept.1 ≡ false →
-        room ≤ length (shown_words options words.now)) }
+    ensures bytes { (whole : List (List ℕ)) →
+        AreKeptOf options.shown.most options.kept.most whole words.now lengths.now →
+        IfOk result (λ kept. kept.0.items ≡ take room (shown_words options whole)) }
+    ensures whole { (whole : List (List ℕ)) →
+        AreKeptOf options.shown.most options.kept.most whole words.now lengths.now →
+        IfOk result (λ kept. kept.1 ≡ true → length (shown_words options whole) ≤ room) }
+    ensures part { (whole : List (List ℕ)) →
+        AreKeptOf options.shown.most options.kept.most whole words.now lengths.now →
+        IfOk result (λ kept. kept.1 ≡ false → room ≤ length (shown_words options whole)) }
 {
     if room == 0 {
         return Ok((Vec::new(alloc), false));
     }
     // With one byte more it is known whether the text is longer.
     let mut sink = MemorySink::new(alloc, usize::MAX, room + 1)?;
-    let written = write_words(
-        words,
-        secrets_for(options, words),
-        options.shown.most,
-        &mut sink,
-    );
+    let secrets = secrets_for(options, words);
+    let written = write_words(options, words, lengths, secrets, &mut sink);
     let text = sink.bytes();
     if written.is_err() && text.len() <= room {
         return Err(AllocError);
@@ -193,7 +198,7 @@ pub(crate) fn write_filtered<W: Sink>(
     seen: &Seen,
     writer: &mut W,
 ) -> Result<(), PrintError>
-    ensures { (whole : Datum) → IsKeptIn options.shown.most whole seen.now →
+    ensures { (whole : Datum) → IsKeptIn options.shown.most options.kept.most whole seen.now →
         Prints (W.written writer.old) (W.written writer.new) (W.failures writer.old)
         (W.failures writer.new) result (filtered_text filter.now options is_line is_chosen
         (option_map (λ note. note.now) note.entry) stamp whole seen.now) (levels_of seen.now) }

@@ -7,11 +7,11 @@ ghost use Rattle.resp_value.specs.Data.{Datum, depth};
 ghost use Rattle.resp_value.specs.Values.{datum_of};
 ghost use Rattle.resp_value.specs.declared.value.Value.TheVariants as value;
 ghost use Rattle.resp_print.specs.Shown.{lines_within};
-ghost use Rattle.resp_tap.specs.Parts.{IsKeptOf, cut_within, lengths_within};
+ghost use Rattle.resp_tap.specs.Parts.{AreKeptOf, IsKeptOf, cut_within, length_within, lengths_within, word_within};
 ghost use Rattle.resp_tap.specs.SeenOf.{IsKeptIn};
 ghost use Rattle.resp_tap.specs.Secrets.{printed_words, redacted_after, shown_word};
 ghost use Rattle.resp_tap.specs.Stamps.{ending_text};
-ghost use Rattle.resp_tap.specs.Texts.{byte_text, client_line, command_text, levels_of, numbered_end, numbered_line, place_text, push_text, refusal_heading, refusal_text, refused_text, remark_text, reply_text, seen_text, value_text, word_end, word_text, words_line, words_text};
+ghost use Rattle.resp_tap.specs.Texts.{IsPrintedAs, byte_text, client_line, command_text, levels_of, numbered_end, numbered_line, place_text, push_text, refusal_heading, refusal_text, refused_text, remark_text, reply_text, seen_text, value_text, word_end, word_text, words_line, words_text};
 
 use crate::secrets::Secrets;
 use crate::seen::{Place, Seen};
@@ -46,6 +46,8 @@ pub struct TextOptions {
     /// How many bytes of a word or of a text are printed. `..` and the number of its bytes follow one
     /// that has more. The results are those of a tap that shows as many.
     pub shown: ShownPart,
+    /// How many bytes of each word of a command are kept, apart from one more.
+    pub kept: ShownPart,
 }
 
 impl Tap {
@@ -59,6 +61,7 @@ impl Tap {
             client: printing.client,
             shows_passwords: printing.shows_passwords,
             shown: self.values.shown,
+            kept: self.requests.shown,
         }
     }
 }
@@ -75,15 +78,20 @@ pub fn write_seen<W: Sink>(
     seen: &Seen,
     writer: &mut W,
 ) -> Result<(), PrintError>
-    ensures { (whole : Datum) → IsKeptIn options.shown.most whole seen.now →
+    ensures { (whole : Datum) → IsKeptIn options.shown.most options.kept.most whole seen.now →
         Prints (W.written writer.old) (W.written writer.new) (W.failures writer.old)
         (W.failures writer.new) result (seen_text options stamp whole seen.now)
         (levels_of seen.now) }
 {
     match seen {
         Seen::Nothing | Seen::Passed => Ok(()),
-        Seen::Command { number, words } => {
-            printed(write_command(options, *number, stamp, words, writer))
+        Seen::Command {
+            number,
+            words,
+            lengths,
+        } => {
+            let lengths = lengths.as_slice();
+            printed(write_command(options, *number, stamp, words, lengths, writer))
         }
         Seen::Reply { number, value } => write_reply(options, *number, stamp, value, writer),
         Seen::Push { members, lengths } => {
@@ -227,20 +235,23 @@ fn write_command<W: Sink>(
     number: u64,
     stamp: Option<Stamp>,
     words: &Words,
+    lengths: &[u64],
     writer: &mut W,
 ) -> Result<(), DeviceFault>
-    ensures { WritesText (W.written writer.old) (W.written writer.new) (W.failures writer.old)
-        (W.failures writer.new) result (command_text options number stamp words.now) }
+    ensures { (whole : List (List ℕ)) →
+        AreKeptOf options.shown.most options.kept.most whole words.now lengths.now →
+        WritesText (W.written writer.old) (W.written writer.new) (W.failures writer.old)
+        (W.failures writer.new) result (command_text options number stamp whole) }
 {
     write_numbered_line(options.client, b" command ", number, stamp, writer)?;
-    let most = options.shown.most;
-    write_words_line(words, secrets_for(options, words), most, writer)
+    write_words_line(options, words, lengths, writer)
 }
 
-/// Returns the secret words of a command that are not printed.
+/// Returns the secret words of a command that are not printed, by the kept part of its words.
 pub(crate) fn secrets_for(options: TextOptions, words: &Words) -> Secrets
-    ensures { redacted_after result [] words.now ≡
-        printed_words options.shows_passwords words.now }
+    ensures { (whole : List (List ℕ)) (lengths : List ℕ) →
+        AreKeptOf options.shown.most options.kept.most whole words.now lengths →
+        redacted_after result [] whole ≡ printed_words options.shows_passwords whole }
 {
     if options.shows_passwords {
         Secrets::Absent
@@ -347,73 +358,119 @@ fn write_stamped_number<W: Sink>(
     write_stamp(stamp, writer)
 }
 
-/// Writes the line with the words of a command.
+/// Writes the line with the words of a command, of which this is kept.
 pub(crate) fn write_words_line<W: Sink>(
+    options: TextOptions,
     words: &Words,
-    secrets: Secrets,
-    most: Option<usize>,
+    lengths: &[u64],
     writer: &mut W,
 ) -> Result<(), DeviceFault>
-    ensures { WritesText (W.written writer.old) (W.written writer.new) (W.failures writer.old)
-        (W.failures writer.new) result (words_line most (redacted_after secrets [] words.now)) }
+    ensures { (whole : List (List ℕ)) →
+        AreKeptOf options.shown.most options.kept.most whole words.now lengths.now →
+        WritesText (W.written writer.old) (W.written writer.new) (W.failures writer.old)
+        (W.failures writer.new) result (words_line options.shown.most
+        (printed_words options.shows_passwords whole)) }
 {
     write_text(writer, b" ")?;
-    write_words(words, secrets, most, writer)?;
+    write_words(options, words, lengths, secrets_for(options, words), writer)?;
     write_text(writer, b"\n")
 }
 
-/// Writes words in quotes, each after a space, without those that are secret.
+/// Writes words in quotes, each after a space, without those that are secret. Of the words this is
+/// kept.
 pub(crate) fn write_words<W: Sink>(
+    options: TextOptions,
     words: &Words,
+    lengths: &[u64],
     secrets: Secrets,
-    most: Option<usize>,
     writer: &mut W,
 ) -> Result<(), DeviceFault>
-    ensures { WritesText (W.written writer.old) (W.written writer.new) (W.failures writer.old)
-        (W.failures writer.new) result (words_text most (redacted_after secrets [] words.now)) }
+    ensures { (whole : List (List ℕ)) →
+        AreKeptOf options.shown.most options.kept.most whole words.now lengths.now →
+        WritesText (W.written writer.old) (W.written writer.new) (W.failures writer.old)
+        (W.failures writer.new) result
+        (words_text options.shown.most (redacted_after secrets [] whole)) }
 {
     let mut index = 0;
+    // The lengths of the longer words from this one on.
+    let mut longer = lengths;
     // How many words from this one on are secret because of a word before it.
     let mut left = 0;
     while index < words.len() {
         let word = words.word(index);
-        write_word(shown(word, secrets.hides(index, left)), most, writer)?;
+        let (count, later) = length_of(word, options.kept.most, longer);
+        let is_secret = secrets.hides(index, left);
+        write_shown(word, count, is_secret, options.shown.most, writer)?;
         left = secrets.left_after(left, word);
+        longer = later;
         index += 1;
     }
     Ok(())
 }
 
-/// Returns a word as it is printed.
-fn shown<'a>(word: &'a [u8], is_secret: bool) -> &'a [u8]
-    ensures { result.now ≡ shown_word is_secret word.now }
+/// Returns the number of bytes of a word, of which so much is kept, and the lengths of the words after
+/// it. The first of the lengths is that of this word, if the word has more bytes than are kept.
+fn length_of<'a>(word: &[u8], kept: Option<usize>, lengths: &'a [u64]) -> (u64, &'a [u64])
+    ensures { (whole later : List ℕ) → word.now ≡ word_within kept whole →
+        lengths.now ≡ length_within kept (length whole) ++ later →
+        (result.0 ≡ length whole) × (result.1.now ≡ later) }
 {
-    if is_secret { b"(redacted)" } else { word }
+    if is_cut(word, kept) {
+        if let Some((length, later)) = lengths.split_first() {
+            return (*length, later);
+        }
+    }
+    (word.len() as u64, lengths)
 }
 
-/// Writes the part of a word that is printed, in quotes, after a space.
-fn write_word<W: Sink>(word: &[u8], most: Option<usize>, writer: &mut W) -> Result<(), DeviceFault>
-    ensures { WritesText (W.written writer.old) (W.written writer.new) (W.failures writer.old)
-        (W.failures writer.new) result (word_text most word.now) }
+/// Writes a word of this many bytes as it is printed.
+fn write_shown<W: Sink>(
+    word: &[u8],
+    count: u64,
+    is_secret: bool,
+    most: Option<usize>,
+    writer: &mut W,
+) -> Result<(), DeviceFault>
+    ensures { (whole : List ℕ) → IsPrintedAs most whole word.now count →
+        WritesText (W.written writer.old) (W.written writer.new) (W.failures writer.old)
+        (W.failures writer.new) result (word_text most (shown_word is_secret whole)) }
+{
+    if is_secret {
+        write_word(b"(redacted)", 10, most, writer)
+    } else {
+        write_word(word, count, most, writer)
+    }
+}
+
+/// Writes the part of a word that is printed, in quotes, after a space. It has this many bytes.
+fn write_word<W: Sink>(
+    word: &[u8],
+    count: u64,
+    most: Option<usize>,
+    writer: &mut W,
+) -> Result<(), DeviceFault>
+    ensures { (whole : List ℕ) → IsPrintedAs most whole word.now count →
+        WritesText (W.written writer.old) (W.written writer.new) (W.failures writer.old)
+        (W.failures writer.new) result (word_text most whole) }
 {
     write_text(writer, b" \"")?;
     write_quoted(writer, shown_part(word, most))?;
-    write_word_end(word, most, writer)
+    write_word_end(count, most, writer)
 }
 
-/// Writes the quote after a word, and two dots and the number of its bytes if not all are printed.
+/// Writes the quote after a word of this many bytes, and two dots and their number if not all are
+/// printed.
 fn write_word_end<W: Sink>(
-    word: &[u8],
+    count: u64,
     most: Option<usize>,
     writer: &mut W,
 ) -> Result<(), DeviceFault>
     ensures { WritesText (W.written writer.old) (W.written writer.new) (W.failures writer.old)
-        (W.failures writer.new) result (word_end most (length word.now)) }
+        (W.failures writer.new) result (word_end most count) }
 {
-    if is_cut(word, most) {
-        write_number(writer, b"\" .. ", word.len() as u64, b"")
-    } else {
-        write_text(writer, b"\"")
+    match most {
+        Some(most) if count > most as u64 => write_number(writer, b"\" .. ", count, b""),
+        _ => write_text(writer, b"\""),
     }
 }
 

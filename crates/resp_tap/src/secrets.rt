@@ -1,6 +1,6 @@
 //! The secret words of commands, such as passwords.
 
-ghost use Rattle.std.specs.Prelude.{◌≡◌, ℕ, ◌++◌, List, [], ◌∷◌, length, map};
+ghost use Rattle.std.specs.Prelude.{◌≡◌, ℕ, ◌-◌, List, length, map, max};
 ghost use Rattle.std.specs.Char.{to_ascii_lowercase};
 ghost use Rattle.std.specs.List.{list_any};
 ghost use Rattle.resp_session.specs.Operations.{is_name};
@@ -100,8 +100,7 @@ impl Secrets {
     /// Returns how many words after `word` are secret because of it or a word before it. `left` is
     /// that number before it.
     pub(crate) fn left_after(self, left: usize, word: &[u8]) -> usize
-        ensures { (before : List (List ℕ)) → AreLeft self before left →
-            AreLeft self (before ++ word.now ∷ []) result }
+        ensures { result ≡ max (secrets_after self word.now) (left - 1) }
     {
         self.after(word).max(left.saturating_sub(1))
     }

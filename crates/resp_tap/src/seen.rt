@@ -18,17 +18,20 @@ pub struct Step {
 /// A command, a reply or another part of the traffic. Commands are numbered from 1, and a reply has
 /// the number of its command.
 ///
-/// A value of the server has one byte more of each text than is shown.
+/// A value of the server has one byte more of each text than is shown. A command has one byte more of
+/// each word than the tap keeps, which is at least 65 bytes.
 #[derive(Drop)]
 pub enum Seen {
     /// The whole piece was read, and nothing ended in it.
     Nothing,
     /// The client sent an empty array or a null, which a server ignores.
     Passed,
-    /// The client sent a command.
+    /// The client sent a command. These are the first bytes of its words, and the lengths of the longer
+    /// words, in the order of the words.
     Command {
         number: u64,
         words: Words,
+        lengths: Vec<u64>,
     },
     /// The server sent the reply to a command.
     Reply {

@@ -6,6 +6,9 @@ ghost use Rattle.std.specs.Option.{ForSome};
 /// The fewest bytes that may be shown.
 const LEAST: usize = 12;
 
+/// The fewest bytes that are kept of a word of a command.
+const LEAST_OF_WORD: usize = 64;
+
 /// How many bytes of each text are shown: all of them, or the first ones.
 ///
 /// At least 12 bytes are shown. A tap compares the kept part of a text with the words by which replies
@@ -18,7 +21,7 @@ pub struct ShownPart {
 }
 
 impl ShownPart {
-    ghost use Rattle.resp_tap.specs.Parts.{kept_bytes};
+    ghost use Rattle.resp_tap.specs.Parts.{kept_bytes, kept_for};
 
     /// All bytes of each text are shown.
     pub fn all() -> ShownPart
@@ -33,6 +36,17 @@ impl ShownPart {
     {
         ShownPart {
             most: Some(bytes.max(LEAST)),
+        }
+    }
+
+    /// Returns the part of each word of a command that is kept: at least 64 bytes, as many as are shown,
+    /// and at least this many.
+    pub(crate) fn of_words(self, least: usize) -> ShownPart
+        ensures { result.most ≡ kept_for least self.most }
+    {
+        match self.most {
+            None => ShownPart::all(),
+            Some(most) => ShownPart::first(most.max(least.max(LEAST_OF_WORD))),
         }
     }
 

@@ -3,6 +3,7 @@
 ghost use Rattle.std.specs.Prelude.{◌≡◌, ◌+◌, ◌<◌, ◌≤◌, ◌^◌, ◌++◌, ℕ, List, None, true, false, [], length, take, IfErr, OnOk, OnErr};
 ghost use Rattle.resp_value.specs.Rules.{rules_under};
 ghost use Rattle.resp_value.specs.declared.version.Version.TheVariants.{Two};
+ghost use Rattle.resp_tap.specs.Parts.{IsEnough};
 ghost use Rattle.resp_tap.specs.Sides.{side_rules};
 ghost use Rattle.resp_tap.specs.declared.seen.Place.TheVariants as place;
 
@@ -45,7 +46,8 @@ const MOST_COMMANDS: u64 = 9_223_372_036_854_775_808;
 /// After an error in the bytes of a side, nothing more of that side is read. After an error of the
 /// client, the replies to the commands before it are still paired. A tap holds at most one incomplete
 /// value of each side, and 32 bytes for each command that waits, at most 1,048,576 of them. It holds
-/// one byte more of each text of the server's value than is shown, whatever the text's length.
+/// one byte more of each text of the server's value than is shown, whatever the text's length, and of
+/// each word of a command as many bytes, or 65 if that is more.
 ///
 /// # Examples
 ///
@@ -54,7 +56,7 @@ const MOST_COMMANDS: u64 = 9_223_372_036_854_775_808;
 /// ```rust
 /// let mut tap = Tap::new(alloc, &Limits::standard(), ShownPart::first(32));
 /// let step = tap.from_client(b"*1\r\n$4\r\nPING\r\n");
-/// if let Seen::Command { number, words } = &step.seen {
+/// if let Seen::Command { number, words, .. } = &step.seen {
 ///     println!(rt; "command {number}: {}", words.word(0).escape_ascii())?;
 /// }
 /// let step = tap.from_server(b"+PONG\r\n");
@@ -79,7 +81,7 @@ pub struct Tap {
     ghost in_range: { commands ≤ 2 ^ 63 },
     ghost request_rules: { side_rules requests ≡ rules_under Two limits },
     ghost value_limits: { values.limits ≡ limits },
-    ghost all_words: { requests.shown.most ≡ None },
+    ghost enough: { IsEnough values.shown.most requests.shown.most },
 }
 
 impl Step {
@@ -119,18 +121,33 @@ impl Tap {
     ghost use Rattle.resp_value.specs.Spellings.{IsSpelling};
     ghost use Rattle.resp_tap.specs.Kinds.{command_kind};
     ghost use Rattle.resp_tap.specs.Lines.{number_for};
+    ghost use Rattle.resp_tap.specs.Parts.{IsKeptOf, kept_for};
+    ghost use Rattle.resp_value.specs.Data.{Datum};
     ghost use Rattle.resp_tap.specs.Taps.{at_front, new_tap, tap_state, with_command, with_refused_command, with_refused_reply, with_value};
     ghost use Rattle.resp_tap.specs.Watching.{HasTakenRequest, HasTakenSomeRequest, HasTakenSomeValue, HasTakenValue, IsLeftOut, KeepsRequest, KeepsValue, LacksTime, SeesRequest, SeesValue, WhereAnswered, WhereRequested, place_of_value, request_rules};
 
     /// Returns a tap of a new connection, which is read within these limits. It keeps one byte
-    /// more of each text of the server than is shown. The call allocates nothing.
+    /// more of each text of the server than is shown, and of each word of the client as many bytes or
+    /// 65. The call allocates nothing.
     pub fn new(alloc: Global, limits: &Limits, shown: ShownPart) -> Tap
-        ensures nothing_passed { tap_state result ≡ new_tap limits.now shown.most }
+        ensures nothing_passed { tap_state result ≡
+            new_tap limits.now shown.most (kept_for 0 shown.most) }
+        ensures nothing_requested { HasTakenRequest result [] }
+        ensures nothing_answered { HasTakenValue result [] }
+    {
+        Tap::keeping(alloc, limits, shown, shown.of_words(0))
+    }
+
+    /// Returns a tap of a new connection, as [`Tap::new`] does, that keeps one byte more of each word
+    /// of the client than this part.
+    pub(crate) fn keeping(alloc: Global, limits: &Limits, shown: ShownPart, kept: ShownPart) -> Tap
+        requires { IsEnough shown.most kept.most }
+        ensures nothing_passed { tap_state result ≡ new_tap limits.now shown.most kept.most }
         ensures nothing_requested { HasTakenRequest result [] }
         ensures nothing_answered { HasTakenValue result [] }
     {
         Tap {
-            requests: SideReader::new(alloc, limits, ShownPart::all()),
+            requests: SideReader::new(alloc, limits, kept),
             commands: 0,
             values: SideReader::new(alloc, limits, shown),
             line: Line::new(alloc),
@@ -174,7 +191,7 @@ impl Tap {
             },
             Some(kept) => Step {
                 used,
-                seen: self.command_of(kept.value),
+                seen: self.command_of(kept),
             },
         }
     }
@@ -231,19 +248,24 @@ impl Tap {
         }
     }
 
-    /// Returns what a value of the client is: a command, a value that a server ignores, or a value
-    /// that is not a command.
-    fn command_of(&mut self, value: Value) -> Seen
-        ensures seen { HasTakenRequest self.old [] → (front piece : List ℕ) (used : ℕ) →
-            IsSpelling (request_rules (tap_state self.old).limits) (datum_of value)
-            (front ++ take used piece) →
+    /// Returns what a value of the client is, of which this is kept: a command, a value that a server
+    /// ignores, or a value that is not a command.
+    fn command_of(&mut self, kept: CutValue) -> Seen
+        ensures seen { HasTakenRequest self.old [] → (whole : Datum) (front piece : List ℕ)
+            (used : ℕ) → IsSpelling (request_rules (tap_state self.old).limits) whole
+            (front ++ take used piece) → IsKeptOf (tap_state self.old).kept whole kept →
             SeesRequest (tap_state self.old) self.new front piece used result }
         ensures same_value { KeepsValue self.old self.new }
     {
         let number = self.commands.saturating_add(1);
+        let CutValue { value, lengths } = kept;
         match asked_by(value) {
             Asked::Command(words) => match self.take_command(&words) {
-                Ok(()) => Seen::Command { number, words },
+                Ok(()) => Seen::Command {
+                    number,
+                    words,
+                    lengths,
+                },
                 Err(cause) => {
                     self.stop_commands();
                     Seen::Refused {
@@ -261,7 +283,7 @@ impl Tap {
         }
     }
 
-    /// Counts a command, and records it if it waits.
+    /// Counts a command of whose words this is kept, and records it if it waits.
     fn take_command(&mut self, words: &Words) -> Result<(), Cause>
         requires { 0 < length words.now }
         ensures counted { OnOk result (tap_state self.new ≡

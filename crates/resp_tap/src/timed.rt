@@ -2,6 +2,7 @@
 
 ghost use Rattle.std.specs.Prelude.{◌≡◌, ◌-◌, ◌<◌, ◌≤◌, true, false, ℕ, List, [], Some, drop, length, slice_get};
 ghost use Rattle.resp_tap.specs.Lines.{asked_at};
+ghost use Rattle.resp_tap.specs.Parts.{IsEnough, kept_for};
 ghost use Rattle.resp_tap.specs.Taps.{at_front, new_tap, tap_state};
 ghost use Rattle.resp_tap.specs.Watching.{HasTakenRequest, HasTakenValue, KeepsRequest, KeepsValue, SeesTimed, SeesValue, WhereAnswered, WhereRequested};
 
@@ -53,16 +54,34 @@ fn is_heard(seen: &Seen) -> bool
 }
 
 impl TimedTap {
-    /// Returns a tap of a new connection, which is read within these limits. It keeps one byte
-    /// more of each text of the server than is shown. The call allocates nothing.
+    /// Returns a tap of a new connection, which is read within these limits. It keeps as much of each
+    /// text and each word as [`Tap::new`] says. The call allocates nothing.
     pub fn new(alloc: Global, limits: &Limits, shown: ShownPart) -> TimedTap
-        ensures nothing_passed { tap_state result.tap ≡ new_tap limits.now shown.most }
+        ensures nothing_passed { tap_state result.tap ≡
+            new_tap limits.now shown.most (kept_for 0 shown.most) }
+        ensures nothing_requested { HasTakenRequest result.tap [] }
+        ensures nothing_answered { HasTakenValue result.tap [] }
+        ensures no_times { HasTimes result [] }
+    {
+        TimedTap::keeping(alloc, limits, shown, shown.of_words(0))
+    }
+
+    /// Returns a tap of a new connection, as [`TimedTap::new`] does, that keeps one byte more of each
+    /// word of the client than this part.
+    pub(crate) fn keeping(
+        alloc: Global,
+        limits: &Limits,
+        shown: ShownPart,
+        kept: ShownPart,
+    ) -> TimedTap
+        requires { IsEnough shown.most kept.most }
+        ensures nothing_passed { tap_state result.tap ≡ new_tap limits.now shown.most kept.most }
         ensures nothing_requested { HasTakenRequest result.tap [] }
         ensures nothing_answered { HasTakenValue result.tap [] }
         ensures no_times { HasTimes result [] }
     {
         TimedTap {
-            tap: Tap::new(alloc, limits, shown),
+            tap: Tap::keeping(alloc, limits, shown, kept),
             times: VecDeque::new(alloc),
         }
     }

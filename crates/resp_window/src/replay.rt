@@ -274,6 +274,7 @@ impl Replay {
             self.view.counts(),
             self.view.is_json(),
             ShownPart::first(self.settings.shown),
+            self.view.filter(),
         );
         let connection = Connection::new(self.alloc, client, server);
         let is_whole = segment.begins;

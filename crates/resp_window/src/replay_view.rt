@@ -150,6 +150,11 @@ impl ReplayView {
         self.has_failed = self.has_failed || printer.has_failed();
     }
 
+    /// Returns the filter through which the traffic is printed or counted.
+    pub(crate) fn filter(&self) -> &Filter {
+        &self.shown.filter
+    }
+
     /// Returns whether the traffic is printed as JSON.
     pub(crate) fn is_json(&self) -> bool {
         self.shown.json

@@ -2,7 +2,7 @@
 
 use crate::window::Settings;
 use resp_tap::watch::Side;
-use resp_tap::{ClientName, CountedTap, Cut, FilteredTap, JsonTap, ShownPart};
+use resp_tap::{ClientName, CountedTap, Cut, Filter, FilteredTap, JsonTap, ShownPart};
 use resp_value::limits::Limits;
 use std::alloc::Global;
 
@@ -16,8 +16,8 @@ pub(crate) enum Watcher {
 
 impl Watcher {
     /// Returns the tap of a new connection, which is counted, or is printed as JSON or as text.
-    /// `reads_lines` says whether a line of a client is a command, and `shown` how many bytes of each
-    /// text are printed. It allocates nothing.
+    /// `reads_lines` says whether a line of a client is a command, `shown` how many bytes of each text
+    /// are printed, and `filter` which commands. It allocates nothing.
     pub(crate) fn new(
         alloc: Global,
         limits: &Limits,
@@ -25,15 +25,16 @@ impl Watcher {
         is_counted: bool,
         json: bool,
         shown: ShownPart,
+        filter: &Filter,
     ) -> Self {
         if is_counted {
-            let tap = CountedTap::new(alloc, limits);
+            let tap = CountedTap::new(alloc, limits, filter);
             Watcher::Counted(tap.with_lines(reads_lines))
         } else if json {
-            let tap = JsonTap::new(alloc, limits);
+            let tap = JsonTap::new(alloc, limits, filter);
             Watcher::Json(tap.with_lines(reads_lines))
         } else {
-            let tap = FilteredTap::new(alloc, limits, shown);
+            let tap = FilteredTap::new(alloc, limits, shown, filter);
             Watcher::Printed(tap.with_lines(reads_lines))
         }
     }

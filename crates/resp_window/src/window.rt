@@ -614,6 +614,7 @@ impl View {
             self.stats.is_some(),
             self.settings.json,
             ShownPart::first(self.settings.shown),
+            &self.shown.filter,
         );
         let peer = sockets.client.peer_addr().unwrap_or(None);
         let server = self.recorded_server();

@@ -20,7 +20,7 @@ pub(crate) fn run(rt: &impl Print, alloc: Global) -> Result<()> {
 fn pair_reply(rt: &impl Print, alloc: Global) -> Result<()> {
     let mut tap = Tap::new(alloc, &Limits::standard(), ShownPart::first(32));
     let step = tap.from_client(b"*1\r\n$4\r\nPING\r\n");
-    if let Seen::Command { number, words } = &step.seen {
+    if let Seen::Command { number, words, .. } = &step.seen {
         println!(rt; "command {number}: {}", words.word(0).escape_ascii())?;
     }
     let step = tap.from_server(b"+PONG\r\n");
@@ -59,7 +59,7 @@ fn print_errors(rt: &impl Print, alloc: Global) -> Result<()> {
     let mut filter = Filter::all(alloc);
     filter.errors = true;
     println!(rt; "{}", filter.is_by_reply())?;
-    let mut tap = FilteredTap::new(alloc, &Limits::standard(), ShownPart::all());
+    let mut tap = FilteredTap::new(alloc, &Limits::standard(), ShownPart::all(), &filter);
     let mut text = MemorySink::new(alloc, 4_096, 4_096)?;
     let printing = Printing {
         client: 1,
@@ -98,9 +98,9 @@ fn print_json(rt: &impl Print, alloc: Global) -> Result<()> {
         of_day: 20_216_123_576,
         steady: 5_000_120,
     };
-    let mut tap = JsonTap::new(alloc, &Limits::standard());
-    let mut text = MemorySink::new(alloc, 4_096, 4_096)?;
     let all = Filter::all(alloc);
+    let mut tap = JsonTap::new(alloc, &Limits::standard(), &all);
+    let mut text = MemorySink::new(alloc, 4_096, 4_096)?;
     watch_json(
         &mut tap,
         &all,

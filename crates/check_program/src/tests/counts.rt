@@ -25,7 +25,7 @@ fn counted(alloc: Global) -> Option<Counts> {
         client: 1,
         shows_passwords: false,
     };
-    let mut tap = CountedTap::new(alloc, &Limits::standard());
+    let mut tap = CountedTap::new(alloc, &Limits::standard(), &filter);
     let mut counts = Counts::new(alloc).ok()?;
     let mut text = MemorySink::new(alloc, 4_096, 4_096).ok()?;
     for number in 100..100 + NAMES {

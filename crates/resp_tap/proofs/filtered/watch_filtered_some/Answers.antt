@@ -9,7 +9,7 @@ use Rattle.resp_tap.specs.ClientNames.{named_after, naming_of}
 use Rattle.resp_tap.specs.Filtering.{note_of}
 use Rattle.resp_tap.specs.Noted.{IsChosen, NotesAfter, filtered_text}
 use Rattle.resp_tap.specs.Options.{options_of}
-use Rattle.resp_tap.specs.SeenOf.{IsKeptIn}
+use Rattle.resp_tap.specs.SeenOf.{IsKeptIn, with_whole}
 use Rattle.resp_tap.specs.declared.print.TextOptions.{TextOptions}
 use Rattle.resp_tap.specs.Texts.{levels_of}
 use Rattle.resp_tap.specs.Times.{stamp_of, waits_in}
@@ -46,16 +46,20 @@ returns-clause-watches g c =
             (subst (λ (l : Lines). SeesLined c.args.now c.args.side old.lines l old.timed c.step_or_line-lined.new.tap c.args.piece.now
             c.step_or_line-lined.result.step.used what c.step_or_line-lined.result.is_line) (sym c.follow.ensures.same_lines) c.step_or_line-lined.ensures.sees);
         chosen = subst (λ (n : Option Note). IsChosen f n what is_chosen) note c.is_chosen-is_chosen.ensures;
-        notes = subst (λ (t : TimedTap). NotesAfter f p c.args.now is_line is_chosen what (waits_in old.timed) (waits_in t) old.notes.items new.notes.items) same
-            (subst (λ n. NotesAfter f p c.args.now is_line is_chosen what n (waits_in c.step_or_line-lined.new.tap) old.notes.items new.notes.items) c.waiting-before.ensures
-            (subst (λ (o : TextOptions). NotesAfter f o c.args.now is_line is_chosen what c.waiting-before.result (waits_in c.step_or_line-lined.new.tap)
+        notes = subst (λ (t : TimedTap). (whole : Datum) → IsKeptIn p.shown.most p.kept.most whole what →
+            NotesAfter f p c.args.now is_line is_chosen (with_whole whole what) (waits_in old.timed) (waits_in t) old.notes.items new.notes.items) same
+            (subst (λ n. (whole : Datum) → IsKeptIn p.shown.most p.kept.most whole what →
+            NotesAfter f p c.args.now is_line is_chosen (with_whole whole what) n (waits_in c.step_or_line-lined.new.tap) old.notes.items new.notes.items)
+            c.waiting-before.ensures
+            (subst (λ (o : TextOptions). (whole : Datum) → IsKeptIn o.shown.most o.kept.most whole what →
+            NotesAfter f o c.args.now is_line is_chosen (with_whole whole what) c.waiting-before.result (waits_in c.step_or_line-lined.new.tap)
             old.notes.items new.notes.items) c.options-options.ensures c.follow.ensures.notes));
         name = c.follow-2.ensures ∙ ap (λ n. named_after what (naming_of n)) c.follow.ensures.same_name;
       },
       record {
         asked = c.asked-asked.result;
         of_command = c.asked-asked.ensures;
-        text = subst (λ (o : TextOptions). (whole : Datum) → IsKeptIn o.shown.most whole what → Prints (g.W.Sink.written c.args.writer.now)
+        text = subst (λ (o : TextOptions). (whole : Datum) → IsKeptIn o.shown.most o.kept.most whole what → Prints (g.W.Sink.written c.args.writer.now)
             (g.W.Sink.written c.write_filtered-printed.new.writer) (g.W.Sink.failures c.args.writer.now) (g.W.Sink.failures c.write_filtered-printed.new.writer)
             c.write_filtered-printed.result (filtered_text f o is_line is_chosen (note_of old) (stamp_of c.args.now c.asked-asked.result what) whole what)
             (levels_of what)) c.options-options.ensures (λ whole kept.

@@ -1,18 +1,16 @@
 use Rattle.resp_tap.specs.Secrets.{printed_words}
 use Rattle.resp_tap.specs.Texts.{inline_line, words_line}
 use Rattle.resp_print.proofs.WrittenLemmas.{writes_next, writes_part}
-use Rattle.resp_tap.proofs.SecretWords.{words_line_as}
 use Rattle.resp_tap.proofs.inline.write_inline.Goals as goal
 
 pub returns-in_err-write_inline_line : goal.returns-in_err-write_inline_line
-returns-in_err-write_inline_line g c =
+returns-in_err-write_inline_line g c = λ whole are.
     let p = c.args.options in
     writes_part c.from_residual.result _ _ _ _ (inline_line p.client c.args.number c.args.stamp)
-    (words_line p.shown.most (printed_words p.shows_passwords c.args.words.now)) c.from_residual.ensures.0 c.in_err-write_inline_line.ensures
+    (words_line p.shown.most (printed_words p.shows_passwords whole)) c.from_residual.ensures.0 c.in_err-write_inline_line.ensures
 
 pub returns : goal.returns
-returns g c =
+returns g c = λ whole are.
     let p = c.args.options in
     writes_next c.write_words_line.result _ _ _ _ _ _ (inline_line p.client c.args.number c.args.stamp)
-    (words_line p.shown.most (printed_words p.shows_passwords c.args.words.now)) c.in_ok-write_inline_line.ensures
-    (words_line_as p.shown.most _ _ _ _ _ _ _ c.secrets_for.ensures c.write_words_line.ensures)
+    (words_line p.shown.most (printed_words p.shows_passwords whole)) c.in_ok-write_inline_line.ensures (c.write_words_line.ensures whole are)

@@ -1,4 +1,5 @@
-use Rattle.std.proofs.Common.{◌≡◌, ℕ, List, Option, refl, subst}
+use Rattle.std.proofs.Common.{◌≡◌, ℕ, List, Option, Global, refl, subst}
+use Rattle.std.specs.Prelude.{Vec}
 use Rattle.resp_value.specs.Data.{Datum}
 use Rattle.resp_print.specs.Printed.{Prints}
 use Rattle.resp_tap.specs.Texts.{levels_of, line_text, seen_text}
@@ -10,8 +11,8 @@ use Rattle.resp_tap.proofs.inline.write_of_line.Goals as goal
 
 -- only the lines of a command are other ones
 same_lines : (o : TextOptions) (stamp : Option Stamp) (whole : Datum) (what : Seen) →
-    ((number : ℕ) (words : List (List ℕ)) → what ≡ seen.Command number words → ⊥) → seen_text o stamp whole what ≡ line_text o stamp whole what
-same_lines o stamp whole (seen.Command number words) other = absurd (other number words refl)
+    ((number : ℕ) (words : List (List ℕ)) (lengths : Vec ℕ Global) → what ≡ seen.Command number words lengths → ⊥) → seen_text o stamp whole what ≡ line_text o stamp whole what
+same_lines o stamp whole (seen.Command number words lengths) other = absurd (other number words lengths refl)
 same_lines o stamp whole seen.Nothing other = refl
 same_lines o stamp whole seen.Passed other = refl
 same_lines o stamp whole (seen.Reply number kept) other = refl

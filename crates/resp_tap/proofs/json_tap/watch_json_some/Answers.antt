@@ -8,6 +8,7 @@ use Rattle.resp_tap.specs.Called.{CalledAfter, IsChosenCalled, name_of_called}
 use Rattle.resp_tap.specs.ClientNames.{named_after, naming_of}
 use Rattle.resp_tap.specs.JsonTaps.{KeepsTaken, called_of, kept_json, taken_of}
 use Rattle.resp_tap.specs.Lined.{SeesLined}
+use Rattle.resp_tap.specs.Taps.{tap_state}
 use Rattle.resp_tap.specs.Times.{waits_in}
 use Rattle.resp_tap.specs.declared.called.Called.{Called}
 use Rattle.resp_tap.specs.declared.json_line.Facts.{Facts}
@@ -93,6 +94,6 @@ returns-clause-watches g c =
         are = ap (λ (waited : Option ℕ). record facts { waited = waited }) c.waited_of.ensures;
         text = λ whole kept. subst (λ (name : List ℕ). Prints (g.W.Sink.written c.args.writer.now) (g.W.Sink.written c.write_kept-printed.new.writer)
             (g.W.Sink.failures c.args.writer.now) (g.W.Sink.failures c.write_kept-printed.new.writer) c.write_kept-printed.result
-            (kept_json f facts is_chosen name whole what) 0) (c.name_of_called-name.ensures ∙ ap name_of_called called) (c.write_kept-printed.ensures whole kept);
+            (kept_json f facts is_chosen name whole what) 0) (c.name_of_called-name.ensures ∙ ap name_of_called called) (c.write_kept-printed.ensures (tap_state old.timed.tap).kept whole kept);
       },
     )

@@ -16,9 +16,9 @@ let_through : (f : Filter) (facts : Facts) (is_chosen : Bool) (name : List ℕ) 
 let_through f facts is_chosen name whole what passes = sym (ap (λ b. if b then seen_json facts name whole what else []) passes)
 
 pub returns : goal.returns
-returns g c = λ whole kept.
+returns g c = λ most whole kept.
     let passes : c.keeps.result ≡ true = search rules in
     subst (λ text. Prints (g.W.Sink.written c.args.writer.now) (g.W.Sink.written c.write_seen_json.new.writer)
     (g.W.Sink.failures c.args.writer.now) (g.W.Sink.failures c.write_seen_json.new.writer) c.printed.result text 0)
     (let_through c.args.filter.now c.args.facts c.args.is_chosen c.args.name.now whole c.args.seen.now (sym c.keeps.ensures ∙ passes))
-    (c.printed.ensures _ _ _ _ _ 0 (c.write_seen_json.ensures whole kept))
+    (c.printed.ensures _ _ _ _ _ 0 (c.write_seen_json.ensures most whole kept))

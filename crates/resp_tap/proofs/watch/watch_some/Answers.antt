@@ -15,7 +15,7 @@ returns-clause-watches g c =
       record {
         asked = c.asked-asked.result;
         of_command = c.asked-asked.ensures;
-        text = subst (λ (o : TextOptions). (whole : Datum) → IsKeptIn o.shown.most whole what → Prints (g.W.Sink.written c.args.writer.now)
+        text = subst (λ (o : TextOptions). (whole : Datum) → IsKeptIn o.shown.most o.kept.most whole what → Prints (g.W.Sink.written c.args.writer.now)
             (g.W.Sink.written c.write_seen-printed.new.writer) (g.W.Sink.failures c.args.writer.now) (g.W.Sink.failures c.write_seen-printed.new.writer)
             c.write_seen-printed.result (seen_text o (stamp_of c.args.now c.asked-asked.result what) whole what) (levels_of what))
             c.options-options.ensures (λ whole kept. subst (λ stamp. Prints (g.W.Sink.written c.args.writer.now)

@@ -1,5 +1,5 @@
-use Rattle.std.proofs.Common.{rules, ◌≡◌, ◌<◌, ◌-◌, ℕ, List, true, subst, sym}
-use Rattle.std.specs.Prelude.{nat_lt}
+use Rattle.std.proofs.Common.{rules, ◌≡◌, ◌<◌, ◌-◌, ℕ, List, true, Global, subst, sym}
+use Rattle.std.specs.Prelude.{Vec, nat_lt}
 use Rattle.resp_counts.specs.declared.row.Row.{Row}
 use Rattle.resp_tap.specs.Counting.{AsksCall, CountsAfter, CountsBy}
 use Rattle.resp_tap.specs.Times.{waits_in}
@@ -13,16 +13,16 @@ use Rattle.resp_tap.proofs.counted.CountedTap.follow.Goals as goal
 is_more : (before after : ℕ) → before < after → nat_lt before after ≡ true
 is_more before after less = search rules
 
-one_more : (f : Filter) (client : ℕ) (what : Seen) (number : ℕ) (words : List (List ℕ)) (heard : Heard) (before after at : ℕ) (old new : List Asked) (rows rows' : List Row) →
-    what ≡ seen.Command number words → before < after → AsksCall f client words before heard.bytes old new rows rows' →
+one_more : (f : Filter) (client : ℕ) (what : Seen) (number : ℕ) (words : List (List ℕ)) (lengths : Vec ℕ Global) (heard : Heard) (before after at : ℕ) (old new : List Asked) (rows rows' : List Row) →
+    what ≡ seen.Command number words lengths → before < after → AsksCall f client words before heard.bytes old new rows rows' →
     CountsAfter f client what heard before after at old new rows rows'
-one_more f client what number words heard before after at old new rows rows' is less asks =
+one_more f client what number words lengths heard before after at old new rows rows' is less asks =
     subst (λ w. CountsBy (nat_lt before after) f client w heard before (before - after) at old new rows rows') (sym is)
-    (subst (λ b. CountsBy b f client (seen.Command number words) heard before (before - after) at old new rows rows') (sym (is_more before after less)) asks)
+    (subst (λ b. CountsBy b f client (seen.Command number words lengths) heard before (before - after) at old new rows rows') (sym (is_more before after less)) asks)
 
 pub returns-in-Command-clause-counts : goal.returns-in-Command-clause-counts
 returns-in-Command-clause-counts c =
     let more : c.args.before < waits_in c.args.self.now.timed = search rules in
-    one_more c.args.filter.now c.args.client c.args.seen.now c.in-Command.number c.in-Command.words c.args.heard c.args.before
+    one_more c.args.filter.now c.args.client c.args.seen.now c.in-Command.number c.in-Command.words c.in-Command.lengths c.args.heard c.args.before
     (waits_in c.args.self.now.timed) c.args.at c.args.self.now.asked.items c.ask.new.self.asked.items
     c.args.counts.now.rows.items c.ask.new.counts.rows.items c.in-Command.is more c.ask.ensures.asks

@@ -15,11 +15,10 @@ put_last f p now is_line is_chosen words old new note true is e = inr (note, is,
 put_last f p now is_line is_chosen words old new note false is e = inl e
 
 pub returns-in-Ok-clause-notes : goal.returns-in-Ok-clause-notes
-returns-in-Ok-clause-notes c =
+returns-in-Ok-clause-notes c = λ whole are.
     let f = c.args.filter.now in
-    let words = c.args.words.now in
     let old = c.args.self.now.notes.items in
     let behind : c.len-behind.result ≡ length old = search rules in
-    put_last f c.args.options c.args.now c.args.is_line c.args.is_chosen words old c.push_back.new.self.items c.in-Ok.note _
-    (subst (λ n. IsNote c.args.options c.args.now c.args.is_line c.args.is_chosen words (room_for f c.args.is_chosen n) c.in-Ok.note) behind c.in-Ok.ensures)
+    put_last f c.args.options c.args.now c.args.is_line c.args.is_chosen whole old c.push_back.new.self.items c.in-Ok.note _
+    (subst (λ n. IsNote c.args.options c.args.now c.args.is_line c.args.is_chosen whole (room_for f c.args.is_chosen n) c.in-Ok.note) behind (c.in-Ok.ensures whole are))
     c.push_back.ensures.items

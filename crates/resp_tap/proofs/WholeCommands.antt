@@ -1,0 +1,198 @@
+-- The kept part of a value is a command exactly if the value is one, and its words are the kept parts of the words.
+use Rattle.std.proofs.Common.{◌≡◌, ◌≢◌, ◌∙◌, ◌⊎◌, ℕ, ◌+◌, ◌^◌, ◌<◌, ◌≤◌, Bool, true, false, List, [], ◌∷◌, ◌++◌, length, map, nat_lt, Option, refl, sym, ap, subst, arith}
+use Rattle.std.specs.Prelude.{None, Some, option_map}
+use Rattle.resp_cut.specs.Cuts.{cut, cut_each, cut_lengths, kept_part, lengths_of_each, longer}
+use Rattle.resp_value.specs.Data.{Datum, Data, Array, Set, Map, Attr, Push, scalar, aggregate, none, more}
+use Rattle.resp_value.specs.Data as d
+use Rattle.resp_session.specs.Commands.{Call, Meaning, NoCommand, Nothing, array_meaning, bulk_content, bulk_contents, contents_with, meaning_of}
+use Rattle.resp_tap.specs.Kinds.{command_kind}
+use Rattle.resp_tap.specs.Parts.{AreKeptOf, IsEnough, IsKeptOf, cut_within, lengths_within, word_lengths, word_within, words_within}
+use Rattle.resp_tap.specs.SeenOf.{words_by, words_in}
+use Rattle.resp_tap.specs.Taps.{TapState}
+use Rattle.resp_tap.specs.Watching.{IsLeftOut}
+use Rattle.resp_tap.specs.Lines.{due_of}
+use Rattle.resp_tap.specs.declared.kind.CommandKind.{CommandKind}
+use Rattle.resp_value.specs.Values.{datum_of}
+use Rattle.resp_value.specs.declared.cause.Cause.{Cause}
+use Rattle.resp_value.specs.declared.cause.Cause.TheVariants as causes
+use Rattle.resp_cut.specs.declared.cut_value.CutValue.{CutValue}
+use Rattle.resp_tap.proofs.LineReading.{no_other, same_words}
+
+-- ---- the words of an array
+
+content_kept : (n : ℕ) (x : Datum) → bulk_content (cut n x) ≡ option_map (kept_part n) (bulk_content x)
+content_kept n (scalar d.Null) = refl
+content_kept n (scalar (d.Bool b)) = refl
+content_kept n (scalar (d.Int i)) = refl
+content_kept n (scalar (d.Simple text)) = refl
+content_kept n (scalar (d.Error text)) = refl
+content_kept n (scalar (d.Double text)) = refl
+content_kept n (scalar (d.Bulk text)) = refl
+content_kept n (scalar (d.BulkError text)) = refl
+content_kept n (scalar (d.Verbatim format text)) = refl
+content_kept n (scalar (d.Big negative digits)) = refl
+content_kept n (aggregate k xs) = refl
+
+both_kept : (n : ℕ) (content : Option (List ℕ)) (contents : Option (List (List ℕ))) →
+    contents_with (option_map (kept_part n) content) (option_map (map (kept_part n)) contents) ≡
+    option_map (map (kept_part n)) (contents_with content contents)
+both_kept n None contents = refl
+both_kept n (Some content) None = refl
+both_kept n (Some content) (Some contents) = refl
+
+contents_kept : (n : ℕ) (xs : Data) → bulk_contents (cut_each n xs) ≡ option_map (map (kept_part n)) (bulk_contents xs)
+contents_kept n none = refl
+contents_kept n (more x xs) =
+    (λ i. contents_with (content_kept n x i) (contents_kept n xs i)) ∙ both_kept n (bulk_content x) (bulk_contents xs)
+
+abbrev contents_or : Option (List (List ℕ)) → List (List ℕ)
+contents_or None = []
+contents_or (Some words) = words
+
+-- the first word, and the words after it
+record First (content : List ℕ) (contents : Option (List (List ℕ))) (words : List (List ℕ)) : Type 0 where
+  rest : List (List ℕ)
+  are : contents ≡ Some rest
+  all : words ≡ content ∷ rest
+
+first_of : (content : List ℕ) (contents : Option (List (List ℕ))) (words : List (List ℕ)) → contents_with (Some content) contents ≡ Some words →
+    First content contents words
+first_of content None words e = absurd (cc)
+first_of content (Some rest) words e = record { rest = rest; are = refl; all = sym (ap contents_or e) }
+
+lengths_kept : (n : ℕ) (xs : Data) (words : List (List ℕ)) → bulk_contents xs ≡ Some words → lengths_of_each n xs ≡ word_lengths (Some n) words
+lengths_kept n none words e = ap (word_lengths (Some n)) (ap contents_or e)
+lengths_kept n (more (scalar (d.Bulk text)) xs) words e =
+    let first = first_of text (bulk_contents xs) words e in
+    ap (λ l. longer n (length text) ++ l) (lengths_kept n xs first.rest first.are) ∙ ap (word_lengths (Some n)) (sym first.all)
+lengths_kept n (more (scalar d.Null) xs) words e = absurd (cc)
+lengths_kept n (more (scalar (d.Bool b)) xs) words e = absurd (cc)
+lengths_kept n (more (scalar (d.Int i)) xs) words e = absurd (cc)
+lengths_kept n (more (scalar (d.Simple text)) xs) words e = absurd (cc)
+lengths_kept n (more (scalar (d.Error text)) xs) words e = absurd (cc)
+lengths_kept n (more (scalar (d.Double text)) xs) words e = absurd (cc)
+lengths_kept n (more (scalar (d.BulkError text)) xs) words e = absurd (cc)
+lengths_kept n (more (scalar (d.Verbatim format text)) xs) words e = absurd (cc)
+lengths_kept n (more (scalar (d.Big negative digits)) xs) words e = absurd (cc)
+lengths_kept n (more (aggregate k ys) xs) words e = absurd (cc)
+
+-- ---- a command
+
+-- the whole command of which these words are kept
+pub record WholeCommand (most : Option ℕ) (whole : Datum) (words : List (List ℕ)) : Type 0 where
+  pub all : List (List ℕ)
+  pub some : 0 < length all
+  pub means : meaning_of whole ≡ array_meaning (Some all)
+  pub first_bytes : words ≡ words_within most all
+  pub lengths : lengths_within most whole ≡ word_lengths most all
+
+of_array : (n : ℕ) (xs : Data) (words : List (List ℕ)) (contents : Option (List (List ℕ))) → bulk_contents xs ≡ contents → 0 < length words →
+    array_meaning (option_map (map (kept_part n)) contents) ≡ array_meaning (Some words) → WholeCommand (Some n) (aggregate Array xs) words
+of_array n xs words None are some same = absurd (no_other words NoCommand some refl same)
+of_array n xs words (Some []) are some same = absurd (no_other words Nothing some refl same)
+of_array n xs words (Some (name ∷ arguments)) are some same = record {
+  all = name ∷ arguments;
+  some = omega arith;
+  means = ap array_meaning are;
+  first_bytes = same_words words (map (kept_part n) (name ∷ arguments)) some (omega arith) (sym same);
+  lengths = lengths_kept n xs (name ∷ arguments) are;
+}
+
+of_part : (n : ℕ) (whole : Datum) (words : List (List ℕ)) → 0 < length words → meaning_of (cut n whole) ≡ array_meaning (Some words) →
+    WholeCommand (Some n) whole words
+of_part n (scalar d.Null) words some same = absurd (no_other words Nothing some refl same)
+of_part n (scalar (d.Bool b)) words some same = absurd (no_other words NoCommand some refl same)
+of_part n (scalar (d.Int i)) words some same = absurd (no_other words NoCommand some refl same)
+of_part n (scalar (d.Simple text)) words some same = absurd (no_other words NoCommand some refl same)
+of_part n (scalar (d.Error text)) words some same = absurd (no_other words NoCommand some refl same)
+of_part n (scalar (d.Double text)) words some same = absurd (no_other words NoCommand some refl same)
+of_part n (scalar (d.Bulk text)) words some same = absurd (no_other words NoCommand some refl same)
+of_part n (scalar (d.BulkError text)) words some same = absurd (no_other words NoCommand some refl same)
+of_part n (scalar (d.Verbatim format text)) words some same = absurd (no_other words NoCommand some refl same)
+of_part n (scalar (d.Big negative digits)) words some same = absurd (no_other words NoCommand some refl same)
+of_part n (aggregate Array xs) words some same =
+    of_array n xs words (bulk_contents xs) refl some (sym (ap array_meaning (contents_kept n xs)) ∙ same)
+of_part n (aggregate Set xs) words some same = absurd (no_other words NoCommand some refl same)
+of_part n (aggregate Map xs) words some same = absurd (no_other words NoCommand some refl same)
+of_part n (aggregate Attr xs) words some same = absurd (no_other words NoCommand some refl same)
+of_part n (aggregate Push xs) words some same = absurd (no_other words NoCommand some refl same)
+
+all_words : (words : List (List ℕ)) → words ≡ words_within None words
+all_words [] = refl
+all_words (word ∷ words) = ap (λ l. word ∷ l) (all_words words)
+
+no_lengths : (words : List (List ℕ)) → [] ≡ word_lengths None words
+no_lengths [] = refl
+no_lengths (word ∷ words) = no_lengths words
+
+pub whole_command : (most : Option ℕ) (whole : Datum) (words : List (List ℕ)) → 0 < length words →
+    meaning_of (cut_within most whole) ≡ array_meaning (Some words) → WholeCommand most whole words
+whole_command None whole words some same = record { all = words; some = some; means = same; first_bytes = all_words words; lengths = no_lengths words }
+whole_command (Some n) whole words some same = of_part n whole words some same
+
+-- ---- no command
+
+abbrev kept_meaning : ℕ → Meaning → Meaning
+kept_meaning n (Call name arguments) = Call (kept_part n name) (map (kept_part n) arguments)
+kept_meaning n Nothing = Nothing
+kept_meaning n NoCommand = NoCommand
+
+array_kept : (n : ℕ) (contents : Option (List (List ℕ))) → array_meaning (option_map (map (kept_part n)) contents) ≡ kept_meaning n (array_meaning contents)
+array_kept n None = refl
+array_kept n (Some []) = refl
+array_kept n (Some (name ∷ arguments)) = refl
+
+meaning_kept : (n : ℕ) (x : Datum) → meaning_of (cut n x) ≡ kept_meaning n (meaning_of x)
+meaning_kept n (scalar d.Null) = refl
+meaning_kept n (scalar (d.Bool b)) = refl
+meaning_kept n (scalar (d.Int i)) = refl
+meaning_kept n (scalar (d.Simple text)) = refl
+meaning_kept n (scalar (d.Error text)) = refl
+meaning_kept n (scalar (d.Double text)) = refl
+meaning_kept n (scalar (d.Bulk text)) = refl
+meaning_kept n (scalar (d.BulkError text)) = refl
+meaning_kept n (scalar (d.Verbatim format text)) = refl
+meaning_kept n (scalar (d.Big negative digits)) = refl
+meaning_kept n (aggregate Array xs) = ap array_meaning (contents_kept n xs) ∙ array_kept n (bulk_contents xs)
+meaning_kept n (aggregate Set xs) = refl
+meaning_kept n (aggregate Map xs) = refl
+meaning_kept n (aggregate Attr xs) = refl
+meaning_kept n (aggregate Push xs) = refl
+
+nothing_by : (n : ℕ) (m : Meaning) → kept_meaning n m ≡ Nothing → m ≡ Nothing
+nothing_by n (Call name arguments) e = absurd (cc)
+nothing_by n Nothing e = refl
+nothing_by n NoCommand e = absurd (cc)
+
+no_command_by : (n : ℕ) (m : Meaning) → kept_meaning n m ≡ NoCommand → m ≡ NoCommand
+no_command_by n (Call name arguments) e = absurd (cc)
+no_command_by n Nothing e = absurd (cc)
+no_command_by n NoCommand e = refl
+
+pub whole_nothing : (most : Option ℕ) (whole : Datum) → meaning_of (cut_within most whole) ≡ Nothing → meaning_of whole ≡ Nothing
+whole_nothing None whole same = same
+whole_nothing (Some n) whole same = nothing_by n (meaning_of whole) (sym (meaning_kept n whole) ∙ same)
+
+pub whole_no_command : (most : Option ℕ) (whole : Datum) → meaning_of (cut_within most whole) ≡ NoCommand → meaning_of whole ≡ NoCommand
+whole_no_command None whole same = same
+whole_no_command (Some n) whole same = no_command_by n (meaning_of whole) (sym (meaning_kept n whole) ∙ same)
+
+-- ---- a command that a tap has read
+
+pub command_read : (shown most : Option ℕ) (whole : Datum) (kept : CutValue) (words : List (List ℕ)) → IsEnough shown most → IsKeptOf most whole kept →
+    0 < length words → array_meaning (Some words) ≡ meaning_of (datum_of kept.value) →
+    (command : WholeCommand most whole words) × AreKeptOf shown most command.all words kept.lengths.items
+command_read shown most whole kept words enough is some means =
+    let command = whole_command most whole words some (sym (ap meaning_of is.value) ∙ sym means) in (
+      command,
+      record { enough = enough; first_bytes = command.first_bytes; longer = is.lengths ∙ command.lengths },
+    )
+
+-- why a command is left out depends on how it is answered
+abbrev IsLeftOutBy : TapState → CommandKind → Cause → Type 0
+IsLeftOutBy s kind cause =
+    ((cause ≡ causes.TooMany) × ((2 ^ 20 ≤ length s.line.due) ⊎ (2 ^ 63 ≤ s.commands))) ⊎
+    ((cause ≡ causes.OutOfMemory) × (s.line.is_lost ≡ false) × (due_of (s.commands + 1) kind s.line.is_open ≢ []))
+
+pub left_out_whole : (s : TapState) (words all : List (List ℕ)) (cause : Cause) → command_kind words ≡ command_kind all → IsLeftOut s words cause → IsLeftOut s all cause
+left_out_whole s words all cause same left = subst (λ kind. IsLeftOutBy s kind cause) same left
