@@ -1,5 +1,5 @@
 -- What a connection has done, step by step.
-use Rattle.std.proofs.Common.{◌≡◌, ◌⊎◌, ◌∙◌, inl, inr, ℕ, ◌<◌, ◌≤◌, Bool, true, false, List, [], ◌∷◌, ◌++◌, ◌+◌, ◌-◌, length, take, Option, None, Some, Result, Ok, Err, ap, append_assoc, arith, drop, refl, subst, sym}
+use Rattle.std.proofs.Common.{◌≡◌, ◌∙◌, inl, inr, ℕ, ◌<◌, ◌≤◌, true, false, List, [], ◌∷◌, ◌++◌, ◌+◌, ◌-◌, length, take, Option, None, Some, Result, Ok, Err, ap, append_assoc, arith, drop, refl, subst, sym}
 use Rattle.std.specs.List.{AllByRecursion, concat}
 use Rattle.std.proofs.lemmas.Bool.{false≢true}
 use Rattle.std.proofs.Math.Seq.{take-length}
@@ -9,17 +9,16 @@ use Rattle.resp_value.specs.Bounds.{Bounds}
 use Rattle.resp_value.specs.Canonical.{canonical_text}
 use Rattle.resp_value.specs.Devices.{Appends}
 use Rattle.resp_value.specs.declared.version.Version.TheVariants.{Two}
-use Rattle.resp_turns.specs.Turns.{WereRead}
 use Rattle.resp_turns.proofs.Pieces.{before_more, concat_more, only_pieces}
 use Rattle.resp_turns.proofs.Turning.{appends_more, appends_nothing}
-use Rattle.resp_turns.specs.Pieces.{GivesPieces, ReadsNothing, ReadsPieces}
+use Rattle.resp_turns.specs.Pieces.{GivesPieces, ReadsNothing}
 use Rattle.resp_databases.specs.Deeds.{Asked}
 use Rattle.resp_databases.specs.Outcomes.{Standing, outcome_of}
 use Rattle.resp_databases.specs.Parts.{IsPart, Part, texts_in}
 use Rattle.resp_databases.specs.Rejections.{rejection_text}
 use Rattle.resp_databases.specs.Running.{standing_of, waiting_of}
 use Rattle.resp_databases.specs.Servers.{ServerState}
-use Rattle.resp_databases.specs.Taking.{Begins, DoesParts, Ends, HasUnfinished, IsOpenBefore, KeepsUnfinished, Progress, Takes, TakesFirst, WhereUnfinished, after_parts, after_rejection, after_request, closed, progress_of}
+use Rattle.resp_databases.specs.Taking.{Begins, DoesParts, Ends, HasUnfinished, IsOpenBefore, KeepsUnfinished, Progress, Takes, TakesFirst, WhereUnfinished, after_parts, after_rejection, after_request, progress_of}
 use Rattle.resp_databases.specs.Visiting.{Answers, HadServed, Serves, ServesBy, ServesFirst, ServesPieces, StopsAnswering, StopsWriting, WhereOpen, WritesOut, LeavesRest, ends_by_read, with_written}
 use Rattle.resp_databases.specs.declared.client.Client.{Client}
 use Rattle.resp_databases.specs.declared.connection.Served.{Served}

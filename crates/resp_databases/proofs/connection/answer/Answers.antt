@@ -1,6 +1,6 @@
-use Rattle.std.proofs.Common.{◌≡◌, ◌∙◌, ◌+◌, ◌-◌, ◌≤◌, ap, arith, length, length-drop}
+use Rattle.std.proofs.Common.{◌∙◌, ◌+◌, ◌≤◌, ap, arith, length, length-drop}
 use Rattle.resp_turns.proofs.Turning.{spends_more}
-use Rattle.resp_databases.proofs.Takings.{rest_of, whole_rest}
+use Rattle.resp_databases.proofs.Takings.{whole_rest}
 use Rattle.resp_databases.proofs.Visits.{answered_first, answered_more, answered_part, stops_real}
 use Rattle.resp_databases.proofs.connection.answer.Goals as goal
 
