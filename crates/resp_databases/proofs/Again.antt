@@ -8,7 +8,7 @@ use Rattle.resp_value.specs.Numbers.{IsDigits, decimal}
 use Rattle.resp_value.specs.declared.version.Version.{Version}
 use Rattle.resp_value.specs.declared.version.Version.TheVariants.{Two}
 use Rattle.resp_value.proofs.CanonicalTrees.{decimal_is_digits}
-use Rattle.resp_session.specs.Operations.{Operation, Condition}
+use Rattle.resp_session.specs.Operations.{Operation}
 use Rattle.resp_session.specs.Operations as one
 use Rattle.resp_session.specs.Replies.{bulk_string, bulk_string_or_null, null, simple_string}
 use Rattle.resp_session.specs.Stores.{Store, Effect, effect_of, is_met, store_with, value_at}

@@ -1,5 +1,5 @@
 -- The bytes of a session that were written.
-use Rattle.std.proofs.Common.{arith, length, take, drop, ◌≡◌, ℕ, Option, Some, List, [], IfSome, refl, sym, subst}
+use Rattle.std.proofs.Common.{arith, length, take, drop, ◌≡◌, ℕ, Option, Some, List, [], IfSome, sym, subst}
 use Rattle.std.specs.Map.{lookup, set_value}
 use Rattle.std.proofs.lemmas.List.{drop_all, take-append-drop}
 use Rattle.resp_value.specs.Bounds.{Bounds}

@@ -1,12 +1,11 @@
 -- The words of a command are printed from what is kept of them.
-use Rattle.std.proofs.Common.{rules, arith, ◌≡◌, ◌∙◌, ◌<◌, ◌≤◌, ◌+◌, ◌-◌, ℕ, suc, Bool, true, false, List, [], ◌∷◌, ◌++◌, Option, ap, drop, get_or, length, map, max, min, nat_lt, refl, subst, sym, take, take_all, take-take, length-take}
+use Rattle.std.proofs.Common.{arith, ◌≡◌, ◌∙◌, ◌<◌, ◌≤◌, ◌+◌, ◌-◌, ℕ, suc, Bool, true, false, List, [], ◌∷◌, ◌++◌, Option, ap, drop, get_or, length, map, max, min, nat_lt, refl, sym, take, take_all, take-take, length-take}
 use Rattle.std.specs.Prelude.{None, Some, if◌then◌else◌}
 use Rattle.std.proofs.lemmas.List.{drop_more, get_or-map, length-map, length-take-le}
 use Rattle.resp_print.specs.Shown.{is_cut, shown_part}
-use Rattle.resp_print.specs.Written.{WritesText}
-use Rattle.resp_tap.specs.Parts.{AreKeptOf, IsEnough, length_within, word_lengths, word_within, words_within}
+use Rattle.resp_tap.specs.Parts.{AreKeptOf, IsEnough, length_within, word_lengths, word_within}
 use Rattle.resp_tap.specs.Secrets.{printed_words, redacted_after, secrets_after, secrets_of}
-use Rattle.resp_tap.specs.Texts.{IsPrintedAs, words_line}
+use Rattle.resp_tap.specs.Texts.{IsPrintedAs}
 use Rattle.resp_tap.specs.declared.secrets.Secrets.{Secrets}
 use Rattle.resp_tap.specs.declared.secrets.Secrets.TheVariants.{Absent}
 use Rattle.resp_tap.proofs.KeptWords.{kept_words_tell_the_same, same_secrets_after}

@@ -1,5 +1,5 @@
 -- The kept part of a command's words tells of the command what a tap tells.
-use Rattle.std.proofs.Common.{◌≡◌, ◌≢◌, ◌∙◌, ◌⊎◌, inl, inr, ℕ, suc, zero, ◌+◌, ◌<◌, ◌≤◌, ◌||◌, ◌&&◌, ◌%◌, ◌==◌, Bool, true, false, List, [], ◌∷◌, ◌++◌, length, nat_lt, take, map, max, Option, Global, MatchOption, refl, sym, ap, subst, arith, codes, take-take}
+use Rattle.std.proofs.Common.{◌≡◌, ◌≢◌, ◌∙◌, inl, inr, ℕ, suc, zero, ◌+◌, ◌≤◌, ◌||◌, ◌&&◌, ◌%◌, ◌==◌, Bool, true, false, List, [], ◌∷◌, ◌++◌, length, nat_lt, take, map, max, Option, Global, MatchOption, refl, sym, ap, subst, arith, codes, take-take}
 use Rattle.std.specs.Prelude.{⊤, None, Some, Vec, is_some, eqb, if◌then◌else◌, slice_index_or, option_map}
 use Rattle.std.specs.Char.{to_ascii_lowercase, to_ascii_uppercase}
 use Rattle.std.specs.List.{AllByRecursion, list_any}
@@ -7,18 +7,18 @@ use Rattle.std.specs.Option.{ForSome}
 use Rattle.std.specs.Str.{bytes_eq}
 use Rattle.std.proofs.lemmas.List.{length-map, take-map}
 use Rattle.resp_cut.specs.Cuts.{kept_part}
-use Rattle.resp_counts.specs.Names.{containers, full_name, has_subcommands, name_byte, subcommand_name, table_name}
+use Rattle.resp_counts.specs.Names.{containers, has_subcommands, name_byte, subcommand_name, table_name}
 use Rattle.resp_session.specs.Operations.{is_name}
 use Rattle.resp_value.specs.declared.version.Version.TheVariants.{Two, Three}
 use Rattle.resp_tap.specs.Called.{command_name, upper_word}
-use Rattle.resp_tap.specs.ClientNames.{Naming, asked_by, name_asked, name_asked_by, name_in_hello, option_at, shown_byte, shown_name}
-use Rattle.resp_tap.specs.Filters.{Chooses, Suffices, has_no_name, keeps_name, kept_by, longest_name}
+use Rattle.resp_tap.specs.ClientNames.{Naming, asked_by, name_asked, name_in_hello, option_at, shown_byte}
+use Rattle.resp_tap.specs.Filters.{Chooses, Suffices, has_no_name, keeps_name, longest_name}
 use Rattle.resp_tap.specs.Filters as filters
 use Rattle.resp_tap.specs.KeptLaws.{EnoughIsKept, KeptWordsTellTheSame, TellsTheCommand}
 use Rattle.resp_tap.specs.Keyed.{IsKeyed, IsUnkeyed, name_in}
 use Rattle.resp_tap.specs.Kinds.{are_unanswered, begins_with_name, command_kind, ends_pairing, has_word, hello_kind, kind_by_verb, unpairing_names, verb_named, version_worded}
-use Rattle.resp_tap.specs.Parts.{AreKeptOf, IsEnough, kept_for, word_within, words_within}
-use Rattle.resp_tap.specs.Secrets.{secret_settings, secrets_after, secrets_of, secrets_of_call}
+use Rattle.resp_tap.specs.Parts.{IsEnough, kept_for, word_within, words_within}
+use Rattle.resp_tap.specs.Secrets.{secret_settings, secrets_after, secrets_of}
 use Rattle.resp_tap.specs.declared.filter.Filter.{Filter}
 use Rattle.resp_tap.specs.declared.kind.CommandKind.{CommandKind}
 use Rattle.resp_tap.specs.declared.kind.CommandKind.TheVariants.{Plain, Hello, Reset, Silent, Unpairing}

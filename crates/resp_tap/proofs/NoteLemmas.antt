@@ -1,10 +1,10 @@
 -- The first bytes of a text that were written to a sink with little room.
-use Rattle.std.proofs.Common.{arith, ◌≡◌, ◌∙◌, ◌⊎◌, inl, inr, ℕ, ◌<◌, ◌≤◌, Bool, true, false, List, [], ◌++◌, Option, Ok, Err, ap, length, min, refl, subst, sym, take}
+use Rattle.std.proofs.Common.{arith, ◌≡◌, ◌∙◌, ◌⊎◌, inl, inr, ℕ, ◌<◌, ◌≤◌, Bool, false, List, [], ◌++◌, Option, Ok, Err, ap, length, min, subst, sym, take}
 use Rattle.std.specs.Prelude.{None, Some, Result}
 use Rattle.std.specs.Result.{is_err}
 use Rattle.std.proofs.lemmas.List.{append-nil, length-append, take-append-le, take_min}
 use Rattle.resp_value.specs.Devices.{Appends}
-use Rattle.resp_print.specs.Written.{AppendsPart, WritesText}
+use Rattle.resp_print.specs.Written.{WritesText}
 
 -- these bytes were written of a text, or the whole text if no write failed
 pub record Begun (held text : List ℕ) (failed : Bool) : Type 0 where

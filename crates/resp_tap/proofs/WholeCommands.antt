@@ -1,13 +1,12 @@
 -- The kept part of a value is a command exactly if the value is one, and its words are the kept parts of the words.
-use Rattle.std.proofs.Common.{◌≡◌, ◌≢◌, ◌∙◌, ◌⊎◌, ℕ, ◌+◌, ◌^◌, ◌<◌, ◌≤◌, Bool, true, false, List, [], ◌∷◌, ◌++◌, length, map, nat_lt, Option, refl, sym, ap, subst, arith}
+use Rattle.std.proofs.Common.{◌≡◌, ◌≢◌, ◌∙◌, ◌⊎◌, ℕ, ◌+◌, ◌^◌, ◌<◌, ◌≤◌, Bool, false, List, [], ◌∷◌, ◌++◌, length, map, Option, refl, sym, ap, subst, arith}
 use Rattle.std.specs.Prelude.{None, Some, option_map}
-use Rattle.resp_cut.specs.Cuts.{cut, cut_each, cut_lengths, kept_part, lengths_of_each, longer}
+use Rattle.resp_cut.specs.Cuts.{cut, cut_each, kept_part, lengths_of_each, longer}
 use Rattle.resp_value.specs.Data.{Datum, Data, Array, Set, Map, Attr, Push, scalar, aggregate, none, more}
 use Rattle.resp_value.specs.Data as d
 use Rattle.resp_session.specs.Commands.{Call, Meaning, NoCommand, Nothing, array_meaning, bulk_content, bulk_contents, contents_with, meaning_of}
 use Rattle.resp_tap.specs.Kinds.{command_kind}
-use Rattle.resp_tap.specs.Parts.{AreKeptOf, IsEnough, IsKeptOf, cut_within, lengths_within, word_lengths, word_within, words_within}
-use Rattle.resp_tap.specs.SeenOf.{words_by, words_in}
+use Rattle.resp_tap.specs.Parts.{AreKeptOf, IsEnough, IsKeptOf, cut_within, lengths_within, word_lengths, words_within}
 use Rattle.resp_tap.specs.Taps.{TapState}
 use Rattle.resp_tap.specs.Watching.{IsLeftOut}
 use Rattle.resp_tap.specs.Lines.{due_of}

@@ -70,7 +70,8 @@ pub record PrintsJson (f : Filter) (client : ℕ) (now : Moment) (old : JsonTap)
     waited = waited_of now asked what;
   }
   pub text : (whole : Datum) → IsKeptIn (Some 1024) (tap_state old.timed.tap).kept whole what →
-      Prints before after failures failures' printed (kept_json f facts is_chosen (name_of_called (called_of old)) whole what) 0
+      Prints before after failures failures' printed
+      (kept_json f facts is_chosen (name_of_called (called_of old)) whole what) 0
 
 -- These are all results in a piece, in order. Each result is printed before the next one is read. The first error of
 -- printing is told.

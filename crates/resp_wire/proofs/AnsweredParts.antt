@@ -1,10 +1,9 @@
 -- Parts of a piece, answered one after another.
 use Rattle.std.specs.Prelude.{⊤}
 use Rattle.std.specs.List.{concat}
-use Rattle.std.proofs.Common.{◌≡◌, ◌⊎◌, inl, inr, ℕ, ◌+◌, ◌-◌, ◌<◌, ◌≤◌, Bool, true, List, [], ◌∷◌, ◌++◌, length, take, drop, arith, append_assoc, take_all, Option, Some, Result, Ok, Err, OnOk, OnErr, IfErr, refl, sym, ap, subst, ◌∙◌, take-add, length-drop}
+use Rattle.std.proofs.Common.{◌≡◌, ◌⊎◌, inl, inr, ℕ, ◌+◌, ◌-◌, ◌<◌, ◌≤◌, Bool, true, List, [], ◌∷◌, ◌++◌, length, take, drop, arith, take_all, Option, Some, Result, Ok, Err, OnOk, OnErr, IfErr, refl, sym, ap, subst, ◌∙◌, take-add, length-drop}
 use Rattle.std.specs.Result.{is_ok}
-use Rattle.std.proofs.lemmas.Bool.{cases_lt}
-use Rattle.std.proofs.lemmas.List.{drop-take, length-append, take-append-drop, take-append-le}
+use Rattle.std.proofs.lemmas.List.{length-append, take-append-le}
 use Rattle.resp_session.specs.AnswerLaws.{AnswersAreAdded, AnswersGoOn}
 use Rattle.resp_server.specs.Handling.{WhereOpen}
 use Rattle.resp_server.specs.Hubs.{HubState, Seat, WaitsAtMost, seat_at}
