@@ -260,31 +260,6 @@ so_far_on old s t piece rest rest' outs₀ outs index count used shown k more si
       dead = λ fault f. absurd (h.no_fault fault (subst (λ p. IsFaulted p fault) (sym (k.dead fault f).1) f));
     }
 
--- Before the first turn nothing was told.
-pub none_so_far : (s : Place) (piece : List ℕ) (outs : List RespEvent) → SoFar s s piece piece outs outs 0 0
-none_so_far s piece outs = record {
-  counted = refl;
-  few = omega arith;
-  within = omega arith;
-  rest_is = refl;
-  left = refl;
-  rules = refl;
-  scans = record {
-    told = [];
-    stand_for = refl;
-    reads = λ front given w. record {
-      trees = [];
-      front = front;
-      given = given;
-      keep = tt;
-      parts = append-nil front;
-      told_of = append-nil given;
-      ends = w;
-    };
-  };
-  dead = λ fault f. (refl, refl);
-}
-
 -- The last turn.
 
 pub used_up_scans : (old s t : Place) (piece rest : List ℕ) (outs : List RespEvent) → rest ≡ drop (used_by outs) piece →

@@ -17,10 +17,6 @@ use Rattle.std.proofs.lemmas.Bool.{eq-eqb, eqb-true}
 true≢false : true ≡ false → ⊥
 true≢false e = cc
 
--- a header that is followed by no other one
-pub reaches_here : (most next : ℕ) (bytes : List ℕ) → is_extension next ≡ false → Reaches most next bytes next bytes
-reaches_here most next bytes is = record { count = 0; within = omega arith; reaches = (is, refl, refl) }
-
 -- the bytes after a header, as the code cuts them
 after_header : (bytes : List ℕ) (size : ℕ) → size ≡ extension_size bytes → take (length bytes - size) (drop size bytes) ≡ drop (extension_size bytes) bytes
 after_header bytes size e = take_rest bytes size ∙ ap (λ n. drop n bytes) e
@@ -36,15 +32,6 @@ reaches_over (Some f) most next bytes size is e whole some reaches = record {
   within = omega (arith, reaches.within);
   reaches = (is, whole, subst (λ b. ReachesAfter reaches.count (slice_index bytes 0) b f.0 f.1.now) (after_header bytes size e) reaches.reaches);
 }
-
--- no header is left
-pub reaches_none : (next : ℕ) (bytes : List ℕ) → is_extension next ≡ true → (most : ℕ) → most ≡ 0 → (protocol : ℕ) (rest : List ℕ) →
-    Reaches most next bytes protocol rest → ⊥
-reaches_none next bytes is most none protocol rest reaches = go reaches.count (omega (arith, reaches.within, none)) reaches.reaches
-  where
-    go : (count : ℕ) → count ≡ 0 → ReachesAfter count next bytes protocol rest → ⊥
-    go zero e (is_not, other, same) = true≢false (sym is ∙ is_not)
-    go (suc count) e reaches = omega arith
 
 -- a header that is cut off
 pub reaches_cut : (found : Option (ℕ × Bor (List ℕ))) (next : ℕ) (bytes : List ℕ) → is_extension next ≡ true → (IsExtension bytes → ⊥) → (most : ℕ) →

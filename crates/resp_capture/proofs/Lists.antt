@@ -6,11 +6,6 @@ use Rattle.std.proofs.Math.Seq.{get_or-append_right, get_or-append_seam}
 use Rattle.std.proofs.lemmas.Bool.{cases_lt}
 use Rattle.std.proofs.lemmas.List.Edits.{get_or-remove_above, get_or-remove_below, length-remove}
 
--- what follows from a fact about an absent result
-pub none_from : {X : Type 0} (r : Option X) (P Q : Type 0) → (P → Q) → IfNone r P → IfNone r Q
-none_from None P Q f p = f p
-none_from (Some x) P Q f p = tt
-
 -- elements of the first of two lists
 pub among_front : {X : Type 0} (xs ys : List X) (x : X) → IsAmong xs x → IsAmong (xs ++ ys) x
 among_front xs ys x (i, (within, is)) = (i, (simp length-append (omega arith), is ∙ sym (get_or-append xs ys x i within)))
@@ -60,11 +55,6 @@ removed_or_among xs i x inside (k, (within, is)) =
         | inr equal ↦ inl (same_place xs x i k (omega arith) is)
       ]
     ]
-
--- what follows from a fact about a result that is there
-pub some_from : {X : Type 0} (r : Option X) (P Q : X → Type 0) → ((x : X) → P x → Q x) → IfSome r P → IfSome r Q
-some_from None P Q f p = tt
-some_from (Some x) P Q f p = f x p
 
 -- a fact about an absent result
 pub none_of : {X : Type 0} (r : Option X) (P : Type 0) → P → IfNone r P

@@ -27,13 +27,6 @@ whole_fault format bytes size is same = ap (λ (r : Result ℕ Reason). fault_of
     (le-ltb size (length bytes) (omega (arith, same))) ∙
     ap (λ (b : Bool). if b then fault_of_block format bytes else None) (eq-eqb size (length bytes) same)
 
--- the block has more bytes than were read
-pub begun_fault : (format : Format) (bytes : List ℕ) (size : ℕ) → Ok size ≡ size_of format bytes → length bytes < size → fault_of format bytes ≡ None
-begun_fault format bytes size is more = ap (λ (r : Result ℕ Reason). fault_of_sized r format bytes) (sym is) ∙
-    ap (λ (b : Bool). if b then Some WrongLength else (if eqb size (length bytes) then fault_of_block format bytes else None))
-    (le-ltb size (length bytes) (omega (arith, more))) ∙
-    ap (λ (b : Bool). if b then fault_of_block format bytes else None) (ne_eqb size (length bytes) (λ same. omega (arith, more, same)))
-
 -- ---- what is left when the file is not read on
 
 -- what is true of the bytes of a block that were read before is true of those of the block that is read next

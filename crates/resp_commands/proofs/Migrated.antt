@@ -86,13 +86,6 @@ pub record Passed (all words : List (List ℕ)) : Type 0 where
   pub onwards : (count : ℕ) → HasKeysAfter words count → HasKeysAfter all (length all - length words + count)
   pub later : (count : ℕ) → HasKeysAfter all count → (later : ℕ) × HasKeysAfter words later
 
-pub none_passed : (all : List (List ℕ)) → Passed all all
-none_passed all = record {
-  fewer = omega arith;
-  onwards = λ count k. subst (HasKeysAfter all) (omega arith) k;
-  later = λ count k. (count, k);
-}
-
 pub keys_found : (all words left : List (List ℕ)) (word : List ℕ) → words ≡ word ∷ left → is_keys word ≡ true → Passed all words →
     HasKeysAfter all (length all - length words)
 keys_found all words left word is named p =

@@ -14,10 +14,6 @@ take-append-take (suc n) (x ∷ a) b = ap (λ (l : List ℕ). x ∷ l) (take-app
 pub full_take : (xs ys : List ℕ) → length xs ≡ 20 → xs ≡ take 20 (xs ++ ys)
 full_take xs ys full = sym (take-append-le 20 xs ys (omega (arith, full)) ∙ take_all 20 xs (omega (arith, full)))
 
--- all of it fits
-pub whole_take : (xs : List ℕ) → length xs ≤ 20 → xs ≡ take 20 xs
-whole_take xs fits = sym (take_all 20 xs fits)
-
 -- the bytes of a word up to an index, and the others
 map_split : (i : ℕ) (word : List ℕ) → map name_byte word ≡ map name_byte (take i word) ++ map name_byte (drop i word)
 map_split zero word = refl
@@ -30,12 +26,6 @@ full_at old word text i is full =
     full_take text (map name_byte (drop i word)) full ∙
     ap (λ (l : List ℕ). take 20 l) (ap (λ (l : List ℕ). l ++ map name_byte (drop i word)) is ∙ append_assoc old (map name_byte (take i word)) (map name_byte (drop i word)) ∙
     ap (λ (l : List ℕ). old ++ l) (sym (map_split i word)))
-
-pub whole_at : (old word text : List ℕ) (i : ℕ) → text ≡ old ++ map name_byte (take i word) → length word ≤ i → length text ≤ 20 →
-    text ≡ take 20 (old ++ map name_byte word)
-whole_at old word text i is past fits =
-    whole_take text fits ∙
-    ap (λ (l : List ℕ). take 20 l) (is ∙ ap (λ (l : List ℕ). old ++ map name_byte l) (take_all i word past))
 
 -- the name of a command and its subcommand, each as far as there is room
 pub two_words : (a b : List ℕ) → take 20 (take 20 (take 20 a ++ 32 ∷ []) ++ b) ≡ take 20 (a ++ 32 ∷ b)

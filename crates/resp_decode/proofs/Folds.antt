@@ -107,14 +107,6 @@ values_listed (more u us) = ap (d.more (value u)) (values_listed us)
 abbrev pub in_group : Kind → List Datum → Construction → Construction
 in_group kind xs b = record b { groups = record { kind = kind; members = xs } ∷ b.groups }
 
--- a finished value leaves no text
-pub put_rests : (x : Datum) (b : Construction) → Rests b → Rests (with_value x b)
-put_rests x b rests = case b.groups
-  where
-    case : (gs : List Group) → Rests (with_value_in gs x b)
-    case [] = rests
-    case (g ∷ gs) = rests
-
 mutual
   -- the events of a tree
   pub builds-tree : (from : ℕ) (u : Tree) (b : Construction) → Rests b → with_events (without_places (events from u)) b ≡

@@ -37,10 +37,6 @@ pub no_key : (ps : List (Datum × Datum)) (key : Option Value) → IsMemberCount
 no_key ps None h = refl
 no_key ps (Some x) h = absurd (omega (arith, h.1, length-append (in_turn ps) (datum_of x ∷ []), length-in_turn ps))
 
--- one waits where one member more stands after them
-pub some_key : (ps : List (Datum × Datum)) → IsMemberCount d.Attr (length (in_turn ps ++ [])) → ⊥
-some_key ps h = omega (arith, h.1, length-append (in_turn ps) [], length-in_turn ps)
-
 -- content comes a part at a time
 pub content_held : (s : List ℕ) (text : Option Text) (b : Construction) → with_events (content_events s) (record b { text = text }) ≡
     record b { text = with_bytes text s }

@@ -94,16 +94,6 @@ text_lengths shown e.BulkError s = refl
 text_lengths shown (e.Verbatim format) s = refl
 text_lengths shown (e.Big negative) s = sym (longer-none shown 0 (omega arith))
 
--- a text that is told whole stays one of its kind
-pub front_is_text : (n : ℕ) (kind : ReadKind) (s : List ℕ) → IsTextOf kind s → IsTextOf kind (take n s)
-front_is_text n read.Simple s h = line_front n s h
-front_is_text n read.Error s h = line_front n s h
-front_is_text n read.Double s h = line_front n s h
-front_is_text n read.Bulk s h = tt
-front_is_text n read.BulkError s h = absurd h
-front_is_text n (read.Verbatim format) s h = absurd h
-front_is_text n (read.Big negative) s h = absurd h
-
 -- it may be cut
 pub text_may_be_cut : (kind : ReadKind) (s : List ℕ) → IsTextOf kind s → may_cut (text_kind_of kind) ≡ true
 text_may_be_cut read.Simple s h = refl

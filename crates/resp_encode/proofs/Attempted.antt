@@ -21,13 +21,6 @@ use Rattle.resp_encode.specs.Walks.Writings.{Fills}
 use Rattle.resp_encode.proofs.Extended.{in_two_extended, no_double_extended, no_push_extended, values_with, greatest_depth-extended, longest_among-extended, most_items_among-extended, texts-extended}
 use Rattle.resp_encode.proofs.Texts.{Writes-none, Writes-append, aggregate_text, head_split}
 
--- what holds where a test is true
-pub on_true : {done : Bool} {P : Type 0} → done ≡ true → OnTrue done P → P
-on_true {P = P} e p = subst (λ b. OnTrue b P) e p
-
-pub on_false : {done : Bool} {P : Type 0} → done ≡ false → OnFalse done P → P
-on_false {P = P} e p = subst (λ b. OnFalse b P) e p
-
 -- nothing was written
 pub left : {version : Version} {bounds : Bounds} {deeper : ℕ} {x : Datum} (a : Filled) →
     Attempt version bounds deeper x a a false
@@ -120,24 +113,6 @@ int_length version (negsuc n) = omega (
   length-append (decimal (n + 1)) (crlf []),
 )
 
--- each version has the types of none
-types_of_none : (version : Version) → HaveTypes version none
-types_of_none Two = tt
-types_of_none Three = tt
-
--- members, so far
-pub suit_none : (version : Version) (bounds : Bounds) (deeper : ℕ) → SuitEach version bounds deeper none
-suit_none version bounds deeper = record {
-  no_double = λ off. tt;
-  have_types = types_of_none version;
-  no_push = tt;
-  within_depth = omega arith;
-  within_length = omega arith;
-  within_items =
-      omega arith;
-  are_values = tt;
-}
-
 have_types_with : (version : Version) (xs : Data) (x : Datum) → HaveTypes version xs → HasTypes version x →
     HaveTypes version (extended xs x)
 have_types_with Two xs x p q = (in_two_extended xs x).1 (p, q)
@@ -220,12 +195,6 @@ fits_within rules x suits total = record {
   within_items = suits.within_items;
   within_total = total;
 }
-
--- a value without members fits, where it is no double and its text is within the total
-pub scalar_fits : (limits : Bounds) (version : Version) (s : Scalar) → IsScalarValue s → HasNoDouble (scalar s) → HasTypes version (scalar s) →
-    longest (scalar s) ≤ limits.length → length (canonical_text version (scalar s)) ≤ limits.total → Fits (rules_under version limits) (scalar s)
-scalar_fits limits version s value plain types short total = fits_within (rules_under version limits) (scalar s)
-    (scalar_suits (record { allows_doubles = λ off. plain; has_types = types; within_length = short; room = total }) value limits.depth) total
 
 -- the head and the pairs of an attribute were tried
 pub attribute_pairs_tried : (version : Version) (bounds : Bounds) (deeper : ℕ) (xs : Data) (items : ℕ) (done : Bool)

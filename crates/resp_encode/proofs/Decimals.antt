@@ -65,10 +65,6 @@ length-decimal-four_more n large fits =
       length-decimal-more (n / 10 / 10 / 10) (omega arith) (omega arith),
     )
 
--- a number of 64 bits has at least one digit, and at most twenty
-pub length-decimal-some : (n : ℕ) → n < 2 ^ 64 → 0 < length (decimal n)
-length-decimal-some n fits = omega (arith, ap length (decimal-std n fits), decimal_nonempty n fits)
-
 pub length-decimal-few : (n : ℕ) → n < 2 ^ 64 → length (decimal n) ≤ 20
 length-decimal-few n fits = omega (
   arith,

@@ -56,17 +56,6 @@ line_with line start byte end n full within e =
     ap (take (24 - (start - 1))) whole ∙ take_all (24 - (start - 1)) (byte ∷ end)
     (omega (arith, ap length e, length-drop start line))
 
--- the text of an integer below zero, and of another
-pub int_text_below : (i : ℤ) → i <ℤ pos 0 → canonical_text Three (scalar (d.Int i)) ≡ (58 ∷ []) ++
-    (45 ∷ decimal (nat_abs i) ++ crlf [])
-int_text_below (pos n) below = absurd (omega (arith, ints))
-int_text_below (negsuc n) below = ap (λ m. 58 ∷ 45 ∷ decimal m ++ crlf []) (add-one n)
-
-pub int_text_from_zero : (i : ℤ) → pos 0 ≤ℤ i → canonical_text Three (scalar (d.Int i)) ≡ 58 ∷ decimal (nat_abs i) ++
-    crlf []
-int_text_from_zero (pos n) above = refl
-int_text_from_zero (negsuc n) above = absurd (omega (arith, ints))
-
 -- the text of a value that fits is a spelling of it
 pub spells_if_fits : (rules : Rules) (x : Datum) → IsValue x → Fits rules x →
     IsSpelling rules x (canonical_text rules.version x)

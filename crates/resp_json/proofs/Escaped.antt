@@ -8,18 +8,6 @@ use Rattle.resp_json.specs.Json.{is_plain, escape_of, string_byte, escaped}
 pub escaped-append : (text next : List ℕ) → escaped (text ++ next) ≡ escaped text ++ escaped next
 escaped-append text next = flat_map-append string_byte text next
 
--- one byte, as it is inside quotes
-pub escaped-plain : (byte : ℕ) → is_plain byte ≡ true → escaped (byte ∷ []) ≡ byte ∷ []
-escaped-plain byte h = rw h refl
-
--- one plain byte more
-pub escaped-take : (text : List ℕ) (n : ℕ) → n < length text → escaped (take n text) ≡ take n text → is_plain (get_or text n 0) ≡ true →
-    escaped (take (n + 1) text) ≡ take (n + 1) text
-escaped-take text n h e plain =
-    let more : take (n + 1) text ≡ take n text ++ get_or text n 0 ∷ [] = ap (λ k. take k text) (add-one n) ∙ take-suc text n 0 h in
-    ap escaped more ∙ escaped-append (take n text) (get_or text n 0 ∷ []) ∙ ap (λ front. front ++ escaped (get_or text n 0 ∷ [])) e ∙
-    ap (λ last. take n text ++ last) (escaped-plain (get_or text n 0) plain) ∙ sym more
-
 -- the first byte is escaped if no byte before it stands for itself
 pub escaped_first : (rest beyond : List ℕ) (byte n : ℕ) → rest ≡ byte ∷ beyond → n ≡ 0 → (n < length rest → is_plain (get_or rest n 0) ≡ false) →
     is_plain byte ≡ false

@@ -267,19 +267,3 @@ begun_next count unbegun left rest mid left-mid unbegun' size some first b =
                 subst (λ n. left + total (take n unbegun) < count) (sym same) (omega (arith, bytes, some))
           ];
     }
-
--- all bytes are counted
-pub begun_all : (count : ℕ) (unbegun : List ℕ) (left rest : ℕ) (unbegun' : List ℕ) (left' : ℕ) → rest ≤ left' →
-    IsBeginning count unbegun left rest unbegun' left' → BeginsMore count unbegun left unbegun' (left' - rest)
-begun_all count unbegun left rest unbegun' left' few b =
-    let bytes = b.bytes in
-    record { more = b.more; within = b.within; others = b.others; bytes = omega (arith, bytes, few); fewest = b.fewest }
-
--- there are no more bytes than those that wait
-pub begun_none : (count : ℕ) (unbegun : List ℕ) (left rest : ℕ) (unbegun' : List ℕ) (left' : ℕ) → count ≤ left + total unbegun → left' < rest → unbegun' ≡ [] →
-    IsBeginning count unbegun left rest unbegun' left' → ⊥
-begun_none count unbegun left rest unbegun' left' enough some none b =
-    let bytes = b.bytes in
-    let s = sum-split b.more unbegun in
-    let o : total (drop b.more unbegun) ≡ 0 = ap total (sym b.others ∙ none) in
-    omega (arith, bytes, s, o, enough, some)

@@ -224,15 +224,6 @@ others_kept text slots slots' last waiting waiting' out out' unbegun unbegun' le
     ap (option_map (λ (c : Client). c.out))
     (a.others who (not_among who a.answered (take (count - length a.answered) waiting') (ap (is_among who) (sym front) ∙ apart)).0)
 
--- bytes were given to a client, or it is not open
-pub given_to : (slots slots' : List (Option Client)) (waiting : List ClientId) (out : List ℕ) (count last : ℕ) (p : Passed) (who : ClientId) (found : Option (List ℕ)) →
-    option_map (λ (c : Client). c.out) (client_in slots who) ≡ found → Changes (without_front count) slots slots' who →
-    Stands (client_in slots) waiting out last p →
-    IfSome found (λ text. Stands (client_in slots') waiting out last (with_given who (take count text) p))
-given_to slots slots' waiting out count last p who None there changed s = tt
-given_to slots slots' waiting out count last p who (Some text) there changed s =
-    gives (client_in slots) (client_in slots') waiting out text count last p who there changed s
-
 absent : (same : Bool) (o : Option Client) (f : Client → Client) → (same ≡ true → o ≡ None) → cond same (option_map f o) o ≡ o
 absent true o f none = ap (option_map f) (none refl) ∙ sym (none refl)
 absent false o f none = refl

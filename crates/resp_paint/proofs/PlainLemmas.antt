@@ -15,20 +15,6 @@ shows_next painted plain painted' plain' first second rest =
     ap plain_text (append_assoc painted painted' rest) ∙ first (painted' ++ rest) ∙ ap (λ z. plain ++ z) (second rest) ∙
     sym (append_assoc plain plain' (plain_text rest))
 
--- a byte that begins no sequence, and a text behind it
-pub shows_byte : (byte : ℕ) (beyond plain rest : List ℕ) → (byte == 27) ≡ false → plain ≡ shown_byte byte ++ rest → Shows beyond rest →
-    Shows (byte ∷ beyond) plain
-shows_byte byte beyond plain rest other e shows more =
-    ap (λ b. cond b (beyond_sequence (beyond ++ more)) (shown_byte byte ++ plain_text (beyond ++ more))) other ∙
-    ap (λ z. shown_byte byte ++ z) (shows more) ∙ sym (append_assoc (shown_byte byte) rest (plain_text more)) ∙
-    ap (λ z. z ++ plain_text more) (sym e)
-
--- a sequence, and a text behind it
-pub shows_sequence : (byte : ℕ) (beyond plain rest : List ℕ) → (byte == 27) ≡ true →
-    ((more : List ℕ) → beyond_sequence (beyond ++ more) ≡ plain_text (rest ++ more)) → Shows rest plain → Shows (byte ∷ beyond) plain
-shows_sequence byte beyond plain rest is ends shows more =
-    ap (λ b. cond b (beyond_sequence (beyond ++ more)) (shown_byte byte ++ plain_text (beyond ++ more))) is ∙ ends more ∙ shows more
-
 -- nothing was painted
 pub paints_nothing : (before : Option (List ℕ)) (held : List ℕ) → Paints before before held [] held
 paints_nothing before held = record {

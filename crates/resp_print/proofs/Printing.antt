@@ -26,18 +26,10 @@ part_of_more a b text next written = record {
   appended = written.appended;
 }
 
--- nothing is a part of any text
-pub part_none : (held : Option (List ℕ)) (text : List ℕ) → AppendsPart held held text
-part_none held text = record { part = []; beyond = text; whole = refl; appended = Appends-none held }
-
 -- the text before a rest was written, and no write failed
 abbrev pub HasPrintedUpTo : (whole rest : List ℕ) (before after : Option (List ℕ)) (failures failures' : ℕ) → Type 0
 HasPrintedUpTo whole rest before after failures failures' =
     (front : List ℕ) × (whole ≡ front ++ rest) × (Appends before after front × (failures' ≡ failures))
-
--- nothing was written yet
-pub printed_nothing : (whole : List ℕ) (held : Option (List ℕ)) (failures : ℕ) → HasPrintedUpTo whole whole held held failures failures
-printed_nothing whole held failures = ([], refl, (Appends-none held, refl))
 
 -- the same of a rest that is equal
 pub printed_as : (whole rest rest' : List ℕ) (a b : Option (List ℕ)) (f g : ℕ) → rest ≡ rest' → HasPrintedUpTo whole rest a b f g →

@@ -13,14 +13,6 @@ quoted-append text next = flat_map-append quoted_byte text next
 pub quoted-plain : (byte : ℕ) → is_plain byte ≡ true → quoted_text (byte ∷ []) ≡ byte ∷ []
 quoted-plain byte h = rw h refl
 
--- one plain byte more
-pub quoted-take : (text : List ℕ) (n : ℕ) → n < length text → quoted_text (take n text) ≡ take n text → is_plain (get_or text n 0) ≡ true →
-    quoted_text (take (n + 1) text) ≡ take (n + 1) text
-quoted-take text n h e plain =
-    let more : take (n + 1) text ≡ take n text ++ get_or text n 0 ∷ [] = ap (λ k. take k text) (add-one n) ∙ take-suc text n 0 h in
-    ap quoted_text more ∙ quoted-append (take n text) (get_or text n 0 ∷ []) ∙ ap (λ front. front ++ quoted_text (get_or text n 0 ∷ [])) e ∙
-    ap (λ last. take n text ++ last) (quoted-plain (get_or text n 0) plain) ∙ sym more
-
 -- plain bytes more
 pub quoted-front : (text : List ℕ) (n m : ℕ) → quoted_text (take n text) ≡ take n text → quoted_text (take m (drop n text)) ≡ take m (drop n text) →
     quoted_text (take (n + m) text) ≡ take (n + m) text

@@ -12,14 +12,6 @@ Appends-append (Some held) b c text next first second =
     let then_second : Appends (Some (held ++ text)) c next = subst (λ v. Appends v c next) first second in
     then_second ∙ ap Some (append_assoc held text next)
 
--- what a write of all bytes says, in one word
-pub writes_all : (r : Result (Unit {0}) WriteFault) (before after : Option (List ℕ)) (failures failures' : ℕ) (text : List ℕ) →
-    OnOk r (Appends before after text) → OnOk r (failures' ≡ failures) → IfErr r (λ fault. Appends before after (take fault.written text)) →
-    OnErr r (failures' ≡ count_after 1 failures) → WritesText before after failures failures' r text
-writes_all (Ok x) before after failures failures' text ok none_failed part failed = (ok, none_failed)
-writes_all (Err fault) before after failures failures' text ok none_failed part failed =
-    (record { part = take fault.written text; beyond = drop fault.written text; whole = sym (take-append-drop fault.written text); appended = part }, failed)
-
 -- a whole text was written, and then what a call wrote of the next
 pub writes_next : {X E : Type 0} (r : Result X E) (a b c : Option (List ℕ)) (f g h : ℕ) (text next : List ℕ) → Appends a b text × (g ≡ f) →
     WritesText b c g h r next → WritesText a c f h r (text ++ next)

@@ -47,10 +47,6 @@ pub record ReadsPlaces (rules : Rules) (buffer : List ℕ) (filled : Filled) (no
   pub room : filled.count ≤ length nodes
   pub stand : AreNodesOfEach buffer (data_of_list values) (take filled.count nodes)
 
--- no reply was read
-pub no_place : (rules : Rules) (buffer : List ℕ) (nodes : List Node) → ReadsPlaces rules buffer (record { end = zero; count = zero }) nodes
-no_place rules buffer nodes = record { values = []; spelled = refl; within = omega arith; room = omega arith; stand = refl }
-
 -- the first of the first bytes
 take_less : (n m : ℕ) (bytes : List ℕ) → n ≤ m → take n (take m bytes) ≡ take n bytes
 take_less zero m bytes few = refl

@@ -38,20 +38,9 @@ prints_part Write a b f g text next printed = (part_of_more a b text next printe
 prints_part Memory a b f g text next printed = (part_of_more a b text next printed.0, printed.1)
 prints_part (Stopped line cause) a b f g text next printed = absurd printed
 
--- nothing was printed of a text when out of memory
-pub prints_none : (held : Option (List ℕ)) (failures : ℕ) (text : List ℕ) → PlaysText {X = Unit {0}} held held failures failures (Err Memory) text
-prints_none held failures text = (record { part = []; beyond = text; whole = refl; appended = Appends-none held }, refl)
-
 -- printing more after a front
 pub prints_on : (error : PlayError) (whole part rest : List ℕ) (a b c : Option (List ℕ)) (f g h : ℕ) →
     HasPrintedUpTo whole (part ++ rest) a b f g → PlaysText {X = Unit {0}} b c g h (Err error) part → PlaysText {X = Unit {0}} a c f h (Err error) whole
 prints_on error whole part rest a b c f g h (front, e, written) next =
     subst (PlaysText {X = Unit {0}} a c f h (Err error)) (sym e)
     (prints_next (Err error) a b c f g h front (part ++ rest) written (prints_part error b c g h part rest next))
-
--- how printing ends
-pub ends_print : (r : Result (Unit {0}) PlayError) (a b : Option (List ℕ)) (f g : ℕ) (text : List ℕ) → PlaysText a b f g r text → EndsPrint f g r
-ends_print (Ok x) a b f g text printed = printed.1
-ends_print (Err Write) a b f g text printed = printed.1
-ends_print (Err Memory) a b f g text printed = printed.1
-ends_print (Err (Stopped line cause)) a b f g text printed = printed

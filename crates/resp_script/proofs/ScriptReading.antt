@@ -203,15 +203,6 @@ all_read : (text : List ℕ) (done : List (List ℕ)) (number : ℕ) (clients : 
 all_read text done number clients steps rest over read =
     sym (append-nil done) ∙ ap (λ z. done ++ lines_of z) (sym over) ∙ sym read.lines
 
-pub reads_script : (text : List ℕ) (done : List (List ℕ)) (number : ℕ) (script : Script) (rest : List ℕ) → rest ≡ [] →
-    HaveRead text rest done number (Some script.clients) script.steps.items → IsScript text script
-reads_script text done number script rest over read =
-    let all = all_read text done number (Some script.clients) script.steps.items rest over read in
-    record {
-      said = subst (λ z. SayScript script.clients z script.steps.items) all read.said;
-      within = subst (AreWithin text) all read.within;
-    }
-
 pub reads_no_clients : (text : List ℕ) (done : List (List ℕ)) (number : ℕ) (steps : List (ℕ × Option Event)) (rest : List ℕ) → rest ≡ [] →
     HaveRead text rest done number None steps → NameNoClients (lines_of text)
 reads_no_clients text done number steps rest over read =

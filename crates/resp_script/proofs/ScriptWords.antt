@@ -147,17 +147,3 @@ pub unfit_reason : (named : Option ℕ) (parts : List (List ℕ)) (reason : BadL
 unfit_reason named parts reasons.Spaces few unfit = (few, unfit)
 unfit_reason named parts reasons.UnseenByte few unfit = (few, unfit)
 unfit_reason named parts _ few unfit = absurd unfit
-
--- words are proper parts
-pub proper : (line : List ℕ) (items : List (Bor (List ℕ))) → AreWords line (map (λ (word : Bor (List ℕ)). word.now) items) →
-    map (λ (word : Bor (List ℕ)). word.now) items ≡ parts_of_line line → AreProper (parts_of_line line)
-proper line items are same = subst AreProper same (are.few, are.are_words)
-
--- words that say no step
-pub step_reason : (clients : ℕ) (parts : List (List ℕ)) (reason : BadLine) → AreProper parts → IsNoStep clients parts reason →
-    IsReason (Some clients) parts reason
-step_reason clients parts reasons.FlushWords proper no_step = (proper, no_step)
-step_reason clients parts reasons.UnknownWord proper no_step = (proper, no_step)
-step_reason clients parts reasons.NoSuchClient proper no_step = (proper, no_step)
-step_reason clients parts (reasons.Arguments named) proper no_step = (proper, no_step)
-step_reason clients parts _ proper no_step = absurd no_step

@@ -583,11 +583,3 @@ added rows places h key row placed none rows' is distinct n size places' is' =
 front : {X : Type 0} (xs : List X) (x : X) → take (length xs) (xs ++ x ∷ []) ≡ xs
 front [] x = refl
 front (y ∷ xs) x = ap (λ l. y ∷ l) (front xs x)
-
--- what is left once the last is taken again
-pub taken_back : {X : Type 0} (xs ys : List X) (x : X) (n : ℕ) → ys ≡ xs ++ x ∷ [] → n ≡ length ys → take (n - 1) ys ≡ xs
-taken_back xs ys x n is size =
-    let one = length-append xs (x ∷ []) in
-    let whole = ap length is in
-    let k : n - 1 ≡ length xs = omega (arith, one, whole, size) in
-    ap (λ m. take m ys) k ∙ ap (take (length xs)) is ∙ front xs x

@@ -59,18 +59,6 @@ command_answer x name arguments store store' before after h is_open effect rest 
           command_state did store' before after text count effect.store_of effect.version (rest.same_closing ∙ is_open);
     }
 
--- what is passed over
-pub nothing_answer : (x : Datum) (store : Store) (session : Session) → Nothing ≡ meaning_of x → session.closing ≡ false →
-    IsAnswerTo x store store session session 0
-nothing_answer x store session h is_open = record {
-  reply = [];
-  replied = sym (append-nil session.out.items);
-  state = λ text count. ap (after_meaning session.id (state_with store session.version text false count)) (sym h) ∙
-      ap (λ t. state_with store session.version t false count) (sym (append-nil text)) ∙
-      ap (λ b. state_with store session.version (text ++ []) b count) (sym is_open) ∙
-      (let e : count ≡ count + 0 = omega arith in ap (λ n. state_with store session.version (text ++ []) session.closing n) e);
-}
-
 -- what is no command closes the session
 pub no_command_answer : (x : Datum) (store : Store) (before after : Session) → NoCommand ≡ meaning_of x → after.version ≡ before.version →
     after.closing ≡ true →

@@ -54,36 +54,6 @@ is_printed shown most whole words lengths word part count are is counted =
 
 -- ---- the length of a word
 
-cut_by : (n count : ℕ) → nat_lt n (min (suc n) count) ≡ true → nat_lt n count ≡ true
-cut_by n count cut = grind (arith, cut)
-
-short_by : (n count : ℕ) → nat_lt n (min (suc n) count) ≡ false → count ≤ n
-short_by n count short = grind (arith, short)
-
--- the word is longer than what is kept of it
-pub cut_length : (most : Option ℕ) (part word later : List ℕ) → is_cut most (length part) ≡ true → part ≡ word_within most word →
-    length_within most (length word) ++ later ≡ length word ∷ later
-cut_length None part word later cut is = absurd (cc)
-cut_length (Some n) part word later cut is =
-    let long : nat_lt n (length word) ≡ true =
-    cut_by n (length word) (ap (nat_lt n) (sym (length-take (suc n) word) ∙ ap length (sym is)) ∙ cut) in
-    ap (λ b. (if b then length word ∷ [] else []) ++ later) long
-
--- the whole word is kept
-pub short_word : (most : Option ℕ) (part word : List ℕ) → is_cut most (length part) ≡ false → part ≡ word_within most word → part ≡ word
-short_word None part word short is = is
-short_word (Some n) part word short is =
-    let few : length word ≤ n = short_by n (length word) (ap (nat_lt n) (sym (length-take (suc n) word) ∙ ap length (sym is)) ∙ short) in
-    is ∙ take_all (suc n) word (omega (arith, few))
-
-pub short_length : (most : Option ℕ) (part word later : List ℕ) → is_cut most (length part) ≡ false → part ≡ word_within most word →
-    length_within most (length word) ++ later ≡ later
-short_length None part word later short is = refl
-short_length (Some n) part word later short is =
-    let few : length word ≤ n = short_by n (length word) (ap (nat_lt n) (sym (length-take (suc n) word) ∙ ap length (sym is)) ∙ short) in
-    let none : nat_lt n (length word) ≡ false = grind (arith, few) in
-    ap (λ b. (if b then length word ∷ [] else []) ++ later) none
-
 -- ---- all words
 
 pub shown_secrets : (shown most : Option ℕ) (whole words : List (List ℕ)) (lengths : List ℕ) (shows : Bool) → AreKeptOf shown most whole words lengths →

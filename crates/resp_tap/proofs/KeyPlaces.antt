@@ -142,9 +142,6 @@ before skipped place = place - (skipped + 1)
 abbrev pub ReadTo : List (List ℕ) → ℕ → ℕ → Option ℕ → Type 0
 ReadTo words skipped place last = Read (drop (skipped + 1) words) (drop place words) (option_map (before skipped) last)
 
-pub begin_read : (words : List (List ℕ)) (skipped : ℕ) → ReadTo words skipped (skipped + 1) None
-begin_read words skipped = nothing_read (drop (skipped + 1) words)
-
 number_here : (words : List (List ℕ)) (skipped place : ℕ) → skipped < place → place < length words →
     before skipped place ≡ length (drop (skipped + 1) words) - length (drop place words)
 number_here words skipped place after below =

@@ -285,11 +285,6 @@ asking_more n l (first ∷ all) words =
     ap (λ k. line_with k (command_kind words) (line_with_all (n + 1) (line_with n (command_kind first) l) all))
     (let e : n + 1 + length all ≡ n + length (first ∷ all) = omega arith in e)
 
--- the line of all commands is not lost
-pub asking_found : (n : ℕ) (l : LineState) (all : List (List (List ℕ))) → l.is_lost ≡ false → (line_with_all n l all).is_lost ≡ false
-asking_found n l [] found = found
-asking_found n l (words ∷ all) found = asking_found (n + 1) (line_with n (command_kind words) l) all found
-
 pub sent_is : (n : ℕ) (kind : CommandKind) (l : LineState) → l.is_lost ≡ false →
     line_sent n kind l ≡ longer l (due_of n kind l.is_open) (open_after kind l.is_open)
 sent_is n kind l found = ap (λ b. if b then l else line_with n kind l) found

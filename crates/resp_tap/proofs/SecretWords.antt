@@ -73,8 +73,3 @@ pub left_at_next : (secrets : Secrets) (words : List (List ℕ)) (index : ℕ) (
 left_at_next secrets words index left next below is are =
     subst (λ z. AreLeft secrets z next) (sym (take_more words index [] below))
     (are_left_after secrets (take index words) (get_or words index []) left next is are)
-
--- the line of words that are equal
-pub words_line_as : {X E : Type 0} (most : Option ℕ) (r : Result X E) (a b : Option (List ℕ)) (f g : ℕ) (words words' : List (List ℕ)) → words ≡ words' →
-    WritesText a b f g r (words_line most words) → WritesText a b f g r (words_line most words')
-words_line_as most r a b f g words words' e written = subst (λ z. WritesText a b f g r (words_line most z)) e written

@@ -67,21 +67,6 @@ decoded_part r d front piece so_far used value before after nothing gives writte
   appended = written.appended;
 }
 
--- a piece that was read whole
-pub decoded_front : (r : Rules) (d : Decoder) (front piece so_far : List ℕ) (used : ℕ) (held : Option (List ℕ)) → so_far ≡ [] →
-    TakesPiece r d (front ++ piece) piece used →
-    (used ≡ length piece) × TakesUnfinished r (HasDecoded d) (front ++ piece) so_far held held
-decoded_front r d front piece so_far used held nothing takes = (
-  takes.whole_piece,
-  record {
-    no_value = takes.no_value;
-    viable = takes.viable;
-    more = [];
-    appended = Appends-none held;
-    takes = record { taken = takes.takes; no_value = takes.no_value; nothing = append-nil so_far ∙ nothing };
-  },
-)
-
 -- a byte that is refused
 refused_byte : (r : Rules) (front piece so_far : List ℕ) (held : Option (List ℕ)) (fault : Fault) → so_far ≡ [] → RefusesByte r front piece fault →
     LeavesRefused r (IsByteFault r) LeavesNothing (front ++ piece) so_far held held fault.cause fault.at

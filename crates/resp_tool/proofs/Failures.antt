@@ -10,16 +10,6 @@ use Rattle.resp_tool.specs.Streams.{is_of_reader, is_of_writer}
 pub status_is : {X : Type 0} (status n : ℕ) → status ≡ n → IsErrOf {T = X} (Err status) n
 status_is {X} status n is = ap (λ s. let r : Result X ℕ = Err s in r) is
 
--- with another status no device failed
-pub sound_of : (error : ToolError) → (status_of error ≡ 3 → ⊥) → (is_of_reader error ≡ false) × (is_of_writer error ≡ false)
-sound_of (Refused value cause at) below = (refl, refl)
-sound_of (OverLimits value) below = (refl, refl)
-sound_of TooManyValues below = (refl, refl)
-sound_of Read below = absurd (below refl)
-sound_of Write below = absurd (below refl)
-sound_of TooManyTurns below = absurd (below refl)
-sound_of Memory below = absurd (below refl)
-
 -- help was not written
 pub fails_by_words : (said said' : Option (List ℕ)) (failures failures' reads writes writes' : ℕ) → TellsFailure said said' failures failures' writes writes' →
     FailsAtThree said said' failures failures' reads reads writes writes'

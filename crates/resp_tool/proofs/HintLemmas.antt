@@ -114,10 +114,6 @@ none_more passed c before from none not other has shows = go (Contains-push_case
 pub shown_if : (r : Bool) (P : Type 0) → (P → r ≡ true) → r ≡ false → P → ⊥
 shown_if r P is not p = let e = is p in absurd (cc)
 
--- the last byte decides whether the bytes end with a type byte
-pub last_is_mark : (front rest : List ℕ) (b : ℕ) → front ≡ rest ++ b ∷ [] → EndsWithMark front → IsMark b
-last_is_mark front rest b is w = subst IsMark (same_last w.rest rest w.mark b (sym w.whole ∙ is)) w.is_mark
-
 pub no_mark : (front : List ℕ) → length front ≡ 0 → EndsWithMark front → ⊥
 no_mark front empty w =
     let sizes : length front ≡ length w.rest + 1 = ap (λ z. length z) w.whole ∙ length-append w.rest (w.mark ∷ []) in omega (arith, empty, sizes)

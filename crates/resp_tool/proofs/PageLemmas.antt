@@ -31,17 +31,6 @@ pub first_is : (ls : List line.OpenLine) (l : line.OpenLine) → innermost ls �
 first_is [] l is = absurd (cc)
 first_is (x ∷ ls) l is = let same : x ≡ l = cc in ap (λ z. z ∷ ls) same
 
--- the line `of` of the innermost aggregate
-pub of_line_is : (ls : List line.OpenLine) (l : line.OpenLine) (b : Bool) → innermost ls ≡ Some l → has_all_pairs (kind_of l.kind) l.count l.members ≡ b →
-    of_line (map line_of ls) ≡ cond b (indentation (length (map line_of ls) - 1) ++ codes "of\n") []
-of_line_is [] l b is all = absurd (cc)
-of_line_is (x ∷ ls) l b is all =
-    let same : x ≡ l = cc in
-    let test : has_all_pairs (kind_of x.kind) x.count x.members ≡ b =
-    ap (λ z. let y : line.OpenLine = z in has_all_pairs (kind_of y.kind) y.count y.members) same ∙ all in
-    let level : length (map line_of ls) ≡ suc (length (map line_of ls)) - 1 = omega arith in
-    ap (λ z. cond z (indentation (length (map line_of ls)) ++ codes "of\n") []) test ∙ ap (λ n. cond b (indentation n ++ codes "of\n") []) level
-
 -- the last line of the innermost aggregate
 pub last_line_is : (ls : List line.OpenLine) (l : line.OpenLine) → innermost ls ≡ Some l →
     last_line (map line_of ls) ≡ indentation (length (map line_of ls) - 1) ++ (codes "end " ++ decimal (items_of (kind_of l.kind) l.members) ++ codes "\n")

@@ -38,13 +38,6 @@ reads_fail None mid after bytes into fault so_far read = tt
 reads_fail (Some left) None after bytes into fault (rest, is, e) read = absurd (cc)
 reads_fail (Some left) (Some now) after bytes into fault (rest, is, e) read = (rest, read ∙ is, e)
 
--- a read of no byte is the end
-pub reads_to_end : (before mid after : Option (List ℕ)) (bytes into : List ℕ) → 0 < length into → AreRead before mid bytes → Reads mid after into (Ok 0) →
-    IfSome before (λ _. after ≡ Some [])
-reads_to_end None mid after bytes into room so_far read = tt
-reads_to_end (Some left) None after bytes into room (rest, is, e) read = absurd (cc)
-reads_to_end (Some left) (Some now) after bytes into room (rest, is, e) read = read.beyond ∙ ap Some (read.at_end refl room)
-
 -- how many calls were made, since a count was this
 pub record HasCalled (n before after : ℕ) : Type 0 where
   pub none : n ≡ 0 → after ≡ before

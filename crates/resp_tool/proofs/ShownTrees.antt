@@ -101,9 +101,6 @@ string_parts : (of ind words quoted mark number ending : List ℕ) → ((of ++ i
     of ++ (ind ++ ((((words ++ quoted) ++ mark) ++ number) ++ ending))
 string_parts of ind words quoted mark number ending = simp append_assoc
 
-line_parts3 : (of ind words rest : List ℕ) → (of ++ ind) ++ (words ++ rest) ≡ of ++ (ind ++ (words ++ rest))
-line_parts3 of ind words rest = append_assoc of ind (words ++ rest)
-
 -- what a leaf has to give
 abbrev GivesValue : List OpenLine → List Event → Datum → Type 0
 GivesValue lines es x = Gives (on lines) es (on (with_member lines)) (of_line lines ++ lines_on (length lines) x)
@@ -259,10 +256,6 @@ gives-node lines k n us middle shown inner is =
     node_parts : (of ind word lf shown end number : List ℕ) → ((of ++ ind) ++ (word ++ lf)) ++ (shown ++ (ind ++ (end ++ number ++ lf))) ≡
         of ++ (ind ++ word ++ lf ++ shown ++ ind ++ end ++ number ++ lf)
     node_parts of ind word lf shown end number = simp append_assoc
-
--- what members give, one after another
-members_on : (level : ℕ) (x : Datum) (xs : Data) → lines_on level x ++ member_lines level xs ≡ member_lines level (d.more x xs)
-members_on level x xs = refl
 
 -- an aggregate whose members stand one after another
 plain-node : (lines : List OpenLine) (from : ℕ) (k : Kind) (form : Form) (us : Trees) →

@@ -57,13 +57,6 @@ pub spends_one : (calls calls' calls'' turns turns' turns'' : ℕ) → Spends ca
 spends_one calls calls' calls'' turns turns' turns'' s one left =
     spends_more calls calls' calls'' turns turns' turns'' s (one_spent calls' calls'' turns' turns'' one left)
 
--- no more calls are made than turns are spent
-pub spends_bounded : (calls calls' turns turns' : ℕ) → Spends calls calls' turns turns' → calls' + turns' ≤ calls + turns
-spends_bounded calls calls' turns turns' s = elim (cases_lt 0 s.count) as (λ _. calls' + turns' ≤ calls + turns) [
-  | inl any ↦ omega (arith, s.some any, s.spent)
-  | inr none ↦ let zero : s.count ≡ 0 = omega (arith, none) in omega (arith, s.none zero, s.spent)
-]
-
 pub spends_no_turns : (writes reads turns : ℕ) → SpendsTurns writes writes reads reads turns turns
 spends_no_turns writes reads turns = record { between = turns; written = spends_nothing writes turns; read = spends_nothing reads turns }
 

@@ -68,16 +68,5 @@ shown_whole old id done count text a b same all so_far = if_there old id _ (λ s
 pub others_stay : {L : Type 0} (links : List L) (client : ℕ) (link : L) → 1 ≤ client → OthersStay client links (set links (client - 1) link)
 others_stay {L} links client link some k other = get_set_other links (client - 1) k link (λ same. other (omega (arith, same, some)))
 
-pub link_carries : {L : Type 0} (traffic : L → Option Traffic) (links : List L) (at : ℕ) (way : Direction) (bytes : List ℕ) (link link' : L) →
-    at < length links → link ≡ get_or links at link → Carries way bytes (traffic link) (traffic link') →
-    LinkCarries traffic at way bytes links (set links at link')
-link_carries {L} traffic links at way bytes link link' within is carries = record {
-  before = link;
-  after = link';
-  there = slice_get_read links (length links) at link refl within is;
-  others_stay = refl;
-  carries = carries;
-}
-
 pub same_links : {L : Type 0} (client : ℕ) (old new : List L) → new ≡ old → OthersStay client old new
 same_links {L} client old new same k other = ap (λ l. slice_get l k) same

@@ -12,10 +12,6 @@ use Rattle.resp_wire.specs.Requests.{MayAllBeSent, request_of, with_requests}
 use Rattle.resp_wire.specs.Stops.{DeclinesAt, QueuesFirst, StopsQueueing, error_at}
 use Rattle.resp_wire.specs.declared.asked.Request.{Request}
 
--- a client keeps what it reads
-pub keeps_reading : (c : Client) → KeepsReading c c
-keeps_reading c = record { same_front = λ front h. h; same_fault = λ fault h. h }
-
 pub keeps_on : (old mid new : Client) → KeepsReading old mid → KeepsReading mid new → KeepsReading old new
 keeps_on old mid new first second = record {
   same_front = λ front h. second.same_front front (first.same_front front h);
@@ -32,10 +28,6 @@ may_one_more : (requests : List Request) (request : Request) (s : ClientState) �
     MayBeSent (with_requests requests s) (request_of request) → MayAllBeSent (requests ++ request ∷ []) s
 may_one_more [] request s all may = (may, tt)
 may_one_more (first ∷ requests) request s all may = (all.0, may_one_more requests request (with_request (request_of first) s) all.1 may)
-
--- no request is queued yet
-pub queues_none : (c : Client) (requests : List Request) → QueuesFirst c c requests 0
-queues_none c requests = record { within = omega arith; may_be_sent = tt; queued = refl }
 
 -- the first requests, and one more
 take_one_more : (index : ℕ) (requests later : List Request) (request : Request) → drop index requests ≡ request ∷ later →

@@ -26,23 +26,9 @@ pub stops_reading : (old new : HubState) (id : ℕ) (s : Seat) (front came : Lis
 stops_reading old new id s front came held held' Failed v = v
 stops_reading old new id s front came held held' NoTurn v = ([], inr v.1, v.0)
 
--- of a session that is closing
-pub stops_closing : (old new : HubState) (id : ℕ) (held held' : Option (List ℕ)) (halt : Halt) → HasSentPart old new id held held' →
-    ServesClosing old new id held held' (Err (write_error halt))
-stops_closing old new id held held' Failed v = v
-stops_closing old new id held held' NoTurn v = v
-
 pub answering : (failures failures' left : ℕ) (halt : Halt) → Halts failures failures' left halt → StopsAnswering failures failures' left (write_error halt)
 answering failures failures' left Failed h = h
 answering failures failures' left NoTurn h = h
-
-pub fails_answering : (old : HubState) (id writes writes' reads reads' left : ℕ) (error : ServeError) → StopsAnswering writes writes' left error →
-    FailsServing old id writes writes' reads reads' error
-fails_answering old id writes writes' reads reads' left NoSession h = absurd h
-fails_answering old id writes writes' reads reads' left OutOfMemory h = tt
-fails_answering old id writes writes' reads reads' left Read h = absurd h
-fails_answering old id writes writes' reads reads' left Write h = h
-fails_answering old id writes writes' reads reads' left TooManyTurns h = tt
 
 pub fails_reading : (old : HubState) (id writes writes' reads reads' left : ℕ) (halt : Halt) → Halts reads reads' left halt →
     FailsServing old id writes writes' reads reads' (read_error halt)
@@ -59,12 +45,6 @@ no_turn_to_answer A answer failures failures' left error here h is =
 pub no_turn_to_read : (failures failures' left : ℕ) (halt : Halt) → Halts failures failures' left halt → read_error halt ≡ TooManyTurns → left ≡ 0
 no_turn_to_read failures failures' left Failed h is = absurd (cc)
 no_turn_to_read failures failures' left NoTurn h is = h
-
--- what waits is as long as it is
-pub within_out : (o : Option Seat) (text : List ℕ) (count : ℕ) → option_map (λ (s : Seat). s.out) o ≡ Some text → count ≤ length text →
-    IfSome o (λ (s : Seat). count ≤ length s.out)
-within_out None text count is within = tt
-within_out (Some s) text count is within = let same : text ≡ s.out = cc in subst (λ z. count ≤ length z) same within
 
 -- a hub that refused a piece of a session found no memory
 pub memory_was_wanting : (error : HubError) → (error ≡ hub.NoSession → ⊥) → (P : ℕ → Type 0) → IfOutOfMemory error P → (commands : ℕ) × P commands

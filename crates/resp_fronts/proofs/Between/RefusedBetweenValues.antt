@@ -19,20 +19,6 @@ use Rattle.resp_fronts.proofs.FirstLines.CountRows.{CompletesUnder, IsRefusedHer
 use Rattle.resp_fronts.proofs.FrameLaws.KeptNodes.{shortest_keeps}
 use Rattle.resp_fronts.specs.OpenLevels.{AreLevelsOf, AreReady, HasShape, Level, Shape, to_come, so_far}
 
--- a byte on the shortest way
-pub lower_front : (r : Rules) (g : Rule) (p : List ℕ) (x m : ℕ) (c : List ℕ) → HasLeast (CompletesFront r g p) (suc m) → CompletesFront r g (p ++ x ∷ []) c →
-    length c ≡ m → HasLeast (CompletesFront r g (p ++ x ∷ [])) m
-lower_front r g p x m c l w e =
-    record {
-      some = c;
-      holds = w;
-      size = e;
-      least = λ d v. omega (
-        arith,
-        l.least (x ∷ d) (subst (IsWholeText (LeafKeeps r g) (NodeKeeps r g)) (append_assoc p (x ∷ []) d) v),
-      );
-    }
-
 resizes_before : (r : Rules) (g : Rule) (k : ℕ) (j : Kind) (f : Form) (m n : ℕ) → rank g ≤ 7 → NodeKeeps r WithinItems k j f m → NodeKeeps r g k j f n
 resizes_before r g k j f m n z p InVersion e = p InVersion (omega arith)
 resizes_before r g k j f m n z p PushAtTop e = p PushAtTop (omega arith)
@@ -144,17 +130,3 @@ refuse_stop r g vs p w h c y =
     let e2 : (p ++ 46 ∷ []) ++ c ≡ text_around fs (46 ∷ c) = append_assoc p (46 ∷ []) c ∙ ap (λ q. q ++ 46 ∷ c) e ∙ around-append fs [] (46 ∷ c) in
     stop_rest r g vs fs a h c (determine (LeafKeeps r g) (NodeKeeps r g) fs (46 ∷ c) (ready_open (LeafKeeps r WithinItems) (NodeKeeps r WithinItems) vs fs a o)
     (subst (IsWholeText (LeafKeeps r g) (NodeKeeps r g)) e2 y))
-
--- a close where the aggregate can end
-pub step_stop : (r : Rules) (v : Level) (vs : List Level) (p : List ℕ) (m : ℕ) → IsBetween r (v ∷ vs) p → v.shape ≡ so_far m → shape_needed v.kind v.shape ≡ 3 →
-    IsEnded (LeafKeeps r WithinItems) (NodeKeeps r WithinItems) (finish vs) (p ++ 46 ∷ crlf [])
-step_stop r v vs p m ([], a, o, e) s z = absurd a
-step_stop r v vs p m ((f ∷ fs), a, o, e) s z =
-    let k : v.kind ≡ f.kind = a.0 in
-    let h : HasShape f.kind (so_far m) f.form (count f.done) = subst (λ i. HasShape f.kind i f.form (count f.done)) s a.1 in
-    let n : shape_needed f.kind v.shape ≡ 3 = ap (λ i. shape_needed i v.shape) (sym k) ∙ z in
-    let c : close f.form ≡ close Streamed = ap close h.0 in
-    let y : members_missing f.kind f.form (count f.done) ≡ 0 = omega (arith, shape_needed_is f.kind v.shape f.form (count f.done) a.1, ap length c) in
-    let e2 : p ++ 46 ∷ crlf [] ≡ text_around (f ∷ fs) (46 ∷ crlf []) = ap (λ q. q ++ 46 ∷ crlf []) e ∙ around-append (f ∷ fs) [] (46 ∷ crlf []) in
-    subst (IsEnded (LeafKeeps r WithinItems) (NodeKeeps r WithinItems) (finish vs)) (sym e2)
-    (stopped (LeafKeeps r WithinItems) (NodeKeeps r WithinItems) v vs f fs a o h.0 y)

@@ -30,11 +30,6 @@ events_each-joined from (more t ts) us =
     ap (λ z. events from t ++ z) (events_each-joined (from + length (text t)) ts us ∙ ap (λ n. events_each (from + length (text t)) ts ++ events_each n us) e)
     ∙ sym (append_assoc (events from t) (events_each (from + length (text t)) ts) (events_each (from + length (text t ++ texts ts)) us))
 
--- a head opens a frame
-pub events-opened : (k : Kind) (form : Form) (frames : List Frame) → events_around (record { kind = k; form = form; done = none } ∷ frames) ≡
-    events_around frames ++ open_event (length (text_around frames [])) k form ∷ []
-events-opened k form frames = refl
-
 -- a member ends in a frame
 pub events-member : (frame : Frame) (frames : List Frame) (t : Tree) → events_around (with_member frame t ∷ frames) ≡ events_around (frame ∷ frames) ++
     events (length (text_around (frame ∷ frames) [])) t

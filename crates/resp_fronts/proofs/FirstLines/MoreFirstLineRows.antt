@@ -126,12 +126,3 @@ unfolding first_line
 mark_row L N k j s g = line_row L N k (kind_byte j ∷ 63 ∷ []) [] (node j Streamed none) 3 ((byte_line j).0, ((λ e. omega arith, λ e. omega arith), tt)) (s, tt)
     (g, tt) refl refl
     (λ u l i h e. omega (arith, mark_size u j i (e ∙ sort_mark j l)))
-
--- `?` after `|` or `>`
-pub mark_refused : (L : LeafRule) (N : NodeRule) (k : ℕ) (j : Kind) (c : List ℕ) → ((n : ℕ) → CanStream j n → ⊥) →
-    CompletesValue L N k (kind_byte j ∷ 63 ∷ []) c → ⊥
-mark_refused L N k j c h t =
-    let u = completes_line L N k (kind_byte j ∷ 63 ∷ []) c ((byte_line j).0, ((λ e. omega arith, λ e. omega arith), tt)) t in
-    let w = tree_of_node u.tree j Streamed (sort_of-line u.tree u.is_tree u.begins ∙ sort_mark j u.line) in
-    let i : IsTree (node j Streamed w.0) = subst IsTree w.1 u.is_tree in
-    h (count w.0) i.0

@@ -60,12 +60,6 @@ before_newline_row L N level line n is_line h = record {
       omega (arith, ap length u.whole, h.least (after_line u.tree) beyond));
 }
 
--- the first byte of the least completion leaves one byte fewer to come
-pub first_of_least : (L : LeafRule) (N : NodeRule) (level : ℕ) (begun : List ℕ) (byte n : ℕ) (rest : List ℕ) →
-    (h : HasLeast (CompletesValue L N level begun) (suc n)) → h.some ≡ byte ∷ rest → HasLeast (CompletesValue L N level (begun ++ byte ∷ [])) n
-first_of_least L N level begun byte n rest h e = next_row L N level begun byte n rest h (subst (CompletesValue L N level begun) e h.holds)
-    (omega (arith, h.size, ap length e))
-
 -- `$-1`, `*-1` and `_`: 2
 pub null_line_row : (L : LeafRule) (N : NodeRule) (level : ℕ) (f : NullForm) → L level (null f) → HasLeast (CompletesValue L N level (null_line f)) 2
 unfolding first_line

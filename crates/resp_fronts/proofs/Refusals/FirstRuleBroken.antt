@@ -32,20 +32,3 @@ grammar_cause r front dead = record {
   viable_before = λ earlier l. absurd (omega arith);
   not_viable = λ v. dead v.rest (viable_completes r Grammar front (omega arith) v);
 }
-
--- a front with a least completion is viable under all rules but total, and under all where both are within total
-pub least_viable : (r : Rules) (front : List ℕ) (n : ℕ) → HasLeast (CompletesFront r WithinItems front) n → IsLeast r front n × IsViable r WithinItems front ×
-    (IsViable r WithinTotal front ↔ (length front + n ≤ r.limits.total))
-least_viable r front n h =
-    let l = least_continues r WithinItems front n (omega arith) h in
-    (l, viable r WithinItems front h.some (omega arith) h.holds, viable_in_all r front n l)
-
--- total is the cause where the bytes taken and the least completion are past it
-pub total_cause : (r : Rules) (front : List ℕ) (n : ℕ) → HasLeast (CompletesFront r WithinItems front) n → r.limits.total < length front + n →
-    IsCause r front WithinTotal
-total_cause r front n h past =
-    let v = least_viable r front n h in
-    record {
-      viable_before = λ earlier l. viable_earlier r WithinItems earlier front (omega arith) v.1;
-      not_viable = λ all. let fits : length front + n ≤ r.limits.total = v.2.0 all in omega arith;
-    }

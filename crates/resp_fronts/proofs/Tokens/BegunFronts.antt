@@ -95,17 +95,6 @@ pub record Opens (r : Rules) (level : ℕ) (k : Kind) (shape : Shape) (bytes : L
   pub shaped : HasShape k shape form 0
   pub can_end : CanEnd (NodeKeeps r WithinItems) level k form 0
 
--- after the line of a head a frame more is open
-pub head_opens : (r : Rules) (T : ℕ → List ℕ → Type 0) (levels : List Level) (front more : List ℕ) (k : Kind) (shape : Shape) → FollowsBy r T levels front →
-    ((level : ℕ) (bytes : List ℕ) → level ≡ length levels → T level bytes → Opens r level k shape (bytes ++ more)) →
-    IsEnded (LeafKeeps r WithinItems) (NodeKeeps r WithinItems) (within_frames (record { kind = k; shape = shape } ∷ levels)) (front ++ more)
-head_opens r T levels front more k shape f opens =
-    let w = opens (length f.frames) f.bytes (at_level f) f.took in
-    let e : front ++ more ≡ text_around f.frames ((kind_byte k ∷ form_line w.form) ++ crlf []) =
-    longer f.frames front f.bytes more f.whole ∙ ap (text_around f.frames) w.head in
-    subst (IsEnded (LeafKeeps r WithinItems) (NodeKeeps r WithinItems) (within_frames (record { kind = k; shape = shape } ∷ levels))) (sym e)
-    (opened (LeafKeeps r WithinItems) (NodeKeeps r WithinItems) levels f.frames k w.form shape f.of_levels f.can_end w.shaped w.can_end)
-
 -- the least completion is the token's part and the levels' part
 pub begun_least : (r : Rules) (T : ℕ → List ℕ → Type 0) (levels : List Level) (front : List ℕ) (n : ℕ) → FollowsBy r T levels front →
     ((level : ℕ) (bytes : List ℕ) → level ≡ length levels → T level bytes → IsBegunBy r level bytes n) →
@@ -157,18 +146,3 @@ begun_broken r T levels front n byte f row dead =
     (λ c w. unfinished b Grammar c (subst (λ z. CompletesUnder r Grammar (length f.frames) z c) (sym b.parts) w))
     (λ c w. dead (length f.frames) f.bytes c (at_level f) f.took (subst (λ z. CompletesUnder r Grammar (length f.frames) z (byte ∷ c)) (sym b.parts) w))
     rest))
-
--- a value begins where the innermost frame has room for it
-pub value_begins : (r : Rules) (T : ℕ → List ℕ → Type 0) (levels : List Level) (front more : List ℕ) → IsBetween r levels front →
-    ((v : Level) (outer : List Level) → levels ≡ v ∷ outer → HasRoom r v) → ((level : ℕ) → level ≡ length levels → T level more) →
-    FollowsBy r T levels (front ++ more)
-value_begins r T levels front more w room took =
-    let (frames, of_levels, ready, e) = w in
-    record {
-      frames = frames;
-      bytes = more;
-      of_levels = of_levels;
-      can_end = begun_can_end r levels frames of_levels ready room;
-      took = took (length frames) (sym (same_length levels frames of_levels));
-      whole = ap (λ z. z ++ more) e ∙ around-append frames [] more;
-    }

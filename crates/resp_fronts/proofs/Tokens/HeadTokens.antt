@@ -101,17 +101,6 @@ count_opens r k first digits level bytes some w =
       can_end = ((w.count.are_digits, omega arith), subst (NodeKeeps r WithinItems level k (Counted (first ∷ digits))) (sym all) w.count.keeps);
     }
 
--- the LF of a head ends an aggregate without members
-pub count_ends_empty : (r : Rules) (k : Kind) (first : ℕ) (digits : List ℕ) (level : ℕ) (bytes : List ℕ) → members_of k (number (first ∷ digits)) ≡ 0 →
-    IsCountReturned r k first digits level bytes → CompletesUnder r WithinItems level bytes (10 ∷ [])
-count_ends_empty r k first digits level bytes empty w = record {
-  tree = node k (Counted (first ∷ digits)) none;
-  is_tree = ((w.count.are_digits, empty), tt);
-  keep = (subst (NodeKeeps r WithinItems level k (Counted (first ∷ digits))) empty w.count.keeps, tt);
-  whole = sym (append_assoc (kind_byte k ∷ first ∷ digits) (13 ∷ []) (10 ∷ [])) ∙
-      ap (λ z. z ++ 10 ∷ []) (sym (w.returned ∙ ap (λ z. z ++ 13 ∷ []) w.count.are));
-}
-
 -- no other byte goes on after the CR
 pub count_returned_broken : (r : Rules) (k : Kind) (first : ℕ) (digits : List ℕ) (level : ℕ) (bytes rest : List ℕ) (byte : ℕ) → (byte ≡ 10 → ⊥) →
     IsCountReturned r k first digits level bytes → CompletesUnder r Grammar level bytes (byte ∷ rest) → ⊥

@@ -56,15 +56,6 @@ pub returned_whole : (r : Rules) (l : Leaf) (level : ℕ) (bytes : List ℕ) →
 returned_whole r l level bytes w = line_text r l level w.begun w.line_of ∙ sym (append_assoc w.begun (13 ∷ []) (10 ∷ [])) ∙
     ap (λ z. z ++ 10 ∷ []) (sym w.returned)
 
--- the LF ends the value
-pub returned_ends : (r : Rules) (l : Leaf) (level : ℕ) (bytes : List ℕ) → IsReturned r l level bytes → CompletesUnder r WithinItems level bytes (10 ∷ [])
-returned_ends r l level bytes w = record {
-  tree = leaf l;
-  is_tree = w.line_of.is_leaf;
-  keep = w.line_of.keeps;
-  whole = returned_whole r l level bytes w;
-}
-
 -- no other byte than LF goes on after a line's CR
 pub returned_broken : (r : Rules) (l : Leaf) (level : ℕ) (bytes rest : List ℕ) (byte : ℕ) → (byte ≡ 10 → ⊥) → IsReturned r l level bytes →
     CompletesUnder r Grammar level bytes (byte ∷ rest) → ⊥

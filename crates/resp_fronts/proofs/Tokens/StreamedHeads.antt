@@ -106,29 +106,3 @@ pub streamed_too_deep : (r : Rules) (k : Kind) (level : ℕ) → HasStreamed r �
 streamed_too_deep r k level h deep can no_push = streamed_refused r WithinDepth NotStreamed k level can (λ n (within : level < r.limits.depth). omega arith)
     (λ earlier. at_each_rule (λ a. rank a ≤ 5 → NodeMeets r a level k Streamed 0) (λ e. tt) (λ e. tt) (λ e. λ is_two. absurd (h.0 is_two)) (λ e. no_push)
     (λ e. tt) (λ e. λ off. absurd (h.1 off)) (λ e. absurd (omega arith)) (λ e. tt) (λ e. absurd (omega arith)) (λ e. tt) earlier)
-
--- the head's CR LF opens the aggregate
-pub streamed_opens : (r : Rules) (k : Kind) (level : ℕ) → HasStreamed r → CanStream k 0 → IsNoPushBelow level k → level < r.limits.depth →
-    Opens r level k (so_far 0) ((kind_byte k ∷ 63 ∷ []) ++ crlf [])
-streamed_opens r k level h can no_push within_depth =
-    let none_missing : members_missing k Streamed 0 ≡ 0 = no_missing k in
-    let zero : 0 ≡ 0 + members_missing k Streamed 0 = omega arith in
-    record {
-      form = Streamed;
-      head = refl;
-      shaped = (refl, refl);
-      can_end = (
-        subst (CanStream k) zero can,
-        subst (NodeKeeps r WithinItems level k Streamed) zero
-            (node_keeps r WithinItems level k Streamed 0 (λ is_two. absurd (h.0 is_two)) no_push (λ off. absurd (h.1 off)) within_depth
-            (omega (arith, no_items k))),
-      );
-    }
-  where
-    no_missing : (k : Kind) → members_missing k Streamed 0 ≡ 0
-    no_missing Array = refl
-    no_missing _ = refl
-
-    no_items : (k : Kind) → items_of k 0 ≡ 0
-    no_items Array = refl
-    no_items _ = refl

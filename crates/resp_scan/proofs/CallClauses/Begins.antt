@@ -17,17 +17,6 @@ pub begins-append : (a b : List Event) → begin_count (a ++ b) ≡ begin_count 
 begins-append [] b = omega arith
 begins-append (x ∷ a) b = omega (arith, begins-append a b)
 
-pub one_event : (x : Event) → begin_count (x ∷ []) ≤ 1
-one_event e.Null = omega arith
-one_event (e.Bool truth) = omega arith
-one_event (e.Int number) = omega arith
-one_event (e.Text kind) = omega arith
-one_event (e.Byte byte) = omega arith
-one_event e.TextEnd = omega arith
-one_event (e.Open kind count) = omega arith
-one_event e.Close = omega arith
-one_event e.Done = omega arith
-
 pub content_begins : (bytes : List ℕ) → begin_count (content_events bytes) ≡ 0
 content_begins [] = refl
 content_begins (b ∷ bytes) = omega (arith, content_begins bytes)

@@ -23,15 +23,6 @@ plain_run_take zero (b ∷ bs) few = grind (arith, nat_tests)
 plain_run_take (suc m) [] few = refl
 plain_run_take (suc m) (b ∷ bs) few = grind (arith, nat_tests, plain_run_take m bs)
 
--- a run of digits is no longer than the piece
-pub digit_run_le : (p : List ℕ) → digit_run p ≤ length p
-digit_run_le [] = omega arith
-digit_run_le (b ∷ bs) =
-    elim (is_digit b) as (λ v. cond v (digit_run bs + 1) 0 ≤ length (b ∷ bs)) [
-      | true ↦ omega (arith, digit_run_le bs)
-      | false ↦ omega arith
-    ]
-
 -- the first CR or LF is the first LF before the first CR
 pub plain_run-run_to : (p : List ℕ) → plain_run p ≡ run_to 10 (take (run_to 13 p) p)
 plain_run-run_to [] = refl

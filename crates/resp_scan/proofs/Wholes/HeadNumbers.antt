@@ -72,17 +72,6 @@ some_digit text kind n m first line after rest found ends is size b =
     let same : length b.digits ≡ length found.digits = ap length (all_digits text kind n m first line after rest found ends is b).0 in
     omega (arith, whole, same, size, b.counted.0.0)
 
--- digits, CR and LF after a type byte are a head
-pub head_found : (text : List ℕ) (kind m first : ℕ) (line after rest : List ℕ) → BeginsWithDigits line m after → text ≡ first ∷ line → first ≡ kind →
-    (length after ≡ length line → ⊥) → after ≡ crlf rest → BeginsWithHead text kind m rest
-head_found text kind m first line after rest found is same some ends =
-    let whole : length line ≡ length found.digits + length after = ap length found.whole ∙ length-append found.digits after in
-    record {
-      digits = found.digits;
-      counted = ((omega (arith, whole, some), found.are), found.counted);
-      whole = is ∙ ap (λ k. k ∷ line) same ∙ ap (λ l. kind ∷ l) (found.whole ∙ ap (λ l. found.digits ++ l) ends);
-    }
-
 -- what holds in any case holds where nothing was found
 pub holds_at_none : {T P : Type 0} (result : Option T) → P → IfNone result P
 holds_at_none None p = p
@@ -91,14 +80,6 @@ holds_at_none (Some found) p = tt
 -- the bytes from a place on, by the first
 pub byte_first : (text : List ℕ) (n : ℕ) → n < length text → drop n text ≡ get_or text n 0 ∷ drop (n + 1) text
 byte_first text n within = drop-cons text n 0 within ∙ (let e : suc n ≡ n + 1 = omega arith in ap (λ k. get_or text n 0 ∷ drop k text) e)
-
--- CR LF at a place
-pub line_end_there : (text : List ℕ) (n : ℕ) → n + 2 ≤ length text → get_or text n 0 ≡ 13 → get_or text (n + 1) 0 ≡ 10 →
-    drop n text ≡ crlf (drop (n + 2) text)
-line_end_there text n within cr lf =
-    byte_first text n (omega (arith, within)) ∙ ap (λ b. b ∷ drop (n + 1) text) cr ∙
-    ap (λ l. 13 ∷ l) (byte_first text (n + 1) (omega (arith, within)) ∙ ap (λ b. b ∷ drop (n + 1 + 1) text) lf ∙
-    (let e : n + 1 + 1 ≡ n + 2 = omega arith in ap (λ k. 10 ∷ drop k text) e))
 
 -- no CR LF at a place
 pub no_line_end : (text : List ℕ) (n : ℕ) (rest : List ℕ) → drop n text ≡ crlf rest →
