@@ -1,22 +1,11 @@
 //! How a command is answered, from its words.
 
-ghost use Rattle.std.specs.Prelude.{◌≡◌, ◌≤◌, [], ◌∷◌, ℕ, List, codes, map};
-ghost use Rattle.std.specs.Char.{to_ascii_lowercase};
-ghost use Rattle.std.specs.List.{list_any};
-ghost use Rattle.resp_session.specs.Operations.{is_name};
-ghost use Rattle.resp_session.specs.Requests.{is_unsent, unsent_names};
+ghost use Rattle.std.specs.Prelude.{◌≡◌, ◌≤◌, [], ◌∷◌, ℕ, List};
+ghost use Rattle.resp_session.specs.Requests.{is_unsent};
 ghost use Rattle.resp_c.specs.CommandKinds.{is_subscribing, kind_of_command, kind_of_version};
 
 use crate::number;
-
-/// Returns whether a word is this name in upper, lower or mixed case. The name is given in lower
-/// case.
-fn is_name(word: &[u8], name: &[u8]) -> bool
-    requires { map to_ascii_lowercase name.now ≡ name.now }
-    ensures { result ≡ is_name name.now word.now }
-{
-    word.eq_ignore_ascii_case(name)
-}
+use resp_session::names::{is_name, is_unsent_name};
 
 /// Returns whether a command of this name subscribes or unsubscribes.
 fn is_subscribing(name: &[u8]) -> bool
@@ -28,23 +17,6 @@ fn is_subscribing(name: &[u8]) -> bool
         || is_name(name, b"punsubscribe")
         || is_name(name, b"ssubscribe")
         || is_name(name, b"sunsubscribe")
-}
-
-/// Returns whether a command of this name does not have exactly one reply, or changes the version.
-fn is_unsent_name(name: &[u8]) -> bool
-    ensures { result ≡ list_any (λ unsent. is_name unsent name.now) unsent_names }
-{
-    is_name(name, b"hello")
-        || is_name(name, b"subscribe")
-        || is_name(name, b"unsubscribe")
-        || is_name(name, b"psubscribe")
-        || is_name(name, b"punsubscribe")
-        || is_name(name, b"ssubscribe")
-        || is_name(name, b"sunsubscribe")
-        || is_name(name, b"monitor")
-        || is_name(name, b"sync")
-        || is_name(name, b"psync")
-        || is_name(name, b"reset")
 }
 
 /// Returns whether a client does not send a command of one word.

@@ -1,11 +1,10 @@
 //! The names under which commands are counted.
 
 ghost use Rattle.std.specs.Prelude.{◌≡◌, ◌≤◌, ℕ, List, [], ◌∷◌, ◌++◌, length, map, take, codes, nat_le, true};
-ghost use Rattle.std.specs.Char.{to_ascii_lowercase};
-ghost use Rattle.resp_session.specs.Operations.{is_name};
 ghost use Rattle.resp_counts.specs.Names.{full_name, has_subcommands, name_byte, table_name};
 
 use arrayvec::ArrayVec;
+use resp_session::names::is_name;
 use resp_session::words::Words;
 
 /// The most bytes of a name.
@@ -26,14 +25,6 @@ fn name_byte(byte: u8) -> u8
     } else {
         b'?'
     }
-}
-
-/// Returns whether the word is this name in lower case.
-fn is_name(word: &[u8], name: &[u8]) -> bool
-    requires { map to_ascii_lowercase name.now ≡ name.now }
-    ensures { result ≡ is_name name.now word.now }
-{
-    word.eq_ignore_ascii_case(name)
 }
 
 /// Returns whether a command of this name has subcommands.

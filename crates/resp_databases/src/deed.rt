@@ -13,6 +13,7 @@ ghost use Rattle.resp_databases.specs.declared.refusal.Verb.TheVariants as verb;
 use crate::index::index_of;
 use crate::refusal::{Refusal, Verb};
 use resp_scan::whole::Words;
+use resp_session::names::is_name;
 use resp_value::version::Version;
 
 /// What a command asks for.
@@ -46,21 +47,6 @@ pub(crate) enum Deed<'a> {
     Refused(Refusal),
     /// Reply that CLIENT has no such subcommand.
     UnknownSubcommand(&'a [u8]),
-}
-
-/// Returns whether a word is this name in upper, lower or mixed case. The name is in lower case.
-fn is_name(word: &[u8], name: &[u8]) -> bool
-    ensures { result ≡ spec.is_name name.now word.now }
-{
-    if word.len() != name.len() {
-        return false;
-    }
-    for index in 0..name.len() {
-        if word[index].to_ascii_lowercase() != name[index] {
-            return false;
-        }
-    }
-    true
 }
 
 /// Returns what the command of this name with these words after it asks for.

@@ -1,7 +1,8 @@
 -- What commands ask for that concern the setting of their client.
 use Rattle.std.specs.Prelude.{◌≡◌, ℕ, Bool, List, [], ◌∷◌, Option, None, Some, unwrap_or, if◌then◌else◌, codes}
 use Rattle.std.specs.Option.{option_map}
-use Rattle.std.specs.Str.{bytes_eq, str_to_ascii_lowercase}
+use Rattle.std.specs.Str.{bytes_eq}
+use Rattle.resp_session.specs.Operations.{is_name}
 use Rattle.resp_proxy.specs.declared.setting.Login.{Login as OwnedLogin}
 use Rattle.resp_proxy.specs.declared.setting.Setting.{Setting}
 use Rattle.resp_proxy.specs.declared.wish.Account.{Account as LentAccount}
@@ -32,10 +33,6 @@ pub data Asked : Type 0 where
   Unclear : Asked
   -- another command
   Other : Asked
-
--- whether the word is this name in upper, lower or mixed case
-abbrev pub is_name : List ℕ → List ℕ → Bool
-is_name name word = bytes_eq (str_to_ascii_lowercase word) name
 
 -- the version that a word asks for
 abbrev pub version_asked : List ℕ → Option Version

@@ -1,12 +1,13 @@
 //! Commands that ask for another setting.
 
 ghost use Rattle.std.specs.Prelude.{◌≡◌, ◌∷◌, ℕ, List, IfNone, IfSome};
-ghost use Rattle.resp_proxy.specs.Wishes.{account_asked, account_lent, asked_by, asked_in, auth_asked, both_asked, hello_asked, is_name, name_asked, options_asked, reset_asked, select_asked, version_asked};
+ghost use Rattle.resp_proxy.specs.Wishes.{account_asked, account_lent, asked_by, asked_in, auth_asked, both_asked, hello_asked, name_asked, options_asked, reset_asked, select_asked, version_asked};
 ghost use Rattle.resp_scan.specs.Whole.{BeginsWith};
 ghost use Rattle.resp_value.specs.Words.{command_of};
 
 use resp_scan::whole;
 use resp_scan::whole::Words;
+use resp_session::names::is_name;
 use resp_value::limits::Limits;
 use resp_value::version::Version;
 
@@ -223,20 +224,4 @@ fn reset(mut words: Words<'_>) -> Wish<'_>
         None => Wish::Reset,
         Some(_) => Wish::Unclear,
     }
-}
-
-/// Returns whether a word is this name in upper, lower or mixed case. The name is given in lower
-/// case.
-fn is_name(word: &[u8], name: &[u8]) -> bool
-    ensures { result ≡ is_name name.now word.now }
-{
-    if word.len() != name.len() {
-        return false;
-    }
-    for index in 0..name.len() {
-        if word[index].to_ascii_lowercase() != name[index] {
-            return false;
-        }
-    }
-    true
 }

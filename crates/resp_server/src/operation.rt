@@ -7,6 +7,7 @@ ghost use Rattle.resp_server.specs.Words.{words_left};
 
 use crate::refusal::{Refusal, Verb};
 use crate::words::Words;
+use resp_session::names::is_name;
 use resp_value::version::Version;
 
 /// The condition of a SET.
@@ -37,23 +38,6 @@ pub(crate) enum Operation<'a> {
     Hello(Option<Version>),
     /// Reply with an error.
     Refused(Refusal),
-}
-
-/// Returns whether a word is this name in upper, lower or mixed case. The name is given in lower
-/// case, so only the word is changed to lower case.
-#[inline(always)]
-fn is_name(word: &[u8], name: &[u8]) -> bool
-    ensures { result ≡ spec.is_name name.now word.now }
-{
-    if word.len() != name.len() {
-        return false;
-    }
-    for index in 0..name.len() {
-        if word[index].to_ascii_lowercase() != name[index] {
-            return false;
-        }
-    }
-    true
 }
 
 /// Returns the command of this name, or `None` if the name is unknown.

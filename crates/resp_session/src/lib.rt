@@ -5,4 +5,5 @@
 #![tactic(auto)]
 
 pub mod laws;
+pub mod names;
 pub mod words;

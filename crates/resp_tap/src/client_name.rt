@@ -1,14 +1,13 @@
 //! The name that a client has given to its connection.
 
-ghost use Rattle.std.specs.Prelude.{◌≡◌, ◌<◌, ℕ, None, [], length, map, option_map};
-ghost use Rattle.std.specs.Char.{to_ascii_lowercase};
+ghost use Rattle.std.specs.Prelude.{◌≡◌, ◌<◌, ℕ, None, [], length, option_map};
 ghost use Rattle.resp_session.specs.Operations.{is_name};
 ghost use Rattle.resp_tap.specs.ClientNames.{Naming, heard_by, name_asked, name_in_hello, named_after, naming_of, option_at, shown_byte, shown_name, asked_by};
 
-use crate::kind::is_name;
 use crate::line::is_refusal;
 use crate::seen::Seen;
 use arrayvec::ArrayVec;
+use resp_session::names::is_name;
 use resp_session::words::Words;
 use std::mem;
 
@@ -48,7 +47,6 @@ fn shown_name(name: &[u8]) -> ArrayVec<u8, MOST>
 /// Returns the word after the word at this index, if that one is this option in lower case.
 fn option_at<'a>(words: &'a Words, index: usize, option: &[u8]) -> Option<&'a [u8]>
     requires near { index < 8 }
-    requires lower { map to_ascii_lowercase option.now ≡ option.now }
     ensures { option_map (λ name. name.now) result ≡ option_at option.now index words.now }
 {
     if index + 1 < words.len() && is_name(words.word(index), option) {

@@ -1,11 +1,11 @@
 //! How a command is answered.
 
-ghost use Rattle.std.specs.Prelude.{◌≡◌, ◌-◌, ◌<◌, drop, length, map};
-ghost use Rattle.std.specs.Char.{to_ascii_lowercase};
+ghost use Rattle.std.specs.Prelude.{◌≡◌, ◌-◌, ◌<◌, drop, length};
 ghost use Rattle.std.specs.List.{list_any};
 ghost use Rattle.resp_session.specs.Operations.{is_name};
 ghost use Rattle.resp_tap.specs.Kinds.{are_unanswered, begins_with_name, command_kind, ends_pairing, has_word, kind_by_verb, unpairing_names, verb_named, version_worded};
 
+use resp_session::names::is_name;
 use resp_session::words::Words;
 use resp_value::version::Version;
 
@@ -44,17 +44,8 @@ pub enum CommandKind {
     Unpairing,
 }
 
-/// Returns whether `word` is `name`, which is in lower case. The case of `word` does not matter.
-pub(crate) fn is_name(word: &[u8], name: &[u8]) -> bool
-    requires { map to_ascii_lowercase name.now ≡ name.now }
-    ensures { result ≡ is_name name.now word.now }
-{
-    word.eq_ignore_ascii_case(name)
-}
-
 /// Returns whether the word after the name of a command is `name`, which is in lower case.
 pub(crate) fn has_subcommand(words: &Words, name: &[u8]) -> bool
-    requires { map to_ascii_lowercase name.now ≡ name.now }
     ensures { result ≡ begins_with_name name.now (drop 1 words.now) }
 {
     words.len() > 1 && is_name(words.word(1), name)
@@ -69,7 +60,6 @@ fn is_unpairing_name(name: &[u8]) -> bool
 
 /// Returns whether one of the words after the name of a command is `name`, which is in lower case.
 fn has_argument(words: &Words, name: &[u8]) -> bool
-    requires { map to_ascii_lowercase name.now ≡ name.now }
     ensures { result ≡ has_word name.now (drop 1 words.now) }
 {
     let mut index = 1;

@@ -1,12 +1,12 @@
 //! The secret words of commands, such as passwords.
 
-ghost use Rattle.std.specs.Prelude.{◌≡◌, ℕ, ◌-◌, List, length, map, max};
-ghost use Rattle.std.specs.Char.{to_ascii_lowercase};
+ghost use Rattle.std.specs.Prelude.{◌≡◌, ℕ, ◌-◌, List, length, max};
 ghost use Rattle.std.specs.List.{list_any};
 ghost use Rattle.resp_session.specs.Operations.{is_name};
 ghost use Rattle.resp_tap.specs.Secrets.{AreLeft, is_secret_after, secret_settings, secrets_after, secrets_of};
 
-use crate::kind::{has_subcommand, is_name};
+use crate::kind::has_subcommand;
+use resp_session::names::is_name;
 use resp_session::words::Words;
 
 /// Which words of a command are secret.

@@ -3,7 +3,7 @@ use Rattle.std.specs.Char.{to_ascii_lowercase}
 use Rattle.std.specs.Cmp.Lexicographic.{bytes_decides}
 use Rattle.std.specs.Str.{bytes_eq, str_to_ascii_lowercase}
 use Rattle.std.proofs.lemmas.List.{ext_get_or, get_or-map, length-map}
-use Rattle.resp_proxy.proofs.wish.is_name.Goals as goal
+use Rattle.resp_session.proofs.names.is_name.Goals as goal
 
 -- other bytes are told apart
 not_same : (a b : List ℕ) → (a ≡ b → ⊥) → bytes_eq a b ≡ false

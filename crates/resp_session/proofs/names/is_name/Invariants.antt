@@ -1,6 +1,6 @@
 use Rattle.std.proofs.Common.{◌≡◌, ℕ, ◌<◌, get_or}
 use Rattle.std.specs.Char.{to_ascii_lowercase}
-use Rattle.resp_databases.proofs.deed.is_name.Given as goal
+use Rattle.resp_session.proofs.names.is_name.Given as goal
 
 abbrev pub invariant-loop-index : goal.invariant-loop-index
 invariant-loop-index l = record {
