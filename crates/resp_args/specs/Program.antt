@@ -85,10 +85,14 @@ version_options versions = value_option (codes "proto") versions (codes "2") ∷
 abbrev pub explained_file : List Rule
 explained_file = flag_option (codes "explain") ∷ flag_option (codes "no-explain") ∷ file_word ∷ []
 
+-- the options of `show`, `check` and `canon` after those that limit values
+abbrev pub reading_options : List Rule
+reading_options = flag_option (codes "doubles") ∷ size_option (codes "piece") (codes "4K") ∷ style_options ++
+    flag_option (codes "json") ∷ explained_file
+
 -- the options of `show`, `check` and `canon`, with these versions for `--proto`
 abbrev pub stream_options : ValueParser → List Rule
-stream_options versions = version_options versions ++ limit_options ++ flag_option (codes "doubles") ∷
-    size_option (codes "piece") (codes "4K") ∷ style_options ++ flag_option (codes "json") ∷ explained_file
+stream_options versions = version_options versions ++ limit_options ++ reading_options
 
 -- the options of `loop`
 abbrev pub loop_options : List Rule
@@ -98,14 +102,21 @@ loop_options = explained_file
 abbrev pub address_word : Text → Rule
 address_word name = record (new_rule name) { value_names = 1; required = true }
 
+-- the most clients at once
+abbrev pub clients_option : Rule
+clients_option = range_option (codes "clients") (vp.Unsigned 1 65536)
+
 -- the options of `serve`, `tap` and `proxy`, followed by those that only one of them has
 abbrev pub listening_options : List Rule → List Rule
-listening_options others = limit_options ++ range_option (codes "clients") (vp.Unsigned 1 65536) ∷ others
+listening_options others = limit_options ++ clients_option ∷ others
+
+-- the options that only `serve` has
+abbrev pub serving_options : List Rule
+serving_options = size_option (codes "held") (codes "1M") ∷ flag_option (codes "test-server") ∷ address_word (codes "address") ∷ []
 
 -- the options of `serve`
 abbrev pub serve_options : List Rule
-serve_options = listening_options
-    (size_option (codes "held") (codes "1M") ∷ flag_option (codes "test-server") ∷ address_word (codes "address") ∷ [])
+serve_options = listening_options serving_options
 
 -- the options of `tap` that say which commands are printed
 abbrev pub filter_options : List Rule
@@ -125,18 +136,25 @@ abbrev pub traffic_options : List Rule
 traffic_options = name_option (codes "record") ∷ name_option (codes "replay") ∷
     number_option (codes "port") 0 65535 (codes "0") ∷ []
 
+-- the options of `tap` that say what is printed
+abbrev pub watching_options : List Rule
+watching_options = flag_option (codes "time") ∷ filter_options ++ stats_options
+
+-- the other options of `tap`, and the addresses
+abbrev pub printing_options : List Rule
+printing_options =
+    flag_option (codes "exit-with-output") ∷ flag_option (codes "keep-going") ∷ flag_option (codes "no-inline") ∷
+    flag_option (codes "show-passwords") ∷ size_option (codes "shown") (codes "1K") ∷ traffic_options ++ style_options ++
+    flag_option (codes "json") ∷ optional_word (codes "listen") ∷ optional_word (codes "server") ∷ []
+
 -- the options of `tap`
 abbrev pub tap_options : List Rule
-tap_options = listening_options
-    (flag_option (codes "time") ∷ filter_options ++ stats_options ++
-    flag_option (codes "exit-with-output") ∷ flag_option (codes "keep-going") ∷ flag_option (codes "no-inline") ∷
-    flag_option (codes "show-passwords") ∷ size_option (codes "shown") (codes "1K") ∷ traffic_options ++ style_options ++ flag_option (codes "json") ∷
-    optional_word (codes "listen") ∷ optional_word (codes "server") ∷ [])
+tap_options = listening_options (watching_options ++ printing_options)
 
--- the options of `proxy`
-abbrev pub proxy_options : List Rule
-proxy_options = listening_options
-    (number_option (codes "own") 0 65536 (codes "1000") ∷
+-- the options of `proxy` that are numbers
+abbrev pub sharing_options : List Rule
+sharing_options =
+    number_option (codes "own") 0 65536 (codes "1000") ∷
     number_option (codes "lines") 1 256 (codes "16") ∷
     number_option (codes "waiting") 1 1048576 (codes "1024") ∷
     size_option (codes "held") (codes "1M") ∷
@@ -144,10 +162,17 @@ proxy_options = listening_options
     size_option (codes "unsent") (codes "1M") ∷
     number_option (codes "patience") 1 3600000 (codes "5000") ∷
     number_option (codes "report") 0 86400 (codes "0") ∷
-    number_option (codes "check-every") 0 1000000000 (codes "0") ∷
-    flag_option (codes "local-ping") ∷ flag_option (codes "no-inline") ∷ flag_option (codes "drain") ∷
+    number_option (codes "check-every") 0 1000000000 (codes "0") ∷ []
+
+-- the other options of `proxy`, and the addresses
+abbrev pub replying_options : List Rule
+replying_options = flag_option (codes "local-ping") ∷ flag_option (codes "no-inline") ∷ flag_option (codes "drain") ∷
     name_option (codes "also") ∷ flag_option (codes "check") ∷ flag_option (codes "all") ∷
-    address_word (codes "listen") ∷ address_word (codes "server") ∷ [])
+    address_word (codes "listen") ∷ address_word (codes "server") ∷ []
+
+-- the options of `proxy`
+abbrev pub proxy_options : List Rule
+proxy_options = listening_options (sharing_options ++ replying_options)
 
 -- the words of a command: an argument without a name, to which all words after its first one belong
 abbrev pub command_word : Rule
@@ -163,9 +188,13 @@ asking_options = short_flag_option (codes "three") 51 ∷ name_option (codes "us
     number_option (codes "window") 1 65536 (codes "1000") ∷ flag_option (codes "raw") ∷ flag_option (codes "count") ∷
     style_options ++ flag_option (codes "json") ∷ []
 
+-- the address of the server, and the words of a command
+abbrev pub server_and_words : List Rule
+server_and_words = address_word (codes "server") ∷ command_word ∷ []
+
 -- the options of `ask`
 abbrev pub ask_options : List Rule
-ask_options = asking_options ++ limit_options ++ address_word (codes "server") ∷ command_word ∷ []
+ask_options = asking_options ++ limit_options ++ server_and_words
 
 -- ---- subcommands
 

@@ -1,125 +1,138 @@
 //! An option or an argument of a subcommand.
 
-ghost use Rattle.std.specs.Prelude.{◌≡◌, Some, false};
-ghost use Rattle.clap.specs.Words.{rule_of};
-ghost use Rattle.resp_args.specs.Program.{numbers_between};
-ghost use Rattle.resp_args.specs.Tables.{parameter_rule};
+ghost use Rattle.std.specs.Prelude.{◌≡◌, ◌++◌, OnOk, map};
+ghost use Rattle.clap.specs.Words.{new_rule, rule_of};
+ghost use Rattle.resp_args.specs.Tables.{here, local_rule, parameter_rule, with_check, with_fallback, with_presence};
 
 use clap::{Arg, ArgAction};
-use std::alloc::Global;
+use std::alloc::{AllocError, Global};
 
-/// An option or an argument of a subcommand, as the parser and its help know it.
+/// An option or an argument of a subcommand, as the parser and its help know it. It begins with the
+/// name by which its values are found, and ends with its help.
 #[derive(Clone, Copy)]
-pub(crate) struct Parameter {
-    /// Its values are found by this name. A long option is this name after two dashes.
-    pub(crate) name: &'static str,
-    pub(crate) form: Form,
-    pub(crate) help: &'static str,
-}
-
-/// How a parameter is written on the command line.
-#[derive(Clone, Copy)]
-pub(crate) enum Form {
+pub(crate) enum Parameter {
     /// `--name`
-    Flag,
+    Flag(&'static str, &'static str),
     /// A dash and this character.
-    ShortFlag(char),
-    /// `--name N`, with a number in this range.
-    Number {
-        least: i64,
-        most: i64,
-        default: &'static str,
-        hides_default: bool,
-    },
-    /// `--name N`, with a number in this range, and without a default.
-    NumberIfGiven {
-        least: i64,
-        most: i64,
-    },
-    /// `--name N`, with a number of bytes such as `64K`.
-    Size {
-        default: &'static str,
-    },
-    /// `--name VALUE`, with one of these values.
-    Choice {
-        value_name: &'static str,
-        values: &'static [&'static str],
-        default: &'static str,
-    },
-    /// `--name VALUE`, with any text.
-    Text {
-        value_name: &'static str,
-    },
-    /// An argument that has to be there.
-    Required {
-        value_name: &'static str,
-    },
-    /// An argument that may be missing.
-    Word {
-        value_name: &'static str,
-    },
-    /// An argument with a default.
-    Optional {
-        value_name: &'static str,
-        default: &'static str,
-    },
-    /// An argument to which all words after its first one belong, even if they begin with a dash.
-    Rest {
-        value_name: &'static str,
-    },
+    ShortFlag(&'static str, char, &'static str),
+    /// `--name VALUE`, with what help calls the value.
+    Value(&'static str, &'static str, Check, Fallback, &'static str),
+    /// An argument, with what help calls it.
+    Word(&'static str, &'static str, Presence, &'static str),
 }
 
-impl Parameter {
-    /// Returns the argument for the parser.
-    pub(crate) fn arg<'a>(&self, alloc: Global) -> Arg<'a>
-        ensures rule { rule_of result ≡ parameter_rule self.now }
-        ensures here { result.global ≡ false }
-    {
-        let arg = Arg::new(alloc, self.name).help(self.help);
-        match self.form {
-            Form::Flag => arg.long(self.name).action(ArgAction::SetTrue),
-            Form::ShortFlag(short) => arg.short(short).action(ArgAction::SetTrue),
-            Form::Number {
-                least,
-                most,
-                default,
-                hides_default,
-            } => in_range(arg.long(self.name).value_name("N"), least, most)
-                .default_value(default)
-                .hide_default_value(hides_default),
-            Form::NumberIfGiven { least, most } => in_range(
-                arg.long(self.name).value_name("N"),
-                least,
-                most,
-            ),
-            Form::Size { default } => arg.long(self.name).value_name("N").default_value(default),
-            Form::Choice {
-                value_name,
-                values,
-                default,
-            } => arg
-                .long(self.name)
-                .value_name(value_name)
-                .value_parser(values)
-                .default_value(default),
-            Form::Text { value_name } => arg.long(self.name).value_name(value_name),
-            Form::Required { value_name } => arg.value_name(value_name).required(true),
-            Form::Word { value_name } => arg.value_name(value_name),
-            Form::Optional {
-                value_name,
-                default,
-            } => arg.value_name(value_name).default_value(default),
-            Form::Rest { value_name } => arg
-                .value_name(value_name)
-                .num_args(1..)
-                .trailing_var_arg(true),
+/// The values of an option.
+#[derive(Clone, Copy)]
+pub(crate) enum Check {
+    /// Any text.
+    Any,
+    /// A number in this range.
+    Between(i64, i64),
+    /// One of these texts.
+    OneOf(&'static [&'static str]),
+}
+
+/// The value of an option that is not given.
+#[derive(Clone, Copy)]
+pub(crate) enum Fallback {
+    /// No value.
+    Nothing,
+    /// This value, which help shows.
+    Shown(&'static str),
+    /// This value, which help does not show.
+    Hidden(&'static str),
+}
+
+/// Whether an argument may be missing.
+#[derive(Clone, Copy)]
+pub(crate) enum Presence {
+    /// It has to be there.
+    Required,
+    /// It may be missing.
+    Optional,
+    /// It has this value if it is missing.
+    Default(&'static str),
+    /// It may be missing. All words after its first one belong to it, even if they begin with a
+    /// dash.
+    Rest,
+}
+
+/// Adds the arguments for the parser of these parameters.
+pub(crate) fn add<'a>(
+    alloc: Global,
+    args: &mut Vec<Arg<'a>>,
+    parameters: &[Parameter],
+) -> Result<(), AllocError>
+    ensures { OnOk result (map local_rule args.new.items ≡ map local_rule args.old.items
+        ++ map here (map parameter_rule parameters.now)) }
+{
+    for parameter in parameters {
+        args.push(arg(alloc, *parameter))?;
+    }
+    Ok(())
+}
+
+/// Returns the argument for the parser.
+fn arg<'a>(alloc: Global, parameter: Parameter) -> Arg<'a>
+    ensures { local_rule result ≡ here (parameter_rule parameter) }
+{
+    match parameter {
+        Parameter::Flag(name, help) => named(alloc, name, help)
+            .long(name)
+            .action(ArgAction::SetTrue),
+        Parameter::ShortFlag(name, short, help) => named(alloc, name, help)
+            .short(short)
+            .action(ArgAction::SetTrue),
+        Parameter::Value(name, value_name, check, fallback, help) => {
+            let arg = named(alloc, name, help).long(name).value_name(value_name);
+            with_fallback(with_check(arg, check), fallback)
         }
+        Parameter::Word(name, value_name, presence, help) => with_presence(
+            named(alloc, name, help).value_name(value_name),
+            presence,
+        ),
     }
 }
 
-/// Returns the argument with a number in this range as its value.
-fn in_range<'a>(arg: Arg<'a>, least: i64, most: i64) -> Arg<'a>
-    ensures { result ≡ record arg.entry { value_parser = Some (numbers_between least most) } }
+/// Returns an argument with this name and this help.
+fn named<'a>(alloc: Global, name: &'a str, help: &'a str) -> Arg<'a>
+    ensures { local_rule result ≡ here (new_rule name.entry.now) }
 {
-    arg.value_parser(clap::value_parser!(u64).range(least..=most))
+    Arg::new(alloc, name).help(help)
+}
+
+/// Returns the argument with these values.
+fn with_check<'a>(arg: Arg<'a>, check: Check) -> Arg<'a>
+    ensures { local_rule result ≡ (with_check check (rule_of arg.entry), arg.entry.global) }
+{
+    match check {
+        Check::Any => arg,
+        Check::Between(least, most) => {
+            arg.value_parser(clap::value_parser!(u64).range(least..=most))
+        }
+        Check::OneOf(values) => arg.value_parser(values),
+    }
+}
+
+/// Returns the argument with this value if it is not given.
+fn with_fallback<'a>(arg: Arg<'a>, fallback: Fallback) -> Arg<'a>
+    ensures { local_rule result ≡ (with_fallback fallback (rule_of arg.entry), arg.entry.global) }
+{
+    match fallback {
+        Fallback::Nothing => arg,
+        Fallback::Shown(value) => arg.default_value(value),
+        Fallback::Hidden(value) => arg.default_value(value).hide_default_value(true),
+    }
+}
+
+/// Returns the argument, which may be missing or not.
+fn with_presence<'a>(arg: Arg<'a>, presence: Presence) -> Arg<'a>
+    ensures { local_rule result ≡ (with_presence presence (rule_of arg.entry), arg.entry.global) }
+{
+    match presence {
+        Presence::Required => arg.required(true),
+        Presence::Optional => arg,
+        Presence::Default(value) => arg.default_value(value),
+        Presence::Rest => arg.num_args(1..).trailing_var_arg(true),
+    }
 }

@@ -4,11 +4,11 @@ ghost use Rattle.std.specs.Prelude.{◌≡◌, IfOk, false, map};
 ghost use Rattle.clap.specs.Words.{App};
 ghost use Rattle.resp_args.specs.CommandWords.{FindsWords};
 ghost use Rattle.resp_args.specs.Program.{IsProgram, IsTask, bare_app};
-ghost use Rattle.resp_args.specs.Tables.{subcommand_app, with_subcommands};
+ghost use Rattle.resp_args.specs.Tables.{here, local_app, local_rule, rules_in, subcommand_app, with_subcommands};
 
-use crate::parameter::Parameter;
+use crate::parameter::{Parameter, add};
 use crate::subcommands::subcommands;
-use clap::{ArgMatches, Command};
+use clap::{Arg, ArgMatches, Command};
 use std::alloc::{AllocError, Global};
 use std::convert::AsStr;
 
@@ -25,8 +25,8 @@ const EXAMPLES: &str = r"Examples:
 pub(crate) struct Subcommand {
     pub(crate) name: &'static str,
     pub(crate) about: &'static str,
-    /// Its options, and then its arguments in their order.
-    pub(crate) parameters: &'static [Parameter],
+    /// Its options, and then its arguments in their order, in three parts.
+    pub(crate) parameters: [&'static [Parameter]; 3],
     /// The end of its help.
     pub(crate) after_help: &'static str,
 }
@@ -36,13 +36,23 @@ impl Subcommand {
     fn command<'a>(&self, alloc: Global) -> Result<Command<'a>, AllocError>
         ensures { IfOk result (λ command. IsTask command (subcommand_app self.now)) }
     {
-        let mut command = Command::new(alloc, self.name)
+        let args = self.args(alloc)?;
+        Command::new(alloc, self.name)
             .about(self.about)
-            .after_help(self.after_help);
-        for parameter in self.parameters {
-            command = command.arg(parameter.arg(alloc))?;
+            .after_help(self.after_help)
+            .args(args)
+    }
+
+    /// Returns its parameters for the parser.
+    fn args<'a>(&self, alloc: Global) -> Result<Vec<Arg<'a>>, AllocError>
+        ensures { IfOk result (λ args. map local_rule args.items
+            ≡ map here (rules_in self.now.parameters)) }
+    {
+        let mut args = Vec::new(alloc);
+        for part in &self.parameters {
+            add(alloc, &mut args, part)?;
         }
-        Ok(command)
+        Ok(args)
     }
 }
 
@@ -65,23 +75,29 @@ pub(crate) fn matches_of<'a, S: AsStr>(
 fn program<'a>(alloc: Global, subcommands: &[Subcommand]) -> Result<Command<'a>, AllocError>
     ensures { IfOk result (λ command. IsTask command (with_subcommands bare_app subcommands.now)) }
 {
-    let mut program = bare_program(alloc)?;
+    let commands = commands(alloc, subcommands)?;
+    bare_program(alloc).subcommands(commands)?.bin_name("resp")
+}
+
+/// Returns these subcommands for the parser.
+fn commands<'a>(alloc: Global, subcommands: &[Subcommand]) -> Result<Vec<Command<'a>>, AllocError>
+    ensures { IfOk result (λ commands. map local_app commands.items
+        ≡ map here (map subcommand_app subcommands.now)) }
+{
+    let mut commands = Vec::new(alloc);
     for subcommand in subcommands {
-        program = program.subcommand(subcommand.command(alloc)?)?;
+        commands.push(subcommand.command(alloc)?)?;
     }
-    Ok(program)
+    Ok(commands)
 }
 
 /// Returns the parser of the program without subcommands.
-fn bare_program<'a>(alloc: Global) -> Result<Command<'a>, AllocError>
-    ensures { IfOk result (λ command. IsTask command bare_app) }
+fn bare_program<'a>(alloc: Global) -> Command<'a>
+    ensures { IsTask result bare_app }
 {
-    let program = Command::new(alloc, "resp").bin_name("resp")?;
-    Ok(
-        program
-            .version("0.2.0")
-            .about("Tools for RESP2 and RESP3, the wire protocol of Redis")
-            .after_help(EXAMPLES)
-            .subcommand_required(true),
-    )
+    Command::new(alloc, "resp")
+        .version("0.2.0")
+        .about("Tools for RESP2 and RESP3, the wire protocol of Redis")
+        .after_help(EXAMPLES)
+        .subcommand_required(true)
 }

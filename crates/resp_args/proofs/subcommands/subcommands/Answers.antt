@@ -1,7 +1,22 @@
 use Rattle.std.proofs.Common.{refl}
-use Rattle.clap.specs.declared.builder.value_parser.ValueParser.TheVariants as vp
-use Rattle.resp_args.proofs.CommandLemmas.{names_take_versions}
 use Rattle.resp_args.proofs.subcommands.subcommands.Goals as goal
 
 pub returns : goal.returns
-returns c = (vp.Names _, names_take_versions _ refl, refl)
+returns c = (
+  c.versions.ensures.0,
+  c.versions.ensures.1,
+  rw (
+    c.versions.ensures.2,
+    c.limits-limits.ensures,
+    c.reading.ensures,
+    c.script.ensures,
+    c.serving.ensures,
+    c.watching.ensures,
+    c.printing.ensures,
+    c.sharing.ensures,
+    c.replying.ensures,
+    c.asking.ensures,
+    c.words.ensures,
+  )
+      refl,
+)

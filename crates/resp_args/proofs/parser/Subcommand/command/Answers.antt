@@ -1,8 +1,15 @@
-use Rattle.std.proofs.Common.{◌<◌, arith, length}
-use Rattle.resp_args.proofs.TaskLemmas.{is_task_with_next}
+use Rattle.std.proofs.Common.{rules}
+use Rattle.std.proofs.lemmas.Result.{IfOk-weaker}
+use Rattle.clap.specs.Words.{new_app}
+use Rattle.resp_args.specs.Program.{IsTask}
+use Rattle.resp_args.specs.Tables.{rules_in}
+use Rattle.resp_args.proofs.TaskLemmas.{is_task_with_options}
 use Rattle.resp_args.proofs.parser.Subcommand.command.Goals as goal
 
-pub loop-parameter-preserved : goal.loop-parameter-preserved
-loop-parameter-preserved c =
-    let below : c.loop-parameter.parameter-index < length c.args.self.now.parameters.now = omega arith in
-    is_task_with_next _ _ _ _ _ _ _ c.in_ok-command.ensures c.arg.ensures.rule c.arg.ensures.here below c.loop-parameter.invariant
+pub returns : goal.returns
+returns c =
+    let start : IsTask c.after_help.result (new_app c.args.self.now.name.now) = search rules in
+    IfOk-weaker c.args-3.result _ _
+    (λ command adds. is_task_with_options c.in_ok-args.args.items (rules_in c.args.self.now.parameters) c.after_help.result command _ adds
+    c.in_ok-args.ensures start)
+    c.args-3.ensures
