@@ -2,6 +2,7 @@
 //!
 //! [`Frames::next`] finds the end of the next value of a connection and lends its bytes. A value that
 //! lies whole in a piece is not copied. Only a connection that has begun a value holds memory.
+//! [`Unfinished`] holds the bytes of a client that sends lines too.
 #![tactic(auto)]
 
 mod begun;
@@ -13,10 +14,12 @@ mod heads;
 mod keys;
 mod known_head;
 pub mod laws;
+mod unfinished;
 mod words;
 
 pub use begun::Begun;
 pub use error::FrameError;
 pub use frame::Frame;
 pub use frames::Frames;
+pub use unfinished::Unfinished;
 pub use words::{CommandFrame, CommandWords, Request, command_of_piece};

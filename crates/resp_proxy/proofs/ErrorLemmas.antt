@@ -1,8 +1,8 @@
 -- Rows of errors at their places.
 use Rattle.std.proofs.Common.{◌≡◌, ◌≢◌, ℕ, ◌<◌, Bool, true, List, [], ◌∷◌, ◌++◌, length, set, refl, ap, zero, suc, sym, subst, arith, length-set}
 use Rattle.std.specs.Prelude.{slice_get, Option, None, Some, IsSomeAnd}
+use Rattle.std.specs.Cmp.Lexicographic.{bytes_decides}
 use Rattle.std.specs.Str.{bytes_eq}
-use Rattle.std.proofs.lemmas.Bool.Decides.{nat_tests}
 use Rattle.resp_proxy.specs.ErrorRows.{AddsErrors, CountsErrors, has_word, row_has}
 use Rattle.resp_proxy.specs.declared.error_counts.ErrorRow.{ErrorRow}
 
@@ -27,11 +27,7 @@ counts_errors place n rows before after within is adds = record {
   number = length-set rows place after;
 }
 
-bytes_eq-same : (xs : List ℕ) → bytes_eq xs xs ≡ true
-bytes_eq-same [] = refl
-bytes_eq-same (x ∷ xs) = grind (arith, nat_tests, bytes_eq-same xs)
-
 -- a row that was added is that of its word
 pub added_has : (word : List ℕ) (rows : List ErrorRow) (row : ErrorRow) → row.word.items ≡ word → has_word word (rows ++ row ∷ []) (length rows) ≡ true
-added_has word [] row is = subst (λ (text : List ℕ). bytes_eq text word ≡ true) (sym is) (bytes_eq-same word)
+added_has word [] row is = subst (λ (text : List ℕ). bytes_eq text word ≡ true) (sym is) ((bytes_decides word word).1 refl)
 added_has word (x ∷ rows) row is = added_has word rows row is

@@ -10,7 +10,7 @@ use Rattle.resp_proxy.specs.Clients.{Holds, is_closing, is_leaving}
 use Rattle.resp_proxy.specs.Leaving.{LeavesRightly, NeedsOwn, PutsBack}
 use Rattle.resp_proxy.specs.declared.client.Client.{Client}
 use Rattle.resp_proxy.specs.declared.intake.Intake.{Intake}
-use Rattle.resp_proxy.specs.declared.unfinished.Unfinished.{Unfinished}
+use Rattle.resp_frames.specs.declared.unfinished.Unfinished.{Unfinished}
 use Rattle.resp_proxy.specs.Refusing.{Refuses}
 use Rattle.resp_proxy.specs.Terms.{Terms}
 use Rattle.resp_proxy.specs.Unfinished.{HasUnfinished, WhereUnfinished, terms_of}

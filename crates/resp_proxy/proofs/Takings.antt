@@ -1,6 +1,7 @@
 -- How commands are taken, one after another.
-use Rattle.std.proofs.Common.{◌≡◌, ◌∙◌, ℕ, ◌+◌, ◌-◌, ◌<◌, ◌≤◌, List, [], ◌∷◌, ◌++◌, length, take, drop, None, Some, Ok, Err, ap, append_assoc, arith, length-drop, refl, subst, sym}
+use Rattle.std.proofs.Common.{◌≡◌, ◌∙◌, inl, ℕ, ◌+◌, ◌-◌, ◌<◌, ◌≤◌, List, [], ◌∷◌, ◌++◌, length, take, drop, None, Some, Result, Ok, Err, ap, append_assoc, arith, length-drop, refl, subst, sym}
 use Rattle.std.specs.List.{AllByRecursion, concat}
+use Rattle.std.specs.Prelude.{IfOk}
 use Rattle.std.proofs.Math.Seq.{take-add}
 use Rattle.std.proofs.lemmas.List.{append-nil, take-append-drop}
 use Rattle.std.proofs.Math.Seq.{take-length}
@@ -12,12 +13,12 @@ use Rattle.resp_mux.specs.Passing.{Passed}
 use Rattle.resp_proxy.specs.declared.error.ClientError.{ClientError}
 use Rattle.resp_proxy.specs.declared.intake.Intake.{Intake}
 use Rattle.resp_proxy.specs.declared.part.Part.{Part}
-use Rattle.resp_proxy.specs.declared.part.Part.TheVariants.{Partial, Whole}
-use Rattle.resp_proxy.specs.declared.unfinished.Unfinished.{Unfinished}
+use Rattle.resp_proxy.specs.declared.part.Part.TheVariants.{Aside, Partial, Whole}
+use Rattle.resp_frames.specs.declared.unfinished.Unfinished.{Unfinished}
 use Rattle.resp_proxy.specs.Leaving.{NeedsOwn}
 use Rattle.resp_proxy.specs.Reasons.{MovesOn}
 use Rattle.resp_proxy.specs.Refusing.{Refuses}
-use Rattle.resp_proxy.specs.Taking.{HasTaken, IsTaken, SetsAside, Taken, Takes, TakesOne, TakesPart, TakesSome, texts_taken, with_one, with_taken}
+use Rattle.resp_proxy.specs.Taking.{HasTaken, IsTaken, SetsAside, Taken, Takes, TakesArray, TakesOne, TakesPart, TakesSome, texts_taken, with_one, with_taken}
 use Rattle.resp_proxy.specs.Terms.{Terms}
 use Rattle.resp_proxy.specs.Unfinished.{HasUnfinished, WhereUnfinished, terms_of}
 
@@ -96,6 +97,15 @@ taken-and-rest terms who front bytes after used old new t =
     append_assoc front (take used bytes) (drop used bytes) ∙ ap (λ b. front ++ b) (take-append-drop used bytes) in
     subst (λ b. Takes terms who b (after ++ drop used bytes) old new) joined
     (takes-bytes terms who (front ++ take used bytes) after (drop used bytes) old new new t (λ p h. h))
+
+-- what was taken of an array was taken of the client, which has begun no line
+pub array-taken : (terms : Terms) (who : ClientId) (front piece : List ℕ) (u : Unfinished) (r : Result Part ClientError) (old new : Multiplexed) →
+    u.line.items ≡ [] → IfOk r (λ part. TakesArray terms who front piece u.begun part old new) →
+    IfOk r (λ part. TakesOne terms who front piece u part old new)
+array-taken terms who front piece u (Ok Partial) old new none t = (inl (record { begun = t.0; no_line = none }), t.1)
+array-taken terms who front piece u (Ok (Whole used)) old new none t = (inl (record { begun = t.0; no_line = none }), t.1)
+array-taken terms who front piece u (Ok (Aside used text)) old new none t = (inl (record { begun = t.0; no_line = none }), t.1)
+array-taken terms who front piece u (Err e) old new none t = tt
 
 one-taken : (terms : Terms) (who : ClientId) (front piece : List ℕ) (u : Unfinished) (part : Part) (used : ℕ) (old new : Multiplexed) → part ≡ Whole used →
     TakesOne terms who front piece u part old new → HasUnfinished terms u [] × TakesPart terms who (front ++ take used piece) old new

@@ -49,17 +49,7 @@ replied_to p = p.replied
 
 -- these clients were replied to, and all else is as it was
 abbrev pub with_replied : List ClientId → Proxied → Proxied
-with_replied clients p = record {
-  mux = p.mux;
-  settings = p.settings;
-  terms = p.terms;
-  reply_rules = p.reply_rules;
-  begun = p.begun;
-  replied = clients;
-  own = p.own;
-  prober = p.prober;
-  expected = p.expected;
-}
+with_replied clients p = record p { replied = clients }
 
 -- the client of the proxy's own that sends probes, if there is one
 abbrev pub prober_of : Proxied → Option ClientId
@@ -75,31 +65,11 @@ admits_own p = p.own
 
 -- a client may get a connection of its own, or not, and all else is as it was
 abbrev pub with_own_admitted : Bool → Proxied → Proxied
-with_own_admitted own p = record {
-  mux = p.mux;
-  settings = p.settings;
-  terms = p.terms;
-  reply_rules = p.reply_rules;
-  begun = p.begun;
-  replied = p.replied;
-  own = own;
-  prober = p.prober;
-  expected = p.expected;
-}
+with_own_admitted own p = record p { own = own }
 
 -- these bytes are commands and these commands are sent, and all else is as it was
 abbrev pub with_terms : Terms → Proxied → Proxied
-with_terms terms p = record {
-  mux = p.mux;
-  settings = p.settings;
-  terms = terms;
-  reply_rules = p.reply_rules;
-  begun = p.begun;
-  replied = p.replied;
-  own = p.own;
-  prober = p.prober;
-  expected = p.expected;
-}
+with_terms terms p = record p { terms = terms }
 
 abbrev pub settings_of : Proxied → Settings
 settings_of p = p.settings

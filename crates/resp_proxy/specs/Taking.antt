@@ -17,7 +17,7 @@ use Rattle.resp_proxy.specs.Unfinished.{HasUnfinished, WhereUnfinished, terms_of
 use Rattle.resp_proxy.specs.declared.client.Client.{Client}
 use Rattle.resp_proxy.specs.declared.error.ClientError.{ClientError}
 use Rattle.resp_proxy.specs.declared.intake.Intake.{Intake}
-use Rattle.resp_proxy.specs.declared.unfinished.Unfinished.{Unfinished}
+use Rattle.resp_frames.specs.declared.unfinished.Unfinished.{Unfinished}
 use Rattle.resp_scan.specs.Whole.{BeginsWith}
 use Rattle.resp_value.specs.Rules.{rules_under}
 use Rattle.resp_value.specs.Spellings.{IsSpelling}

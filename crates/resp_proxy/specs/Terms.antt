@@ -22,7 +22,7 @@ pub record Terms : Type 0 where
 
 -- a command of this name is admitted too
 abbrev pub with_admitted : List ℕ → Terms → Terms
-with_admitted name t = record { rules = t.rules; lines = t.lines; admitted = t.admitted ++ name ∷ [] }
+with_admitted name t = record t { admitted = t.admitted ++ name ∷ [] }
 
 -- the name is one of these, in upper, lower or mixed case
 pub record IsAmong (names : List (List ℕ)) (name : List ℕ) : Type 0 where

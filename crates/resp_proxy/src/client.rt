@@ -5,8 +5,8 @@ ghost use Rattle.resp_proxy.specs.Clients.{Holds, client_id, is_closing, is_leav
 ghost use Rattle.resp_proxy.specs.Terms.{Terms};
 
 use crate::identity::Identity;
-use crate::unfinished::Unfinished;
 use bytes::BytesMut;
+use resp_frames::Unfinished;
 use resp_mux::ClientId;
 use std::alloc::Global;
 

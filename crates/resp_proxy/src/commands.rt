@@ -18,8 +18,7 @@ use crate::intake::Intake;
 use crate::lines::take_line;
 use crate::part::{Part, part_of};
 use crate::settings::Settings;
-use crate::unfinished::Unfinished;
-use resp_frames::{Begun, Request};
+use resp_frames::{Begun, Request, Unfinished};
 use resp_mux::{ClientId, Mux};
 use std::alloc::{AllocError, Global};
 
@@ -133,7 +132,7 @@ fn take_one(
     ensures same_terms { terms_of intake.new ≡ terms_of intake.old }
     ensures same_own { intake.new.admits_own ≡ intake.old.admits_own }
 {
-    if intake.is_line(unfinished, piece) {
+    if unfinished.is_line(intake.lines, piece) {
         match take_line(
             alloc,
             settings,

@@ -3,19 +3,16 @@
 ghost use Rattle.std.specs.Prelude.{◌≡◌, List, ℕ, false, true, IfOk, IsTrue, OnErr, OnOk};
 ghost use Rattle.resp_frames.specs.Framing.{IsReady};
 ghost use Rattle.resp_frames.specs.Texts.{text_of};
-ghost use Rattle.resp_line.specs.Inline.{GoesOn};
 ghost use Rattle.resp_proxy.specs.Leaving.{IsForOwn};
 ghost use Rattle.resp_proxy.specs.Taking.{AdmitsText};
 ghost use Rattle.resp_proxy.specs.Terms.{IsAmong, with_admitted};
-ghost use Rattle.resp_proxy.specs.Unfinished.{HasArray, HasBytes, HasUnfinished, terms_by, terms_of};
+ghost use Rattle.resp_proxy.specs.Unfinished.{terms_by, terms_of};
 ghost use Rattle.resp_value.specs.Words.{texts_of};
 
 use crate::answer::needs_own;
 use crate::settings::Settings;
-use crate::unfinished::Unfinished;
 use resp_commands::entry;
 use resp_frames::{CommandFrame, Frames};
-use resp_line::begins_line;
 use resp_scan::whole;
 use resp_value::version::Version;
 use std::alloc::{AllocError, Global};
@@ -64,20 +61,6 @@ impl Intake {
             Ok(()) => Ok(()),
             Err(_) => Err(AllocError),
         }
-    }
-
-    /// Returns whether the next byte of a client belongs to a line.
-    pub(crate) fn is_line(&self, unfinished: &Unfinished, piece: &[u8]) -> bool
-        ensures line { (front : List ℕ) → HasUnfinished (terms_of self.now) unfinished.now front →
-            IsTrue result → ((terms_of self.now).lines ≡ true) × GoesOn front piece.now ×
-            HasBytes (terms_of self.now) unfinished.now front }
-        ensures array { (front : List ℕ) → HasUnfinished (terms_of self.now) unfinished.now front →
-            result ≡ false → HasArray (terms_of self.now) unfinished.now front }
-    {
-        if !unfinished.line.is_empty() {
-            return true;
-        }
-        self.lines && unfinished.begun.is_empty() && begins_line(piece)
     }
 
     /// Returns whether a command needs a connection of the client's own, and the client may get

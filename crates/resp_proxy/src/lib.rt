@@ -29,7 +29,6 @@ mod setting;
 mod settings;
 mod taking;
 mod told;
-mod unfinished;
 mod visit;
 mod wish;
 

@@ -19,8 +19,8 @@ use crate::counts::Counts;
 use crate::error::ClientError;
 use crate::intake::Intake;
 use crate::settings::Settings;
-use crate::unfinished::Unfinished;
 use bytes::BytesMut;
+use resp_frames::Unfinished;
 use resp_mux::{ClientId, Mux};
 use std::alloc::{AllocError, Global};
 
