@@ -21,7 +21,6 @@ pub mod kind;
 pub mod laws;
 mod line;
 mod lines;
-mod migrate;
 pub mod moment;
 mod note;
 mod notice;
