@@ -124,8 +124,8 @@ pub fn key_places<'a, A: Arguments<'a>>(keys: &Keys, arguments: A) -> Option<Key
     }
 }
 
-/// Returns the places of the keys of a command with this many words after its name, if they have no
-/// number of keys, as after [`key_places`] returned `None`: the keys at fixed places.
+/// Returns the places of the keys of a command with this many words after its name, if the words have
+/// no number of keys. Then [`key_places`] returns `None`, and only the keys at fixed places are left.
 pub fn fixed_key_places(keys: &Keys, count: usize) -> KeyPlaces
     ensures { (arguments : List (List ℕ)) → count ≡ length arguments →
         TellsNoKeys keys.now arguments → AreKeys keys.now arguments result }

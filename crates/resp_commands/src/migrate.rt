@@ -39,7 +39,8 @@ fn migrate_argument_count(option: &[u8]) -> u8
 
 /// Returns whether the third word after the name is empty.
 pub(crate) fn is_third_empty<'a, A: Arguments<'a>>(mut arguments: A) -> bool
-    ensures { MatchBool result (HasEmptyThird (A.words arguments)) (HasEmptyThird (A.words arguments) → ⊥) }
+    ensures { MatchBool result (HasEmptyThird (A.words arguments))
+        (HasEmptyThird (A.words arguments) → ⊥) }
 {
     skip(&mut arguments, 2);
     match arguments.next_word() {

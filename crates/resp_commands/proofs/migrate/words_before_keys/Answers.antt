@@ -5,17 +5,22 @@ use Rattle.resp_commands.proofs.migrate.words_before_keys.Goals as goal
 
 pub returns-then-is_word-clause-found : goal.returns-then-is_word-clause-found
 returns-then-is_word-clause-found g c =
-    subst (HasKeysAfter (g.A.Arguments.words c.args.words)) (omega (arith, c.loop-word.invariant.0, c.loop-word.invariant.1))
-    (keys_found (g.A.Arguments.words c.args.words) (g.A.Arguments.words c.loop-word.words) (g.A.Arguments.words c.next_word.new.self) c.in-Some.word.now c.in-Some.ensures.steps (sym c.is_word.ensures ∙ c.if-is_word.true)
-    c.loop-word.invariant.2)
+    let words = g.A.Arguments.words in
+    subst (HasKeysAfter (words c.args.words)) (omega (arith, c.loop-word.invariant.0, c.loop-word.invariant.1))
+    (keys_found (words c.args.words) (words c.loop-word.words) (words c.next_word.new.self) c.in-Some.word.now c.in-Some.ensures.steps
+    (sym c.is_word.ensures ∙ c.if-is_word.true) c.loop-word.invariant.2)
 
 pub loop-word-preserved : goal.loop-word-preserved
-loop-word-preserved g c = (
-  c.left-left.ensures,
-  c.left-total.ensures,
-  option_passed (g.A.Arguments.words c.args.words) (g.A.Arguments.words c.loop-word.words) (g.A.Arguments.words c.next_word.new.self) (g.A.Arguments.words c.skip.new.words) c.in-Some.word.now c.migrate_argument_count.result
-      c.in-Some.ensures.steps (sym c.is_word.ensures ∙ c.if-is_word.false) c.migrate_argument_count.ensures c.skip.ensures c.loop-word.invariant.2,
-)
+loop-word-preserved g c =
+    let words = g.A.Arguments.words in (
+      c.left-left.ensures,
+      c.left-total.ensures,
+      option_passed (words c.args.words) (words c.loop-word.words) (words c.next_word.new.self) (words c.skip.new.words) c.in-Some.word.now
+          c.migrate_argument_count.result c.in-Some.ensures.steps (sym c.is_word.ensures ∙ c.if-is_word.false) c.migrate_argument_count.ensures
+          c.skip.ensures c.loop-word.invariant.2,
+    )
 
 pub returns-clause-none : goal.returns-clause-none
-returns-clause-none g c = all_passed (g.A.Arguments.words c.args.words) (g.A.Arguments.words c.loop-word.words) c.in_default.ensures.steps.0 c.loop-word.invariant.2
+returns-clause-none g c =
+    let words = g.A.Arguments.words in
+    all_passed (words c.args.words) (words c.loop-word.words) c.in_default.ensures.steps.0 c.loop-word.invariant.2
