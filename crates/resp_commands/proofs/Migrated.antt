@@ -2,9 +2,7 @@
 use Rattle.std.proofs.Common.{rules, ◌≡◌, ◌∙◌, ℕ, zero, suc, ◌+◌, ◌-◌, ◌<◌, ◌≤◌, Bool, true, false, List, [], ◌∷◌, ◌++◌, length, drop, take, get_or, inl, inr, ap, refl, sym, subst, arith, true≢false}
 use Rattle.std.proofs.Math.Seq.{drop-append_seam}
 use Rattle.std.proofs.lemmas.List.{take-append-drop, append_assoc, length-append, length-drop}
-use Rattle.std.proofs.lemmas.Bool.{ne_eqb}
-use Rattle.std.specs.Bool.{MatchBool}
-use Rattle.std.specs.Prelude.{codes, eqb}
+use Rattle.std.specs.Prelude.{codes}
 use Rattle.std.specs.Str.{str_eq_ignore_ascii_case}
 use Rattle.resp_commands.specs.Options.{joined}
 use Rattle.resp_commands.specs.Keys.{IsAmong}
@@ -221,18 +219,6 @@ no_list arguments words skipped before same found full place = (
         | inr listed ↦ absurd (full listed.empty)
       ],
 )
-
--- whether the third word is empty
-pub tells_empty : (arguments : List (List ℕ)) (word : List ℕ) (rest : List (List ℕ)) (result : Bool) → drop 2 arguments ≡ word ∷ rest →
-    result ≡ eqb (length word) 0 → MatchBool result (HasEmptyThird arguments) (HasEmptyThird arguments → ⊥)
-tells_empty arguments [] rest result there is =
-    subst (λ b. MatchBool b (HasEmptyThird arguments) (HasEmptyThird arguments → ⊥)) (sym is) (record { others = rest; empty = there })
-tells_empty arguments (b ∷ bs) rest result there is =
-    subst (λ r. MatchBool r (HasEmptyThird arguments) (HasEmptyThird arguments → ⊥)) (sym (is ∙ ne_eqb (length (b ∷ bs)) 0 (λ z. omega (arith, z))))
-    (λ third. let same = ap length (first_same (b ∷ bs) [] rest third.others (sym there ∙ third.empty)) in omega (arith, same))
-
-pub lacks_third : (arguments : List (List ℕ)) → drop 2 arguments ≡ [] → HasEmptyThird arguments → ⊥
-lacks_third arguments none third = let same = ap length (sym none ∙ third.empty) in omega (arith, same)
 
 -- a start of 0 is as one of 1
 pub same_start : (start skipped : ℕ) (arguments : List (List ℕ)) (place : ℕ) → skipped ≡ start - 1 →

@@ -8,11 +8,11 @@ ghost use Rattle.resp_commands.specs.Migrates.{IsMigrateKey};
 ghost use Rattle.resp_commands.specs.Sorts.{IsSortedKey};
 ghost use Rattle.resp_commands.specs.Keys.{AreKeys, HasCount, IsAmong, IsAmongAny, IsCountedKey, IsFixedKey, IsStoreKey, IsStreamKey, TellsNoKeys, words_before};
 
+use crate::arguments::{Arguments, skip};
 use crate::command::{Keys, Search};
 use crate::migrate::{is_third_empty, words_before_keys};
-use crate::options::{is_word, skip};
+use crate::options::is_word;
 use crate::sorts::last_store;
-use resp_scan::whole::Words;
 
 /// Places at equal distances: the first is next to `after`, and the last is at most `last`.
 #[derive(Clone, Copy, Debug, PartialEq, Eq)]
@@ -77,11 +77,11 @@ impl KeyPlaces {
 ///
 /// Returns `None` if the number of keys is no decimal number or greater than the number of words
 /// after it.
-pub fn key_places(keys: &Keys, arguments: Words<'_>) -> Option<KeyPlaces>
-    ensures keys { IfSome result (AreKeys keys.now arguments.entry) }
-    ensures none { IfNone result (TellsNoKeys keys.now arguments.entry) }
+pub fn key_places<'a, A: Arguments<'a>>(keys: &Keys, arguments: A) -> Option<KeyPlaces>
+    ensures keys { IfSome result (AreKeys keys.now (A.words arguments)) }
+    ensures none { IfNone result (TellsNoKeys keys.now (A.words arguments)) }
 {
-    let count = arguments.len() as usize;
+    let count = arguments.left();
     let fixed = fixed_places(keys, count);
     let start = keys.start.saturating_sub(1);
     match keys.search {
@@ -124,6 +124,19 @@ pub fn key_places(keys: &Keys, arguments: Words<'_>) -> Option<KeyPlaces>
     }
 }
 
+/// Returns the places of the keys of a command with this many words after its name, if the words have
+/// no number of keys. Then [`key_places`] returns `None`, and only the keys at fixed places are left.
+pub fn fixed_key_places(keys: &Keys, count: usize) -> KeyPlaces
+    ensures { (arguments : List (List ℕ)) → count ≡ length arguments →
+        TellsNoKeys keys.now arguments → AreKeys keys.now arguments result }
+{
+    KeyPlaces {
+        fixed: fixed_places(keys, count),
+        further: NOWHERE,
+        other: NOWHERE,
+    }
+}
+
 /// Returns the keys at fixed places of a command with this many words after its name.
 fn fixed_places(keys: &Keys, count: usize) -> Places
     ensures { (place : ℕ) → (IsAmong result place → IsFixedKey keys.now count place) ×
@@ -146,17 +159,17 @@ fn fixed_places(keys: &Keys, count: usize) -> Places
 }
 
 /// Returns the keys after their number, which is the word at this place.
-fn counted_places(mut arguments: Words<'_>, start: u8) -> Option<Places>
+fn counted_places<'a, A: Arguments<'a>>(mut arguments: A, start: u8) -> Option<Places>
     ensures keys { IfSome result (λ places. (place : ℕ) →
-        (IsAmong places place → IsCountedKey start arguments.entry place) ×
-        (IsCountedKey start arguments.entry place → IsAmong places place)) }
-    ensures none { IfNone result ((count : ℕ) → HasCount start arguments.entry count → ⊥) }
+        (IsAmong places place → IsCountedKey start (A.words arguments) place) ×
+        (IsCountedKey start (A.words arguments) place → IsAmong places place)) }
+    ensures none { IfNone result ((count : ℕ) → HasCount start (A.words arguments) count → ⊥) }
 {
-    let _total = arguments.len();
+    let _total = arguments.left();
     let skipped = start.saturating_sub(1);
     skip(&mut arguments, skipped);
-    let word = arguments.next()?;
-    let count = number_of(word, arguments.len() as usize)?;
+    let word = arguments.next_word()?;
+    let count = number_of(word, arguments.left())?;
     let after = usize::from(skipped) + 1;
     Some(Places {
         after,
@@ -196,29 +209,29 @@ struct Found {
 }
 
 /// Returns the numbers of words before these two, after this many others.
-fn find_words(mut words: Words<'_>, skipped: u8, first: &[u8], second: &[u8]) -> Found
-    ensures first { result.first ≡ words_before first.now (drop skipped words.entry) }
-    ensures second { result.second ≡ words_before second.now (drop skipped words.entry) }
-    ensures first_within { result.first ≤ length words.entry - skipped }
-    ensures second_within { result.second ≤ length words.entry - skipped }
+fn find_words<'a, A: Arguments<'a>>(mut words: A, skipped: u8, first: &[u8], second: &[u8]) -> Found
+    ensures first { result.first ≡ words_before first.now (drop skipped (A.words words)) }
+    ensures second { result.second ≡ words_before second.now (drop skipped (A.words words)) }
+    ensures first_within { result.first ≤ length (A.words words) - skipped }
+    ensures second_within { result.second ≤ length (A.words words) - skipped }
 {
     skip(&mut words, skipped);
     find_both(words, first, second)
 }
 
 /// Returns the numbers of words before these two.
-fn find_both(mut words: Words<'_>, first: &[u8], second: &[u8]) -> Found
-    ensures first { result.first ≡ words_before first.now words.entry }
-    ensures second { result.second ≡ words_before second.now words.entry }
-    ensures first_within { result.first ≤ length words.entry }
-    ensures second_within { result.second ≤ length words.entry }
+fn find_both<'a, A: Arguments<'a>>(mut words: A, first: &[u8], second: &[u8]) -> Found
+    ensures first { result.first ≡ words_before first.now (A.words words) }
+    ensures second { result.second ≡ words_before second.now (A.words words) }
+    ensures first_within { result.first ≤ length (A.words words) }
+    ensures second_within { result.second ≤ length (A.words words) }
 {
     let mut found = Found {
         first: 0,
         second: 0,
     };
-    for place in 0..words.len() as usize {
-        let Some(word) = words.next() else {
+    for place in 0..words.left() {
+        let Some(word) = words.next_word() else {
             return found;
         };
         found.first = before(found.first, place, is_word(word, first));
@@ -240,11 +253,11 @@ fn before(number: usize, place: usize, is_found: bool) -> usize
 }
 
 /// Returns the keys after STREAMS among this many words.
-fn stream_places(arguments: Words<'_>, skipped: u8, count: usize) -> Places
-    requires { count ≡ length arguments }
+fn stream_places<'a, A: Arguments<'a>>(arguments: A, skipped: u8, count: usize) -> Places
+    requires { count ≡ length (A.words arguments) }
     ensures { (place : ℕ) →
-        (IsAmong result place → IsStreamKey (skipped + 1) arguments.entry place) ×
-        (IsStreamKey (skipped + 1) arguments.entry place → IsAmong result place) }
+        (IsAmong result place → IsStreamKey (skipped + 1) (A.words arguments) place) ×
+        (IsStreamKey (skipped + 1) (A.words arguments) place → IsAmong result place) }
 {
     let found = find_words(arguments, skipped, b"streams", b"streams");
     let before = usize::from(skipped) + found.first;
@@ -260,11 +273,11 @@ fn stream_places(arguments: Words<'_>, skipped: u8, count: usize) -> Places
 }
 
 /// Returns the place of the key that SORT stores, among this many words.
-fn sort_place(mut arguments: Words<'_>, skipped: u8, count: usize) -> Places
-    requires { count ≡ length arguments }
+fn sort_place<'a, A: Arguments<'a>>(mut arguments: A, skipped: u8, count: usize) -> Places
+    requires { count ≡ length (A.words arguments) }
     ensures { (place : ℕ) →
-        (IsAmong result place → IsSortedKey (skipped + 1) arguments.entry place) ×
-        (IsSortedKey (skipped + 1) arguments.entry place → IsAmong result place) }
+        (IsAmong result place → IsSortedKey (skipped + 1) (A.words arguments) place) ×
+        (IsSortedKey (skipped + 1) (A.words arguments) place → IsAmong result place) }
 {
     skip(&mut arguments, skipped);
     match last_store(arguments) {
@@ -274,13 +287,13 @@ fn sort_place(mut arguments: Words<'_>, skipped: u8, count: usize) -> Places
 }
 
 /// Returns the places of the keys of MIGRATE, among this many words.
-fn migrate_places(arguments: Words<'_>, skipped: u8, count: usize) -> Places
-    requires { count ≡ length arguments }
+fn migrate_places<'a, A: Arguments<'a>>(arguments: A, skipped: u8, count: usize) -> Places
+    requires { count ≡ length (A.words arguments) }
     ensures { (place : ℕ) →
-        (IsAmong result place → IsMigrateKey (skipped + 1) arguments.entry place) ×
-        (IsMigrateKey (skipped + 1) arguments.entry place → IsAmong result place) }
+        (IsAmong result place → IsMigrateKey (skipped + 1) (A.words arguments) place) ×
+        (IsMigrateKey (skipped + 1) (A.words arguments) place → IsAmong result place) }
 {
-    let mut options = arguments.iter();
+    let mut options = arguments.again();
     skip(&mut options, skipped);
     let Some(before) = words_before_keys(options) else {
         return Places {

@@ -5,6 +5,7 @@
 //! redis-server 7.0.15. [`slot`] returns the slot of a key. No function allocates.
 #![tactic(auto)]
 
+mod arguments;
 mod checksum;
 mod class;
 mod command;
@@ -18,11 +19,12 @@ mod options;
 mod sorts;
 mod table;
 
+pub use arguments::Arguments;
 pub use checksum::crc16;
 pub use class::{Listing, class_of, listing_of};
 pub use command::{Class, Command, Keys, Merge, Search, Split};
 pub use key::{hashed_part, slot};
 pub use key_list::{KeyWords, key_words};
-pub use keys::{KeyPlaces, Places, key_places};
+pub use keys::{KeyPlaces, Places, fixed_key_places, key_places};
 pub use lookup::{entry, place, row_of, subcommand};
 pub use table::{COMMANDS, SUBCOMMANDS};

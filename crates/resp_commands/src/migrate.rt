@@ -4,22 +4,22 @@ ghost use Rattle.std.specs.Prelude.{◌≡◌, ℕ, IfNone, IfSome};
 ghost use Rattle.std.specs.Bool.{MatchBool};
 ghost use Rattle.resp_commands.specs.Migrates.{HasEmptyThird, HasKeysAfter, migrate_argument_count};
 
-use crate::options::{is_word, skip};
-use resp_scan::whole::Words;
+use crate::arguments::{Arguments, skip};
+use crate::options::is_word;
 
 /// Returns the number of words before the option KEYS.
-pub(crate) fn words_before_keys(mut words: Words<'_>) -> Option<usize>
-    ensures found { IfSome result (HasKeysAfter words.entry) }
-    ensures none { IfNone result ((count : ℕ) → HasKeysAfter words.entry count → ⊥) }
+pub(crate) fn words_before_keys<'a, A: Arguments<'a>>(mut words: A) -> Option<usize>
+    ensures found { IfSome result (HasKeysAfter (A.words words)) }
+    ensures none { IfNone result ((count : ℕ) → HasKeysAfter (A.words words) count → ⊥) }
 {
-    let total = words.len();
+    let total = words.left();
     let mut left = total;
-    while let Some(word) = words.next() {
+    while let Some(word) = words.next_word() {
         if is_word(word, b"keys") {
-            return Some((total - left) as usize);
+            return Some(total - left);
         }
         skip(&mut words, migrate_argument_count(word));
-        left = words.len();
+        left = words.left();
     }
     None
 }
@@ -38,11 +38,12 @@ fn migrate_argument_count(option: &[u8]) -> u8
 }
 
 /// Returns whether the third word after the name is empty.
-pub(crate) fn is_third_empty(mut arguments: Words<'_>) -> bool
-    ensures { MatchBool result (HasEmptyThird arguments.entry) (HasEmptyThird arguments.entry → ⊥) }
+pub(crate) fn is_third_empty<'a, A: Arguments<'a>>(mut arguments: A) -> bool
+    ensures { MatchBool result (HasEmptyThird (A.words arguments))
+        (HasEmptyThird (A.words arguments) → ⊥) }
 {
     skip(&mut arguments, 2);
-    match arguments.next() {
+    match arguments.next_word() {
         Some(word) => word.is_empty(),
         None => false,
     }

@@ -1,10 +1,11 @@
 //! Options among the words of a command.
 
-ghost use Rattle.std.specs.Prelude.{◌≡◌, drop};
+ghost use Rattle.std.specs.Prelude.{◌≡◌};
 ghost use Rattle.std.specs.Bool.{MatchBool};
 ghost use Rattle.std.specs.Str.{str_eq_ignore_ascii_case};
 ghost use Rattle.resp_commands.specs.Options.{Blocks, argument_count};
 
+use crate::arguments::skip;
 use resp_scan::whole::Words;
 
 /// Returns whether the words after the name of XREAD or XREADGROUP have the option BLOCK.
@@ -44,14 +45,4 @@ pub(crate) fn is_word(word: &[u8], wanted: &[u8]) -> bool
     ensures { result ≡ str_eq_ignore_ascii_case word.now wanted.now }
 {
     word.eq_ignore_ascii_case(wanted)
-}
-
-/// Leaves out this many words, or all if there are fewer.
-#[tactic(auto, using(crate::proofs::Blocking::dropped_more))]
-pub(crate) fn skip(words: &mut Words<'_>, count: u8)
-    ensures { words.new ≡ drop count words.old }
-{
-    for _ in 0..count {
-        let _word = words.next();
-    }
 }

@@ -3,23 +3,23 @@
 ghost use Rattle.std.specs.Prelude.{◌≡◌, ℕ, drop, length, IfNone, IfSome};
 ghost use Rattle.resp_commands.specs.Sorts.{StoresAfter, StoresLast, sort_argument_count};
 
-use crate::options::{is_word, skip};
-use resp_scan::whole::Words;
+use crate::arguments::{Arguments, skip};
+use crate::options::is_word;
 
 /// Returns the number of words before the last option STORE that has a word after it.
-pub(crate) fn last_store(mut words: Words<'_>) -> Option<usize>
-    ensures last { IfSome result (StoresLast words.entry) }
-    ensures none { IfNone result ((count : ℕ) → StoresAfter words.entry count → ⊥) }
+pub(crate) fn last_store<'a, A: Arguments<'a>>(mut words: A) -> Option<usize>
+    ensures last { IfSome result (StoresLast (A.words words)) }
+    ensures none { IfNone result ((count : ℕ) → StoresAfter (A.words words) count → ⊥) }
 {
-    let total = words.len();
+    let total = words.left();
     let mut last = None;
     let mut left = total;
-    while let Some(word) = words.next() {
-        if is_word(word, b"store") && words.len() > 0 {
-            last = Some((total - left) as usize);
+    while let Some(word) = words.next_word() {
+        if is_word(word, b"store") && words.left() > 0 {
+            last = Some(total - left);
         }
         skip(&mut words, sort_argument_count(word));
-        left = words.len();
+        left = words.left();
     }
     last
 }

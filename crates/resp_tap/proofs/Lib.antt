@@ -6,6 +6,7 @@ pub mod KeptLemmas
 pub mod JsonLemmas
 pub mod TimeLemmas
 pub mod Streams
+pub mod KeptItems
 pub mod Counting
 pub mod Fronts
 pub mod PieceLemmas

@@ -10,6 +10,7 @@ use Rattle.resp_session.specs.Reading.{is_refusal}
 use Rattle.resp_tap.specs.ClientNames.{named_after, naming_of}
 use Rattle.resp_tap.specs.Filters.{DropsWords, KeepsWords, keeps_answer, keeps_client}
 use Rattle.resp_tap.specs.Lines.{asked_at}
+use Rattle.resp_tap.specs.Taken.{KeepsTaken, left_of, taken_of}
 use Rattle.resp_tap.specs.Taps.{tap_state}
 use Rattle.resp_tap.specs.Times.{HasTimes, waited_of, waits_in}
 use Rattle.resp_tap.specs.declared.counted.Asked.{Asked}
@@ -20,7 +21,6 @@ use Rattle.resp_tap.specs.declared.moment.Moment.{Moment}
 use Rattle.resp_tap.specs.declared.seen.Seen.{Seen}
 use Rattle.resp_tap.specs.declared.seen.Seen.TheVariants as seen
 use Rattle.resp_tap.specs.declared.watch.Side.{Side}
-use Rattle.resp_tap.specs.declared.watch.Side.TheVariants.{Client, Server}
 
 -- ---- commands
 
@@ -93,24 +93,9 @@ abbrev pub CountsAfter : Filter → ℕ → Seen → Heard → ℕ → ℕ → �
 CountsAfter f client what heard before after at old new rows rows' =
     CountsBy (nat_lt before after) f client what heard before (before - after) at old new rows rows'
 
--- the bytes that were read of a side's incomplete command or value
-abbrev pub taken_of : Side → CountedTap → ℕ
-taken_of Client t = t.sent
-taken_of Server t = t.received
-
--- the bytes of an incomplete command or value after a result for this many bytes
-abbrev pub left_of : Seen → ℕ → ℕ
-left_of seen.Nothing bytes = bytes
-left_of what bytes = 0
-
--- the bytes that were read of the other side's incomplete command or value stay the same
-abbrev pub KeepsTaken : Side → CountedTap → CountedTap → Type 0
-KeepsTaken Client old new = new.received ≡ old.received
-KeepsTaken Server old new = new.sent ≡ old.sent
-
 -- What was heard by a result: its bytes, and the delay of the command that it answers.
 pub record IsHeard (side : Side) (now : Moment) (old : CountedTap) (used : ℕ) (what : Seen) (heard : Heard) : Type 0 where
-  pub bytes : heard.bytes ≡ min (taken_of side old + used) 18446744073709551615
+  pub bytes : heard.bytes ≡ min (taken_of side old.taken + used) 18446744073709551615
   pub error : heard.is_error ≡ is_error what
   pub asked : Option ℕ
   pub of_command : (times : List ℕ) → HasTimes old.timed times →
@@ -122,8 +107,8 @@ pub record CountsSeen (f : Filter) (client : ℕ) (side : Side) (now : Moment) (
     (rows rows' : List Row) : Type 0 where
   pub heard : Heard
   pub is_heard : IsHeard side now old used what heard
-  pub left : taken_of side new ≡ left_of what heard.bytes
-  pub same_taken : KeepsTaken side old new
+  pub left : taken_of side new.taken ≡ left_of what heard.bytes
+  pub same_taken : KeepsTaken side old.taken new.taken
   pub counts : CountsAfter f client what heard (waits_in old.timed) (waits_in new.timed)
       (asked_at (tap_state old.timed.tap).line.due) old.asked.items new.asked.items rows rows'
   pub name : naming_of new.name ≡ named_after what (naming_of old.name)

@@ -5,12 +5,12 @@ use Rattle.resp_print.specs.Printed.{Prints}
 use Rattle.resp_print.specs.declared.print_error.PrintError.{PrintError}
 use Rattle.resp_tap.specs.Called.{CalledAfter, IsChosenCalled, name_of_called}
 use Rattle.resp_tap.specs.ClientNames.{named_after, naming_of}
-use Rattle.resp_tap.specs.Counting.{left_of}
 use Rattle.resp_tap.specs.Filters.{keeps}
 use Rattle.resp_tap.specs.JsonLines.{seen_json}
 use Rattle.resp_tap.specs.Lined.{SeesLined}
 use Rattle.resp_tap.specs.Lines.{asked_at}
 use Rattle.resp_tap.specs.SeenOf.{IsKeptIn}
+use Rattle.resp_tap.specs.Taken.{KeepsTaken, left_of, taken_of}
 use Rattle.resp_tap.specs.Taps.{tap_state}
 use Rattle.resp_tap.specs.Times.{HasTimes, waited_of, waits_in}
 use Rattle.resp_tap.specs.Watches.{first_error}
@@ -21,17 +21,6 @@ use Rattle.resp_tap.specs.declared.json_tap.JsonTap.{JsonTap}
 use Rattle.resp_tap.specs.declared.moment.Moment.{Moment}
 use Rattle.resp_tap.specs.declared.seen.Seen.{Seen}
 use Rattle.resp_tap.specs.declared.watch.Side.{Side}
-use Rattle.resp_tap.specs.declared.watch.Side.TheVariants.{Client, Server}
-
--- the bytes that were read of a side's incomplete command or value
-abbrev pub taken_of : Side → JsonTap → ℕ
-taken_of Client t = t.sent
-taken_of Server t = t.received
-
--- the bytes that were read of the other side's incomplete command or value stay the same
-abbrev pub KeepsTaken : Side → JsonTap → JsonTap → Type 0
-KeepsTaken Client old new = new.received ≡ old.received
-KeepsTaken Server old new = new.sent ≡ old.sent
 
 -- what is kept of the command that the next reply belongs to
 abbrev pub called_of : JsonTap → Option Called
@@ -47,9 +36,9 @@ kept_json f facts is_chosen name whole what =
 pub record SeesJson (f : Filter) (side : Side) (now : Moment) (old new : JsonTap) (piece : List ℕ) (used : ℕ) (what : Seen)
     (is_line is_chosen : Bool) (size : ℕ) : Type 0 where
   pub seen : SeesLined (Some now) side old.lines new.lines old.timed new.timed piece used what is_line
-  pub bytes : size ≡ min (taken_of side old + used) 18446744073709551615
-  pub left : taken_of side new ≡ left_of what size
-  pub same_taken : KeepsTaken side old new
+  pub bytes : size ≡ min (taken_of side old.taken + used) 18446744073709551615
+  pub left : taken_of side new.taken ≡ left_of what size
+  pub same_taken : KeepsTaken side old.taken new.taken
   pub chosen : IsChosenCalled f (called_of old) what is_chosen
   pub calls : CalledAfter is_chosen what (waits_in old.timed) (waits_in new.timed) old.calls.items new.calls.items
   pub name : naming_of new.name ≡ named_after what (naming_of old.name)

@@ -18,8 +18,9 @@ abbrev pub KeptPartsTellTheSame : Type 0
 KeptPartsTellTheSame = (most : Option ℕ) (whole : Datum) (kept : CutValue) → IsKeptOf most whole kept →
     (is_refusal (datum_of kept.value) ≡ is_refusal whole) × (depth (datum_of kept.value) ≡ depth whole)
 
--- The kept part of a command is answered as the whole command, has the same secret words, gives the connection the same
--- name, and has the same name in JSON and in a table. A filter for which enough is kept decides the same.
+-- The kept part of a command tells, as the whole command does, how the server replies, which words are secret, which name
+-- the connection gets, and the name of the command in JSON and in a table. A filter for which enough is kept decides the
+-- same.
 pub record TellsTheCommand (most : Option ℕ) (whole words : List (List ℕ)) : Type 0 where
   pub kind : command_kind words ≡ command_kind whole
   pub secrets : secrets_of words ≡ secrets_of whole

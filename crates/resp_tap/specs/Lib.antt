@@ -29,6 +29,7 @@ pub mod Filtering
 -- What the steps of a tap promise one another, which no public clause names.
 pub mod SeenOf
 pub mod Streams
+pub mod Taken
 pub mod Counting
 pub mod CountedTaps
 -- What is printed as JSON.

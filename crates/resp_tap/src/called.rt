@@ -38,7 +38,7 @@ pub(crate) fn command_name(words: &Words) -> ArrayVec<u8, MOST>
     upper_word(name_in(words))
 }
 
-/// Returns the name of the command of which this is kept, or no byte if nothing is.
+/// Returns the kept name of a command, or no byte if none is kept.
 pub(crate) fn name_of_called<'a>(called: Option<&'a Called>) -> &'a [u8]
     ensures { result.now ≡ name_of_called (option_map (λ called. called.now) called.entry) }
 {

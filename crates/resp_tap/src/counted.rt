@@ -1,12 +1,12 @@
 //! A tap whose commands are counted.
 
-ghost use Rattle.std.specs.Prelude.{◌≡◌, ◌+◌, ◌<◌, ◌≤◌, Bool, List, [], Some, length, drop, min, slice_get, true};
+ghost use Rattle.std.specs.Prelude.{◌≡◌, ◌<◌, ◌≤◌, Bool, List, [], Some, length, drop, slice_get, true};
 ghost use Rattle.resp_print.specs.Printed.{Prints};
 ghost use Rattle.resp_tap.specs.ClientNames.{naming_of};
 ghost use Rattle.resp_tap.specs.CountedTaps.{CountsAll, PrintsCounted, SeesCounted, counted_text};
 ghost use Rattle.resp_tap.specs.Ends.{CutsOff};
 ghost use Rattle.resp_tap.specs.Filters.{kept_by};
-ghost use Rattle.resp_tap.specs.Counting.{AnswersCall, AsksCall, CountsAfter, CountsSeen, IsCounted, IsPlaceFor, KeepsTaken, ReleasesCall, is_error, left_of, taken_of};
+ghost use Rattle.resp_tap.specs.Counting.{AnswersCall, AsksCall, CountsAfter, CountsSeen, IsCounted, IsPlaceFor, ReleasesCall, is_error};
 ghost use Rattle.resp_counts.specs.Names.{table_name};
 ghost use Rattle.resp_counts.specs.Rows.{MayAddRow};
 ghost use Rattle.resp_tap.specs.Taps.{new_tap, tap_state};
@@ -26,8 +26,10 @@ use crate::moment::Moment;
 use crate::print::{Printing, printed, write_refused};
 use crate::seen::{Seen, Step};
 use crate::shown_part::ShownPart;
+use crate::taken::{NONE_TAKEN, Taken};
 use crate::tap::Tap;
 use crate::timed::TimedTap;
+use crate::waiting::drop_first;
 use crate::watch::{Side, Watched, first_error, stamp_of, waited_of};
 use resp_counts::{Call, Counts, name_of};
 use resp_print::print_error::PrintError;
@@ -67,16 +69,6 @@ fn is_error(seen: &Seen) -> bool
     }
 }
 
-/// Returns the number of bytes of an incomplete command or value after a result for this many bytes.
-pub(crate) fn left_of(bytes: u64, seen: &Seen) -> u64
-    ensures { result ≡ left_of seen.now bytes }
-{
-    match seen {
-        Seen::Nothing => bytes,
-        _ => 0,
-    }
-}
-
 /// Counts a command that has its reply, if the filter lets the reply through.
 fn answer(counts: &mut Counts, filter: &Filter, asked: Option<Asked>, heard: Heard)
     ensures { AnswersCall filter.now asked heard counts.old.rows.items counts.new.rows.items }
@@ -110,9 +102,8 @@ pub struct CountedTap {
     pub(crate) lines: Lines,
     /// The commands that wait, in their order.
     pub(crate) asked: VecDeque<Asked>,
-    /// The bytes read of the client's incomplete command, and of the server's incomplete value.
-    pub(crate) sent: u64,
-    pub(crate) received: u64,
+    /// The bytes read of an incomplete command and of an incomplete value.
+    pub(crate) taken: Taken,
     pub(crate) name: ClientName,
 }
 
@@ -136,8 +127,7 @@ impl CountedTap {
             timed: TimedTap::keeping(alloc, limits, shown, filter.kept_part(shown)),
             lines: Lines::new(alloc, true),
             asked: VecDeque::new(alloc),
-            sent: 0,
-            received: 0,
+            taken: NONE_TAKEN,
             name: ClientName::new(),
         }
     }
@@ -159,7 +149,7 @@ impl CountedTap {
         self
     }
 
-    /// Returns the command, reply or value of which this side has sent a part, if its bytes are still
+    /// Returns the command, reply or value that this side has sent in part, if its bytes are still
     /// read.
     pub fn cut(&self, side: Side) -> Option<Cut>
         ensures { CutsOff side self.now.lines.held.items self.now.timed.tap result }
@@ -172,30 +162,6 @@ impl CountedTap {
         ensures { result.now ≡ self.now.name }
     {
         &self.name
-    }
-
-    /// Returns the number of bytes that one side has sent of a command or value, after these bytes.
-    fn take_bytes(&mut self, side: Side, used: usize, seen: &Seen) -> u64
-        ensures bytes { result ≡ min (taken_of side self.old + used) 18446744073709551615 }
-        ensures left { taken_of side self.new ≡ left_of seen.now result }
-        ensures same_taken { KeepsTaken side self.old self.new }
-        ensures same_tap { self.new.timed ≡ self.old.timed }
-        ensures same_lines { self.new.lines ≡ self.old.lines }
-        ensures same_name { self.new.name ≡ self.old.name }
-        ensures same_asked { self.new.asked.items ≡ self.old.asked.items }
-    {
-        match side {
-            Side::Client => {
-                let bytes = self.sent.saturating_add(used as u64);
-                self.sent = left_of(bytes, seen);
-                bytes
-            }
-            Side::Server => {
-                let bytes = self.received.saturating_add(used as u64);
-                self.received = left_of(bytes, seen);
-                bytes
-            }
-        }
     }
 
     /// Counts the command at this index if it waits no more, or keeps a new command that waits. This many
@@ -216,8 +182,7 @@ impl CountedTap {
         ensures same_tap { self.new.timed ≡ self.old.timed }
         ensures same_lines { self.new.lines ≡ self.old.lines }
         ensures same_name { self.new.name ≡ self.old.name }
-        ensures same_bytes { (self.new.sent ≡ self.old.sent) ×
-            (self.new.received ≡ self.old.received) }
+        ensures same_taken { self.new.taken ≡ self.old.taken }
     {
         let after = self.timed.tap.waiting();
         match seen {
@@ -236,12 +201,11 @@ impl CountedTap {
         ensures same_tap { self.new.timed ≡ self.old.timed }
         ensures same_lines { self.new.lines ≡ self.old.lines }
         ensures same_name { self.new.name ≡ self.old.name }
-        ensures same_bytes { (self.new.sent ≡ self.old.sent) ×
-            (self.new.received ≡ self.old.received) }
+        ensures same_taken { self.new.taken ≡ self.old.taken }
     {
         if gone > 0 {
             answer(counts, filter, self.asked.get(at).copied(), heard);
-            self.drop_first(gone);
+            drop_first(&mut self.asked, gone);
         }
     }
 
@@ -260,8 +224,7 @@ impl CountedTap {
         ensures same_tap { self.new.timed ≡ self.old.timed }
         ensures same_lines { self.new.lines ≡ self.old.lines }
         ensures same_name { self.new.name ≡ self.old.name }
-        ensures same_bytes { (self.new.sent ≡ self.old.sent) ×
-            (self.new.received ≡ self.old.received) }
+        ensures same_taken { self.new.taken ≡ self.old.taken }
     {
         // Otherwise nothing is kept of a command before this one.
         if self.asked.len() as u64 != before {
@@ -270,22 +233,6 @@ impl CountedTap {
         let counted = is_counted(filter, client, words);
         let place = place_for(counts, counted, words);
         let _ = self.asked.push_back(Asked { place, bytes });
-    }
-
-    /// Removes the first commands that are kept.
-    fn drop_first(&mut self, count: u64)
-        ensures asked { self.new.asked.items ≡ drop count self.old.asked.items }
-        ensures same_tap { self.new.timed ≡ self.old.timed }
-        ensures same_lines { self.new.lines ≡ self.old.lines }
-        ensures same_name { self.new.name ≡ self.old.name }
-        ensures same_bytes { (self.new.sent ≡ self.old.sent) ×
-            (self.new.received ≡ self.old.received) }
-    {
-        let mut left = count;
-        while left > 0 && !self.asked.is_empty() {
-            let _ = self.asked.pop_front();
-            left -= 1;
-        }
     }
 }
 
@@ -335,7 +282,7 @@ pub fn count_some(
     let at = tap.timed.tap.line.asked_at();
     let step = step_or_line(&mut tap.lines, &mut tap.timed, side, piece, Some(now)).step;
     let heard = Heard {
-        bytes: tap.take_bytes(side, step.used, &step.seen),
+        bytes: tap.taken.take(side, step.used, &step.seen),
         is_error: is_error(&step.seen),
         waited: waited_of(now, asked, &step.seen),
     };

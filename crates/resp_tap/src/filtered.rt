@@ -1,6 +1,6 @@
 //! A tap whose traffic is printed through a filter.
 
-ghost use Rattle.std.specs.Prelude.{◌≡◌, ◌<◌, ◌≤◌, ◌-◌, ℕ, Bool, List, [], length, drop, true};
+ghost use Rattle.std.specs.Prelude.{◌≡◌, ◌<◌, ◌≤◌, ◌-◌, ℕ, Bool, List, [], length, true};
 ghost use Rattle.resp_tap.specs.ClientNames.{naming_of};
 ghost use Rattle.resp_tap.specs.Ends.{CutsOff};
 ghost use Rattle.resp_tap.specs.Filtering.{FiltersAll, PrintsFiltered, SeesFiltered};
@@ -26,6 +26,7 @@ use crate::seen::Seen;
 use crate::shown_part::ShownPart;
 use crate::tap::Tap;
 use crate::timed::TimedTap;
+use crate::waiting::drop_first;
 use crate::watch::{Side, Watched, first_error, stamp_of};
 use resp_print::print_error::PrintError;
 use resp_session::words::Words;
@@ -97,7 +98,7 @@ impl FilteredTap {
         self
     }
 
-    /// Returns the command, reply or value of which this side has sent a part, if its bytes are still
+    /// Returns the command, reply or value that this side has sent in part, if its bytes are still
     /// read.
     pub fn cut(&self, side: Side) -> Option<Cut>
         ensures { CutsOff side self.now.lines.held.items self.now.timed.tap result }
@@ -112,8 +113,8 @@ impl FilteredTap {
         &self.name
     }
 
-    /// Adds or drops what is kept of the commands that wait, after a result before which so many
-    /// commands waited.
+    /// Adds or drops what is kept of the commands that wait, after a result. This many commands waited
+    /// before it.
     fn follow(
         &mut self,
         filter: &Filter,
@@ -140,7 +141,7 @@ impl FilteredTap {
                     filter, options, now, before, is_line, is_chosen, words, lengths,
                 );
             }
-            _ => self.drop_first(before.saturating_sub(after)),
+            _ => drop_first(&mut self.notes, before.saturating_sub(after)),
         }
     }
 
@@ -175,20 +176,6 @@ impl FilteredTap {
         );
         if let Ok(note) = note {
             let _ = self.notes.push_back(note);
-        }
-    }
-
-    /// Drops what is kept of the first commands.
-    fn drop_first(&mut self, count: u64)
-        ensures notes { self.new.notes.items ≡ drop count self.old.notes.items }
-        ensures same_tap { self.new.timed ≡ self.old.timed }
-        ensures same_lines { self.new.lines ≡ self.old.lines }
-        ensures same_name { self.new.name ≡ self.old.name }
-    {
-        let mut left = count;
-        while left > 0 && !self.notes.is_empty() {
-            let _ = self.notes.pop_front();
-            left -= 1;
         }
     }
 }

@@ -347,7 +347,7 @@ pub(crate) fn write_seen_json<W: Sink>(
     }
 }
 
-/// Writes the line of a command, of whose words this is kept.
+/// Writes the line of a command from the kept part of its words.
 fn write_words<W: Sink>(
     facts: Facts,
     number: u64,

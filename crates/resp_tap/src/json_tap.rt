@@ -1,13 +1,12 @@
 //! A tap whose traffic is printed as JSON.
 
-ghost use Rattle.std.specs.Prelude.{◌≡◌, ◌+◌, ◌<◌, ◌≤◌, ℕ, Bool, List, [], Option, Some, length, drop, min, true};
+ghost use Rattle.std.specs.Prelude.{◌≡◌, ◌<◌, ◌≤◌, ℕ, Bool, List, [], Option, Some, length, true};
 ghost use Rattle.resp_print.specs.Printed.{Prints};
 ghost use Rattle.resp_tap.specs.Called.{CalledAfter, IsKept};
 ghost use Rattle.resp_tap.specs.ClientNames.{naming_of};
-ghost use Rattle.resp_tap.specs.Counting.{left_of};
 ghost use Rattle.resp_tap.specs.Ends.{CutsOff};
 ghost use Rattle.resp_tap.specs.Filters.{kept_by};
-ghost use Rattle.resp_tap.specs.JsonTaps.{KeepsTaken, PrintsAll, PrintsJson, SeesJson, kept_json, taken_of};
+ghost use Rattle.resp_tap.specs.JsonTaps.{PrintsAll, PrintsJson, SeesJson, kept_json};
 ghost use Rattle.resp_value.specs.Data.{Datum};
 ghost use Rattle.resp_tap.specs.SeenOf.{IsKeptIn};
 ghost use Rattle.resp_tap.specs.Taps.{new_tap, tap_state};
@@ -18,7 +17,6 @@ ghost use Rattle.resp_tap.specs.declared.seen.Seen.{Seen};
 
 use crate::called::{Called, command_name, is_chosen_called, name_of_called};
 use crate::client_name::ClientName;
-use crate::counted::left_of;
 use crate::end::Cut;
 use crate::filter::Filter;
 use crate::json_line::{Facts, SHOWN, write_seen_json};
@@ -27,8 +25,10 @@ use crate::moment::Moment;
 use crate::print::printed;
 use crate::seen::Seen;
 use crate::shown_part::ShownPart;
+use crate::taken::{NONE_TAKEN, Taken};
 use crate::tap::Tap;
 use crate::timed::TimedTap;
+use crate::waiting::drop_first;
 use crate::watch::{Side, Watched, first_error, waited_of};
 use resp_print::print_error::PrintError;
 use resp_session::words::Words;
@@ -51,9 +51,8 @@ pub struct JsonTap {
     pub(crate) lines: Lines,
     /// What is kept of the commands that wait, in their order.
     pub(crate) calls: VecDeque<Called>,
-    /// The bytes read of the client's incomplete command, and of the server's incomplete value.
-    pub(crate) sent: u64,
-    pub(crate) received: u64,
+    /// The bytes read of an incomplete command and of an incomplete value.
+    pub(crate) taken: Taken,
     pub(crate) name: ClientName,
 }
 
@@ -70,7 +69,7 @@ impl JsonTap {
         ensures reads_lines { result.lines.are_read ≡ true }
         ensures nothing_held { result.lines.held.items ≡ [] }
         ensures nothing_kept { result.calls.items ≡ [] }
-        ensures no_bytes { (result.sent ≡ 0) × (result.received ≡ 0) }
+        ensures no_bytes { (result.taken.sent ≡ 0) × (result.taken.received ≡ 0) }
         ensures no_name { (naming_of result.name).name ≡ [] }
     {
         let shown = ShownPart::first(SHOWN);
@@ -78,8 +77,7 @@ impl JsonTap {
             timed: TimedTap::keeping(alloc, limits, shown, filter.kept_part(shown)),
             lines: Lines::new(alloc, true),
             calls: VecDeque::new(alloc),
-            sent: 0,
-            received: 0,
+            taken: NONE_TAKEN,
             name: ClientName::new(),
         }
     }
@@ -101,7 +99,7 @@ impl JsonTap {
         self
     }
 
-    /// Returns the command, reply or value of which this side has sent a part, if its bytes are still
+    /// Returns the command, reply or value that this side has sent in part, if its bytes are still
     /// read.
     pub fn cut(&self, side: Side) -> Option<Cut>
         ensures { CutsOff side self.now.lines.held.items self.now.timed.tap result }
@@ -116,45 +114,20 @@ impl JsonTap {
         &self.name
     }
 
-    /// Returns the number of bytes that one side has sent of a command or value, after these bytes.
-    fn take_bytes(&mut self, side: Side, used: usize, seen: &Seen) -> u64
-        ensures bytes { result ≡ min (taken_of side self.old + used) 18446744073709551615 }
-        ensures left { taken_of side self.new ≡ left_of seen.now result }
-        ensures same_taken { KeepsTaken side self.old self.new }
-        ensures same_tap { self.new.timed ≡ self.old.timed }
-        ensures same_lines { self.new.lines ≡ self.old.lines }
-        ensures same_name { self.new.name ≡ self.old.name }
-        ensures same_calls { self.new.calls ≡ self.old.calls }
-    {
-        match side {
-            Side::Client => {
-                let bytes = self.sent.saturating_add(used as u64);
-                self.sent = left_of(bytes, seen);
-                bytes
-            }
-            Side::Server => {
-                let bytes = self.received.saturating_add(used as u64);
-                self.received = left_of(bytes, seen);
-                bytes
-            }
-        }
-    }
-
-    /// Adds or drops what is kept of the commands that wait, after a result before which so many
-    /// commands waited.
+    /// Adds or drops what is kept of the commands that wait, after a result. This many commands waited
+    /// before it.
     fn follow(&mut self, before: u64, is_chosen: bool, seen: &Seen)
         ensures calls { CalledAfter is_chosen seen.now before (waits_in self.old.timed)
             self.old.calls.items self.new.calls.items }
         ensures same_tap { self.new.timed ≡ self.old.timed }
         ensures same_lines { self.new.lines ≡ self.old.lines }
         ensures same_name { self.new.name ≡ self.old.name }
-        ensures same_bytes { (self.new.sent ≡ self.old.sent) ×
-            (self.new.received ≡ self.old.received) }
+        ensures same_taken { self.new.taken ≡ self.old.taken }
     {
         let after = self.timed.tap.waiting();
         match seen {
             Seen::Command { words, .. } if before < after => self.keep(before, is_chosen, words),
-            _ => self.drop_first(before.saturating_sub(after)),
+            _ => drop_first(&mut self.calls, before.saturating_sub(after)),
         }
     }
 
@@ -164,8 +137,7 @@ impl JsonTap {
         ensures same_tap { self.new.timed ≡ self.old.timed }
         ensures same_lines { self.new.lines ≡ self.old.lines }
         ensures same_name { self.new.name ≡ self.old.name }
-        ensures same_bytes { (self.new.sent ≡ self.old.sent) ×
-            (self.new.received ≡ self.old.received) }
+        ensures same_taken { self.new.taken ≡ self.old.taken }
     {
         // Otherwise nothing is kept of a command before this one.
         if self.calls.len() as u64 != before {
@@ -173,22 +145,6 @@ impl JsonTap {
         }
         let name = command_name(words);
         let _ = self.calls.push_back(Called { name, is_chosen });
-    }
-
-    /// Drops what is kept of the first commands.
-    fn drop_first(&mut self, count: u64)
-        ensures calls { self.new.calls.items ≡ drop count self.old.calls.items }
-        ensures same_tap { self.new.timed ≡ self.old.timed }
-        ensures same_lines { self.new.lines ≡ self.old.lines }
-        ensures same_name { self.new.name ≡ self.old.name }
-        ensures same_bytes { (self.new.sent ≡ self.old.sent) ×
-            (self.new.received ≡ self.old.received) }
-    {
-        let mut left = count;
-        while left > 0 && !self.calls.is_empty() {
-            let _ = self.calls.pop_front();
-            left -= 1;
-        }
     }
 }
 
@@ -246,7 +202,7 @@ pub fn watch_json_some<W: Sink>(
     let at = tap.timed.tap.line.asked_at();
     let lined = step_or_line(&mut tap.lines, &mut tap.timed, side, piece, Some(now));
     let step = lined.step;
-    let size = tap.take_bytes(side, step.used, &step.seen);
+    let size = tap.taken.take(side, step.used, &step.seen);
     let called = tap.calls.get(at);
     let is_chosen = is_chosen_called(filter, called, &step.seen);
     let facts = Facts {

@@ -21,7 +21,6 @@ pub mod kind;
 pub mod laws;
 mod line;
 mod lines;
-mod migrate;
 pub mod moment;
 mod note;
 mod notice;
@@ -33,8 +32,10 @@ mod shown;
 pub mod shown_part;
 mod side_reader;
 pub mod stamp;
+mod taken;
 pub mod tap;
 pub mod timed;
+mod waiting;
 pub mod watch;
 pub mod way;
 

@@ -25,7 +25,7 @@ use std::alloc::{AllocError, Global};
 /// The most bytes that are kept of the words of a command.
 const SHOWN: usize = 1_024;
 
-/// The most commands of a connection of whose words bytes are kept.
+/// The most commands of a connection for which bytes of the words are kept.
 const MOST_KEPT: usize = 1_024;
 
 /// What is kept of a command that waits for its reply.
@@ -182,8 +182,8 @@ fn stamp_on(of_day: Option<u64>) -> Option<Stamp>
 }
 
 /// Writes the lines of a result, if the filter lets it through. `is_line` says whether it is that of
-/// a line, `is_chosen` says whether the words of
-/// its command are printed, and `note` is what is kept of the command that the next reply belongs to.
+/// a line, `is_chosen` whether the words of its command are printed, and `note` is what is kept of
+/// the command that the next reply belongs to.
 ///
 /// # Errors
 ///
@@ -280,7 +280,7 @@ fn write_deferred<W: Sink>(
     write_kept_line(is_whole, text, writer)
 }
 
-/// Returns the end of the line of words of which a part is kept.
+/// Returns the end of the line with what is kept of the words of a command.
 fn line_end(is_whole: bool) -> &'static [u8]
     ensures { result.now ≡ line_end is_whole }
 {

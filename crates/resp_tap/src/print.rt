@@ -358,7 +358,7 @@ fn write_stamped_number<W: Sink>(
     write_stamp(stamp, writer)
 }
 
-/// Writes the line with the words of a command, of which this is kept.
+/// Writes the line with the words of a command, from their kept part.
 pub(crate) fn write_words_line<W: Sink>(
     options: TextOptions,
     words: &Words,
@@ -376,8 +376,7 @@ pub(crate) fn write_words_line<W: Sink>(
     write_text(writer, b"\n")
 }
 
-/// Writes words in quotes, each after a space, without those that are secret. Of the words this is
-/// kept.
+/// Writes words in quotes, each after a space, without those that are secret, from their kept part.
 pub(crate) fn write_words<W: Sink>(
     options: TextOptions,
     words: &Words,
@@ -408,8 +407,9 @@ pub(crate) fn write_words<W: Sink>(
     Ok(())
 }
 
-/// Returns the number of bytes of a word, of which so much is kept, and the lengths of the words after
-/// it. The first of the lengths is that of this word, if the word has more bytes than are kept.
+/// Returns the number of bytes of a word by its kept part, and the lengths of the words after it. At
+/// most `kept` bytes of a word are kept. The first of the lengths is that of this word, if the word
+/// has more bytes.
 fn length_of<'a>(word: &[u8], kept: Option<usize>, lengths: &'a [u64]) -> (u64, &'a [u64])
     ensures { (whole later : List ℕ) → word.now ≡ word_within kept whole →
         lengths.now ≡ length_within kept (length whole) ++ later →

@@ -248,7 +248,7 @@ impl Tap {
         }
     }
 
-    /// Returns what a value of the client is, of which this is kept: a command, a value that a server
+    /// Returns what a value of the client is, by its kept part: a command, a value that a server
     /// ignores, or a value that is not a command.
     fn command_of(&mut self, kept: CutValue) -> Seen
         ensures seen { HasTakenRequest self.old [] → (whole : Datum) (front piece : List ℕ)
@@ -283,7 +283,7 @@ impl Tap {
         }
     }
 
-    /// Counts a command of whose words this is kept, and records it if it waits.
+    /// Counts a command by the kept part of its words, and records it if it waits.
     fn take_command(&mut self, words: &Words) -> Result<(), Cause>
         requires { 0 < length words.now }
         ensures counted { OnOk result (tap_state self.new ≡

@@ -1,8 +1,5 @@
-use Rattle.std.proofs.Common.{◌≡◌, ◌∙◌, ℕ, List, Option, length, refl, ap, sym, subst}
-use Rattle.std.specs.Prelude.{None, Some, option_map, slice_get}
-use Rattle.std.specs.Slice.{IsItemAt}
-use Rattle.std.specs.Borrow.{Bor}
-use Rattle.std.proofs.lemmas.Option.{slice_get_past, slice_get_read}
+use Rattle.std.proofs.Common.{◌≡◌, ◌∙◌, Option, ap, sym, subst}
+use Rattle.std.specs.Prelude.{option_map, slice_get}
 use Rattle.resp_value.specs.Data.{Datum}
 use Rattle.resp_print.specs.Printed.{Prints}
 use Rattle.resp_tap.specs.ClientNames.{named_after, naming_of}
@@ -18,12 +15,8 @@ use Rattle.resp_tap.specs.declared.lines.Lines.{Lines}
 use Rattle.resp_tap.specs.declared.note.Note.{Note}
 use Rattle.resp_tap.specs.declared.stamp.Stamp.{Stamp}
 use Rattle.resp_tap.specs.declared.timed.TimedTap.{TimedTap}
+use Rattle.resp_tap.proofs.KeptItems.{kept_at}
 use Rattle.resp_tap.proofs.filtered.watch_filtered_some.Goals as goal
-
--- what is kept at an index, as it is read
-note_at : (notes : List Note) (i : ℕ) (r : Option (Bor Note)) → IsItemAt notes i r → option_map (λ note. note.now) r ≡ slice_get notes i
-note_at notes i None item = sym (slice_get_past notes i item.3)
-note_at notes i (Some x) item = sym (slice_get_read notes (length notes) i x.now refl item.3.0 item.1)
 
 pub returns-clause-watches : goal.returns-clause-watches
 returns-clause-watches g c =
@@ -36,7 +29,7 @@ returns-clause-watches g c =
     let is_line = c.step_or_line-lined.result.is_line in
     let is_chosen = c.is_chosen-is_chosen.result in
     let note : option_map (λ note. note.now) c.get-note.result ≡ note_of old =
-    note_at old.notes.items c.asked_at-at.result c.get-note.result c.get-note.ensures.item ∙ ap (slice_get old.notes.items) c.asked_at-at.ensures in (
+    kept_at old.notes.items c.asked_at-at.result c.get-note.result c.get-note.ensures.item ∙ ap (slice_get old.notes.items) c.asked_at-at.ensures in (
       what,
       is_line,
       is_chosen,
