@@ -144,8 +144,8 @@ loop-preserved g c =
       unfailing = c.in-Ok.ensures.failures ∙ w.unfailing;
       none_failed = c.in-Ok-render_piece.ensures.write_failures ∙ c.in_default.ensures.failures ∙ w.none_failed;
       live = λ writes. live_on c.loop.invariant.same_rules g.T.Rendering.is_due c.part_stands-in-loop.ensures.not_whole
-    c.part_stands-in-loop.ensures.due c.loop.invariant.read (c.in_default.ensures.sent writes) (flushed c.in_default.ensures.same c.loop.invariant.stands)
-    (c.loop.invariant.live writes) c.read_beside.ensures.looks;
+          c.part_stands-in-loop.ensures.due c.loop.invariant.read (c.in_default.ensures.sent writes) (flushed c.in_default.ensures.same c.loop.invariant.stands)
+          (c.loop.invariant.live writes) c.read_beside.ensures.looks;
       room = w.room;
     }
 
