@@ -1,32 +1,36 @@
 -- Requests that were run, and bytes that are rejected.
-use Rattle.std.proofs.Common.{◌≡◌, ◌∙◌, inl, inr, ℕ, List, [], ◌∷◌, ◌++◌, take, Some, Result, Ok, Err, ap, refl, subst, sym}
-use Rattle.std.specs.Prelude.{OnErr, OnOk}
+use Rattle.std.proofs.Common.{◌≡◌, ◌∙◌, inl, inr, ℕ, List, [], ◌∷◌, ◌++◌, take, Option, Some, Result, Ok, Err, ap, refl, subst, sym}
+use Rattle.std.specs.Prelude.{IfSome, OnErr, OnOk}
 use Rattle.std.proofs.lemmas.List.{append-nil}
 use Rattle.resp_frames.proofs.SameWords.{same_words, whole_text}
 use Rattle.resp_frames.proofs.WholeTexts.{no_request_in_text, rejects_in_text}
 use Rattle.resp_frames.specs.Commands.{IsCommand, IsFrameOfWords}
-use Rattle.resp_frames.specs.Framing.{OnFault, RejectsByte}
-use Rattle.resp_frames.specs.Requests.{EndsNoRequest}
+use Rattle.resp_frames.specs.Framing.{HasBegun, IsReady, OnFault, RejectsByte, frame_limits, frame_rules}
+use Rattle.resp_frames.specs.Requests.{EndsNoRequest, IsRequest}
 use Rattle.resp_frames.specs.Texts.{text_of, used_of}
+use Rattle.resp_frames.specs.declared.begun.Begun.{Begun}
 use Rattle.resp_frames.specs.declared.error.FrameError.{FrameError}
 use Rattle.resp_frames.specs.declared.error.FrameError.TheVariants as frame
+use Rattle.resp_frames.specs.declared.frames.Frames.{Frames}
 use Rattle.resp_frames.specs.declared.words.CommandFrame.{CommandFrame}
+use Rattle.resp_frames.specs.declared.words.Request.{Request}
 use Rattle.resp_line.proofs.InlineLines.{named_words}
 use Rattle.resp_line.specs.Inline.{IsArrayOf, IsLineWith, RejectsLine}
 use Rattle.resp_line.specs.Lines.{AreWords}
 use Rattle.resp_line.specs.declared.inline.InlineError.{InlineError}
 use Rattle.resp_line.specs.declared.inline.InlineError.TheVariants as inline
+use Rattle.resp_server.specs.Hubs.{HubState}
 use Rattle.resp_session.specs.Stores.{Store}
 use Rattle.resp_value.specs.Bounds.{Bounds}
 use Rattle.resp_value.specs.Canonical.{canonical_text}
 use Rattle.resp_value.specs.Laws.{NoSpellingBeginsAnother}
-use Rattle.resp_value.specs.Rules.{rules_under}
+use Rattle.resp_value.specs.Rules.{Rules, rules_under}
 use Rattle.resp_value.specs.declared.version.Version.TheVariants.{Two}
 use Rattle.resp_databases.specs.Deeds.{Asked}
 use Rattle.resp_databases.specs.Outcomes.{Standing, outcome_of}
 use Rattle.resp_databases.specs.Rejections.{OnRejection, Rejects, inline_error, taking_error}
 use Rattle.resp_databases.specs.Running.{HasDone, HasDoneNothing, HasRun, standing_of, waiting_of}
-use Rattle.resp_databases.specs.Servers.{ServerState}
+use Rattle.resp_databases.specs.Servers.{ServerIsSound, ServerState}
 use Rattle.resp_databases.specs.Taking.{Progress, TakesPart, after_request, progress_of}
 use Rattle.resp_databases.specs.declared.client.Client.{Client}
 use Rattle.resp_databases.specs.declared.rejection.Rejection.{Rejection}
@@ -66,6 +70,28 @@ pub nothing_run : {E : Type 0} (r : Result (Unit {0}) E) (old new : ServerState)
     OnErr r (progress_of new after ≡ progress_of old before)
 nothing_run (Ok x) old new before after failed = tt
 nothing_run (Err e) old new before after failed = nothing_reached old new before after failed
+
+-- what was found by the rules of the frames is found by those of the server
+pub request_found : {own server : ServerState} (f : Frames) (begun after : Begun) (front piece : List ℕ) (found : Option Request) (request : Request) →
+    IsReady f → frame_rules f ≡ rules_under Two own.limits → own ≡ server → HasBegun (rules_under Two server.limits) begun front → found ≡ Some request →
+    (IsReady f → (before : List ℕ) → HasBegun (frame_rules f) begun before →
+    IfSome found (λ request. IsRequest (frame_limits f) before piece request × HasBegun (frame_rules f) after [])) →
+    IsRequest server.limits front piece request × HasBegun (rules_under Two server.limits) after []
+request_found {own} {server} f begun after front piece found request ready same is has some whole =
+    let rules = same ∙ ap (λ (v : ServerState). rules_under Two v.limits) is in
+    subst (λ (r : Rules). IsRequest r.limits front piece request × HasBegun r after []) rules
+    (subst (λ o. IfSome o (λ request. IsRequest (frame_limits f) front piece request × HasBegun (frame_rules f) after [])) some
+    (whole ready front (subst (λ r. HasBegun r begun front) (sym rules) has)))
+
+-- the frames stay those of the server
+pub still_sound : {limits : Bounds} {hubs : List HubState} {old new : Frames} → ServerIsSound limits hubs old → (IsReady old → IsReady new) →
+    frame_rules new ≡ frame_rules old → ServerIsSound limits hubs new
+still_sound sound ready same = record {
+  count = sound.count;
+  within = sound.within;
+  ready = ready sound.ready;
+  same_rules = same ∙ sound.same_rules;
+}
 
 -- an array that is a command was run
 pub array_done : (front piece : List ℕ) (found : CommandFrame) (old new : ServerState) (before after : Client) →

@@ -19,9 +19,10 @@ use Rattle.resp_databases.specs.Rejections.{rejection_text}
 use Rattle.resp_databases.specs.Running.{standing_of, waiting_of}
 use Rattle.resp_databases.specs.Servers.{ServerState}
 use Rattle.resp_databases.specs.Taking.{Begins, DoesParts, Ends, HasUnfinished, IsOpenBefore, KeepsUnfinished, Progress, Takes, TakesFirst, WhereUnfinished, after_parts, after_rejection, after_request, progress_of}
-use Rattle.resp_databases.specs.Visiting.{Answers, HadServed, Serves, ServesBy, ServesFirst, ServesPieces, StopsAnswering, StopsWriting, WhereOpen, WritesOut, LeavesRest, ends_by_read, with_written}
+use Rattle.resp_databases.specs.Visiting.{Answers, HadServed, Serves, ServesBy, ServesFirst, ServesPieces, StopsAnswering, StopsWriting, WhereOpen, WritesOut, LeavesRest, ends_by_read, rest_in, with_written}
 use Rattle.resp_databases.specs.declared.client.Client.{Client}
 use Rattle.resp_databases.specs.declared.connection.Served.{Served}
+use Rattle.resp_databases.specs.declared.connection.Visit.{Visit}
 use Rattle.resp_databases.specs.declared.error.ServeError.{ServeError}
 use Rattle.resp_databases.specs.declared.error.ServeError.TheVariants.{OutOfMemory, Read, TooManyTurns, Write}
 use Rattle.resp_databases.specs.declared.rejection.Rejection.{Rejection}
@@ -416,6 +417,15 @@ visited_part most written remaining calls failures w0 w1 w2 r0 r1 r2 s0 s1 s2 c0
   before_each = λ was_open front begun.
       each_more front h.pieces piece h.text a.text s0 s1 c0 c1 (h.before_each was_open front begun) (h.served was_open front begun) h.none_waits is_open;
 }
+
+-- after a visit that has ended no byte is left
+pub ended_visit : {W R : Type 0} {most : ℕ} {written : W → Option (List ℕ)} {remaining : R → Option (List ℕ)} {calls failures : R → ℕ} {w0 w : W} {r0 r : R}
+    {s0 s : ServerState} {c0 c : Client} {end : Result Served ServeError} {visit : Visit} (bytes : List ℕ) →
+    visit ≡ record { end = end; rest = record { start = 0; end = 0 } } → ServesPieces most written remaining calls failures w0 w r0 r s0 s c0 c end [] →
+    ServesPieces most written remaining calls failures w0 w r0 r s0 s c0 c visit.end (rest_in visit bytes)
+ended_visit {most = most} {written = written} {remaining = remaining} {calls = calls} {failures = failures} {w0 = w0} {w = w} {r0 = r0} {r = r} {s0 = s0}
+    {s = s} {c0 = c0} {c = c} bytes is served =
+    subst (λ (v : Visit). ServesPieces most written remaining calls failures w0 w r0 r s0 s c0 c v.end (rest_in v bytes)) (sym is) served
 
 -- no further piece was read
 pub visited_all : {W R : Type 0} → (most : ℕ) (written : W → Option (List ℕ)) (remaining : R → Option (List ℕ)) (calls failures : R → ℕ) (w0 w : W)

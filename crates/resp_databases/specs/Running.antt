@@ -24,10 +24,9 @@ standing_of c = record { id = c.id; version = c.version; database = c.database; 
 abbrev pub waiting_of : Client → List ℕ
 waiting_of c = c.out.items
 
--- the client has begun the same array and the same line
-pub record KeepsBegun (before after : Client) : Type 0 where
-  pub array : after.begun ≡ before.begun
-  pub line : after.line.items ≡ before.line.items
+-- the client has begun the same command
+abbrev pub KeepsBegun : Client → Client → Type 0
+KeepsBegun before after = after.unfinished ≡ before.unfinished
 
 -- it is done of the client alone, and no database is read or changed
 abbrev pub IsOfClient : Deed → Type 0

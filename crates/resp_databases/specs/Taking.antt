@@ -1,8 +1,7 @@
 -- How the bytes of a client are taken.
 use Rattle.std.specs.Prelude.{◌≡◌, ◌⊎◌, ℕ, ◌<◌, ◌≤◌, true, false, List, [], ◌∷◌, ◌++◌, length, take, Option, None, Some}
 use Rattle.std.specs.List.{AllByRecursion}
-use Rattle.resp_frames.specs.Framing.{HasBegun}
-use Rattle.resp_line.specs.Inline.{BeginsLine, IsWithinLine}
+use Rattle.resp_frames.specs.Unfinished.{HasBegunRequest}
 use Rattle.resp_session.specs.Replies.{error}
 use Rattle.resp_session.specs.Stores.{Store}
 use Rattle.resp_value.specs.Bounds.{Bounds}
@@ -18,26 +17,9 @@ use Rattle.resp_databases.specs.Servers.{ServerState}
 use Rattle.resp_databases.specs.declared.client.Client.{Client}
 use Rattle.resp_databases.specs.declared.rejection.Rejection.{Rejection}
 
--- an array has begun with these bytes, or nothing has begun
-pub record HasArray (limits : Bounds) (c : Client) (front : List ℕ) : Type 0 where
-  pub begun : HasBegun (rules_under Two limits) c.begun front
-  pub no_line : c.line.items ≡ []
-
--- a line has begun with these bytes
-pub record HasLine (limits : Bounds) (c : Client) (front : List ℕ) : Type 0 where
-  pub begins : BeginsLine front
-  pub within : IsWithinLine front
-  pub bytes : c.line.items ≡ front
-  pub no_array : HasBegun (rules_under Two limits) c.begun []
-
--- these are the bytes of the line that has begun, or there are none, and no array has begun
-pub record HasBytes (limits : Bounds) (c : Client) (front : List ℕ) : Type 0 where
-  pub bytes : c.line.items ≡ front
-  pub no_array : HasBegun (rules_under Two limits) c.begun []
-
 -- a client has begun a request with these bytes, or none
 abbrev pub HasUnfinished : Bounds → Client → List ℕ → Type 0
-HasUnfinished limits c front = HasArray limits c front ⊎ HasLine limits c front
+HasUnfinished limits c = HasBegunRequest (rules_under Two limits) true c.unfinished
 
 -- this is true of all bytes with which a client has begun a request
 abbrev pub WhereUnfinished : ServerState → Client → (List ℕ → Type 0) → Type 0

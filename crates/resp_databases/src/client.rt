@@ -1,7 +1,7 @@
 //! A client: what the server knows of a connection.
 
 use bytes::BytesMut;
-use resp_frames::Begun;
+use resp_frames::Unfinished;
 use resp_value::version::Version;
 use std::alloc::Global;
 
@@ -21,8 +21,6 @@ pub struct Client {
     pub(crate) closing: bool,
     /// The replies that wait to be written.
     pub(crate) out: BytesMut,
-    /// The array that has begun.
-    pub(crate) begun: Begun,
-    /// The bytes of the line that has begun.
-    pub(crate) line: Vec<u8>,
+    /// The command that has begun.
+    pub(crate) unfinished: Unfinished,
 }

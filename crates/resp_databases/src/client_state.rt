@@ -8,7 +8,7 @@ ghost use Rattle.resp_databases.specs.Taking.{HasUnfinished, KeepsUnfinished};
 
 use crate::client::Client;
 use bytes::BytesMut;
-use resp_frames::Begun;
+use resp_frames::Unfinished;
 use resp_value::version::Version;
 use std::alloc::Global;
 
@@ -34,8 +34,7 @@ impl Client {
             name: Vec::new(alloc),
             closing: false,
             out: BytesMut::new(alloc),
-            begun: Begun::new(),
-            line: Vec::new(alloc),
+            unfinished: Unfinished::new(alloc),
         }
     }
 
@@ -79,8 +78,7 @@ impl Client {
         ensures same_waiting { waiting_of self.new ≡ waiting_of self.old }
         ensures nothing_begun { (limits : Bounds) → HasUnfinished limits self.new [] }
     {
-        self.begun = Begun::new();
-        self.line = Vec::new(self.alloc);
+        self.unfinished = Unfinished::new(self.alloc);
         self.closing = true;
     }
 }

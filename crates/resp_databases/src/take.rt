@@ -1,20 +1,20 @@
 //! Takes the bytes of a client.
 
-ghost use Rattle.std.specs.Prelude.{◌≡◌, ◌++◌, ◌<◌, ◌≤◌, ℕ, List, [], false, true, length, take, IfErr, IfOk, IfSome, IsTrue, OnErr, OnOk};
-ghost use Rattle.resp_value.specs.Bounds.{Bounds};
+ghost use Rattle.std.specs.Prelude.{◌≡◌, ◌++◌, ◌<◌, ◌≤◌, ℕ, List, [], true, length, take, IfErr, IfOk, IfSome, OnErr};
 ghost use Rattle.resp_value.specs.Rules.{rules_under};
 ghost use Rattle.resp_value.specs.declared.version.Version.TheVariants.{Two};
 ghost use Rattle.resp_frames.specs.Framing.{HasBegun};
+ghost use Rattle.resp_frames.specs.Unfinished.{HasArray};
 ghost use Rattle.resp_line.specs.Inline.{GoesOn};
 ghost use Rattle.resp_databases.specs.Rejections.{OnRejection, Rejects, inline_error, taking_error};
 ghost use Rattle.resp_databases.specs.Running.{standing_of, waiting_of};
-ghost use Rattle.resp_databases.specs.Taking.{HasArray, HasBytes, HasUnfinished, IsFull, Takes, TakesFirst, TakesOne, WhereUnfinished, progress_of};
+ghost use Rattle.resp_databases.specs.Taking.{IsFull, Takes, TakesFirst, TakesOne, WhereUnfinished, progress_of};
 
 use crate::client::Client;
 use crate::databases::Databases;
 use crate::rejection::{Rejection, TakeError, reject};
 use resp_frames::{FrameError, Request};
-use resp_line::{InlineError, begins_line, next_inline};
+use resp_line::{InlineError, next_inline};
 use resp_value::laws::no_spelling_begins_another;
 use std::alloc::AllocError;
 use std::hash::BuildHasher;
@@ -103,7 +103,7 @@ impl<S: BuildHasher + Copy> Databases<S> {
         ensures within { IfOk result (λ found. IfSome found (λ used. used ≤ length piece.now)) }
         ensures same_server { self.new ≡ record self.old { stores = self.new.stores } }
     {
-        if is_line(client, piece) {
+        if client.unfinished.is_line(true, piece) {
             self.take_line(client, piece)
         } else {
             self.take_array(client, piece)
@@ -113,12 +113,13 @@ impl<S: BuildHasher + Copy> Databases<S> {
     /// Takes bytes up to the end of a line, and runs the command of this line. A line without words has
     /// no command.
     fn take_line(&mut self, client: &mut Client, piece: &[u8]) -> Result<Option<usize>, TakeError>
-        ensures taken { HasBegun (rules_under Two self.old.limits) client.old.begun [] →
-            GoesOn client.old.line.items piece.now → IfOk result (λ found.
-            TakesOne self.old.limits client.old.line.items piece.now found
+        ensures taken { HasBegun (rules_under Two self.old.limits) client.old.unfinished.begun [] →
+            GoesOn client.old.unfinished.line.items piece.now → IfOk result (λ found.
+            TakesOne self.old.limits client.old.unfinished.line.items piece.now found
             (progress_of self.old client.old) (progress_of self.new client.new) client.new) }
-        ensures rejected { GoesOn client.old.line.items piece.now → IfErr result (OnRejection
-            (Rejects self.old.limits (client.old.line.items ++ piece.now))) }
+        ensures rejected { GoesOn client.old.unfinished.line.items piece.now → IfErr result
+            (OnRejection (Rejects self.old.limits
+            (client.old.unfinished.line.items ++ piece.now))) }
         ensures unchanged { OnErr result (progress_of self.new client.new ≡
             progress_of self.old client.old) }
         ensures onward { IfOk result (λ found. IfSome found (λ used. 0 < used)) }
@@ -126,7 +127,12 @@ impl<S: BuildHasher + Copy> Databases<S> {
         ensures same_server { self.new ≡ record self.old { stores = self.new.stores } }
     {
         no_spelling_begins_another();
-        let command = match next_inline(self.alloc, &self.limits, &mut client.line, piece) {
+        let command = match next_inline(
+            self.alloc,
+            &self.limits,
+            &mut client.unfinished.line,
+            piece,
+        ) {
             Ok(Some(command)) => command,
             Ok(None) => return Ok(None),
             Err(error) => return Err(rejection_of_line(error)),
@@ -142,19 +148,25 @@ impl<S: BuildHasher + Copy> Databases<S> {
 
     /// Takes bytes up to the end of an array, and runs the command that it is.
     fn take_array(&mut self, client: &mut Client, piece: &[u8]) -> Result<Option<usize>, TakeError>
-        ensures taken { (front : List ℕ) → HasArray self.old.limits client.old front →
+        ensures taken { (front : List ℕ) →
+            HasArray (rules_under Two self.old.limits) client.old.unfinished front →
             IfOk result (λ found. TakesOne self.old.limits front piece.now found
             (progress_of self.old client.old) (progress_of self.new client.new) client.new) }
-        ensures rejected { (front : List ℕ) → HasArray self.old.limits client.old front →
+        ensures rejected { (front : List ℕ) →
+            HasArray (rules_under Two self.old.limits) client.old.unfinished front →
             IfErr result (OnRejection (Rejects self.old.limits (front ++ piece.now))) }
         ensures unchanged { OnErr result (progress_of self.new client.new ≡
             progress_of self.old client.old) }
-        ensures onward { (front : List ℕ) → HasArray self.old.limits client.old front →
+        ensures onward { (front : List ℕ) →
+            HasArray (rules_under Two self.old.limits) client.old.unfinished front →
             IfOk result (λ found. IfSome found (λ used. 0 < used)) }
         ensures within { IfOk result (λ found. IfSome found (λ used. used ≤ length piece.now)) }
         ensures same_server { self.new ≡ record self.old { stores = self.new.stores } }
     {
-        let found = match self.frames.next_request(&mut client.begun, piece) {
+        let found = match self
+            .frames
+            .next_request(&mut client.unfinished.begun, piece)
+        {
             Ok(found) => found,
             Err(error) => return Err(rejection_of(error)),
         };
@@ -191,17 +203,4 @@ fn rejection_of_line(error: InlineError) -> TakeError
         InlineError::OverLimits => TakeError::Rejected(Rejection::OverLimits),
         InlineError::OutOfMemory => TakeError::OutOfMemory,
     }
-}
-
-/// Returns whether the next byte of a client belongs to a line.
-fn is_line(client: &Client, piece: &[u8]) -> bool
-    ensures line { (limits : Bounds) (front : List ℕ) → HasUnfinished limits client.now front →
-        IsTrue result → GoesOn front piece.now × HasBytes limits client.now front }
-    ensures array { (limits : Bounds) (front : List ℕ) → HasUnfinished limits client.now front →
-        result ≡ false → HasArray limits client.now front }
-{
-    if !client.line.is_empty() {
-        return true;
-    }
-    client.begun.is_empty() && begins_line(piece)
 }

@@ -3,7 +3,6 @@
 ghost use Rattle.std.specs.Prelude.{◌≡◌, None};
 ghost use Rattle.resp_server.specs.Hubs.{seat_at};
 
-use resp_loop::closing::close;
 use resp_loop::non_blocking::{Input, Output};
 use resp_loop::service::Next;
 use resp_loop::stream::Stream;
@@ -70,48 +69,12 @@ impl Rest {
 
 /// A connection of a client.
 #[derive(Drop)]
-pub(crate) struct Connection {
+pub(crate) struct Connection<C> {
     /// The socket, which is non-blocking.
-    stream: Stream,
-    /// The id of its session in the hub.
-    pub(crate) id: u64,
-    rest: Rest,
-}
-
-impl Connection {
-    /// Returns a connection of which nothing was read.
-    pub(crate) fn new(alloc: Global, stream: Stream, id: u64) -> Self {
-        Connection {
-            stream,
-            id,
-            rest: Rest::new(alloc),
-        }
-    }
-
-    /// Answers the commands received, as [`answer`] does.
-    pub(crate) fn serve<S: BuildHasher>(
-        &mut self,
-        hub: &mut Hub<S>,
-        room: &mut Room,
-        is_at_end: bool,
-    ) -> Next {
-        let stream = &self.stream;
-        answer(
-            stream,
-            stream,
-            hub,
-            self.id,
-            room,
-            &mut self.rest,
-            is_at_end,
-        )
-    }
-
-    /// Closes the connection.
-    pub(crate) fn close(self) {
-        let Connection { stream, .. } = self;
-        close(&stream);
-    }
+    pub(crate) stream: Stream,
+    /// What the store knows of the client.
+    pub(crate) client: C,
+    pub(crate) rest: Rest,
 }
 
 /// Answers the commands that a client has sent, until a read or write would block, or 16 of them
@@ -156,7 +119,20 @@ pub fn answer<R: Read + Drop, W: Write + Drop, S: BuildHasher>(
         Err(ServeError::Read) => Some(reader.would_wait()),
         Err(ServeError::Write) => Some(writer.into_inner().would_wait()),
     };
-    match Rest::copy(room.alloc, &room.buffer[visit.rest], reader.first()) {
+    let left = &room.buffer[visit.rest];
+    hold(room.alloc, rest, left, reader.first(), waits)
+}
+
+/// Holds the bytes that were read and not answered, joined. Returns when the connection is visited
+/// next. `waits` says whether the socket would block, if a read or a write has failed.
+pub(crate) fn hold(
+    alloc: Global,
+    rest: &mut Rest,
+    bytes: &[u8],
+    more: &[u8],
+    waits: Option<bool>,
+) -> Next {
+    match Rest::copy(alloc, bytes, more) {
         Ok(left) => *rest = left,
         Err(_) => return Next::Close,
     }

@@ -1,8 +1,11 @@
 //! The server: its loop, its store, and what it does with a connection.
 
-use crate::connection::{Connection, Room};
+use crate::connection::{Connection, Rest, Room};
+use crate::store::Store;
 use mio::Registry;
+use resp_databases::{Client, Databases};
 use resp_loop::backend::Address;
+use resp_loop::closing::close;
 use resp_loop::event_loop::Loop;
 use resp_loop::register::register;
 use resp_loop::service::{Cause, Next, Service, Tokens};
@@ -11,38 +14,42 @@ use resp_server::Hub;
 use resp_value::limits::Limits;
 use std::alloc::Global;
 use std::fs::Files;
-use std::hash::BuildHasher;
 use std::io;
 use std::io::ErrorKind;
 use std::net::Net;
 use std::time::Duration;
 
-/// A server of PING, ECHO, GET, SET, DEL and HELLO for many clients at once, over one store.
+/// A server of PING, ECHO, GET, SET, DEL and HELLO.
+pub type Server<S> = StoreServer<u64, Hub<S>>;
+
+/// A server of 16 databases, for tests, as [`Databases`] has them.
+pub type TestServer<S> = StoreServer<Client, Databases<S>>;
+
+/// A server for many clients at once, over one store. `C` is what the store knows of a client.
 ///
 /// A connection is not read while a reply to it waits to be written, and none of its commands is run
 /// while more than `held` bytes wait. So at most `held` bytes and one reply wait for a client.
 /// Connections with much to do are served in turns.
 #[derive(Drop)]
-pub struct Server<S: BuildHasher> {
-    connections: Loop<Connection>,
-    replies: Replies<S>,
+pub struct StoreServer<C, T> {
+    connections: Loop<Connection<C>>,
+    replies: Replies<T>,
 }
 
 /// Answers the commands of all connections from one store.
 #[derive(Drop)]
-struct Replies<S: BuildHasher> {
-    hub: Hub<S>,
-    alloc: Global,
+struct Replies<T> {
+    store: T,
     room: Room,
 }
 
-impl<S: BuildHasher + Drop> Server<S> {
+impl<C: Drop, T: Store<C> + Drop> StoreServer<C, T> {
     /// Listens on an address, for at most `most` clients at once. Their commands are read within
     /// these limits, and run while at most `held` bytes wait to be written to their client.
     ///
     /// # Errors
     ///
-    /// The error of the system if the address can't be opened.
+    /// The error of the system if the address can't be opened, or an error of kind `OutOfMemory`.
     pub fn listen<R: Net + Files>(
         rt: &R,
         alloc: Global,
@@ -50,13 +57,15 @@ impl<S: BuildHasher + Drop> Server<S> {
         limits: Limits,
         most: usize,
         held: usize,
-        hasher: S,
+        hasher: T::Hasher,
     ) -> io::Result<Self> {
-        Ok(Server {
+        let Ok(store) = T::make(alloc, limits, hasher) else {
+            return Err(ErrorKind::OutOfMemory.into());
+        };
+        Ok(StoreServer {
             connections: Loop::listen(rt, alloc, address, most)?,
             replies: Replies {
-                hub: Hub::new(alloc, limits, hasher),
-                alloc,
+                store,
                 room: Room::new(alloc, held),
             },
         })
@@ -83,18 +92,22 @@ impl<S: BuildHasher + Drop> Server<S> {
     }
 }
 
-impl<S: BuildHasher + Drop> Service<Connection> for Replies<S> {
+impl<C: Drop, T: Store<C>> Service<Connection<C>> for Replies<T> {
     fn admit(
         &mut self,
         client: Stream,
         registry: &Registry,
         tokens: Tokens,
-    ) -> io::Result<Connection> {
-        let mut client = client;
-        register(&mut client, registry, tokens.client)?;
-        match self.hub.open() {
-            Ok(id) => Ok(Connection::new(self.alloc, client, id)),
-            Err(_) => Err(ErrorKind::OutOfMemory.into()),
+    ) -> io::Result<Connection<C>> {
+        let mut stream = client;
+        register(&mut stream, registry, tokens.client)?;
+        match self.store.admit() {
+            Some(client) => Ok(Connection {
+                stream,
+                client,
+                rest: Rest::new(self.room.alloc),
+            }),
+            None => Err(ErrorKind::OutOfMemory.into()),
         }
     }
 
@@ -102,13 +115,25 @@ impl<S: BuildHasher + Drop> Service<Connection> for Replies<S> {
 
     fn reject(&mut self) {}
 
-    fn visit(&mut self, connection: &mut Connection, _registry: &Registry, cause: Cause) -> Next {
-        connection.serve(&mut self.hub, &mut self.room, cause.is_at_end())
+    fn visit(
+        &mut self,
+        connection: &mut Connection<C>,
+        _registry: &Registry,
+        cause: Cause,
+    ) -> Next {
+        self.store.visit(
+            &mut connection.client,
+            &connection.stream,
+            &mut self.room,
+            &mut connection.rest,
+            cause.is_at_end(),
+        )
     }
 
-    fn close(&mut self, connection: Connection) {
-        let _ = self.hub.close(connection.id);
-        connection.close();
+    fn close(&mut self, connection: Connection<C>) {
+        let Connection { stream, client, .. } = connection;
+        self.store.part(client);
+        close(&stream);
     }
 
     fn accepts(&self) -> bool {

@@ -9,11 +9,11 @@ use Rattle.resp_turns.specs.declared.halt.Halt.TheVariants.{Failed, NoTurn}
 use Rattle.resp_turns.proofs.Pieces.{all_read, gives, some_left}
 use Rattle.resp_turns.proofs.Turning.{end_after, spends_both, spends_nothing, spends_writes}
 use Rattle.resp_databases.specs.Running.{waiting_of}
-use Rattle.resp_databases.specs.Visiting.{Answers, EndsVisit, ServesPieces, StopsAnswering, is_of_writer, rest_in}
+use Rattle.resp_databases.specs.Visiting.{Answers, EndsVisit, StopsAnswering, is_of_writer, rest_in}
 use Rattle.resp_databases.specs.declared.connection.Served.TheVariants.{Closed, Ended}
 use Rattle.resp_databases.specs.declared.connection.Visit.{Visit}
 use Rattle.resp_databases.specs.declared.error.ServeError.TheVariants.{Read, TooManyTurns}
-use Rattle.resp_databases.proofs.Visits.{answering_turns, answering_unread, leaves_more, rest_taken, same_error, stops_real, stops_turns, stops_unread, visited_all, visited_first, visited_more, visited_none, visited_part}
+use Rattle.resp_databases.proofs.Visits.{answering_turns, answering_unread, ended_visit, leaves_more, rest_taken, same_error, stops_real, stops_turns, stops_unread, visited_all, visited_first, visited_more, visited_none, visited_part}
 use Rattle.resp_databases.proofs.connection.serve.Goals as goal
 
 pub returns-in-Err-clause-served : goal.returns-in-Err-clause-served
@@ -22,9 +22,7 @@ returns-in-Err-clause-served g c =
     let r = c.args.reader.now in
     let s = c.args.databases.now in
     let f = g.W.Sink.failures c.args.writer.now in
-    subst (λ (v : Visit). ServesPieces (length c.args.buffer.now) g.W.Sink.written g.R.Source.remaining g.R.Source.calls g.R.Source.failures
-    c.args.writer.now w r r s s
-    c.args.client.now c.write_out.new.client v.end (rest_in v c.args.buffer.now)) (sym c.ended.ensures)
+    ended_visit c.args.buffer.now c.ended.ensures
     (visited_none (length c.args.buffer.now) g.W.Sink.written g.R.Source.remaining g.R.Source.calls g.R.Source.failures c.args.writer.now w r s
     c.args.client.now
     c.write_out.new.client c.in-Err.error
@@ -56,10 +54,7 @@ pub returns-in-Ok-eq0-clause-served : goal.returns-in-Ok-eq0-clause-served
 returns-in-Ok-eq0-clause-served g c =
     let l = c.loop-client in
     let zero : c.in-Ok-eq0.field-0 ≡ 0 = grind arith in
-    subst (λ (v : Visit). ServesPieces (length c.args.buffer.now) g.W.Sink.written g.R.Source.remaining g.R.Source.calls g.R.Source.failures
-    c.args.writer.now l.writer
-    c.args.reader.now c.read_some.new.reader c.args.databases.now l.databases c.args.client.now l.client v.end (rest_in v c.read_some.new.into))
-    (sym c.ended-in-Ok-eq0.ensures)
+    ended_visit c.read_some.new.into c.ended-in-Ok-eq0.ensures
     (visited_all (length c.args.buffer.now) g.W.Sink.written g.R.Source.remaining g.R.Source.calls g.R.Source.failures c.args.writer.now l.writer
     c.args.reader.now
     l.reader c.read_some.new.reader c.args.databases.now l.databases c.args.client.now l.client (Ok Ended) l.invariant.visited (λ is. absurd (cc))
@@ -94,10 +89,7 @@ returns-in-Ok-eq0-clause-turns g c =
 pub returns-in-Err-Failed-clause-served : goal.returns-in-Err-Failed-clause-served
 returns-in-Err-Failed-clause-served g c =
     let l = c.loop-client in
-    subst (λ (v : Visit). ServesPieces (length c.args.buffer.now) g.W.Sink.written g.R.Source.remaining g.R.Source.calls g.R.Source.failures
-    c.args.writer.now l.writer
-    c.args.reader.now c.read_some.new.reader c.args.databases.now l.databases c.args.client.now l.client v.end (rest_in v c.read_some.new.into))
-    (sym c.ended-in-Err-Failed.ensures)
+    ended_visit c.read_some.new.into c.ended-in-Err-Failed.ensures
     (visited_all (length c.args.buffer.now) g.W.Sink.written g.R.Source.remaining g.R.Source.calls g.R.Source.failures c.args.writer.now l.writer
     c.args.reader.now l.reader c.read_some.new.reader c.args.databases.now l.databases c.args.client.now l.client (Err Read) l.invariant.visited
     (λ is. absurd (cc))
@@ -117,10 +109,7 @@ returns-in-Err-Failed-clause-turns g c =
 pub returns-in-Err-NoTurn-clause-served : goal.returns-in-Err-NoTurn-clause-served
 returns-in-Err-NoTurn-clause-served g c =
     let l = c.loop-client in
-    subst (λ (v : Visit). ServesPieces (length c.args.buffer.now) g.W.Sink.written g.R.Source.remaining g.R.Source.calls g.R.Source.failures
-    c.args.writer.now l.writer
-    c.args.reader.now c.read_some.new.reader c.args.databases.now l.databases c.args.client.now l.client v.end (rest_in v c.read_some.new.into))
-    (sym c.ended-in-Err-NoTurn.ensures)
+    ended_visit c.read_some.new.into c.ended-in-Err-NoTurn.ensures
     (visited_all (length c.args.buffer.now) g.W.Sink.written g.R.Source.remaining g.R.Source.calls g.R.Source.failures c.args.writer.now l.writer
     c.args.reader.now l.reader c.read_some.new.reader c.args.databases.now l.databases c.args.client.now l.client (Err TooManyTurns) l.invariant.visited
     (λ is. absurd (cc))
@@ -230,9 +219,7 @@ loop-client-preserved g c =
 pub returns-clause-served : goal.returns-clause-served
 returns-clause-served g c =
     let l = c.loop-client in
-    subst (λ (v : Visit). ServesPieces (length c.args.buffer.now) g.W.Sink.written g.R.Source.remaining g.R.Source.calls g.R.Source.failures
-    c.args.writer.now l.writer
-    c.args.reader.now l.reader c.args.databases.now l.databases c.args.client.now l.client v.end (rest_in v l.buffer)) (sym c.ended-2.ensures)
+    ended_visit l.buffer c.ended-2.ensures
     (visited_all (length c.args.buffer.now) g.W.Sink.written g.R.Source.remaining g.R.Source.calls g.R.Source.failures c.args.writer.now l.writer
     c.args.reader.now
     l.reader l.reader c.args.databases.now l.databases c.args.client.now l.client (Ok Closed) l.invariant.visited (λ is. absurd (cc)) refl)
