@@ -18,7 +18,7 @@ use resp_paint::{Painted, Style};
 use resp_print::live::LiveSink;
 use resp_print::text::write_text;
 use resp_relay::{ProxyServer, ProxySettings};
-use resp_serve::{Server, TestServer};
+use resp_serve::{Server, Store, StoreServer, TestServer};
 use resp_tap::Filter;
 use resp_tap::json_line::write_listening_json;
 use resp_value::device::{DeviceFault, Sink};
@@ -100,7 +100,7 @@ fn serve<W: LiveSink>(
     let (limits, held) = (serving.limits, serving.held);
     if serving.is_test_server {
         let mut server = TestServer::listen(rt, alloc, &address, limits, most, held, hasher)?;
-        let ended = run_test_server(alloc, &mut server, writer);
+        let ended = run_server(alloc, &mut server, writer);
         drop(server);
         return ended;
     }
@@ -111,19 +111,9 @@ fn serve<W: LiveSink>(
 }
 
 /// Shows the address of a server, and runs it.
-fn run_server<W: LiveSink>(
+fn run_server<C: Drop, T: Store<C> + Drop, W: LiveSink>(
     alloc: Global,
-    server: &mut Server<RandomState>,
-    writer: &mut W,
-) -> Result<(), ListenError> {
-    announce(alloc, &server.address()?, writer)?;
-    Ok(server.run()?)
-}
-
-/// Shows the address of a server of 16 databases, and runs it.
-fn run_test_server<W: LiveSink>(
-    alloc: Global,
-    server: &mut TestServer<RandomState>,
+    server: &mut StoreServer<C, T>,
     writer: &mut W,
 ) -> Result<(), ListenError> {
     announce(alloc, &server.address()?, writer)?;
