@@ -2,7 +2,7 @@
 
 ghost use Rattle.std.specs.Prelude.{◌≡◌, ◌++◌, OnOk, map};
 ghost use Rattle.clap.specs.Words.{new_rule, rule_of};
-ghost use Rattle.resp_args.specs.Tables.{here, local_rule, parameter_rule, with_check, with_fallback, with_presence};
+ghost use Rattle.resp_args.specs.Tables.{here, local_rule, parameter_rule, with_fallback};
 
 use clap::{Arg, ArgAction};
 use std::alloc::{AllocError, Global};
@@ -85,12 +85,24 @@ fn arg<'a>(alloc: Global, parameter: Parameter) -> Arg<'a>
             .action(ArgAction::SetTrue),
         Parameter::Value(name, value_name, check, fallback, help) => {
             let arg = named(alloc, name, help).long(name).value_name(value_name);
-            with_fallback(with_check(arg, check), fallback)
+            match check {
+                Check::Any => with_fallback(arg, fallback),
+                Check::Between(least, most) => {
+                    let numbers = clap::value_parser!(u64).range(least..=most);
+                    with_fallback(arg.value_parser(numbers), fallback)
+                }
+                Check::OneOf(values) => with_fallback(arg.value_parser(values), fallback),
+            }
         }
-        Parameter::Word(name, value_name, presence, help) => with_presence(
-            named(alloc, name, help).value_name(value_name),
-            presence,
-        ),
+        Parameter::Word(name, value_name, presence, help) => {
+            let arg = named(alloc, name, help).value_name(value_name);
+            match presence {
+                Presence::Required => arg.required(true),
+                Presence::Optional => arg,
+                Presence::Default(value) => arg.default_value(value),
+                Presence::Rest => arg.num_args(1..).trailing_var_arg(true),
+            }
+        }
     }
 }
 
@@ -101,19 +113,6 @@ fn named<'a>(alloc: Global, name: &'a str, help: &'a str) -> Arg<'a>
     Arg::new(alloc, name).help(help)
 }
 
-/// Returns the argument with these values.
-fn with_check<'a>(arg: Arg<'a>, check: Check) -> Arg<'a>
-    ensures { local_rule result ≡ (with_check check (rule_of arg.entry), arg.entry.global) }
-{
-    match check {
-        Check::Any => arg,
-        Check::Between(least, most) => {
-            arg.value_parser(clap::value_parser!(u64).range(least..=most))
-        }
-        Check::OneOf(values) => arg.value_parser(values),
-    }
-}
-
 /// Returns the argument with this value if it is not given.
 fn with_fallback<'a>(arg: Arg<'a>, fallback: Fallback) -> Arg<'a>
     ensures { local_rule result ≡ (with_fallback fallback (rule_of arg.entry), arg.entry.global) }
@@ -122,17 +121,5 @@ fn with_fallback<'a>(arg: Arg<'a>, fallback: Fallback) -> Arg<'a>
         Fallback::Nothing => arg,
         Fallback::Shown(value) => arg.default_value(value),
         Fallback::Hidden(value) => arg.default_value(value).hide_default_value(true),
-    }
-}
-
-/// Returns the argument, which may be missing or not.
-fn with_presence<'a>(arg: Arg<'a>, presence: Presence) -> Arg<'a>
-    ensures { local_rule result ≡ (with_presence presence (rule_of arg.entry), arg.entry.global) }
-{
-    match presence {
-        Presence::Required => arg.required(true),
-        Presence::Optional => arg,
-        Presence::Default(value) => arg.default_value(value),
-        Presence::Rest => arg.num_args(1..).trailing_var_arg(true),
     }
 }
