@@ -33,10 +33,10 @@ recorded_on (Some looks) (Some now) after look P (since, is, each) records p =
     )
 
 -- a flush writes nothing
-pub flushed : {r : Rules} {text : Datum → List ℕ} {W : Datum → Type 0} {H : List ℕ → List ℕ → Type 0} {bytes : List ℕ}
-    {start mid after : Option (List ℕ)} {n : ℕ} → Appends mid after [] → HasRendered r text W H bytes start mid n →
+pub flushed : (r : Rules) (text : Datum → List ℕ) (W : Datum → Type 0) (H : List ℕ → List ℕ → Type 0) (bytes : List ℕ)
+    (start mid after : Option (List ℕ)) (n : ℕ) → Appends mid after [] → HasRendered r text W H bytes start mid n →
     HasRendered r text W H bytes start after n
-flushed {text = text} {start = start} {mid = mid} {after = after} appended s = record {
+flushed r text W H bytes start mid after n appended s = record {
   values = s.values;
   front = s.front;
   begun = s.begun;
@@ -75,14 +75,12 @@ is_live r text W D H bytes left left' start after sent n none due read same s = 
 )
 
 -- a read more, after a flush
-pub live_on : {r r' : Rules} {text : Datum → List ℕ} {W : Datum → Type 0} {H : List ℕ → List ℕ → Type 0} {bytes : List ℕ}
-    {left left' start after sent : Option (List ℕ)} {n : ℕ} {looks looks' looks'' : Option (List Look)} → r' ≡ r →
-    (D : Rules → List ℕ → List ℕ → Type 0) → ((front so_far : List ℕ) → H front so_far → HasNoSpelling r' front) →
-    ((front so_far : List ℕ) → H front so_far → D r' front so_far) →
+pub live_on : (r r' : Rules) → r' ≡ r → (text : Datum → List ℕ) (W : Datum → Type 0) (D : Rules → List ℕ → List ℕ → Type 0)
+    (H : List ℕ → List ℕ → Type 0) (bytes : List ℕ) (left left' start after sent : Option (List ℕ)) (n : ℕ) (looks looks' looks'' : Option (List Look)) →
+    ((front so_far : List ℕ) → H front so_far → HasNoSpelling r' front) → ((front so_far : List ℕ) → H front so_far → D r' front so_far) →
     AreRead left left' bytes → sent ≡ after → HasRendered r text W H bytes start after n → EachRead looks looks' (IsLive r text (D r) left start) →
     Records looks' looks'' (record { left = left'; sent = sent }) → EachRead looks looks'' (IsLive r text (D r) left start)
-live_on {r = r} {text = text} {W = W} {H = H} {bytes = bytes} {left = left} {left' = left'} {start = start} {after = after} {sent = sent} {n = n}
-    {looks = looks} {looks' = looks'} {looks'' = looks''} same D none due read sent_all s each records =
+live_on r r' same text W D H bytes left left' start after sent n looks looks' looks'' none due read sent_all s each records =
     recorded_on looks looks' looks'' (record { left = left'; sent = sent }) (IsLive r text (D r) left start) each records
     (is_live r text W (D r) H bytes left left' start after sent n (subst (λ z. (front so_far : List ℕ) → H front so_far → HasNoSpelling z front) same none)
     (subst (λ z. (front so_far : List ℕ) → H front so_far → D z front so_far) same due) read sent_all s)

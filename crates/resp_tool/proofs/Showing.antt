@@ -13,7 +13,7 @@ use Rattle.resp_value.specs.declared.cause.Cause.TheVariants as cause
 use Rattle.resp_fronts.specs.Events as e
 use Rattle.resp_scan.specs.Counts.{close_count, open_count}
 use Rattle.resp_scan.specs.Kinds.{content_events, rules_of}
-use Rattle.resp_scan.specs.Listening.{HearsPiece, HearsRefusal, HearsValue, IfRefused, IfStopped, IfUsedUp, IfWhole, MayBeGiven, OnFault, OnStopped, StopsAfter, StopsWithin, whole_text_events}
+use Rattle.resp_scan.specs.Listening.{HearsPiece, HearsRefusal, HearsValue, IfRefused, IfStopped, IfUsedUp, IfWhole, MayBeGiven, StopsAfter, StopsWithin, whole_text_events}
 use Rattle.resp_scan.specs.Machine.Tokens.{Place}
 use Rattle.resp_scan.specs.Reading.{AreDue, BeginDue, Events, HasNoValue, HasRead}
 use Rattle.resp_scan.specs.declared.event.Fault.{Fault}
@@ -24,7 +24,7 @@ use Rattle.resp_scan.specs.declared.event.TextKind.{TextKind as ScannedKind}
 use Rattle.resp_tool.specs.Counts.{IsAny}
 use Rattle.resp_tool.specs.Lines.{HasRoomFor, page_of, size_of_text}
 use Rattle.resp_tool.specs.Pages.{OpenLine, OpenText, Page, blank, end_of_line, left_text, page_after, page_after_event, shown, shown_on, with_byte, with_member, without_last}
-use Rattle.resp_tool.specs.Printing.{Call, HasBroken, HasPrinted, IsOfCall, IsPageAfter, Start, WherePrinted}
+use Rattle.resp_tool.specs.Printing.{Call, HasBroken, HasPrinted, IsOfCall, IsPageAfter, Start}
 use Rattle.resp_tool.specs.Scans.{HasShown, IsShownIn, IsShownOf}
 use Rattle.resp_print.specs.Shown.{shown_text}
 use Rattle.resp_tool.specs.Takings.{IsByteFault, IsEndFault, LeavesRefused, TakesUnfinished, WritesValue, WritesPart}
@@ -288,25 +288,16 @@ stopped_as H K r front piece (Err (stop.Stopped n)) so stops = record {
 
 -- What comes of a piece.
 
--- a clause of a call holds since a state in which this part was shown
-pub from_shown : {s : Place} {lines : Lines} {held : Option (List ℕ)} {f : ℕ} {P : Start → List ℕ → Type 0} → WherePrinted s lines held f P →
-    (front so_far : List ℕ) → HasShown s lines front so_far → P (record { held = held; failures = f; so_far = so_far }) front
-from_shown {held = held} {f = f} clause front so_far w = clause (record { held = held; failures = f; so_far = so_far }) front w.given w.scanned.reads
-    record {
-      shown_lines = w.shown_lines;
-      more = [];
-      appended = Appends-none held;
-      whole = append-nil so_far ∙ w.written;
-      none_failed = refl;
-    }
-
--- an error that is this fault
-pub of_fault : {error : ScanError} {fault : Fault} {P : Fault → Type 0} → error ≡ stop.Fault fault → OnFault error P → P fault
-of_fault {P = P} is h = subst (λ z. OnFault z P) is h
-
--- an error that is a stop after so many bytes
-pub of_stop : {error : ScanError} {taken : ℕ} {P : ℕ → Type 0} → error ≡ stop.Stopped taken → OnStopped error P → P taken
-of_stop {P = P} is h = subst (λ z. OnStopped z P) is h
+-- what was shown before a call has been printed since its start
+pub printed_before : (s : Place) (lines : Lines) (front so_far : List ℕ) (held : Option (List ℕ)) (f : ℕ) (w : HasShown s lines front so_far) →
+    HasPrinted (record { held = held; failures = f; so_far = so_far }) lines held f w.given
+printed_before s lines front so_far held f w = record {
+  shown_lines = w.shown_lines;
+  more = [];
+  appended = Appends-none held;
+  whole = append-nil so_far ∙ w.written;
+  none_failed = refl;
+}
 
 module _ (r : Rules) (since : Start) (front piece : List ℕ) (after : Option (List ℕ)) (f : ℕ) where
   -- a value that was shown whole
@@ -377,11 +368,11 @@ module _ (r : Rules) (since : Start) (front piece : List ℕ) (after : Option (L
       case false is = (part is).has_heard.none_failed
 
 -- a refused byte, after which an open line was ended
-pub shows_refused : {r : Rules} {since : Start} {front piece : List ℕ} {lines : Lines} {now after : Option (List ℕ)} {f : ℕ} {fault : Fault} →
+pub shows_refused : (r : Rules) (since : Start) (front piece : List ℕ) (lines : Lines) (now after : Option (List ℕ)) (f : ℕ) (fault : Fault) →
     HearsRefusal r (HasPrinted since lines now f) front piece fault →
     Appends now after (end_of_line (page_of lines).text) →
     LeavesRefused r (IsByteFault r) IsShownOf (front ++ piece) since.so_far since.held after fault.cause fault.at
-shows_refused {r = r} {since = since} {front = front} {piece = piece} {lines = lines} {now = now} {after = after} {fault = fault} h ended =
+shows_refused r since front piece lines now after f fault h ended =
     let w = h.has_heard in
     let ending = end_of_line (page_of lines).text in
     record {
@@ -419,10 +410,10 @@ part_shown r whole so_far size given before now after more text rest viable due 
     regroup a b c d = ap (λ z. a ++ z) (append_assoc b c d) ∙ sym (append_assoc a b (c ++ d))
 
 -- the write of a line's end failed
-pub shows_end_part : {r : Rules} {since : Start} {front piece : List ℕ} {lines : Lines} {now after : Option (List ℕ)} {f : ℕ} {fault : Fault} →
+pub shows_end_part : (r : Rules) (since : Start) (front piece : List ℕ) (lines : Lines) (now after : Option (List ℕ)) (f : ℕ) (fault : Fault) →
     HearsRefusal r (HasPrinted since lines now f) front piece fault → AppendsPart now after (end_of_line (page_of lines).text) →
     WritesPart r shown_text (IsShownIn r) (front ++ piece) since.so_far since.held after
-shows_end_part {r = r} {since = since} {front = front} {piece = piece} {lines = lines} {now = now} {after = after} {fault = fault} h part =
+shows_end_part r since front piece lines now after f fault h part =
     let w = h.has_heard in
     let given = h.heard in
     let ending = end_of_line (page_of lines).text in
@@ -432,9 +423,9 @@ shows_end_part {r = r} {since = since} {front = front} {piece = piece} {lines = 
     append_assoc since.so_far w.more ending ∙ ap (λ z. since.so_far ++ (w.more ++ z)) (sym (append-nil ending)))
 
 -- the write of what an event calls for failed
-pub shows_broken : {r : Rules} {since : Start} {front piece : List ℕ} {after : Option (List ℕ)} {f taken : ℕ} →
+pub shows_broken : (r : Rules) (since : Start) (front piece : List ℕ) (after : Option (List ℕ)) (f taken : ℕ) →
     StopsAfter r (HasBroken since after f) front piece taken → WritesPart r shown_text (IsShownIn r) (front ++ piece) since.so_far since.held after
-shows_broken {r = r} {since = since} {front = front} {piece = piece} {after = after} {f = f} {taken = taken} h =
+shows_broken r since front piece after f taken h =
     let w = h.has_stopped in
     let given = h.told in
     let ending = end_of_line (page_after given blank).text in

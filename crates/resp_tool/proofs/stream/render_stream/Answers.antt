@@ -52,7 +52,9 @@ returns-in-Err-clause-rendered g c =
       w.read,
       renders_so_far r (g.T.Rendering.text r) (g.T.Rendering.is_written r) (g.T.Rendering.is_begun r) (g.T.Rendering.has_taken c.loop.rendering) w.bytes
           (g.W.Sink.written c.args.writer.now) (g.W.Sink.written c.flush.new.writer) c.loop.totals.values stands
-          (flushed c.in-Err.ensures.same w.stands),
+          (flushed r (g.T.Rendering.text r) (g.T.Rendering.is_written r) (g.T.Rendering.has_taken c.loop.rendering) w.bytes
+          (g.W.Sink.written c.args.writer.now) (g.W.Sink.written c.loop.writer) (g.W.Sink.written c.flush.new.writer) c.loop.totals.values
+          c.in-Err.ensures.same w.stands),
     )
 
 pub returns-in-Err-read_beside-clause-rendered : goal.returns-in-Err-read_beside-clause-rendered
@@ -65,7 +67,9 @@ returns-in-Err-read_beside-clause-rendered g c =
       reads_fail _ _ _ w.bytes _ c.in-Err-read_beside.field-0 w.read c.in-Err-read_beside.ensures.bytes,
       renders_so_far r (g.T.Rendering.text r) (g.T.Rendering.is_written r) (g.T.Rendering.is_begun r) (g.T.Rendering.has_taken c.loop.rendering) w.bytes
           (g.W.Sink.written c.args.writer.now) (g.W.Sink.written c.flush.new.writer) c.loop.totals.values stands
-          (flushed c.in_default.ensures.same w.stands),
+          (flushed r (g.T.Rendering.text r) (g.T.Rendering.is_written r) (g.T.Rendering.has_taken c.loop.rendering) w.bytes
+          (g.W.Sink.written c.args.writer.now) (g.W.Sink.written c.loop.writer) (g.W.Sink.written c.flush.new.writer) c.loop.totals.values
+          c.in_default.ensures.same w.stands),
     )
 
 pub returns-in-Err-finish-clause-rendered : goal.returns-in-Err-finish-clause-rendered
@@ -80,7 +84,9 @@ returns-in-Err-finish-clause-rendered g c =
           (g.W.Sink.written c.args.writer.now) (g.W.Sink.written c.finish.new.writer)) (sym c.of_value.ensures)
           (ended_stop r (g.T.Rendering.text r) (g.T.Rendering.is_written r) (g.T.Rendering.is_left r) (g.T.Rendering.is_begun r)
           (g.T.Rendering.has_taken c.loop.rendering) w.bytes (g.W.Sink.written c.args.writer.now) (g.W.Sink.written c.flush.new.writer)
-          (g.W.Sink.written c.finish.new.writer) c.loop.totals.values c.in-Err-finish.stop ends (flushed c.in_default.ensures.same w.stands)),
+          (g.W.Sink.written c.finish.new.writer) c.loop.totals.values c.in-Err-finish.stop ends (flushed r (g.T.Rendering.text r) (g.T.Rendering.is_written r) (g.T.Rendering.has_taken c.loop.rendering) w.bytes
+          (g.W.Sink.written c.args.writer.now) (g.W.Sink.written c.loop.writer) (g.W.Sink.written c.flush.new.writer) c.loop.totals.values
+          c.in_default.ensures.same w.stands)),
     )
 
 pub returns-then-count-eq0-clause-rendered : goal.returns-then-count-eq0-clause-rendered
@@ -93,7 +99,9 @@ returns-then-count-eq0-clause-rendered g c =
       reads_none _ _ _ w.bytes _ c.in-Ok.count c.if-count-eq0.true w.read c.in-Ok.ensures.bytes,
       renders_counted r (g.T.Rendering.text r) (g.T.Rendering.is_written r) (g.T.Rendering.is_left r) (g.T.Rendering.is_begun r)
           (g.T.Rendering.has_taken c.loop.rendering) w.bytes (g.W.Sink.written c.args.writer.now) (g.W.Sink.written c.flush.new.writer)
-          (g.W.Sink.written c.finish.new.writer) c.loop.totals c.in_default-finish.field-0 c.no_spelling_is_empty.ensures ends (flushed c.in_default.ensures.same w.stands) w.few w.size,
+          (g.W.Sink.written c.finish.new.writer) c.loop.totals c.in_default-finish.field-0 c.no_spelling_is_empty.ensures ends (flushed r (g.T.Rendering.text r) (g.T.Rendering.is_written r) (g.T.Rendering.has_taken c.loop.rendering) w.bytes
+          (g.W.Sink.written c.args.writer.now) (g.W.Sink.written c.loop.writer) (g.W.Sink.written c.flush.new.writer) c.loop.totals.values
+          c.in_default.ensures.same w.stands) w.few w.size,
     )
 
 pub returns-in-Err-render_piece-clause-rendered : goal.returns-in-Err-render_piece-clause-rendered
@@ -113,7 +121,9 @@ returns-in-Err-render_piece-clause-rendered g c =
       w.bytes ++ take c.in-Ok.count c.read_beside.new.into,
       reads_on _ _ _ w.bytes c.read_beside.new.into c.in-Ok.count w.read c.in-Ok.ensures.bytes,
       subst (λ z. RendersStopped r (g.T.Rendering.text r) (g.T.Rendering.is_written r) (g.T.Rendering.is_left r) (g.T.Rendering.is_begun r) (w.bytes ++ z)
-          start (g.W.Sink.written c.render_piece.new.writer) c.in-Err-render_piece.error) piece (stops (flushed c.in_default.ensures.same w.stands)),
+          start (g.W.Sink.written c.render_piece.new.writer) c.in-Err-render_piece.error) piece (stops (flushed r (g.T.Rendering.text r) (g.T.Rendering.is_written r) (g.T.Rendering.has_taken c.loop.rendering) w.bytes
+          (g.W.Sink.written c.args.writer.now) (g.W.Sink.written c.loop.writer) (g.W.Sink.written c.flush.new.writer) c.loop.totals.values
+          c.in_default.ensures.same w.stands)),
     )
 
 pub loop-preserved : goal.loop-preserved
@@ -137,15 +147,24 @@ loop-preserved g c =
       size = omega (arith, size, w.size);
       bounded = omega (arith, one_more c.loop.counter c.args.piece, size, w.bounded, within, room, w.room);
       stands = subst (λ z. HasRendered r (g.T.Rendering.text r) (g.T.Rendering.is_written r) (g.T.Rendering.has_taken c.render_piece.new.rendering)
-          (w.bytes ++ z) start (g.W.Sink.written c.render_piece.new.writer) c.in-Ok-render_piece.values) piece (goes_on (flushed c.in_default.ensures.same w.stands));
+          (w.bytes ++ z) start (g.W.Sink.written c.render_piece.new.writer) c.in-Ok-render_piece.values) piece (goes_on (flushed r (g.T.Rendering.text r) (g.T.Rendering.is_written r) (g.T.Rendering.has_taken c.loop.rendering) w.bytes
+          (g.W.Sink.written c.args.writer.now) (g.W.Sink.written c.loop.writer) (g.W.Sink.written c.flush.new.writer) c.loop.totals.values
+          c.in_default.ensures.same w.stands));
       few = c.in-Ok-render_piece.ensures.few;
       same_rules = c.in-Ok-render_piece.ensures.same_rules ∙ w.same_rules;
       calls = called_again c.loop.counter _ (g.R.Source.calls c.loop.reader) _ w.calls c.read_beside.ensures.calls;
       unfailing = c.in-Ok.ensures.failures ∙ w.unfailing;
       none_failed = c.in-Ok-render_piece.ensures.write_failures ∙ c.in_default.ensures.failures ∙ w.none_failed;
-      live = λ writes. live_on c.loop.invariant.same_rules g.T.Rendering.is_due c.part_stands-in-loop.ensures.not_whole
-          c.part_stands-in-loop.ensures.due c.loop.invariant.read (c.in_default.ensures.sent writes) (flushed c.in_default.ensures.same c.loop.invariant.stands)
-          (c.loop.invariant.live writes) c.read_beside.ensures.looks;
+      live = λ writes. live_on (g.T.Rendering.rules c.args.rendering.now) (g.T.Rendering.rules c.loop.rendering) c.loop.invariant.same_rules
+          (g.T.Rendering.text (g.T.Rendering.rules c.args.rendering.now)) (g.T.Rendering.is_written (g.T.Rendering.rules c.args.rendering.now))
+          g.T.Rendering.is_due (g.T.Rendering.has_taken c.loop.rendering) c.loop.invariant.bytes (g.R.Source.remaining c.args.reader.now)
+          (g.R.Source.remaining c.loop.reader) (g.W.Sink.written c.args.writer.now) (g.W.Sink.written c.flush.new.writer)
+          (g.W.LiveSink.sent c.flush.new.writer) c.loop.totals.values (g.R.LiveSource.looks c.args.reader.now) (g.R.LiveSource.looks c.loop.reader) _
+          c.part_stands-in-loop.ensures.not_whole c.part_stands-in-loop.ensures.due c.loop.invariant.read (c.in_default.ensures.sent writes)
+          (flushed (g.T.Rendering.rules c.args.rendering.now) (g.T.Rendering.text (g.T.Rendering.rules c.args.rendering.now))
+          (g.T.Rendering.is_written (g.T.Rendering.rules c.args.rendering.now)) (g.T.Rendering.has_taken c.loop.rendering) c.loop.invariant.bytes
+          (g.W.Sink.written c.args.writer.now) (g.W.Sink.written c.loop.writer) (g.W.Sink.written c.flush.new.writer) c.loop.totals.values
+          c.in_default.ensures.same c.loop.invariant.stands) (c.loop.invariant.live writes) c.read_beside.ensures.looks;
       room = w.room;
     }
 
@@ -169,24 +188,52 @@ returns-in_err-buffer-clause-reads g c =
     record { bounded = omega arith; used_up = λ turns. absurd cc; failed = refl }
 
 pub returns-in-Err-read_beside-clause-live : goal.returns-in-Err-read_beside-clause-live
-returns-in-Err-read_beside-clause-live g c = λ writes. live_on c.loop.invariant.same_rules g.T.Rendering.is_due c.part_stands-in-loop.ensures.not_whole
-    c.part_stands-in-loop.ensures.due c.loop.invariant.read (c.in_default.ensures.sent writes) (flushed c.in_default.ensures.same c.loop.invariant.stands)
-    (c.loop.invariant.live writes) c.read_beside.ensures.looks
+returns-in-Err-read_beside-clause-live g c = λ writes. live_on (g.T.Rendering.rules c.args.rendering.now) (g.T.Rendering.rules c.loop.rendering) c.loop.invariant.same_rules
+    (g.T.Rendering.text (g.T.Rendering.rules c.args.rendering.now)) (g.T.Rendering.is_written (g.T.Rendering.rules c.args.rendering.now))
+    g.T.Rendering.is_due (g.T.Rendering.has_taken c.loop.rendering) c.loop.invariant.bytes (g.R.Source.remaining c.args.reader.now)
+    (g.R.Source.remaining c.loop.reader) (g.W.Sink.written c.args.writer.now) (g.W.Sink.written c.flush.new.writer)
+    (g.W.LiveSink.sent c.flush.new.writer) c.loop.totals.values (g.R.LiveSource.looks c.args.reader.now) (g.R.LiveSource.looks c.loop.reader) _
+    c.part_stands-in-loop.ensures.not_whole c.part_stands-in-loop.ensures.due c.loop.invariant.read (c.in_default.ensures.sent writes)
+    (flushed (g.T.Rendering.rules c.args.rendering.now) (g.T.Rendering.text (g.T.Rendering.rules c.args.rendering.now))
+    (g.T.Rendering.is_written (g.T.Rendering.rules c.args.rendering.now)) (g.T.Rendering.has_taken c.loop.rendering) c.loop.invariant.bytes
+    (g.W.Sink.written c.args.writer.now) (g.W.Sink.written c.loop.writer) (g.W.Sink.written c.flush.new.writer) c.loop.totals.values
+    c.in_default.ensures.same c.loop.invariant.stands) (c.loop.invariant.live writes) c.read_beside.ensures.looks
 
 pub returns-in-Err-finish-clause-live : goal.returns-in-Err-finish-clause-live
-returns-in-Err-finish-clause-live g c = λ writes. live_on c.loop.invariant.same_rules g.T.Rendering.is_due c.part_stands-in-loop.ensures.not_whole
-    c.part_stands-in-loop.ensures.due c.loop.invariant.read (c.in_default.ensures.sent writes) (flushed c.in_default.ensures.same c.loop.invariant.stands)
-    (c.loop.invariant.live writes) c.read_beside.ensures.looks
+returns-in-Err-finish-clause-live g c = λ writes. live_on (g.T.Rendering.rules c.args.rendering.now) (g.T.Rendering.rules c.loop.rendering) c.loop.invariant.same_rules
+    (g.T.Rendering.text (g.T.Rendering.rules c.args.rendering.now)) (g.T.Rendering.is_written (g.T.Rendering.rules c.args.rendering.now))
+    g.T.Rendering.is_due (g.T.Rendering.has_taken c.loop.rendering) c.loop.invariant.bytes (g.R.Source.remaining c.args.reader.now)
+    (g.R.Source.remaining c.loop.reader) (g.W.Sink.written c.args.writer.now) (g.W.Sink.written c.flush.new.writer)
+    (g.W.LiveSink.sent c.flush.new.writer) c.loop.totals.values (g.R.LiveSource.looks c.args.reader.now) (g.R.LiveSource.looks c.loop.reader) _
+    c.part_stands-in-loop.ensures.not_whole c.part_stands-in-loop.ensures.due c.loop.invariant.read (c.in_default.ensures.sent writes)
+    (flushed (g.T.Rendering.rules c.args.rendering.now) (g.T.Rendering.text (g.T.Rendering.rules c.args.rendering.now))
+    (g.T.Rendering.is_written (g.T.Rendering.rules c.args.rendering.now)) (g.T.Rendering.has_taken c.loop.rendering) c.loop.invariant.bytes
+    (g.W.Sink.written c.args.writer.now) (g.W.Sink.written c.loop.writer) (g.W.Sink.written c.flush.new.writer) c.loop.totals.values
+    c.in_default.ensures.same c.loop.invariant.stands) (c.loop.invariant.live writes) c.read_beside.ensures.looks
 
 pub returns-then-count-eq0-clause-live : goal.returns-then-count-eq0-clause-live
-returns-then-count-eq0-clause-live g c = λ writes. live_on c.loop.invariant.same_rules g.T.Rendering.is_due c.part_stands-in-loop.ensures.not_whole
-    c.part_stands-in-loop.ensures.due c.loop.invariant.read (c.in_default.ensures.sent writes) (flushed c.in_default.ensures.same c.loop.invariant.stands)
-    (c.loop.invariant.live writes) c.read_beside.ensures.looks
+returns-then-count-eq0-clause-live g c = λ writes. live_on (g.T.Rendering.rules c.args.rendering.now) (g.T.Rendering.rules c.loop.rendering) c.loop.invariant.same_rules
+    (g.T.Rendering.text (g.T.Rendering.rules c.args.rendering.now)) (g.T.Rendering.is_written (g.T.Rendering.rules c.args.rendering.now))
+    g.T.Rendering.is_due (g.T.Rendering.has_taken c.loop.rendering) c.loop.invariant.bytes (g.R.Source.remaining c.args.reader.now)
+    (g.R.Source.remaining c.loop.reader) (g.W.Sink.written c.args.writer.now) (g.W.Sink.written c.flush.new.writer)
+    (g.W.LiveSink.sent c.flush.new.writer) c.loop.totals.values (g.R.LiveSource.looks c.args.reader.now) (g.R.LiveSource.looks c.loop.reader) _
+    c.part_stands-in-loop.ensures.not_whole c.part_stands-in-loop.ensures.due c.loop.invariant.read (c.in_default.ensures.sent writes)
+    (flushed (g.T.Rendering.rules c.args.rendering.now) (g.T.Rendering.text (g.T.Rendering.rules c.args.rendering.now))
+    (g.T.Rendering.is_written (g.T.Rendering.rules c.args.rendering.now)) (g.T.Rendering.has_taken c.loop.rendering) c.loop.invariant.bytes
+    (g.W.Sink.written c.args.writer.now) (g.W.Sink.written c.loop.writer) (g.W.Sink.written c.flush.new.writer) c.loop.totals.values
+    c.in_default.ensures.same c.loop.invariant.stands) (c.loop.invariant.live writes) c.read_beside.ensures.looks
 
 pub returns-in-Err-render_piece-clause-live : goal.returns-in-Err-render_piece-clause-live
-returns-in-Err-render_piece-clause-live g c = λ writes. live_on c.loop.invariant.same_rules g.T.Rendering.is_due c.part_stands-in-loop.ensures.not_whole
-    c.part_stands-in-loop.ensures.due c.loop.invariant.read (c.in_default.ensures.sent writes) (flushed c.in_default.ensures.same c.loop.invariant.stands)
-    (c.loop.invariant.live writes) c.read_beside.ensures.looks
+returns-in-Err-render_piece-clause-live g c = λ writes. live_on (g.T.Rendering.rules c.args.rendering.now) (g.T.Rendering.rules c.loop.rendering) c.loop.invariant.same_rules
+    (g.T.Rendering.text (g.T.Rendering.rules c.args.rendering.now)) (g.T.Rendering.is_written (g.T.Rendering.rules c.args.rendering.now))
+    g.T.Rendering.is_due (g.T.Rendering.has_taken c.loop.rendering) c.loop.invariant.bytes (g.R.Source.remaining c.args.reader.now)
+    (g.R.Source.remaining c.loop.reader) (g.W.Sink.written c.args.writer.now) (g.W.Sink.written c.flush.new.writer)
+    (g.W.LiveSink.sent c.flush.new.writer) c.loop.totals.values (g.R.LiveSource.looks c.args.reader.now) (g.R.LiveSource.looks c.loop.reader) _
+    c.part_stands-in-loop.ensures.not_whole c.part_stands-in-loop.ensures.due c.loop.invariant.read (c.in_default.ensures.sent writes)
+    (flushed (g.T.Rendering.rules c.args.rendering.now) (g.T.Rendering.text (g.T.Rendering.rules c.args.rendering.now))
+    (g.T.Rendering.is_written (g.T.Rendering.rules c.args.rendering.now)) (g.T.Rendering.has_taken c.loop.rendering) c.loop.invariant.bytes
+    (g.W.Sink.written c.args.writer.now) (g.W.Sink.written c.loop.writer) (g.W.Sink.written c.flush.new.writer) c.loop.totals.values
+    c.in_default.ensures.same c.loop.invariant.stands) (c.loop.invariant.live writes) c.read_beside.ensures.looks
 
 pub render_piece-requires-clause-stands : goal.render_piece-requires-clause-stands
 render_piece-requires-clause-stands g c =
@@ -196,5 +243,7 @@ render_piece-requires-clause-stands g c =
       g.W.Sink.written c.args.writer.now,
       subst (λ z. HasRendered z (g.T.Rendering.text z) (g.T.Rendering.is_written z) (g.T.Rendering.has_taken c.loop.rendering) w.bytes
           (g.W.Sink.written c.args.writer.now) (g.W.Sink.written c.flush.new.writer) c.loop.totals.values) (sym w.same_rules)
-          (flushed c.in_default.ensures.same w.stands),
+          (flushed r (g.T.Rendering.text r) (g.T.Rendering.is_written r) (g.T.Rendering.has_taken c.loop.rendering) w.bytes
+          (g.W.Sink.written c.args.writer.now) (g.W.Sink.written c.loop.writer) (g.W.Sink.written c.flush.new.writer) c.loop.totals.values
+          c.in_default.ensures.same w.stands),
     )
