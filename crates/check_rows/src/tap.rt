@@ -182,15 +182,15 @@ impl Tapping {
             "server" => Side::Server,
             _ => bail!("a side is the client or the server"),
         };
-        let cut = self.tap.cut(side);
+        let cut = self.tap.connection().cut(side);
         let stamp = match self.now {
             Some(now) => Some(Stamp::new(now)),
             None => None,
         };
         let mut screen = Screen::new(self.alloc, MOST);
         let name = match &self.counting {
-            Some((tap, _)) => tap.name(),
-            None => self.tap.name(),
+            Some((tap, _)) => tap.connection().name(),
+            None => self.tap.connection().name(),
         };
         let name = if self.filter.connections {
             name.as_bytes()

@@ -1,6 +1,6 @@
 //! Characters that are printed as they are.
 
-use unicode::properties::GeneralCategory;
+use ucd_category::GeneralCategory;
 
 /// Returns whether these bytes are the UTF-8 of one printable character that is not ASCII.
 pub(crate) fn is_printable(bytes: &[u8]) -> bool {

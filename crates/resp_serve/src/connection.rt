@@ -72,7 +72,7 @@ impl Rest {
 pub(crate) struct Connection<C> {
     /// The socket, which is non-blocking.
     pub(crate) stream: Stream,
-    /// What the store knows of the client.
+    /// The client as the store knows it, such as the number of its session.
     pub(crate) client: C,
     pub(crate) rest: Rest,
 }

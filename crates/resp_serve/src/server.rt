@@ -25,7 +25,7 @@ pub type Server<S> = StoreServer<u64, Hub<S>>;
 /// A server of 16 databases, for tests, as [`Databases`] has them.
 pub type TestServer<S> = StoreServer<Client, Databases<S>>;
 
-/// A server for many clients at once, over one store. `C` is what the store knows of a client.
+/// A server for many clients at once, over one store. `C` is the store's own type of a client.
 ///
 /// A connection is not read while a reply to it waits to be written, and none of its commands is run
 /// while more than `held` bytes wait. So at most `held` bytes and one reply wait for a client.

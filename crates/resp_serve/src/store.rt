@@ -1,4 +1,4 @@
-//! What a server does for its clients.
+//! The stores whose clients a server serves.
 
 use crate::connection::{Rest, Room, TURNS, answer, hold};
 use resp_databases::{Client, Databases, ServeError, serve};
@@ -12,9 +12,9 @@ use std::alloc::{AllocError, Global};
 use std::hash::BuildHasher;
 use std::mem;
 
-/// A store that answers the commands of many clients. `C` is what it knows of a client.
+/// A store that answers the commands of many clients. `C` is its own type of a client.
 pub trait Store<C> {
-    /// Finds the place of a key.
+    /// Hashes the keys.
     type Hasher;
 
     /// Makes an empty store, whose clients send commands within these limits.

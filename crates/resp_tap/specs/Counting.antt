@@ -98,8 +98,8 @@ pub record IsHeard (side : Side) (now : Moment) (old : CountedTap) (used : ℕ) 
   pub bytes : heard.bytes ≡ min (taken_of side old.taken + used) 18446744073709551615
   pub error : heard.is_error ≡ is_error what
   pub asked : Option ℕ
-  pub of_command : (times : List ℕ) → HasTimes old.timed times →
-      asked ≡ slice_get times (asked_at (tap_state old.timed.tap).line.due)
+  pub of_command : (times : List ℕ) → HasTimes old.connection.timed times →
+      asked ≡ slice_get times (asked_at (tap_state old.connection.timed.tap).line.due)
   pub delay : heard.waited ≡ waited_of now asked what
 
 -- The first result in a piece is counted.
@@ -109,6 +109,6 @@ pub record CountsSeen (f : Filter) (client : ℕ) (side : Side) (now : Moment) (
   pub is_heard : IsHeard side now old used what heard
   pub left : taken_of side new.taken ≡ left_of what heard.bytes
   pub same_taken : KeepsTaken side old.taken new.taken
-  pub counts : CountsAfter f client what heard (waits_in old.timed) (waits_in new.timed)
-      (asked_at (tap_state old.timed.tap).line.due) old.asked.items new.asked.items rows rows'
-  pub name : naming_of new.name ≡ named_after what (naming_of old.name)
+  pub counts : CountsAfter f client what heard (waits_in old.connection.timed) (waits_in new.connection.timed)
+      (asked_at (tap_state old.connection.timed.tap).line.due) old.asked.items new.asked.items rows rows'
+  pub name : naming_of new.connection.name ≡ named_after what (naming_of old.connection.name)

@@ -23,18 +23,18 @@ use Rattle.resp_tap.specs.declared.watch.Side.{Side}
 
 -- what is kept of the command that the next reply belongs to
 abbrev pub note_of : FilteredTap → Option Note
-note_of t = slice_get t.notes.items (asked_at (tap_state t.timed.tap).line.due)
+note_of t = slice_get t.notes.items (asked_at (tap_state t.connection.timed.tap).line.due)
 
 -- The first result in a piece: it is reported as without a filter, and that of a line too. Its command is let through by
 -- its words or is not. What is kept of the commands that wait follows the whole words.
 pub record SeesFiltered (filter : Filter) (printing : Printing) (side : Side) (now : Option Moment) (old new : FilteredTap)
     (piece : List ℕ) (used : ℕ) (what : Seen) (is_line is_chosen : Bool) : Type 0 where
-  pub seen : SeesLined now side old.lines new.lines old.timed new.timed piece used what is_line
+  pub seen : SeesLined now side old.connection.lines new.connection.lines old.connection.timed new.connection.timed piece used what is_line
   pub chosen : IsChosen filter (note_of old) what is_chosen
-  pub notes : (whole : Datum) → IsKeptIn (tap_state old.timed.tap).shown (tap_state old.timed.tap).kept whole what →
-      NotesAfter filter (options_of printing old.timed.tap) now is_line is_chosen (with_whole whole what) (waits_in old.timed)
-      (waits_in new.timed) old.notes.items new.notes.items
-  pub name : naming_of new.name ≡ named_after what (naming_of old.name)
+  pub notes : (whole : Datum) → IsKeptIn (tap_state old.connection.timed.tap).shown (tap_state old.connection.timed.tap).kept whole what →
+      NotesAfter filter (options_of printing old.connection.timed.tap) now is_line is_chosen (with_whole whole what) (waits_in old.connection.timed)
+      (waits_in new.connection.timed) old.notes.items new.notes.items
+  pub name : naming_of new.connection.name ≡ named_after what (naming_of old.connection.name)
 
 -- The text of the result is printed as far as the filter lets it through and writes succeed. A reply is judged by what is
 -- kept of its command, and by the time of its command.
@@ -42,10 +42,10 @@ pub record PrintsFiltered (filter : Filter) (printing : Printing) (now : Option 
     (is_line is_chosen : Bool) (before after : Option (List ℕ)) (failures failures' : ℕ)
     (printed : Result (Unit {0}) PrintError) : Type 0 where
   pub asked : Option ℕ
-  pub of_command : (times : List ℕ) → HasTimes old.timed times →
-      asked ≡ slice_get times (asked_at (tap_state old.timed.tap).line.due)
-  pub text : (whole : Datum) → IsKeptIn (tap_state old.timed.tap).shown (tap_state old.timed.tap).kept whole what →
-      Prints before after failures failures' printed (filtered_text filter (options_of printing old.timed.tap) is_line is_chosen
+  pub of_command : (times : List ℕ) → HasTimes old.connection.timed times →
+      asked ≡ slice_get times (asked_at (tap_state old.connection.timed.tap).line.due)
+  pub text : (whole : Datum) → IsKeptIn (tap_state old.connection.timed.tap).shown (tap_state old.connection.timed.tap).kept whole what →
+      Prints before after failures failures' printed (filtered_text filter (options_of printing old.connection.timed.tap) is_line is_chosen
       (note_of old) (stamp_of now asked what) whole what) (levels_of what)
 
 -- These are all results in a piece, in order. Each result is printed before the next one is read. The first error of

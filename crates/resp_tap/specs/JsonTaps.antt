@@ -24,7 +24,7 @@ use Rattle.resp_tap.specs.declared.watch.Side.{Side}
 
 -- what is kept of the command that the next reply belongs to
 abbrev pub called_of : JsonTap → Option Called
-called_of t = slice_get t.calls.items (asked_at (tap_state t.timed.tap).line.due)
+called_of t = slice_get t.calls.items (asked_at (tap_state t.connection.timed.tap).line.due)
 
 -- the line of a result, if the filter lets it through: that of this whole command or value
 abbrev pub kept_json : Filter → Facts → Bool → List ℕ → Datum → Seen → List ℕ
@@ -35,21 +35,21 @@ kept_json f facts is_chosen name whole what =
 -- and of earlier ones that belong to it.
 pub record SeesJson (f : Filter) (side : Side) (now : Moment) (old new : JsonTap) (piece : List ℕ) (used : ℕ) (what : Seen)
     (is_line is_chosen : Bool) (size : ℕ) : Type 0 where
-  pub seen : SeesLined (Some now) side old.lines new.lines old.timed new.timed piece used what is_line
+  pub seen : SeesLined (Some now) side old.connection.lines new.connection.lines old.connection.timed new.connection.timed piece used what is_line
   pub bytes : size ≡ min (taken_of side old.taken + used) 18446744073709551615
   pub left : taken_of side new.taken ≡ left_of what size
   pub same_taken : KeepsTaken side old.taken new.taken
   pub chosen : IsChosenCalled f (called_of old) what is_chosen
-  pub calls : CalledAfter is_chosen what (waits_in old.timed) (waits_in new.timed) old.calls.items new.calls.items
-  pub name : naming_of new.name ≡ named_after what (naming_of old.name)
+  pub calls : CalledAfter is_chosen what (waits_in old.connection.timed) (waits_in new.connection.timed) old.calls.items new.calls.items
+  pub name : naming_of new.connection.name ≡ named_after what (naming_of old.connection.name)
 
 -- The line of the result is printed if the filter lets it through, as far as writes succeed. A reply has the name and the
 -- delay of its command.
 pub record PrintsJson (f : Filter) (client : ℕ) (now : Moment) (old : JsonTap) (what : Seen) (is_line is_chosen : Bool)
     (size : ℕ) (before after : Option (List ℕ)) (failures failures' : ℕ) (printed : Result (Unit {0}) PrintError) : Type 0 where
   pub asked : Option ℕ
-  pub of_command : (times : List ℕ) → HasTimes old.timed times →
-      asked ≡ slice_get times (asked_at (tap_state old.timed.tap).line.due)
+  pub of_command : (times : List ℕ) → HasTimes old.connection.timed times →
+      asked ≡ slice_get times (asked_at (tap_state old.connection.timed.tap).line.due)
   pub facts : Facts
   pub are : facts ≡ record {
     client = client;
@@ -58,7 +58,7 @@ pub record PrintsJson (f : Filter) (client : ℕ) (now : Moment) (old : JsonTap)
     of_day = now.of_day;
     waited = waited_of now asked what;
   }
-  pub text : (whole : Datum) → IsKeptIn (Some 1024) (tap_state old.timed.tap).kept whole what →
+  pub text : (whole : Datum) → IsKeptIn (Some 1024) (tap_state old.connection.timed.tap).kept whole what →
       Prints before after failures failures' printed
       (kept_json f facts is_chosen (name_of_called (called_of old)) whole what) 0
 

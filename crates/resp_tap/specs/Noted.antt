@@ -3,7 +3,7 @@ use Rattle.std.specs.Prelude.{◌≡◌, ℕ, ◌-◌, ◌≤◌, Bool, true, fa
 use Rattle.resp_value.specs.Data.{Datum}
 use Rattle.resp_tap.specs.Filters.{Chooses, is_by_reply, is_selective, keeps, keeps_all}
 use Rattle.resp_tap.specs.Secrets.{printed_words}
-use Rattle.resp_tap.specs.Texts.{heading, numbered_line, shown_text, words_text}
+use Rattle.resp_tap.specs.Texts.{heading, numbered_line, seen_text, words_text}
 use Rattle.resp_tap.specs.declared.filter.Filter.{Filter}
 use Rattle.resp_tap.specs.declared.moment.Moment.{Moment}
 use Rattle.resp_tap.specs.declared.note.Note.{Note}
@@ -102,5 +102,5 @@ waited_in (Some stamp) = stamp.waited
 abbrev pub filtered_text : Filter → TextOptions → Bool → Bool → Option Note → Option Stamp → Datum → Seen → List ℕ
 filtered_text f p is_line is_chosen note stamp whole what =
     if keeps f p.client is_chosen (waited_in stamp) what
-    then before_text f p.client note what ++ shown_text is_line p stamp whole what
+    then before_text f p.client note what ++ seen_text p is_line stamp whole what
     else []

@@ -52,11 +52,6 @@ client_line client what stamp = (codes "client " ++ decimal client ++ what) ++ e
 abbrev pub remark_text : ℕ → List ℕ → List ℕ → Option Stamp → List ℕ
 remark_text client front text stamp = (codes "client " ++ decimal client ++ front) ++ (text ++ ending_text stamp)
 
--- the lines of a command of a client
-abbrev pub command_text : TextOptions → ℕ → Option Stamp → List (List ℕ) → List ℕ
-command_text p number stamp words =
-    numbered_line p.client (codes " command ") number stamp ++ words_line p.shown.most (printed_words p.shows_passwords words)
-
 -- the number of a command that came as a line, and the end of the line
 abbrev pub inline_end : ℕ → Option Stamp → List ℕ
 inline_end number stamp = (codes "" ++ decimal number ++ codes " inline") ++ ending_text stamp
@@ -69,6 +64,11 @@ inline_line client number stamp = (codes "client " ++ decimal client ++ codes " 
 abbrev pub heading : Bool → ℕ → ℕ → Option Stamp → List ℕ
 heading is_line client number stamp =
     if is_line then inline_line client number stamp else numbered_line client (codes " command ") number stamp
+
+-- the lines of a command of a client, which came as a line or as an array
+abbrev pub command_text : TextOptions → ℕ → Bool → Option Stamp → List (List ℕ) → List ℕ
+command_text p number is_line stamp words =
+    heading is_line p.client number stamp ++ words_line p.shown.most (printed_words p.shows_passwords words)
 
 -- the lines of the reply to it
 abbrev pub reply_text : TextOptions → ℕ → Option Stamp → Datum → List ℕ
@@ -108,22 +108,12 @@ refused_text client stamp what = []
 
 -- The lines of a result, with or without a stamp. Those of a command, or of a result of the server, are the lines of this
 -- whole value.
-abbrev pub seen_text : TextOptions → Option Stamp → Datum → Seen → List ℕ
-seen_text p stamp whole (Command number words lengths) = command_text p number stamp (words_in whole)
-seen_text p stamp whole (Reply number kept) = reply_text p number stamp whole
-seen_text p stamp whole (Push members lengths) = push_text p stamp whole
-seen_text p stamp whole (Value kept) = value_text p stamp whole
-seen_text p stamp whole what = refused_text p.client stamp what
-
--- the lines of a result of a line
-abbrev pub line_text : TextOptions → Option Stamp → Datum → Seen → List ℕ
-line_text p stamp whole (Command number words lengths) =
-    inline_line p.client number stamp ++ words_line p.shown.most (printed_words p.shows_passwords (words_in whole))
-line_text p stamp whole what = seen_text p stamp whole what
-
--- the lines of a result, which is that of a line or is not
-abbrev pub shown_text : Bool → TextOptions → Option Stamp → Datum → Seen → List ℕ
-shown_text is_line p stamp whole what = if is_line then line_text p stamp whole what else seen_text p stamp whole what
+abbrev pub seen_text : TextOptions → Bool → Option Stamp → Datum → Seen → List ℕ
+seen_text p is_line stamp whole (Command number words lengths) = command_text p number is_line stamp (words_in whole)
+seen_text p is_line stamp whole (Reply number kept) = reply_text p number stamp whole
+seen_text p is_line stamp whole (Push members lengths) = push_text p stamp whole
+seen_text p is_line stamp whole (Value kept) = value_text p stamp whole
+seen_text p is_line stamp whole what = refused_text p.client stamp what
 
 -- the number of levels of these lines
 abbrev pub levels_of : Seen → ℕ

@@ -60,7 +60,7 @@ pub record PrintsSeen (printing : Printing) (now : Option Moment) (old : TimedTa
   pub of_command : (times : List ℕ) → HasTimes old times → asked ≡ slice_get times (asked_at (tap_state old.tap).line.due)
   pub text : (whole : Datum) → IsKeptIn (tap_state old.tap).shown (tap_state old.tap).kept whole what →
       Prints before after failures failures' printed
-      (seen_text (options_of printing old.tap) (stamp_of now asked what) whole what) (levels_of what)
+      (seen_text (options_of printing old.tap) false (stamp_of now asked what) whole what) (levels_of what)
 
 -- the first of two results of printing that is an error
 abbrev pub first_error : Result (Unit {0}) PrintError → Result (Unit {0}) PrintError → Result (Unit {0}) PrintError

@@ -1,4 +1,4 @@
-//! What is kept of a command that waits, while JSON is printed.
+//! The commands that wait, while JSON is printed.
 
 ghost use Rattle.std.specs.Prelude.{◌≡◌, [], map, take, option_map};
 ghost use Rattle.resp_tap.specs.Called.{IsChosenCalled, command_name, name_of_called, upper_word};
@@ -48,8 +48,8 @@ pub(crate) fn name_of_called<'a>(called: Option<&'a Called>) -> &'a [u8]
     }
 }
 
-/// Returns whether the command of a result has words that are printed. `called` is what is kept of
-/// the command that the next reply belongs to.
+/// Returns whether the filter lets the words of a result's command through. `called` is the command
+/// that the next reply belongs to.
 pub(crate) fn is_chosen_called(filter: &Filter, called: Option<&Called>, seen: &Seen) -> bool
     ensures { IsChosenCalled filter.now (option_map (λ called. called.now) called.entry) seen.now
         result }

@@ -4,7 +4,6 @@ ghost use Rattle.std.specs.Prelude.{◌≡◌, ◌<◌, ◌≤◌, Bool, List, [
 ghost use Rattle.resp_print.specs.Printed.{Prints};
 ghost use Rattle.resp_tap.specs.ClientNames.{naming_of};
 ghost use Rattle.resp_tap.specs.CountedTaps.{CountsAll, PrintsCounted, SeesCounted, counted_text};
-ghost use Rattle.resp_tap.specs.Ends.{CutsOff};
 ghost use Rattle.resp_tap.specs.Filters.{kept_by};
 ghost use Rattle.resp_tap.specs.Counting.{AnswersCall, AsksCall, CountsAfter, CountsSeen, IsCounted, IsPlaceFor, ReleasesCall, is_error};
 ghost use Rattle.resp_counts.specs.Names.{table_name};
@@ -17,17 +16,14 @@ ghost use Rattle.resp_tap.specs.Watches.{KeepsOther};
 ghost use Rattle.resp_tap.specs.Watching.{HasTakenRequest, HasTakenValue};
 ghost use Rattle.resp_tap.specs.declared.seen.Seen.{Seen};
 
-use crate::client_name::ClientName;
-use crate::end::Cut;
+use crate::connection::ConnectionTap;
 use crate::filter::Filter;
 use crate::line::is_refusal;
-use crate::lines::{Lines, step_or_line};
 use crate::moment::Moment;
 use crate::print::{Printing, printed, write_refused};
 use crate::seen::{Seen, Step};
 use crate::shown_part::ShownPart;
 use crate::taken::{NONE_TAKEN, Taken};
-use crate::tap::Tap;
 use crate::timed::TimedTap;
 use crate::waiting::drop_first;
 use crate::watch::{Side, Watched, first_error, stamp_of, waited_of};
@@ -97,14 +93,11 @@ fn answer(counts: &mut Counts, filter: &Filter, asked: Option<Asked>, heard: Hea
 /// it waits.
 #[derive(Drop)]
 pub struct CountedTap {
-    pub(crate) timed: TimedTap,
-    /// The lines among the bytes of the client.
-    pub(crate) lines: Lines,
+    pub(crate) connection: ConnectionTap,
     /// The commands that wait, in their order.
     pub(crate) asked: VecDeque<Asked>,
     /// The bytes read of an incomplete command and of an incomplete value.
     pub(crate) taken: Taken,
-    pub(crate) name: ClientName,
 }
 
 impl CountedTap {
@@ -113,55 +106,42 @@ impl CountedTap {
     /// are kept, and otherwise at most 65 bytes of each, or one more than its longest name has. A line
     /// of the client is a command too. It allocates nothing.
     pub fn new(alloc: Global, limits: &Limits, filter: &Filter) -> CountedTap
-        ensures nothing_passed { tap_state result.timed.tap ≡
+        ensures nothing_passed { tap_state result.connection.timed.tap ≡
             new_tap limits.now (Some 12) (kept_by filter.now (Some 12)) }
-        ensures nothing_requested { HasTakenRequest result.timed.tap [] }
-        ensures nothing_answered { HasTakenValue result.timed.tap [] }
-        ensures reads_lines { result.lines.are_read ≡ true }
-        ensures nothing_held { result.lines.held.items ≡ [] }
+        ensures nothing_requested { HasTakenRequest result.connection.timed.tap [] }
+        ensures nothing_answered { HasTakenValue result.connection.timed.tap [] }
+        ensures reads_lines { result.connection.lines.are_read ≡ true }
+        ensures nothing_held { result.connection.lines.held.items ≡ [] }
         ensures nothing_asked { result.asked.items ≡ [] }
-        ensures no_name { (naming_of result.name).name ≡ [] }
+        ensures no_name { (naming_of result.connection.name).name ≡ [] }
     {
         let shown = ShownPart::first(0);
+        let timed = TimedTap::keeping(alloc, limits, shown, filter.kept_part(shown));
         CountedTap {
-            timed: TimedTap::keeping(alloc, limits, shown, filter.kept_part(shown)),
-            lines: Lines::new(alloc, true),
+            connection: ConnectionTap::new(alloc, timed),
             asked: VecDeque::new(alloc),
             taken: NONE_TAKEN,
-            name: ClientName::new(),
         }
     }
 
-    /// Returns the tap without the counting.
-    pub fn tap(&self) -> &Tap
-        ensures { result.now ≡ self.now.timed.tap }
+    /// Returns the tap of the connection.
+    pub fn connection(&self) -> &ConnectionTap
+        ensures { result.now ≡ self.now.connection }
     {
-        self.timed.tap()
+        &self.connection
     }
 
     /// Returns the tap of a new connection, whose lines are commands or are not. Without lines a byte
     /// that begins no array is an error.
     pub fn with_lines(mut self, are_read: bool) -> CountedTap
-        ensures lines { result.lines ≡ record self.lines { are_read = are_read } }
-        ensures same { result ≡ record self { lines = result.lines } }
+        ensures lines { result.connection.lines ≡ record self.connection.lines { are_read = are_read } }
+        ensures same { result ≡ record self {
+          connection =
+              record self.connection { lines = result.connection.lines };
+        } }
     {
-        self.lines.are_read = are_read;
+        self.connection.lines.are_read = are_read;
         self
-    }
-
-    /// Returns the command, reply or value that this side has sent in part, if its bytes are still
-    /// read.
-    pub fn cut(&self, side: Side) -> Option<Cut>
-        ensures { CutsOff side self.now.lines.held.items self.now.timed.tap result }
-    {
-        self.timed.tap.cut(side, self.lines.held.as_slice())
-    }
-
-    /// Returns the name that the client has given to the connection.
-    pub fn name(&self) -> &ClientName
-        ensures { result.now ≡ self.now.name }
-    {
-        &self.name
     }
 
     /// Counts the command at this index if it waits no more, or keeps a new command that waits. This many
@@ -177,14 +157,12 @@ impl CountedTap {
         seen: &Seen,
     )
         ensures counts { CountsAfter filter.now client seen.now heard before
-            (waits_in self.old.timed) at self.old.asked.items self.new.asked.items
+            (waits_in self.old.connection.timed) at self.old.asked.items self.new.asked.items
             counts.old.rows.items counts.new.rows.items }
-        ensures same_tap { self.new.timed ≡ self.old.timed }
-        ensures same_lines { self.new.lines ≡ self.old.lines }
-        ensures same_name { self.new.name ≡ self.old.name }
+        ensures same { self.new.connection ≡ self.old.connection }
         ensures same_taken { self.new.taken ≡ self.old.taken }
     {
-        let after = self.timed.tap.waiting();
+        let after = self.connection.timed.tap.waiting();
         match seen {
             Seen::Command { words, .. } if before < after => {
                 self.ask(counts, filter, client, before, heard.bytes, words);
@@ -198,9 +176,7 @@ impl CountedTap {
         ensures asked { self.new.asked.items ≡ drop gone self.old.asked.items }
         ensures counts { ReleasesCall gone filter.now (slice_get self.old.asked.items at) heard
             counts.old.rows.items counts.new.rows.items }
-        ensures same_tap { self.new.timed ≡ self.old.timed }
-        ensures same_lines { self.new.lines ≡ self.old.lines }
-        ensures same_name { self.new.name ≡ self.old.name }
+        ensures same { self.new.connection ≡ self.old.connection }
         ensures same_taken { self.new.taken ≡ self.old.taken }
     {
         if gone > 0 {
@@ -221,12 +197,10 @@ impl CountedTap {
     )
         ensures asks { AsksCall filter.now client words.now before bytes self.old.asked.items
             self.new.asked.items counts.old.rows.items counts.new.rows.items }
-        ensures same_tap { self.new.timed ≡ self.old.timed }
-        ensures same_lines { self.new.lines ≡ self.old.lines }
-        ensures same_name { self.new.name ≡ self.old.name }
+        ensures same { self.new.connection ≡ self.old.connection }
         ensures same_taken { self.new.taken ≡ self.old.taken }
     {
-        // Otherwise nothing is kept of a command before this one.
+        // Otherwise a command before this one is missing.
         if self.asked.len() as u64 != before {
             return;
         }
@@ -269,25 +243,24 @@ pub fn count_some(
     piece: &[u8],
     now: Moment,
 ) -> Step
-    ensures sees { (is_line : Bool) × SeesLined (Some now) side tap.old.lines tap.new.lines
-        tap.old.timed tap.new.timed piece.now result.used result.seen is_line }
+    ensures sees { (is_line : Bool) × SeesLined (Some now) side tap.old.connection.lines tap.new.connection.lines
+        tap.old.connection.timed tap.new.connection.timed piece.now result.used result.seen is_line }
     ensures counts { CountsSeen filter.now client side now tap.old tap.new result.used result.seen
         counts.old.rows.items counts.new.rows.items }
-    ensures other_side { KeepsOther side tap.old.timed.tap tap.new.timed.tap }
+    ensures other_side { KeepsOther side tap.old.connection.timed.tap tap.new.connection.timed.tap }
     ensures within_piece { result.used ≤ length piece.now }
     ensures uses_bytes { 0 < length piece.now → 0 < result.used }
 {
-    let asked = tap.timed.asked();
-    let before = tap.timed.tap.waiting();
-    let at = tap.timed.tap.line.asked_at();
-    let step = step_or_line(&mut tap.lines, &mut tap.timed, side, piece, Some(now)).step;
+    let asked = tap.connection.timed.asked();
+    let before = tap.connection.timed.tap.waiting();
+    let at = tap.connection.timed.tap.line.asked_at();
+    let step = tap.connection.step(side, piece, Some(now)).step;
     let heard = Heard {
         bytes: tap.taken.take(side, step.used, &step.seen),
         is_error: is_error(&step.seen),
         waited: waited_of(now, asked, &step.seen),
     };
     tap.follow(counts, filter, client, before, at, heard, &step.seen);
-    tap.name.follow(&step.seen);
     step
 }
 
@@ -327,7 +300,7 @@ fn watch_counted_some<W: Sink>(
         is_line counts.old.rows.items counts.new.rows.items ×
         PrintsCounted filter.now printing now what (W.written writer.old) (W.written writer.new)
         (W.failures writer.old) (W.failures writer.new) result.printed }
-    ensures other_side { KeepsOther side tap.old.timed.tap tap.new.timed.tap }
+    ensures other_side { KeepsOther side tap.old.connection.timed.tap tap.new.connection.timed.tap }
     ensures within_piece { result.used ≤ length piece.now }
     ensures uses_bytes { 0 < length piece.now → 0 < result.used }
 {
@@ -360,7 +333,7 @@ pub fn watch_counted<W: Sink>(
     ensures watches { (all : List Seen) × CountsAll filter.now printing side now all tap.old tap.new
         piece.now counts.old.rows.items counts.new.rows.items (W.written writer.old)
         (W.written writer.new) (W.failures writer.old) (W.failures writer.new) result }
-    ensures other_side { KeepsOther side tap.old.timed.tap tap.new.timed.tap }
+    ensures other_side { KeepsOther side tap.old.connection.timed.tap tap.new.connection.timed.tap }
 {
     let mut rest = piece;
     let mut printed = Ok(());

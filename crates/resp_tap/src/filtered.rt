@@ -2,7 +2,6 @@
 
 ghost use Rattle.std.specs.Prelude.{◌≡◌, ◌<◌, ◌≤◌, ◌-◌, ℕ, Bool, List, [], length, true};
 ghost use Rattle.resp_tap.specs.ClientNames.{naming_of};
-ghost use Rattle.resp_tap.specs.Ends.{CutsOff};
 ghost use Rattle.resp_tap.specs.Filtering.{FiltersAll, PrintsFiltered, SeesFiltered};
 ghost use Rattle.resp_tap.specs.Filters.{kept_by};
 ghost use Rattle.resp_tap.specs.Noted.{IsAdded, NotesAfter, NotesBy};
@@ -15,16 +14,13 @@ ghost use Rattle.resp_tap.specs.Watching.{HasTakenRequest, HasTakenValue};
 ghost use Rattle.resp_tap.specs.declared.seen.Seen.{Seen};
 ghost use Rattle.resp_value.specs.Data.{Datum};
 
-use crate::client_name::ClientName;
-use crate::end::Cut;
+use crate::connection::ConnectionTap;
 use crate::filter::Filter;
-use crate::lines::{Lines, step_or_line};
 use crate::moment::Moment;
 use crate::note::{Note, is_chosen, note_of, write_filtered};
 use crate::print::{Printing, TextOptions};
 use crate::seen::Seen;
 use crate::shown_part::ShownPart;
-use crate::tap::Tap;
 use crate::timed::TimedTap;
 use crate::waiting::drop_first;
 use crate::watch::{Side, Watched, first_error, stamp_of};
@@ -43,17 +39,14 @@ use std::collections::VecDeque;
 /// behind fewer than 1,024 others that wait, so it keeps at most 1,024 texts. Use the same filter
 /// for all bytes of a connection.
 ///
-/// If an allocation fails, nothing is kept of the command, and of the commands after it as long as
-/// it waits.
+/// If an allocation fails, the tap keeps no note of the command, nor of the commands after it as long
+/// as it waits.
 #[derive(Drop)]
 pub struct FilteredTap {
     pub(crate) alloc: Global,
-    pub(crate) timed: TimedTap,
-    /// The lines among the bytes of the client.
-    pub(crate) lines: Lines,
-    /// What is kept of the commands that wait, in their order.
+    pub(crate) connection: ConnectionTap,
+    /// The notes of the commands that wait, in their order.
     pub(crate) notes: VecDeque<Note>,
-    pub(crate) name: ClientName,
 }
 
 impl FilteredTap {
@@ -63,58 +56,45 @@ impl FilteredTap {
     /// longest name of the filter has, and at least 65. A line of the client is a command too. The
     /// call allocates nothing.
     pub fn new(alloc: Global, limits: &Limits, shown: ShownPart, filter: &Filter) -> FilteredTap
-        ensures nothing_passed { tap_state result.timed.tap ≡
+        ensures nothing_passed { tap_state result.connection.timed.tap ≡
             new_tap limits.now shown.most (kept_by filter.now shown.most) }
-        ensures nothing_requested { HasTakenRequest result.timed.tap [] }
-        ensures nothing_answered { HasTakenValue result.timed.tap [] }
-        ensures reads_lines { result.lines.are_read ≡ true }
-        ensures nothing_held { result.lines.held.items ≡ [] }
+        ensures nothing_requested { HasTakenRequest result.connection.timed.tap [] }
+        ensures nothing_answered { HasTakenValue result.connection.timed.tap [] }
+        ensures reads_lines { result.connection.lines.are_read ≡ true }
+        ensures nothing_held { result.connection.lines.held.items ≡ [] }
         ensures nothing_kept { result.notes.items ≡ [] }
-        ensures no_name { (naming_of result.name).name ≡ [] }
+        ensures no_name { (naming_of result.connection.name).name ≡ [] }
     {
+        let timed = TimedTap::keeping(alloc, limits, shown, filter.kept_part(shown));
         FilteredTap {
             alloc,
-            timed: TimedTap::keeping(alloc, limits, shown, filter.kept_part(shown)),
-            lines: Lines::new(alloc, true),
+            connection: ConnectionTap::new(alloc, timed),
             notes: VecDeque::new(alloc),
-            name: ClientName::new(),
         }
     }
 
-    /// Returns the tap without what is kept for the filter.
-    pub fn tap(&self) -> &Tap
-        ensures { result.now ≡ self.now.timed.tap }
+    /// Returns the tap of the connection.
+    pub fn connection(&self) -> &ConnectionTap
+        ensures { result.now ≡ self.now.connection }
     {
-        self.timed.tap()
+        &self.connection
     }
 
     /// Returns the tap of a new connection, whose lines are commands or are not. Without lines a byte
     /// that begins no array is an error.
     pub fn with_lines(mut self, are_read: bool) -> FilteredTap
-        ensures lines { result.lines ≡ record self.lines { are_read = are_read } }
-        ensures same { result ≡ record self { lines = result.lines } }
+        ensures lines { result.connection.lines ≡ record self.connection.lines { are_read = are_read } }
+        ensures same { result ≡ record self {
+          connection =
+              record self.connection { lines = result.connection.lines };
+        } }
     {
-        self.lines.are_read = are_read;
+        self.connection.lines.are_read = are_read;
         self
     }
 
-    /// Returns the command, reply or value that this side has sent in part, if its bytes are still
-    /// read.
-    pub fn cut(&self, side: Side) -> Option<Cut>
-        ensures { CutsOff side self.now.lines.held.items self.now.timed.tap result }
-    {
-        self.timed.tap.cut(side, self.lines.held.as_slice())
-    }
-
-    /// Returns the name that the client has given to the connection.
-    pub fn name(&self) -> &ClientName
-        ensures { result.now ≡ self.now.name }
-    {
-        &self.name
-    }
-
-    /// Adds or drops what is kept of the commands that wait, after a result. This many commands waited
-    /// before it.
+    /// Adds or drops notes of the commands that wait, after a result. This many commands waited before
+    /// it.
     fn follow(
         &mut self,
         filter: &Filter,
@@ -128,12 +108,10 @@ impl FilteredTap {
         ensures notes { (whole : Datum) →
             IsKeptIn options.shown.most options.kept.most whole seen.now →
             NotesAfter filter.now options now is_line is_chosen (with_whole whole seen.now) before
-            (waits_in self.old.timed) self.old.notes.items self.new.notes.items }
-        ensures same_tap { self.new.timed ≡ self.old.timed }
-        ensures same_lines { self.new.lines ≡ self.old.lines }
-        ensures same_name { self.new.name ≡ self.old.name }
+            (waits_in self.old.connection.timed) self.old.notes.items self.new.notes.items }
+        ensures same { self.new.connection ≡ self.old.connection }
     {
-        let after = self.timed.tap.waiting();
+        let after = self.connection.timed.tap.waiting();
         match seen {
             Seen::Command { words, lengths, .. } if before < after && filter.is_selective() => {
                 let lengths = lengths.as_slice();
@@ -161,12 +139,10 @@ impl FilteredTap {
             AreKeptOf options.shown.most options.kept.most whole words.now lengths.now →
             IsAdded filter.now options now is_line is_chosen whole self.old.notes.items
             self.new.notes.items }
-        ensures same_tap { self.new.timed ≡ self.old.timed }
-        ensures same_lines { self.new.lines ≡ self.old.lines }
-        ensures same_name { self.new.name ≡ self.old.name }
+        ensures same { self.new.connection ≡ self.old.connection }
     {
         let behind = self.notes.len();
-        // Otherwise nothing is kept of a command before this one.
+        // Otherwise a command before this one has no note.
         if behind as u64 != before {
             return;
         }
@@ -202,15 +178,15 @@ pub fn watch_filtered_some<W: Sink>(
         PrintsFiltered filter.now printing now tap.old what is_line is_chosen
         (W.written writer.old) (W.written writer.new) (W.failures writer.old)
         (W.failures writer.new) result.printed }
-    ensures other_side { KeepsOther side tap.old.timed.tap tap.new.timed.tap }
+    ensures other_side { KeepsOther side tap.old.connection.timed.tap tap.new.connection.timed.tap }
     ensures within_piece { result.used ≤ length piece.now }
     ensures uses_bytes { 0 < length piece.now → 0 < result.used }
 {
-    let options = tap.timed.tap.options(printing);
-    let asked = tap.timed.asked();
-    let before = tap.timed.tap.waiting();
-    let at = tap.timed.tap.line.asked_at();
-    let lined = step_or_line(&mut tap.lines, &mut tap.timed, side, piece, now);
+    let options = tap.connection.timed.tap.options(printing);
+    let asked = tap.connection.timed.asked();
+    let before = tap.connection.timed.tap.waiting();
+    let at = tap.connection.timed.tap.line.asked_at();
+    let lined = tap.connection.step(side, piece, now);
     let step = lined.step;
     let is_line = lined.is_line;
     let stamp = stamp_of(now, asked, &step.seen);
@@ -220,7 +196,6 @@ pub fn watch_filtered_some<W: Sink>(
         filter, options, is_line, is_chosen, note, stamp, &step.seen, writer,
     );
     tap.follow(filter, options, now, before, is_line, is_chosen, &step.seen);
-    tap.name.follow(&step.seen);
     Watched {
         used: step.used,
         printed,
@@ -273,7 +248,7 @@ pub fn watch_filtered<W: Sink>(
     ensures watches { (all : List Seen) × FiltersAll filter.now printing side now all tap.old tap.new
         piece.now (W.written writer.old) (W.written writer.new) (W.failures writer.old)
         (W.failures writer.new) result }
-    ensures other_side { KeepsOther side tap.old.timed.tap tap.new.timed.tap }
+    ensures other_side { KeepsOther side tap.old.connection.timed.tap tap.new.connection.timed.tap }
 {
     let mut rest = piece;
     let mut printed = Ok(());

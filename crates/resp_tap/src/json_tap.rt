@@ -4,7 +4,6 @@ ghost use Rattle.std.specs.Prelude.{◌≡◌, ◌<◌, ◌≤◌, ℕ, Bool, Li
 ghost use Rattle.resp_print.specs.Printed.{Prints};
 ghost use Rattle.resp_tap.specs.Called.{CalledAfter, IsKept};
 ghost use Rattle.resp_tap.specs.ClientNames.{naming_of};
-ghost use Rattle.resp_tap.specs.Ends.{CutsOff};
 ghost use Rattle.resp_tap.specs.Filters.{kept_by};
 ghost use Rattle.resp_tap.specs.JsonTaps.{PrintsAll, PrintsJson, SeesJson, kept_json};
 ghost use Rattle.resp_value.specs.Data.{Datum};
@@ -16,17 +15,14 @@ ghost use Rattle.resp_tap.specs.Watching.{HasTakenRequest, HasTakenValue};
 ghost use Rattle.resp_tap.specs.declared.seen.Seen.{Seen};
 
 use crate::called::{Called, command_name, is_chosen_called, name_of_called};
-use crate::client_name::ClientName;
-use crate::end::Cut;
+use crate::connection::ConnectionTap;
 use crate::filter::Filter;
 use crate::json_line::{Facts, SHOWN, write_seen_json};
-use crate::lines::{Lines, step_or_line};
 use crate::moment::Moment;
 use crate::print::printed;
 use crate::seen::Seen;
 use crate::shown_part::ShownPart;
 use crate::taken::{NONE_TAKEN, Taken};
-use crate::tap::Tap;
 use crate::timed::TimedTap;
 use crate::waiting::drop_first;
 use crate::watch::{Side, Watched, first_error, waited_of};
@@ -42,18 +38,15 @@ use std::collections::VecDeque;
 /// The tap keeps the name of each command that waits, and whether its words pass. Use the same
 /// filter for all bytes of a connection.
 ///
-/// If an allocation fails, nothing is kept of the command, and of the commands after it as long as
-/// it waits. The lines of their replies have no name then.
+/// If an allocation fails, the tap does not keep the command, nor the commands after it as long as it
+/// waits. The lines of their replies have no name then.
 #[derive(Drop)]
 pub struct JsonTap {
-    pub(crate) timed: TimedTap,
-    /// The lines among the bytes of the client.
-    pub(crate) lines: Lines,
-    /// What is kept of the commands that wait, in their order.
+    pub(crate) connection: ConnectionTap,
+    /// The commands that wait, in their order.
     pub(crate) calls: VecDeque<Called>,
     /// The bytes read of an incomplete command and of an incomplete value.
     pub(crate) taken: Taken,
-    pub(crate) name: ClientName,
 }
 
 impl JsonTap {
@@ -62,69 +55,54 @@ impl JsonTap {
     /// client are kept, and otherwise at most 1,025 bytes of each, or one more than its longest name
     /// has. A line of the client is a command too. It allocates nothing.
     pub fn new(alloc: Global, limits: &Limits, filter: &Filter) -> JsonTap
-        ensures nothing_passed { tap_state result.timed.tap ≡
+        ensures nothing_passed { tap_state result.connection.timed.tap ≡
             new_tap limits.now (Some 1024) (kept_by filter.now (Some 1024)) }
-        ensures nothing_requested { HasTakenRequest result.timed.tap [] }
-        ensures nothing_answered { HasTakenValue result.timed.tap [] }
-        ensures reads_lines { result.lines.are_read ≡ true }
-        ensures nothing_held { result.lines.held.items ≡ [] }
+        ensures nothing_requested { HasTakenRequest result.connection.timed.tap [] }
+        ensures nothing_answered { HasTakenValue result.connection.timed.tap [] }
+        ensures reads_lines { result.connection.lines.are_read ≡ true }
+        ensures nothing_held { result.connection.lines.held.items ≡ [] }
         ensures nothing_kept { result.calls.items ≡ [] }
         ensures no_bytes { (result.taken.sent ≡ 0) × (result.taken.received ≡ 0) }
-        ensures no_name { (naming_of result.name).name ≡ [] }
+        ensures no_name { (naming_of result.connection.name).name ≡ [] }
     {
         let shown = ShownPart::first(SHOWN);
+        let timed = TimedTap::keeping(alloc, limits, shown, filter.kept_part(shown));
         JsonTap {
-            timed: TimedTap::keeping(alloc, limits, shown, filter.kept_part(shown)),
-            lines: Lines::new(alloc, true),
+            connection: ConnectionTap::new(alloc, timed),
             calls: VecDeque::new(alloc),
             taken: NONE_TAKEN,
-            name: ClientName::new(),
         }
     }
 
-    /// Returns the tap without what is kept for JSON.
-    pub fn tap(&self) -> &Tap
-        ensures { result.now ≡ self.now.timed.tap }
+    /// Returns the tap of the connection.
+    pub fn connection(&self) -> &ConnectionTap
+        ensures { result.now ≡ self.now.connection }
     {
-        self.timed.tap()
+        &self.connection
     }
 
     /// Returns the tap of a new connection, whose lines are commands or are not. Without lines a byte
     /// that begins no array is an error.
     pub fn with_lines(mut self, are_read: bool) -> JsonTap
-        ensures lines { result.lines ≡ record self.lines { are_read = are_read } }
-        ensures same { result ≡ record self { lines = result.lines } }
+        ensures lines { result.connection.lines ≡ record self.connection.lines { are_read = are_read } }
+        ensures same { result ≡ record self {
+          connection =
+              record self.connection { lines = result.connection.lines };
+        } }
     {
-        self.lines.are_read = are_read;
+        self.connection.lines.are_read = are_read;
         self
     }
 
-    /// Returns the command, reply or value that this side has sent in part, if its bytes are still
-    /// read.
-    pub fn cut(&self, side: Side) -> Option<Cut>
-        ensures { CutsOff side self.now.lines.held.items self.now.timed.tap result }
-    {
-        self.timed.tap.cut(side, self.lines.held.as_slice())
-    }
-
-    /// Returns the name that the client has given to the connection.
-    pub fn name(&self) -> &ClientName
-        ensures { result.now ≡ self.now.name }
-    {
-        &self.name
-    }
-
-    /// Adds or drops what is kept of the commands that wait, after a result. This many commands waited
-    /// before it.
+    /// Adds a command that waits, or drops those that wait no more, after a result. This many commands
+    /// waited before it.
     fn follow(&mut self, before: u64, is_chosen: bool, seen: &Seen)
-        ensures calls { CalledAfter is_chosen seen.now before (waits_in self.old.timed)
+        ensures calls { CalledAfter is_chosen seen.now before (waits_in self.old.connection.timed)
             self.old.calls.items self.new.calls.items }
-        ensures same_tap { self.new.timed ≡ self.old.timed }
-        ensures same_lines { self.new.lines ≡ self.old.lines }
-        ensures same_name { self.new.name ≡ self.old.name }
+        ensures same { self.new.connection ≡ self.old.connection }
         ensures same_taken { self.new.taken ≡ self.old.taken }
     {
-        let after = self.timed.tap.waiting();
+        let after = self.connection.timed.tap.waiting();
         match seen {
             Seen::Command { words, .. } if before < after => self.keep(before, is_chosen, words),
             _ => drop_first(&mut self.calls, before.saturating_sub(after)),
@@ -134,12 +112,10 @@ impl JsonTap {
     /// Keeps the name of a command behind so many others that wait.
     fn keep(&mut self, before: u64, is_chosen: bool, words: &Words)
         ensures calls { IsKept is_chosen words.now self.old.calls.items self.new.calls.items }
-        ensures same_tap { self.new.timed ≡ self.old.timed }
-        ensures same_lines { self.new.lines ≡ self.old.lines }
-        ensures same_name { self.new.name ≡ self.old.name }
+        ensures same { self.new.connection ≡ self.old.connection }
         ensures same_taken { self.new.taken ≡ self.old.taken }
     {
-        // Otherwise nothing is kept of a command before this one.
+        // Otherwise a command before this one is missing.
         if self.calls.len() as u64 != before {
             return;
         }
@@ -193,14 +169,14 @@ pub fn watch_json_some<W: Sink>(
         PrintsJson filter.now client now tap.old what is_line is_chosen size
         (W.written writer.old) (W.written writer.new) (W.failures writer.old)
         (W.failures writer.new) result.printed }
-    ensures other_side { KeepsOther side tap.old.timed.tap tap.new.timed.tap }
+    ensures other_side { KeepsOther side tap.old.connection.timed.tap tap.new.connection.timed.tap }
     ensures within_piece { result.used ≤ length piece.now }
     ensures uses_bytes { 0 < length piece.now → 0 < result.used }
 {
-    let asked = tap.timed.asked();
-    let before = tap.timed.tap.waiting();
-    let at = tap.timed.tap.line.asked_at();
-    let lined = step_or_line(&mut tap.lines, &mut tap.timed, side, piece, Some(now));
+    let asked = tap.connection.timed.asked();
+    let before = tap.connection.timed.tap.waiting();
+    let at = tap.connection.timed.tap.line.asked_at();
+    let lined = tap.connection.step(side, piece, Some(now));
     let step = lined.step;
     let size = tap.taken.take(side, step.used, &step.seen);
     let called = tap.calls.get(at);
@@ -215,7 +191,6 @@ pub fn watch_json_some<W: Sink>(
     let name = name_of_called(called);
     let printed = write_kept(filter, facts, is_chosen, name, &step.seen, writer);
     tap.follow(before, is_chosen, &step.seen);
-    tap.name.follow(&step.seen);
     Watched {
         used: step.used,
         printed,
@@ -261,7 +236,7 @@ pub fn watch_json<W: Sink>(
     ensures watches { (all : List Seen) × PrintsAll filter.now client side now all tap.old tap.new
         piece.now (W.written writer.old) (W.written writer.new) (W.failures writer.old)
         (W.failures writer.new) result }
-    ensures other_side { KeepsOther side tap.old.timed.tap tap.new.timed.tap }
+    ensures other_side { KeepsOther side tap.old.connection.timed.tap tap.new.connection.timed.tap }
 {
     let mut rest = piece;
     let mut printed = Ok(());

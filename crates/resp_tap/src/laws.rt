@@ -51,8 +51,8 @@ pub fn kept_parts_tell_the_same()
     ensures { KeptPartsTellTheSame }
 {}
 
-/// The kept part of a command tells, as the whole command does, how the server replies, which words
-/// are secret and which name the connection gets. A filter for which enough is kept decides the same.
+/// The kept part of a command and the whole command agree on how the server replies, which words are
+/// secret and which name the connection gets. A filter for which enough is kept decides the same.
 pub fn kept_words_tell_the_same()
     ensures { KeptWordsTellTheSame }
 {}

@@ -9,11 +9,12 @@
 
 mod called;
 pub mod client_name;
+pub mod connection;
 pub mod counted;
 pub mod end;
 pub mod filter;
 pub mod filtered;
-mod inline;
+mod heading;
 pub mod json_line;
 pub mod json_tap;
 mod keys;
@@ -40,6 +41,7 @@ pub mod watch;
 pub mod way;
 
 pub use client_name::ClientName;
+pub use connection::ConnectionTap;
 pub use counted::CountedTap;
 pub use end::Cut;
 pub use filter::Filter;

@@ -1,4 +1,4 @@
-//! What is kept of a command that waits, while a filter is used.
+//! The notes of the commands that wait, while a filter is used.
 
 ghost use Rattle.std.specs.Prelude.{◌++◌, ◌≡◌, ◌≤◌, ℕ, List, [], false, true, length, take, IfOk, codes, if◌then◌else◌, option_map};
 ghost use Rattle.resp_print.specs.Printed.{Prints};
@@ -11,9 +11,9 @@ ghost use Rattle.resp_tap.specs.Noted.{IsChosen, IsNote, before_text, deferred_t
 ghost use Rattle.resp_tap.specs.Texts.{heading, levels_of};
 
 use crate::filter::Filter;
-use crate::inline::{write_heading, write_shown};
+use crate::heading::write_heading;
 use crate::moment::Moment;
-use crate::print::{TextOptions, secrets_for, write_words};
+use crate::print::{TextOptions, secrets_for, write_seen, write_words};
 use crate::seen::Seen;
 use crate::stamp::Stamp;
 use resp_print::print_error::PrintError;
@@ -28,7 +28,7 @@ const SHOWN: usize = 1_024;
 /// The most commands of a connection for which bytes of the words are kept.
 const MOST_KEPT: usize = 1_024;
 
-/// What is kept of a command that waits for its reply.
+/// The note of a command that waits for its reply.
 #[derive(Debug, Drop)]
 pub(crate) struct Note {
     /// The time of day at which it arrived, in microseconds, if times are printed.
@@ -63,7 +63,7 @@ fn room_behind(behind: usize) -> usize
     if behind < MOST_KEPT { SHOWN } else { 0 }
 }
 
-/// Returns what is kept of a command.
+/// Returns the note of a command.
 ///
 /// # Errors
 ///
@@ -146,7 +146,7 @@ fn first_bytes(
     ))
 }
 
-/// Returns whether the command of a result has words that are printed. `note` is what is kept of the
+/// Returns whether the filter lets the words of a result's command through. `note` is the note of the
 /// command that the next reply belongs to.
 pub(crate) fn is_chosen(filter: &Filter, note: Option<&Note>, seen: &Seen) -> bool
     ensures { IsChosen filter.now (option_map (λ note. note.now) note.entry) seen.now result }
@@ -181,13 +181,13 @@ fn stamp_on(of_day: Option<u64>) -> Option<Stamp>
     }
 }
 
-/// Writes the lines of a result, if the filter lets it through. `is_line` says whether it is that of
-/// a line, `is_chosen` whether the words of its command are printed, and `note` is what is kept of
-/// the command that the next reply belongs to.
+/// Writes the lines of a result, if the filter lets it through. `is_line` says whether a command came
+/// as a line, and `is_chosen` whether the words of its command are printed. `note` is the note of the
+/// command that the next reply belongs to.
 ///
 /// # Errors
 ///
-/// The errors of [`write_shown`]. The first part of the text was written.
+/// The errors of [`write_seen`]. The first part of the text was written.
 pub(crate) fn write_filtered<W: Sink>(
     filter: &Filter,
     options: TextOptions,
@@ -207,7 +207,7 @@ pub(crate) fn write_filtered<W: Sink>(
         return Ok(());
     }
     match write_before(filter, options.client, note, seen, writer) {
-        Ok(()) => write_shown(options, is_line, stamp, seen, writer),
+        Ok(()) => write_seen(options, is_line, stamp, seen, writer),
         Err(_) => Err(PrintError::Write),
     }
 }
@@ -280,7 +280,7 @@ fn write_deferred<W: Sink>(
     write_kept_line(is_whole, text, writer)
 }
 
-/// Returns the end of the line with what is kept of the words of a command.
+/// Returns the end of the line with the kept part of a command's words.
 fn line_end(is_whole: bool) -> &'static [u8]
     ensures { result.now ≡ line_end is_whole }
 {

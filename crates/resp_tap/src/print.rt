@@ -13,6 +13,7 @@ ghost use Rattle.resp_tap.specs.Secrets.{printed_words, redacted_after, shown_wo
 ghost use Rattle.resp_tap.specs.Stamps.{ending_text};
 ghost use Rattle.resp_tap.specs.Texts.{IsPrintedAs, byte_text, client_line, command_text, levels_of, numbered_end, numbered_line, place_text, push_text, refusal_heading, refusal_text, refused_text, remark_text, reply_text, seen_text, value_text, word_end, word_text, words_line, words_text};
 
+use crate::heading::write_heading;
 use crate::secrets::Secrets;
 use crate::seen::{Place, Seen};
 use crate::shown_part::ShownPart;
@@ -67,20 +68,22 @@ impl Tap {
 }
 
 /// Writes the lines of `seen`. Replies and pushes have the lines of `resp loop`, if all their bytes are
-/// printed. With a stamp, the first line ends with the time.
+/// printed. `is_line` says whether a command came as a line. With a stamp, the first line ends with the
+/// time.
 ///
 /// # Errors
 ///
 /// Fails as [`write_value`] does. The first part of the text was written.
 pub fn write_seen<W: Sink>(
     options: TextOptions,
+    is_line: bool,
     stamp: Option<Stamp>,
     seen: &Seen,
     writer: &mut W,
 ) -> Result<(), PrintError>
     ensures { (whole : Datum) → IsKeptIn options.shown.most options.kept.most whole seen.now →
         Prints (W.written writer.old) (W.written writer.new) (W.failures writer.old)
-        (W.failures writer.new) result (seen_text options stamp whole seen.now)
+        (W.failures writer.new) result (seen_text options is_line stamp whole seen.now)
         (levels_of seen.now) }
 {
     match seen {
@@ -91,7 +94,8 @@ pub fn write_seen<W: Sink>(
             lengths,
         } => {
             let lengths = lengths.as_slice();
-            printed(write_command(options, *number, stamp, words, lengths, writer))
+            let number = *number;
+            printed(write_command(options, number, is_line, stamp, words, lengths, writer))
         }
         Seen::Reply { number, value } => write_reply(options, *number, stamp, value, writer),
         Seen::Push { members, lengths } => {
@@ -233,6 +237,7 @@ fn write_unpaired<W: Sink>(
 fn write_command<W: Sink>(
     options: TextOptions,
     number: u64,
+    is_line: bool,
     stamp: Option<Stamp>,
     words: &Words,
     lengths: &[u64],
@@ -241,9 +246,9 @@ fn write_command<W: Sink>(
     ensures { (whole : List (List ℕ)) →
         AreKeptOf options.shown.most options.kept.most whole words.now lengths.now →
         WritesText (W.written writer.old) (W.written writer.new) (W.failures writer.old)
-        (W.failures writer.new) result (command_text options number stamp whole) }
+        (W.failures writer.new) result (command_text options number is_line stamp whole) }
 {
-    write_numbered_line(options.client, b" command ", number, stamp, writer)?;
+    write_heading(options.client, number, is_line, stamp, writer)?;
     write_words_line(options, words, lengths, writer)
 }
 
@@ -359,7 +364,7 @@ fn write_stamped_number<W: Sink>(
 }
 
 /// Writes the line with the words of a command, from their kept part.
-pub(crate) fn write_words_line<W: Sink>(
+fn write_words_line<W: Sink>(
     options: TextOptions,
     words: &Words,
     lengths: &[u64],

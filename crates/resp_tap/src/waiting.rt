@@ -1,10 +1,10 @@
-//! What is kept of commands that wait for their reply.
+//! The queue of the commands that wait for their replies.
 
 ghost use Rattle.std.specs.Prelude.{◌≡◌, drop};
 
 use std::collections::VecDeque;
 
-/// Drops what is kept of the first commands, at most this many.
+/// Drops the entries of the first commands, at most this many.
 pub(crate) fn drop_first<T: Drop>(kept: &mut VecDeque<T>, count: u64)
     ensures { kept.new.items ≡ drop count kept.old.items }
 {

@@ -96,7 +96,7 @@ pub fn watch_some<W: Sink>(
     let asked = tap.asked();
     let step = step(tap, side, piece, now);
     let stamp = stamp_of(now, asked, &step.seen);
-    let printed = write_seen(options, stamp, &step.seen, writer);
+    let printed = write_seen(options, false, stamp, &step.seen, writer);
     Watched {
         used: step.used,
         printed,

@@ -15,7 +15,7 @@ use resp_tap::json_tap::watch_json;
 use resp_tap::print::{write_line, write_remark};
 use resp_tap::stamp::Stamp;
 use resp_tap::watch::Side;
-use resp_tap::{CountedTap, Cut, Filter, FilteredTap, JsonTap, Moment, Printing};
+use resp_tap::{Cut, Moment, Printing};
 use resp_value::device::{DeviceFault, Sink};
 use std::alloc::Global;
 use std::rt::Clock;
@@ -33,17 +33,19 @@ pub(crate) struct Printer<'a, 'f, 's, W, C> {
     stats: Option<&'s mut Stats>,
     shown: &'f Shown,
     writer: Option<&'a mut W>,
-    has_failed: bool,
+    /// Whether printing has failed.
+    has_failed: &'a mut bool,
 }
 
 impl<'a, 'f, 's, W: Sink, C: Clock> Printer<'a, 'f, 's, W, C> {
-    /// Returns a printer over `writer`, to which nothing was printed.
+    /// Returns a printer over `writer`, which sets `has_failed` if printing fails.
     pub(crate) fn new(
         clock: &'a C,
         timing: &'a mut Timing,
         stats: Option<&'s mut Stats>,
         shown: &'f Shown,
         writer: Option<&'a mut W>,
+        has_failed: &'a mut bool,
     ) -> Self {
         Printer {
             clock,
@@ -51,13 +53,8 @@ impl<'a, 'f, 's, W: Sink, C: Clock> Printer<'a, 'f, 's, W, C> {
             stats,
             shown,
             writer,
-            has_failed: false,
+            has_failed,
         }
-    }
-
-    /// Returns whether printing has failed.
-    pub(crate) fn has_failed(&self) -> bool {
-        self.has_failed
     }
 
     /// Returns the clock.
@@ -74,81 +71,26 @@ impl<'a, 'f, 's, W: Sink, C: Clock> Printer<'a, 'f, 's, W, C> {
         piece: &[u8],
     ) {
         let now = self.timing.now(self.clock);
-        match watcher {
-            Watcher::Printed(tap) => self.print_seen(tap, printing, side, piece, now),
-            Watcher::Json(tap) => self.print_json(tap, printing.client, side, piece, now),
-            Watcher::Counted(tap) => self.count_seen(tap, printing, side, piece, now),
-        }
-    }
-
-    /// Reads a piece and prints the results.
-    fn print_seen(
-        &mut self,
-        tap: &mut FilteredTap,
-        printing: Printing,
-        side: Side,
-        piece: &[u8],
-        now: Option<Moment>,
-    ) {
         let Some(writer) = &mut self.writer else {
             return;
         };
         let filter = &self.shown.filter;
-        if watch_filtered(tap, filter, printing, side, piece, now, *writer).is_err() {
-            self.has_failed = true;
-        }
-    }
-
-    /// Reads a piece and prints the results as JSON.
-    fn print_json(
-        &mut self,
-        tap: &mut JsonTap,
-        client: u64,
-        side: Side,
-        piece: &[u8],
-        now: Option<Moment>,
-    ) {
-        let Some(now) = now else {
-            return;
+        let printed = match (watcher, now, &mut self.stats) {
+            (Watcher::Printed(tap), _, _) => {
+                watch_filtered(tap, filter, printing, side, piece, now, *writer)
+            }
+            (Watcher::Json(tap), Some(now), _) => {
+                watch_json(tap, filter, printing.client, side, piece, now, *writer)
+            }
+            (Watcher::Counted(tap), Some(now), Some(stats)) => {
+                stats.note(now.steady);
+                let counts = &mut stats.counts;
+                watch_counted(tap, counts, filter, printing, side, piece, now, *writer)
+            }
+            _ => Ok(()),
         };
-        let Some(writer) = &mut self.writer else {
-            return;
-        };
-        let filter = &self.shown.filter;
-        if watch_json(tap, filter, client, side, piece, now, *writer).is_err() {
-            self.has_failed = true;
-        }
-    }
-
-    /// Reads a piece and counts the commands that have their replies.
-    fn count_seen(
-        &mut self,
-        tap: &mut CountedTap,
-        printing: Printing,
-        side: Side,
-        piece: &[u8],
-        now: Option<Moment>,
-    ) {
-        let Some(now) = now else {
-            return;
-        };
-        let Some(stats) = &mut self.stats else {
-            return;
-        };
-        let Some(writer) = &mut self.writer else {
-            return;
-        };
-        if !count_piece(
-            *stats,
-            tap,
-            &self.shown.filter,
-            printing,
-            side,
-            piece,
-            now,
-            *writer,
-        ) {
-            self.has_failed = true;
+        if printed.is_err() {
+            *self.has_failed = true;
         }
     }
 
@@ -163,7 +105,7 @@ impl<'a, 'f, 's, W: Sink, C: Clock> Printer<'a, 'f, 's, W, C> {
             return;
         };
         if write_remark_as(json, client, remark, text, stamp, *writer).is_err() {
-            self.has_failed = true;
+            *self.has_failed = true;
         }
     }
 
@@ -180,7 +122,7 @@ impl<'a, 'f, 's, W: Sink, C: Clock> Printer<'a, 'f, 's, W, C> {
             return;
         };
         if write_gone_as(json, client, name, stamp, *writer).is_err() {
-            self.has_failed = true;
+            *self.has_failed = true;
         }
     }
 
@@ -192,7 +134,7 @@ impl<'a, 'f, 's, W: Sink, C: Clock> Printer<'a, 'f, 's, W, C> {
     /// Returns the name of a connection, if names are printed.
     fn name_of<'w>(&self, watcher: &'w Watcher) -> &'w [u8] {
         if self.shown.filter.connections {
-            watcher.name().as_bytes()
+            watcher.connection().name().as_bytes()
         } else {
             b""
         }
@@ -202,7 +144,7 @@ impl<'a, 'f, 's, W: Sink, C: Clock> Printer<'a, 'f, 's, W, C> {
     /// that side. If only some commands are printed or all are counted, only an
     /// end inside a command or a reply is.
     pub(crate) fn print_end(&mut self, watcher: &Watcher, client: u64, side: Side) {
-        let cut = watcher.cut(side);
+        let cut = watcher.connection().cut(side);
         let is_kept = cut.is_some() || self.prints_connections();
         if !is_kept || !self.shown.filter.keeps_end(client, cut) {
             return;
@@ -214,7 +156,7 @@ impl<'a, 'f, 's, W: Sink, C: Clock> Printer<'a, 'f, 's, W, C> {
             return;
         };
         if write_end_as(json, client, name, side, cut, stamp, *writer).is_err() {
-            self.has_failed = true;
+            *self.has_failed = true;
         }
     }
 
@@ -230,7 +172,7 @@ impl<'a, 'f, 's, W: Sink, C: Clock> Printer<'a, 'f, 's, W, C> {
             return;
         };
         if !write_table(alloc, *stats, now, *writer) {
-            self.has_failed = true;
+            *self.has_failed = true;
         }
     }
 
@@ -305,23 +247,6 @@ fn write_end_as<W: Sink>(
     } else {
         write_end(client, name, side, cut, stamp, writer)
     }
-}
-
-/// Reads a piece and counts the commands that have their replies. Returns whether all errors were
-/// printed.
-fn count_piece<W: Sink>(
-    stats: &mut Stats,
-    tap: &mut CountedTap,
-    filter: &Filter,
-    printing: Printing,
-    side: Side,
-    piece: &[u8],
-    now: Moment,
-    writer: &mut W,
-) -> bool {
-    stats.note(now.steady);
-    let counts = &mut stats.counts;
-    watch_counted(tap, counts, filter, printing, side, piece, now, writer).is_ok()
 }
 
 /// Writes the table of the counts, and returns whether it was written.

@@ -264,8 +264,8 @@ impl Replay {
         };
         self.view.print_connected(self.count, client, out)?;
         if !segment.begins {
-            self.view
-                .print_remark(self.count, Remark::InTheMiddle, b"", out);
+            let mut printer = self.view.printer(out);
+            printer.print_remark(self.count, Remark::InTheMiddle, b"");
         }
         let watcher = Watcher::new(
             self.alloc,
@@ -315,7 +315,7 @@ impl Replay {
             return Err(ReplayError::OutOfMemory);
         }
         if self.view.counts() {
-            self.view.print_table(out);
+            self.view.printer(out).print_table(self.alloc);
         }
         if self.view.has_failed() {
             return Err(ReplayError::Write);

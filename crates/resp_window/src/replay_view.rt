@@ -7,7 +7,6 @@ use crate::replay::ReplaySettings;
 use crate::shown::Shown;
 use crate::stats::{Stats, counted_from};
 use crate::timing::Timing;
-use crate::watcher::Watcher;
 use resp_capture::{Address, Endpoint, Time};
 use resp_tap::watch::Side;
 use resp_tap::{Filter, Printing};
@@ -37,11 +36,6 @@ fn address_of(end: Endpoint) -> SocketAddr {
             SocketAddr::new(IpAddr::V6(Ipv6Addr::from_bits(bits)), end.port)
         }
     }
-}
-
-/// Returns a writer that is used.
-fn lent<W>(writer: &mut W) -> Option<&mut W> {
-    Some(writer)
 }
 
 impl ReplayView {
@@ -96,58 +90,25 @@ impl ReplayView {
         };
         if let Some(now) = self.timing.now(&self.clock) {
             if stats.is_due(now.steady) {
-                self.print_table(out);
+                let alloc = self.alloc;
+                self.printer(out).print_table(alloc);
             }
         }
     }
 
-    /// Prints the table of the counts.
-    pub(crate) fn print_table<W: Sink>(&mut self, out: &mut W) {
-        let writer = lent(out);
-        let (timing, stats) = (&mut self.timing, self.stats.as_mut());
-        let mut printer = Printer::new(&self.clock, timing, stats, &self.shown, writer);
-        printer.print_table(self.alloc);
-        self.has_failed = self.has_failed || printer.has_failed();
-    }
-
-    /// Reads bytes that one side of a connection has sent, and prints or counts the results.
-    pub(crate) fn print_data<W: Sink>(
-        &mut self,
-        watcher: &mut Watcher,
-        printing: Printing,
-        side: Side,
-        bytes: &[u8],
-        out: &mut W,
-    ) {
-        let writer = lent(out);
-        let (timing, stats) = (&mut self.timing, self.stats.as_mut());
-        let mut printer = Printer::new(&self.clock, timing, stats, &self.shown, writer);
-        printer.print(watcher, printing, side, bytes);
-        self.has_failed = self.has_failed || printer.has_failed();
-    }
-
-    /// Prints which side of a connection has ended.
-    pub(crate) fn print_end<W: Sink>(
-        &mut self,
-        watcher: &Watcher,
-        client: u64,
-        side: Side,
-        out: &mut W,
-    ) {
-        let writer = lent(out);
-        let (timing, stats) = (&mut self.timing, self.stats.as_mut());
-        let mut printer = Printer::new(&self.clock, timing, stats, &self.shown, writer);
-        printer.print_end(watcher, client, side);
-        self.has_failed = self.has_failed || printer.has_failed();
-    }
-
-    /// Prints that a connection has gone.
-    pub(crate) fn print_gone<W: Sink>(&mut self, watcher: &Watcher, client: u64, out: &mut W) {
-        let writer = lent(out);
-        let (timing, stats) = (&mut self.timing, self.stats.as_mut());
-        let mut printer = Printer::new(&self.clock, timing, stats, &self.shown, writer);
-        printer.print_gone(watcher, client);
-        self.has_failed = self.has_failed || printer.has_failed();
+    /// Returns the printer of what taps report.
+    pub(crate) fn printer<'a, W: Sink>(
+        &'a mut self,
+        out: &'a mut W,
+    ) -> Printer<'a, 'a, 'a, W, PacketClock> {
+        Printer::new(
+            &self.clock,
+            &mut self.timing,
+            self.stats.as_mut(),
+            &self.shown,
+            Some(out),
+            &mut self.has_failed,
+        )
     }
 
     /// Returns the filter through which the traffic is printed or counted.
@@ -158,21 +119,6 @@ impl ReplayView {
     /// Returns whether the traffic is printed as JSON.
     pub(crate) fn is_json(&self) -> bool {
         self.shown.json
-    }
-
-    /// Prints a line about a client, with this text.
-    pub(crate) fn print_remark<W: Sink>(
-        &mut self,
-        client: u64,
-        remark: Remark,
-        text: &[u8],
-        out: &mut W,
-    ) {
-        let writer = lent(out);
-        let (timing, stats) = (&mut self.timing, self.stats.as_mut());
-        let mut printer = Printer::new(&self.clock, timing, stats, &self.shown, writer);
-        printer.print_remark(client, remark, text);
-        self.has_failed = self.has_failed || printer.has_failed();
     }
 
     /// Prints from where a client is connected, if connections are printed.
@@ -190,7 +136,8 @@ impl ReplayView {
             let address = address_of(end);
             let text = format!(in self.alloc; "{address}")?;
             let bytes = text.as_str().as_bytes();
-            self.print_remark(client, Remark::ConnectedFrom, bytes, out);
+            let mut printer = self.printer(out);
+            printer.print_remark(client, Remark::ConnectedFrom, bytes);
         }
         Ok(())
     }
@@ -212,7 +159,8 @@ impl ReplayView {
             Side::Server => "server",
         };
         let text = format!(in self.alloc; "{missing} bytes of the {side} are missing")?;
-        self.print_remark(client, Remark::Missing, text.as_str().as_bytes(), out);
+        let mut printer = self.printer(out);
+        printer.print_remark(client, Remark::Missing, text.as_str().as_bytes());
         Ok(())
     }
 }

@@ -99,7 +99,8 @@ impl Replayed {
             self.reads_replies = true;
         }
         if self.reads_replies {
-            view.print_data(&mut self.watcher, self.printing, side_of(end), bytes, out);
+            let mut printer = view.printer(out);
+            printer.print(&mut self.watcher, self.printing, side_of(end), bytes);
         }
     }
 
@@ -152,7 +153,8 @@ impl Replayed {
         }
         if !self.is_half_closed {
             self.is_half_closed = true;
-            view.print_end(&self.watcher, self.number(), side_of(end), out);
+            let mut printer = view.printer(out);
+            printer.print_end(&self.watcher, self.number(), side_of(end));
         }
         self.connection.has_ended(End::Client) && self.connection.has_ended(End::Server)
     }
@@ -174,6 +176,6 @@ impl Replayed {
 
     /// Prints that the connection has gone.
     pub(crate) fn print_gone<W: Sink>(&self, view: &mut ReplayView, out: &mut W) {
-        view.print_gone(&self.watcher, self.number(), out);
+        view.printer(out).print_gone(&self.watcher, self.number());
     }
 }

@@ -1,8 +1,7 @@
 //! The tap of one connection.
 
 use crate::window::Settings;
-use resp_tap::watch::Side;
-use resp_tap::{ClientName, CountedTap, Cut, Filter, FilteredTap, JsonTap, ShownPart};
+use resp_tap::{ConnectionTap, CountedTap, Filter, FilteredTap, JsonTap, ShownPart};
 use resp_value::limits::Limits;
 use std::alloc::Global;
 
@@ -39,21 +38,12 @@ impl Watcher {
         }
     }
 
-    /// Returns the command or reply of which this side has sent a part.
-    pub(crate) fn cut(&self, side: Side) -> Option<Cut> {
+    /// Returns the tap of the connection, which knows its name and the part of a command or a reply.
+    pub(crate) fn connection(&self) -> &ConnectionTap {
         match self {
-            Watcher::Printed(tap) => tap.cut(side),
-            Watcher::Json(tap) => tap.cut(side),
-            Watcher::Counted(tap) => tap.cut(side),
-        }
-    }
-
-    /// Returns the name that the client has given to the connection.
-    pub(crate) fn name(&self) -> &ClientName {
-        match self {
-            Watcher::Printed(tap) => tap.name(),
-            Watcher::Json(tap) => tap.name(),
-            Watcher::Counted(tap) => tap.name(),
+            Watcher::Printed(tap) => tap.connection(),
+            Watcher::Json(tap) => tap.connection(),
+            Watcher::Counted(tap) => tap.connection(),
         }
     }
 }

@@ -352,16 +352,16 @@ impl View {
         let (timing, stats) = (&mut self.timing, self.stats.as_mut());
         if self.terminal.may_wait() {
             let screen = as_long(!self.is_silent, &mut self.screen);
-            Printer::new(clock, timing, stats, &self.shown, screen).print_gone(
-                connection.watcher(),
-                client,
-            );
+            // The screen says itself what it leaves out.
+            let failed = &mut false;
+            let mut printer = Printer::new(clock, timing, stats, &self.shown, screen, failed);
+            printer.print_gone(connection.watcher(), client);
             return;
         }
         let out = as_long(!self.is_silent, out);
-        let mut printer = Printer::new(clock, timing, stats, &self.shown, out);
+        let failed = &mut self.has_failed;
+        let mut printer = Printer::new(clock, timing, stats, &self.shown, out, failed);
         printer.print_gone(connection.watcher(), client);
-        self.has_failed = self.has_failed || printer.has_failed();
     }
 
     /// Prints from where a client is connected, if connections are printed.
@@ -397,28 +397,18 @@ impl View {
         clock: &C,
         out: &mut W,
     ) {
+        let (timing, stats) = (&mut self.timing, self.stats.as_mut());
         if self.terminal.may_wait() {
             let screen = as_long(!self.is_silent, &mut self.screen);
-            Printer::new(
-                clock,
-                &mut self.timing,
-                self.stats.as_mut(),
-                &self.shown,
-                screen,
-            )
-            .print_remark(client, remark, text);
+            let failed = &mut false;
+            let mut printer = Printer::new(clock, timing, stats, &self.shown, screen, failed);
+            printer.print_remark(client, remark, text);
             return;
         }
         let out = as_long(!self.is_silent, out);
-        let mut printer = Printer::new(
-            clock,
-            &mut self.timing,
-            self.stats.as_mut(),
-            &self.shown,
-            out,
-        );
+        let failed = &mut self.has_failed;
+        let mut printer = Printer::new(clock, timing, stats, &self.shown, out, failed);
         printer.print_remark(client, remark, text);
-        self.has_failed = self.has_failed || printer.has_failed();
     }
 
     /// Prints the table of the counts.
@@ -426,13 +416,15 @@ impl View {
         let (timing, stats) = (&mut self.timing, self.stats.as_mut());
         if self.terminal.may_wait() {
             let screen = as_long(!self.is_silent, &mut self.screen);
-            Printer::new(clock, timing, stats, &self.shown, screen).print_table(self.alloc);
+            let failed = &mut false;
+            let mut printer = Printer::new(clock, timing, stats, &self.shown, screen, failed);
+            printer.print_table(self.alloc);
             return;
         }
         let out = as_long(!self.is_silent, out);
-        let mut printer = Printer::new(clock, timing, stats, &self.shown, out);
+        let failed = &mut self.has_failed;
+        let mut printer = Printer::new(clock, timing, stats, &self.shown, out, failed);
         printer.print_table(self.alloc);
-        self.has_failed = self.has_failed || printer.has_failed();
     }
 
     /// Prints the table if it is time for it.
@@ -526,30 +518,18 @@ impl View {
         clock: &C,
         out: &mut W,
     ) -> Next {
+        let (timing, stats) = (&mut self.timing, self.stats.as_mut());
+        let recording = &mut self.recording;
         if self.terminal.may_wait() {
             let screen = as_long(!self.is_silent, &mut self.screen);
-            let mut printer = Printer::new(
-                clock,
-                &mut self.timing,
-                self.stats.as_mut(),
-                &self.shown,
-                screen,
-            );
-            let recording = &mut self.recording;
+            let failed = &mut false;
+            let mut printer = Printer::new(clock, timing, stats, &self.shown, screen, failed);
             return connection.hand_on(is_at_end, &mut self.buffer, &mut printer, recording);
         }
         let out = as_long(!self.is_silent, out);
-        let mut printer = Printer::new(
-            clock,
-            &mut self.timing,
-            self.stats.as_mut(),
-            &self.shown,
-            out,
-        );
-        let recording = &mut self.recording;
-        let next = connection.hand_on(is_at_end, &mut self.buffer, &mut printer, recording);
-        self.has_failed = self.has_failed || printer.has_failed();
-        next
+        let failed = &mut self.has_failed;
+        let mut printer = Printer::new(clock, timing, stats, &self.shown, out, failed);
+        connection.hand_on(is_at_end, &mut self.buffer, &mut printer, recording)
     }
 
     /// Says on standard error that a write to the capture has failed, if that was not said yet.

@@ -1,5 +1,5 @@
 use Rattle.std.proofs.Common.{◌∙◌, ℕ, Some, ap, sym, subst}
-use Rattle.resp_tap.specs.ClientNames.{named_after, naming_of}
+use Rattle.resp_tap.specs.ClientNames.{naming_of}
 use Rattle.resp_tap.specs.Counting.{CountsAfter}
 use Rattle.resp_tap.specs.Lined.{SeesLined}
 use Rattle.resp_tap.specs.Lines.{asked_at}
@@ -7,7 +7,7 @@ use Rattle.resp_tap.specs.Taken.{KeepsTaken, taken_of}
 use Rattle.resp_tap.specs.Taps.{tap_state}
 use Rattle.resp_tap.specs.Times.{waits_in}
 use Rattle.resp_tap.specs.declared.counted.Heard.{Heard}
-use Rattle.resp_tap.specs.declared.timed.TimedTap.{TimedTap}
+use Rattle.resp_tap.specs.declared.connection.ConnectionTap.{ConnectionTap}
 use Rattle.resp_tap.proofs.counted.count_some.Goals as goal
 
 pub returns-clause-counts : goal.returns-clause-counts
@@ -15,13 +15,13 @@ returns-clause-counts c =
     let f = c.args.filter.now in
     let client = c.args.client in
     let old = c.args.tap.now in
-    let stepped = c.step_or_line.new.tap in
+    let stepped = c.step.new.self in
     let new = c.follow.new.self in
-    let what = c.step_or_line.result.step.seen in
+    let what = c.step.result.step.seen in
     let heard : Heard = record { bytes = c.take.result; is_error = c.is_error.result; waited = c.waited_of.result } in
     let rows = c.args.counts.now.rows.items in
     let rows' = c.follow.new.counts.rows.items in
-    let at = asked_at (tap_state old.timed.tap).line.due in
+    let at = asked_at (tap_state old.connection.timed.tap).line.due in
     record {
       heard = heard;
       is_heard = record {
@@ -33,22 +33,20 @@ returns-clause-counts c =
       };
       left = ap (taken_of c.args.side) c.follow.ensures.same_taken ∙ c.take.ensures.left;
       same_taken = subst (KeepsTaken c.args.side old.taken) (sym c.follow.ensures.same_taken) c.take.ensures.same_taken;
-      counts = subst (λ (t : TimedTap). CountsAfter f client what heard (waits_in old.timed) (waits_in t) at old.asked.items new.asked.items rows rows') (sym c.follow.ensures.same_tap)
-          (subst (λ (n : ℕ). CountsAfter f client what heard (waits_in old.timed) (waits_in stepped) n old.asked.items new.asked.items rows rows') c.asked_at-at.ensures
-          (subst (λ (n : ℕ). CountsAfter f client what heard n (waits_in stepped) c.asked_at-at.result old.asked.items new.asked.items rows rows') c.waiting-before.ensures
+      counts = subst (λ (t : ConnectionTap). CountsAfter f client what heard (waits_in old.connection.timed) (waits_in t.timed) at old.asked.items new.asked.items rows rows')
+          (sym c.follow.ensures.same)
+          (subst (λ (n : ℕ). CountsAfter f client what heard (waits_in old.connection.timed) (waits_in stepped.timed) n old.asked.items new.asked.items rows rows') c.asked_at-at.ensures
+          (subst (λ (n : ℕ). CountsAfter f client what heard n (waits_in stepped.timed) c.asked_at-at.result old.asked.items new.asked.items rows rows') c.waiting-before.ensures
           c.follow.ensures.counts));
-      name = c.follow-2.ensures ∙ ap (λ n. named_after what (naming_of n)) c.follow.ensures.same_name;
+      name = ap (λ (t : ConnectionTap). naming_of t.name) c.follow.ensures.same ∙ c.step.ensures.names;
     }
 
 pub returns-clause-sees : goal.returns-clause-sees
 returns-clause-sees c =
     let old = c.args.tap.now in
-    let step = c.step_or_line.result.step in
-    let is_line = c.step_or_line.result.is_line in
-    let lines = c.follow.ensures.same_lines in
-    let timed = c.follow.ensures.same_tap in (
+    let step = c.step.result.step in
+    let is_line = c.step.result.is_line in (
       is_line,
-      subst (λ t. SeesLined (Some c.args.now) c.args.side old.lines c.follow.new.self.lines old.timed t c.args.piece.now step.used step.seen is_line) (sym timed)
-          (subst (λ l. SeesLined (Some c.args.now) c.args.side old.lines l old.timed c.step_or_line.new.tap c.args.piece.now step.used step.seen is_line)
-          (sym lines) c.step_or_line.ensures.sees),
+      subst (λ (t : ConnectionTap). SeesLined (Some c.args.now) c.args.side old.connection.lines t.lines old.connection.timed t.timed c.args.piece.now step.used step.seen is_line)
+          (sym c.follow.ensures.same) c.step.ensures.sees,
     )

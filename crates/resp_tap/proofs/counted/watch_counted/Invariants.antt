@@ -10,7 +10,7 @@ use Rattle.resp_tap.proofs.counted.watch_counted.Given as goal
 -- what is seen of the rest, after what was seen before it, is seen of the piece
 abbrev pub invariant-loop-rest : goal.invariant-loop-rest
 invariant-loop-rest g l = record {
-  other : KeepsOther l.side l.initial.tap.timed.tap l.tap.timed.tap;
+  other : KeepsOther l.side l.initial.tap.connection.timed.tap l.tap.connection.timed.tap;
   so_far : (more : List Seen) (new : CountedTap) (rows' : List Row) (after : Option (List ℕ)) (failures' : ℕ) (later : Result (Unit {0}) PrintError) →
       CountsAll l.filter l.printing l.side l.now more l.tap new l.rest l.counts.rows.items rows' (g.W.Sink.written l.writer) after (g.W.Sink.failures l.writer)
       failures' later →

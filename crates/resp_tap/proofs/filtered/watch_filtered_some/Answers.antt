@@ -2,7 +2,7 @@ use Rattle.std.proofs.Common.{◌≡◌, ◌∙◌, Option, ap, sym, subst}
 use Rattle.std.specs.Prelude.{option_map, slice_get}
 use Rattle.resp_value.specs.Data.{Datum}
 use Rattle.resp_print.specs.Printed.{Prints}
-use Rattle.resp_tap.specs.ClientNames.{named_after, naming_of}
+use Rattle.resp_tap.specs.ClientNames.{naming_of}
 use Rattle.resp_tap.specs.Filtering.{note_of}
 use Rattle.resp_tap.specs.Noted.{IsChosen, NotesAfter, filtered_text}
 use Rattle.resp_tap.specs.Options.{options_of}
@@ -11,10 +11,9 @@ use Rattle.resp_tap.specs.declared.print.TextOptions.{TextOptions}
 use Rattle.resp_tap.specs.Texts.{levels_of}
 use Rattle.resp_tap.specs.Times.{stamp_of, waits_in}
 use Rattle.resp_tap.specs.Lined.{SeesLined}
-use Rattle.resp_tap.specs.declared.lines.Lines.{Lines}
+use Rattle.resp_tap.specs.declared.connection.ConnectionTap.{ConnectionTap}
 use Rattle.resp_tap.specs.declared.note.Note.{Note}
 use Rattle.resp_tap.specs.declared.stamp.Stamp.{Stamp}
-use Rattle.resp_tap.specs.declared.timed.TimedTap.{TimedTap}
 use Rattle.resp_tap.proofs.KeptItems.{kept_at}
 use Rattle.resp_tap.proofs.filtered.watch_filtered_some.Goals as goal
 
@@ -22,11 +21,11 @@ pub returns-clause-watches : goal.returns-clause-watches
 returns-clause-watches g c =
     let f = c.args.filter.now in
     let old = c.args.tap.now in
-    let p = options_of c.args.printing old.timed.tap in
+    let p = options_of c.args.printing old.connection.timed.tap in
     let new = c.follow.new.self in
-    let what = c.step_or_line-lined.result.step.seen in
-    let same = sym c.follow.ensures.same_tap in
-    let is_line = c.step_or_line-lined.result.is_line in
+    let what = c.step-lined.result.step.seen in
+    let same = sym c.follow.ensures.same in
+    let is_line = c.step-lined.result.is_line in
     let is_chosen = c.is_chosen-is_chosen.result in
     let note : option_map (λ note. note.now) c.get-note.result ≡ note_of old =
     kept_at old.notes.items c.asked_at-at.result c.get-note.result c.get-note.ensures.item ∙ ap (slice_get old.notes.items) c.asked_at-at.ensures in (
@@ -34,20 +33,18 @@ returns-clause-watches g c =
       is_line,
       is_chosen,
       record {
-        seen = subst (λ (t : TimedTap). SeesLined c.args.now c.args.side old.lines new.lines old.timed t c.args.piece.now c.step_or_line-lined.result.step.used
-            what c.step_or_line-lined.result.is_line) same
-            (subst (λ (l : Lines). SeesLined c.args.now c.args.side old.lines l old.timed c.step_or_line-lined.new.tap c.args.piece.now
-            c.step_or_line-lined.result.step.used what c.step_or_line-lined.result.is_line) (sym c.follow.ensures.same_lines) c.step_or_line-lined.ensures.sees);
+        seen = subst (λ (t : ConnectionTap). SeesLined c.args.now c.args.side old.connection.lines t.lines old.connection.timed t.timed c.args.piece.now
+            c.step-lined.result.step.used what is_line) same c.step-lined.ensures.sees;
         chosen = subst (λ (n : Option Note). IsChosen f n what is_chosen) note c.is_chosen-is_chosen.ensures;
-        notes = subst (λ (t : TimedTap). (whole : Datum) → IsKeptIn p.shown.most p.kept.most whole what →
-            NotesAfter f p c.args.now is_line is_chosen (with_whole whole what) (waits_in old.timed) (waits_in t) old.notes.items new.notes.items) same
+        notes = subst (λ (t : ConnectionTap). (whole : Datum) → IsKeptIn p.shown.most p.kept.most whole what →
+            NotesAfter f p c.args.now is_line is_chosen (with_whole whole what) (waits_in old.connection.timed) (waits_in t.timed) old.notes.items new.notes.items) same
             (subst (λ n. (whole : Datum) → IsKeptIn p.shown.most p.kept.most whole what →
-            NotesAfter f p c.args.now is_line is_chosen (with_whole whole what) n (waits_in c.step_or_line-lined.new.tap) old.notes.items new.notes.items)
+            NotesAfter f p c.args.now is_line is_chosen (with_whole whole what) n (waits_in c.step-lined.new.self.timed) old.notes.items new.notes.items)
             c.waiting-before.ensures
             (subst (λ (o : TextOptions). (whole : Datum) → IsKeptIn o.shown.most o.kept.most whole what →
-            NotesAfter f o c.args.now is_line is_chosen (with_whole whole what) c.waiting-before.result (waits_in c.step_or_line-lined.new.tap)
+            NotesAfter f o c.args.now is_line is_chosen (with_whole whole what) c.waiting-before.result (waits_in c.step-lined.new.self.timed)
             old.notes.items new.notes.items) c.options-options.ensures c.follow.ensures.notes));
-        name = c.follow-2.ensures ∙ ap (λ n. named_after what (naming_of n)) c.follow.ensures.same_name;
+        name = ap (λ (t : ConnectionTap). naming_of t.name) c.follow.ensures.same ∙ c.step-lined.ensures.names;
       },
       record {
         asked = c.asked-asked.result;

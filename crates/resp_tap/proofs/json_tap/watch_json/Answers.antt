@@ -10,7 +10,7 @@ loop-rest-preserved g c =
     let watched = c.watch_json_some-watched in
     let seen = watched.ensures.watches in
     record {
-      other = keeps_on c.args.side c.args.tap.now.timed.tap c.loop-rest.tap.timed.tap watched.new.tap.timed.tap c.loop-rest.invariant.other watched.ensures.other_side;
+      other = keeps_on c.args.side c.args.tap.now.connection.timed.tap c.loop-rest.tap.connection.timed.tap watched.new.tap.connection.timed.tap c.loop-rest.invariant.other watched.ensures.other_side;
       so_far = λ more new after failures' later beyond.
           let all = c.loop-rest.invariant.so_far (seen.0 ∷ more) new after failures' (first_error watched.result.printed later) (
             watched.new.tap,

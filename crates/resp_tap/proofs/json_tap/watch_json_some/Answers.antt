@@ -2,7 +2,7 @@ use Rattle.std.proofs.Common.{◌≡◌, ◌∙◌, ℕ, List, Option, ap, sym, 
 use Rattle.std.specs.Prelude.{Some, option_map, slice_get}
 use Rattle.resp_print.specs.Printed.{Prints}
 use Rattle.resp_tap.specs.Called.{CalledAfter, IsChosenCalled, name_of_called}
-use Rattle.resp_tap.specs.ClientNames.{named_after, naming_of}
+use Rattle.resp_tap.specs.ClientNames.{naming_of}
 use Rattle.resp_tap.specs.JsonTaps.{called_of, kept_json}
 use Rattle.resp_tap.specs.Lined.{SeesLined}
 use Rattle.resp_tap.specs.Taken.{KeepsTaken, taken_of}
@@ -10,9 +10,7 @@ use Rattle.resp_tap.specs.Taps.{tap_state}
 use Rattle.resp_tap.specs.Times.{waits_in}
 use Rattle.resp_tap.specs.declared.called.Called.{Called}
 use Rattle.resp_tap.specs.declared.json_line.Facts.{Facts}
-use Rattle.resp_tap.specs.declared.json_tap.JsonTap.{JsonTap}
-use Rattle.resp_tap.specs.declared.lines.Lines.{Lines}
-use Rattle.resp_tap.specs.declared.timed.TimedTap.{TimedTap}
+use Rattle.resp_tap.specs.declared.connection.ConnectionTap.{ConnectionTap}
 use Rattle.resp_tap.proofs.KeptItems.{kept_at}
 use Rattle.resp_tap.proofs.json_tap.watch_json_some.Goals as goal
 
@@ -22,11 +20,11 @@ returns-clause-watches g c =
     let now = c.args.now in
     let side = c.args.side in
     let old = c.args.tap.now in
-    let stepped : JsonTap = record old { timed = c.step_or_line-lined.new.tap; lines = c.step_or_line-lined.new.lines } in
+    let stepped = c.step-lined.new.self in
     let new = c.follow.new.self in
-    let used = c.step_or_line-lined.result.step.used in
-    let what = c.step_or_line-lined.result.step.seen in
-    let is_line = c.step_or_line-lined.result.is_line in
+    let used = c.step-lined.result.step.used in
+    let what = c.step-lined.result.step.seen in
+    let is_line = c.step-lined.result.is_line in
     let size = c.take-size.result in
     let is_chosen = c.is_chosen_called-is_chosen.result in
     let called : option_map (λ called. called.now) c.get-called.result ≡ called_of old =
@@ -43,17 +41,17 @@ returns-clause-watches g c =
       is_chosen,
       size,
       record {
-        seen = subst (λ (t : TimedTap). SeesLined (Some now) side old.lines new.lines old.timed t c.args.piece.now used what is_line) (sym c.follow.ensures.same_tap)
-            (subst (λ (l : Lines). SeesLined (Some now) side old.lines l old.timed stepped.timed c.args.piece.now used what is_line) (sym c.follow.ensures.same_lines)
-            c.step_or_line-lined.ensures.sees);
+        seen = subst (λ (t : ConnectionTap). SeesLined (Some now) side old.connection.lines t.lines old.connection.timed t.timed c.args.piece.now used what is_line)
+            (sym c.follow.ensures.same) c.step-lined.ensures.sees;
         bytes = c.take-size.ensures.bytes;
         left = ap (taken_of side) c.follow.ensures.same_taken ∙ c.take-size.ensures.left;
         same_taken = subst (KeepsTaken side old.taken) (sym c.follow.ensures.same_taken) c.take-size.ensures.same_taken;
         chosen = subst (λ (kept : Option Called). IsChosenCalled f kept what is_chosen) called c.is_chosen_called-is_chosen.ensures;
-        calls = subst (λ (t : TimedTap). CalledAfter is_chosen what (waits_in old.timed) (waits_in t) old.calls.items new.calls.items) (sym c.follow.ensures.same_tap)
+        calls = subst (λ (t : ConnectionTap). CalledAfter is_chosen what (waits_in old.connection.timed) (waits_in t.timed) old.calls.items new.calls.items)
+            (sym c.follow.ensures.same)
             (subst (λ (n : ℕ). CalledAfter is_chosen what n (waits_in stepped.timed) old.calls.items new.calls.items) c.waiting-before.ensures
             c.follow.ensures.calls);
-        name = c.follow-2.ensures ∙ ap (λ n. named_after what (naming_of n)) c.follow.ensures.same_name;
+        name = ap (λ (t : ConnectionTap). naming_of t.name) c.follow.ensures.same ∙ c.step-lined.ensures.names;
       },
       record {
         asked = c.asked-asked.result;
@@ -62,6 +60,6 @@ returns-clause-watches g c =
         are = ap (λ (waited : Option ℕ). record facts { waited = waited }) c.waited_of.ensures;
         text = λ whole kept. subst (λ (name : List ℕ). Prints (g.W.Sink.written c.args.writer.now) (g.W.Sink.written c.write_kept-printed.new.writer)
             (g.W.Sink.failures c.args.writer.now) (g.W.Sink.failures c.write_kept-printed.new.writer) c.write_kept-printed.result
-            (kept_json f facts is_chosen name whole what) 0) (c.name_of_called-name.ensures ∙ ap name_of_called called) (c.write_kept-printed.ensures (tap_state old.timed.tap).kept whole kept);
+            (kept_json f facts is_chosen name whole what) 0) (c.name_of_called-name.ensures ∙ ap name_of_called called) (c.write_kept-printed.ensures (tap_state old.connection.timed.tap).kept whole kept);
       },
     )

@@ -1,4 +1,4 @@
-use Rattle.std.proofs.Common.{subst}
+use Rattle.std.proofs.Common.{false, subst}
 use Rattle.resp_value.specs.Data.{Datum}
 use Rattle.resp_print.specs.Printed.{Prints}
 use Rattle.resp_tap.specs.SeenOf.{IsKeptIn}
@@ -17,10 +17,10 @@ returns-clause-watches g c =
         of_command = c.asked-asked.ensures;
         text = subst (λ (o : TextOptions). (whole : Datum) → IsKeptIn o.shown.most o.kept.most whole what → Prints (g.W.Sink.written c.args.writer.now)
             (g.W.Sink.written c.write_seen-printed.new.writer) (g.W.Sink.failures c.args.writer.now) (g.W.Sink.failures c.write_seen-printed.new.writer)
-            c.write_seen-printed.result (seen_text o (stamp_of c.args.now c.asked-asked.result what) whole what) (levels_of what))
+            c.write_seen-printed.result (seen_text o false (stamp_of c.args.now c.asked-asked.result what) whole what) (levels_of what))
             c.options-options.ensures (λ whole kept. subst (λ stamp. Prints (g.W.Sink.written c.args.writer.now)
             (g.W.Sink.written c.write_seen-printed.new.writer) (g.W.Sink.failures c.args.writer.now) (g.W.Sink.failures c.write_seen-printed.new.writer)
-            c.write_seen-printed.result (seen_text c.options-options.result stamp whole what) (levels_of what)) c.stamp_of-stamp.ensures
+            c.write_seen-printed.result (seen_text c.options-options.result false stamp whole what) (levels_of what)) c.stamp_of-stamp.ensures
             (c.write_seen-printed.ensures whole kept));
       },
     )

@@ -22,7 +22,7 @@ one_more f client what number words lengths heard before after at old new rows r
 
 pub returns-in-Command-clause-counts : goal.returns-in-Command-clause-counts
 returns-in-Command-clause-counts c =
-    let more : c.args.before < waits_in c.args.self.now.timed = search rules in
+    let more : c.args.before < waits_in c.args.self.now.connection.timed = search rules in
     one_more c.args.filter.now c.args.client c.args.seen.now c.in-Command.number c.in-Command.words c.in-Command.lengths c.args.heard c.args.before
-    (waits_in c.args.self.now.timed) c.args.at c.args.self.now.asked.items c.ask.new.self.asked.items
+    (waits_in c.args.self.now.connection.timed) c.args.at c.args.self.now.asked.items c.ask.new.self.asked.items
     c.args.counts.now.rows.items c.ask.new.counts.rows.items c.in-Command.is more c.ask.ensures.asks

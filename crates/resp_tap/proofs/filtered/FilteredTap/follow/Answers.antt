@@ -29,8 +29,8 @@ one_more f p now is_line is_chosen what number words lengths before after old ne
 
 pub returns-in-Command-clause-notes : goal.returns-in-Command-clause-notes
 returns-in-Command-clause-notes c =
-    let more : c.args.before < waits_in c.args.self.now.timed = search rules in
+    let more : c.args.before < waits_in c.args.self.now.connection.timed = search rules in
     let some : is_selective c.args.filter.now ≡ true = search rules in
     one_more c.args.filter.now c.args.options c.args.now c.args.is_line c.args.is_chosen c.args.seen.now c.in-Command.number c.in-Command.words c.in-Command.lengths
-    c.args.before (waits_in c.args.self.now.timed) c.args.self.now.notes.items c.add.new.self.notes.items c.in-Command.is more some
+    c.args.before (waits_in c.args.self.now.connection.timed) c.args.self.now.notes.items c.add.new.self.notes.items c.in-Command.is more some
     (λ all are. c.add.ensures.notes all (subst (AreKeptOf c.args.options.shown.most c.args.options.kept.most all c.in-Command.words) (sym c.as_slice-lengths.ensures.value) are))

@@ -1,7 +1,7 @@
 use Rattle.std.proofs.Common.{◌++◌, codes, decimal}
 use Rattle.resp_tap.specs.Texts.{inline_end}
 use Rattle.resp_print.proofs.WrittenLemmas.{writes_next, writes_part}
-use Rattle.resp_tap.proofs.inline.write_inline_line.Goals as goal
+use Rattle.resp_tap.proofs.heading.write_inline_line.Goals as goal
 
 pub returns-in_err-write_number : goal.returns-in_err-write_number
 returns-in_err-write_number g c =

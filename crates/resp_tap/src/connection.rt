@@ -1,0 +1,85 @@
+//! The tap of a connection whose client may send commands as lines, and may name the connection.
+
+ghost use Rattle.std.specs.Prelude.{◌≡◌, ◌<◌, ◌≤◌, [], length, true};
+ghost use Rattle.resp_tap.specs.ClientNames.{named_after, naming_of};
+ghost use Rattle.resp_tap.specs.Ends.{CutsOff};
+ghost use Rattle.resp_tap.specs.Lined.{SeesLined};
+ghost use Rattle.resp_tap.specs.Watches.{KeepsOther};
+
+use crate::client_name::ClientName;
+use crate::end::Cut;
+use crate::lines::{Lined, Lines};
+use crate::moment::Moment;
+use crate::tap::Tap;
+use crate::timed::TimedTap;
+use crate::watch::{Side, step};
+use std::alloc::Global;
+
+/// The tap of a connection whose client may send commands as lines, and may name the connection.
+#[derive(Drop)]
+pub struct ConnectionTap {
+    pub(crate) timed: TimedTap,
+    /// The lines among the bytes of the client.
+    pub(crate) lines: Lines,
+    pub(crate) name: ClientName,
+}
+
+impl ConnectionTap {
+    /// Returns the tap of a new connection whose commands and replies this tap reads. A line of the
+    /// client is a command too. It allocates nothing.
+    pub(crate) fn new(alloc: Global, timed: TimedTap) -> ConnectionTap
+        ensures same_tap { result.timed ≡ timed }
+        ensures reads_lines { result.lines.are_read ≡ true }
+        ensures nothing_held { result.lines.held.items ≡ [] }
+        ensures no_name { (naming_of result.name).name ≡ [] }
+    {
+        ConnectionTap {
+            timed,
+            lines: Lines::new(alloc, true),
+            name: ClientName::new(),
+        }
+    }
+
+    /// Returns the tap of the commands and replies.
+    pub fn tap(&self) -> &Tap
+        ensures { result.now ≡ self.now.timed.tap }
+    {
+        self.timed.tap()
+    }
+
+    /// Returns the command, reply or value that this side has sent in part, if its bytes are still
+    /// read.
+    pub fn cut(&self, side: Side) -> Option<Cut>
+        ensures { CutsOff side self.now.lines.held.items self.now.timed.tap result }
+    {
+        self.timed.tap.cut(side, self.lines.held.as_slice())
+    }
+
+    /// Returns the name that the client has given to the connection.
+    pub fn name(&self) -> &ClientName
+        ensures { result.now ≡ self.now.name }
+    {
+        &self.name
+    }
+
+    /// Reads bytes that one side sent, until there is a result or the piece ends, as
+    /// [`step`](crate::watch::step) does. A line of the client is a command too, if lines are read.
+    pub(crate) fn step(&mut self, side: Side, piece: &[u8], now: Option<Moment>) -> Lined
+        ensures sees { SeesLined now side self.old.lines self.new.lines self.old.timed
+            self.new.timed piece.now result.step.used result.step.seen result.is_line }
+        ensures names { naming_of self.new.name ≡
+            named_after result.step.seen (naming_of self.old.name) }
+        ensures other_side { KeepsOther side self.old.timed.tap self.new.timed.tap }
+        ensures within_piece { result.step.used ≤ length piece.now }
+        ensures uses_bytes { 0 < length piece.now → 0 < result.step.used }
+    {
+        let is_line = side == Side::Client && self.lines.have(&self.timed.tap, piece);
+        let step = if is_line {
+            self.lines.read(&mut self.timed, piece, now)
+        } else {
+            step(&mut self.timed, side, piece, now)
+        };
+        self.name.follow(&step.seen);
+        Lined { step, is_line }
+    }
+}
