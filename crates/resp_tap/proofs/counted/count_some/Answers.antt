@@ -33,10 +33,13 @@ returns-clause-counts c =
       };
       left = ap (taken_of c.args.side) c.follow.ensures.same_taken ∙ c.take.ensures.left;
       same_taken = subst (KeepsTaken c.args.side old.taken) (sym c.follow.ensures.same_taken) c.take.ensures.same_taken;
-      counts = subst (λ (t : ConnectionTap). CountsAfter f client what heard (waits_in old.connection.timed) (waits_in t.timed) at old.asked.items new.asked.items rows rows')
+      counts = subst (λ (t : ConnectionTap). CountsAfter f client what heard (waits_in old.connection.timed) (waits_in t.timed) at old.asked.items
+          new.asked.items rows rows')
           (sym c.follow.ensures.same)
-          (subst (λ (n : ℕ). CountsAfter f client what heard (waits_in old.connection.timed) (waits_in stepped.timed) n old.asked.items new.asked.items rows rows') c.asked_at-at.ensures
-          (subst (λ (n : ℕ). CountsAfter f client what heard n (waits_in stepped.timed) c.asked_at-at.result old.asked.items new.asked.items rows rows') c.waiting-before.ensures
+          (subst (λ (n : ℕ). CountsAfter f client what heard (waits_in old.connection.timed) (waits_in stepped.timed) n old.asked.items
+              new.asked.items rows rows') c.asked_at-at.ensures
+          (subst (λ (n : ℕ). CountsAfter f client what heard n (waits_in stepped.timed) c.asked_at-at.result old.asked.items new.asked.items rows
+              rows') c.waiting-before.ensures
           c.follow.ensures.counts));
       name = ap (λ (t : ConnectionTap). naming_of t.name) c.follow.ensures.same ∙ c.step.ensures.names;
     }
@@ -47,6 +50,7 @@ returns-clause-sees c =
     let step = c.step.result.step in
     let is_line = c.step.result.is_line in (
       is_line,
-      subst (λ (t : ConnectionTap). SeesLined (Some c.args.now) c.args.side old.connection.lines t.lines old.connection.timed t.timed c.args.piece.now step.used step.seen is_line)
+      subst (λ (t : ConnectionTap). SeesLined (Some c.args.now) c.args.side old.connection.lines t.lines old.connection.timed t.timed
+          c.args.piece.now step.used step.seen is_line)
           (sym c.follow.ensures.same) c.step.ensures.sees,
     )

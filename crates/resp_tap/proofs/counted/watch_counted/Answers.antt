@@ -10,7 +10,8 @@ loop-rest-preserved g c =
     let watched = c.watch_counted_some-watched in
     let seen = watched.ensures.watches in
     record {
-      other = keeps_on c.args.side c.args.tap.now.connection.timed.tap c.loop-rest.tap.connection.timed.tap watched.new.tap.connection.timed.tap c.loop-rest.invariant.other watched.ensures.other_side;
+      other = keeps_on c.args.side c.args.tap.now.connection.timed.tap c.loop-rest.tap.connection.timed.tap watched.new.tap.connection.timed.tap
+          c.loop-rest.invariant.other watched.ensures.other_side;
       so_far = λ more new rows' after failures' later beyond.
           let all = c.loop-rest.invariant.so_far (seen.0 ∷ more) new rows' after failures' (first_error watched.result.printed later) (
             watched.new.tap,
@@ -31,7 +32,8 @@ loop-rest-preserved g c =
             all.0,
             subst (λ told. CountsAll c.args.filter.now c.args.printing c.args.side c.args.now all.0 c.args.tap.now new c.args.piece.now
                 c.args.counts.now.rows.items rows' (g.W.Sink.written c.args.writer.now) after (g.W.Sink.failures c.args.writer.now) failures' told)
-                (error_of_three c.loop-rest.printed watched.result.printed later ∙ ap (λ told. first_error told later) (sym c.first_error-printed.ensures)) all.1,
+                (error_of_three c.loop-rest.printed watched.result.printed later ∙ ap (λ told. first_error told later)
+                    (sym c.first_error-printed.ensures)) all.1,
           );
     }
 

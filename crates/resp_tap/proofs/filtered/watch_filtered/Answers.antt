@@ -10,7 +10,8 @@ loop-rest-preserved g c =
     let watched = c.watch_filtered_some-watched in
     let seen = watched.ensures.watches in
     record {
-      other = keeps_on c.args.side c.args.tap.now.connection.timed.tap c.loop-rest.tap.connection.timed.tap watched.new.tap.connection.timed.tap c.loop-rest.invariant.other watched.ensures.other_side;
+      other = keeps_on c.args.side c.args.tap.now.connection.timed.tap c.loop-rest.tap.connection.timed.tap watched.new.tap.connection.timed.tap
+          c.loop-rest.invariant.other watched.ensures.other_side;
       so_far = λ more new after failures' later beyond.
           let all = c.loop-rest.invariant.so_far (seen.0 ∷ more) new after failures' (first_error watched.result.printed later) (
             watched.new.tap,
@@ -24,13 +25,15 @@ loop-rest-preserved g c =
             seen.3,
             seen.4,
             refl,
-            subst (λ rest. FiltersAll c.args.filter.now c.args.printing c.args.side c.args.now more watched.new.tap new rest (g.W.Sink.written watched.new.writer) after
+            subst (λ rest. FiltersAll c.args.filter.now c.args.printing c.args.side c.args.now more watched.new.tap new rest
+                (g.W.Sink.written watched.new.writer) after
                 (g.W.Sink.failures watched.new.writer) failures' later) (take_rest c.loop-rest.rest.now watched.result.used) beyond,
           ) in (
             all.0,
             subst (λ told. FiltersAll c.args.filter.now c.args.printing c.args.side c.args.now all.0 c.args.tap.now new c.args.piece.now
                 (g.W.Sink.written c.args.writer.now) after (g.W.Sink.failures c.args.writer.now) failures' told)
-                (error_of_three c.loop-rest.printed watched.result.printed later ∙ ap (λ told. first_error told later) (sym c.first_error-printed.ensures)) all.1,
+                (error_of_three c.loop-rest.printed watched.result.printed later ∙ ap (λ told. first_error told later)
+                    (sym c.first_error-printed.ensures)) all.1,
           );
     }
 

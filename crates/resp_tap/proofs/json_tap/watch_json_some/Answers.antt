@@ -41,7 +41,8 @@ returns-clause-watches g c =
       is_chosen,
       size,
       record {
-        seen = subst (λ (t : ConnectionTap). SeesLined (Some now) side old.connection.lines t.lines old.connection.timed t.timed c.args.piece.now used what is_line)
+        seen = subst (λ (t : ConnectionTap). SeesLined (Some now) side old.connection.lines t.lines old.connection.timed t.timed c.args.piece.now
+            used what is_line)
             (sym c.follow.ensures.same) c.step-lined.ensures.sees;
         bytes = c.take-size.ensures.bytes;
         left = ap (taken_of side) c.follow.ensures.same_taken ∙ c.take-size.ensures.left;
@@ -60,6 +61,7 @@ returns-clause-watches g c =
         are = ap (λ (waited : Option ℕ). record facts { waited = waited }) c.waited_of.ensures;
         text = λ whole kept. subst (λ (name : List ℕ). Prints (g.W.Sink.written c.args.writer.now) (g.W.Sink.written c.write_kept-printed.new.writer)
             (g.W.Sink.failures c.args.writer.now) (g.W.Sink.failures c.write_kept-printed.new.writer) c.write_kept-printed.result
-            (kept_json f facts is_chosen name whole what) 0) (c.name_of_called-name.ensures ∙ ap name_of_called called) (c.write_kept-printed.ensures (tap_state old.connection.timed.tap).kept whole kept);
+            (kept_json f facts is_chosen name whole what) 0) (c.name_of_called-name.ensures ∙ ap name_of_called called)
+                (c.write_kept-printed.ensures (tap_state old.connection.timed.tap).kept whole kept);
       },
     )

@@ -13,12 +13,14 @@ use Rattle.resp_tap.proofs.counted.CountedTap.follow.Goals as goal
 is_more : (before after : ℕ) → before < after → nat_lt before after ≡ true
 is_more before after less = search rules
 
-one_more : (f : Filter) (client : ℕ) (what : Seen) (number : ℕ) (words : List (List ℕ)) (lengths : Vec ℕ Global) (heard : Heard) (before after at : ℕ) (old new : List Asked) (rows rows' : List Row) →
+one_more : (f : Filter) (client : ℕ) (what : Seen) (number : ℕ) (words : List (List ℕ)) (lengths : Vec ℕ Global) (heard : Heard)
+    (before after at : ℕ) (old new : List Asked) (rows rows' : List Row) →
     what ≡ seen.Command number words lengths → before < after → AsksCall f client words before heard.bytes old new rows rows' →
     CountsAfter f client what heard before after at old new rows rows'
 one_more f client what number words lengths heard before after at old new rows rows' is less asks =
     subst (λ w. CountsBy (nat_lt before after) f client w heard before (before - after) at old new rows rows') (sym is)
-    (subst (λ b. CountsBy b f client (seen.Command number words lengths) heard before (before - after) at old new rows rows') (sym (is_more before after less)) asks)
+    (subst (λ b. CountsBy b f client (seen.Command number words lengths) heard before (before - after) at old new rows rows')
+        (sym (is_more before after less)) asks)
 
 pub returns-in-Command-clause-counts : goal.returns-in-Command-clause-counts
 returns-in-Command-clause-counts c =

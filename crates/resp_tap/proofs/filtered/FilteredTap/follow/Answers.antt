@@ -18,7 +18,8 @@ use Rattle.resp_tap.proofs.filtered.FilteredTap.follow.Goals as goal
 both_hold : (before after : ℕ) (some : Bool) → before < after → some ≡ true → (nat_lt before after && some) ≡ true
 both_hold before after some less is = grind (arith, less, is)
 
-one_more : (f : Filter) (p : TextOptions) (now : Option Moment) (is_line is_chosen : Bool) (what : Seen) (number : ℕ) (words : List (List ℕ)) (lengths : Vec ℕ Global)
+one_more : (f : Filter) (p : TextOptions) (now : Option Moment) (is_line is_chosen : Bool) (what : Seen) (number : ℕ) (words : List (List ℕ))
+    (lengths : Vec ℕ Global)
     (before after : ℕ) (old new : List Note) → what ≡ seen.Command number words lengths → before < after → is_selective f ≡ true →
     ((all : List (List ℕ)) → AreKeptOf p.shown.most p.kept.most all words lengths.items → IsAdded f p now is_line is_chosen all old new) →
     (whole : Datum) → IsKeptIn p.shown.most p.kept.most whole what → NotesAfter f p now is_line is_chosen (with_whole whole what) before after old new
@@ -31,6 +32,8 @@ pub returns-in-Command-clause-notes : goal.returns-in-Command-clause-notes
 returns-in-Command-clause-notes c =
     let more : c.args.before < waits_in c.args.self.now.connection.timed = search rules in
     let some : is_selective c.args.filter.now ≡ true = search rules in
-    one_more c.args.filter.now c.args.options c.args.now c.args.is_line c.args.is_chosen c.args.seen.now c.in-Command.number c.in-Command.words c.in-Command.lengths
+    one_more c.args.filter.now c.args.options c.args.now c.args.is_line c.args.is_chosen c.args.seen.now c.in-Command.number c.in-Command.words
+        c.in-Command.lengths
     c.args.before (waits_in c.args.self.now.connection.timed) c.args.self.now.notes.items c.add.new.self.notes.items c.in-Command.is more some
-    (λ all are. c.add.ensures.notes all (subst (AreKeptOf c.args.options.shown.most c.args.options.kept.most all c.in-Command.words) (sym c.as_slice-lengths.ensures.value) are))
+    (λ all are. c.add.ensures.notes all (subst (AreKeptOf c.args.options.shown.most c.args.options.kept.most all c.in-Command.words)
+        (sym c.as_slice-lengths.ensures.value) are))

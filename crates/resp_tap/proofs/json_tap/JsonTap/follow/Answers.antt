@@ -19,5 +19,6 @@ one_more is_chosen what number words lengths before after old new is less kept =
 pub returns-in-Command-clause-calls : goal.returns-in-Command-clause-calls
 returns-in-Command-clause-calls c =
     let more : c.args.before < waits_in c.args.self.now.connection.timed = search rules in
-    one_more c.args.is_chosen c.args.seen.now c.in-Command.number c.in-Command.words c.in-Command.lengths c.args.before (waits_in c.args.self.now.connection.timed)
+    one_more c.args.is_chosen c.args.seen.now c.in-Command.number c.in-Command.words c.in-Command.lengths c.args.before
+        (waits_in c.args.self.now.connection.timed)
     c.args.self.now.calls.items c.keep.new.self.calls.items c.in-Command.is more c.keep.ensures.calls
