@@ -1,13 +1,13 @@
 //! Rows that run on a decoder.
 
 mod calls;
-mod cutting;
+mod row_decoder;
 
 use self::calls::Says;
 use crate::bounds;
 use crate::cut::Cut;
 use crate::subject::Subject;
-use crate::text::{split, version};
+use crate::text::{number, split, version};
 use anyhow::{Result, bail};
 use resp_decode::{CutDecoder, Decoder};
 use resp_value::{Limits, Version};
@@ -48,13 +48,13 @@ impl Subject for Reader {
             "version" => calls::set_version(decoder, given, said),
             "all" => calls::all(alloc, given, said),
             "cutter" => {
-                self.cutter = cutting::renewed(alloc, given)?;
+                self.cutter = cutter_of(alloc, given)?;
                 Ok(())
             }
-            "cut" => cutting::cut(alloc, &mut self.cutter, given, cut, said),
-            "cut_finish" => cutting::finish(&self.cutter, said),
-            "cut_held" => cutting::held(&self.cutter, said),
-            "cut_version" => cutting::set_version(&mut self.cutter, given, said),
+            "cut" => calls::decode(alloc, &mut self.cutter, given, cut, Says::Value, said),
+            "cut_finish" => calls::finish(&self.cutter, said),
+            "cut_held" => calls::held(&self.cutter, said),
+            "cut_version" => calls::set_version(&mut self.cutter, given, said),
             _ => bail!("an unknown row"),
         }
     }
@@ -65,4 +65,17 @@ fn renew(alloc: Global, decoder: &mut Decoder, given: &str) -> Result<()> {
     let (number, limits) = split(given);
     *decoder = Decoder::new(alloc, version(number)?, &bounds::limits(limits)?);
     Ok(())
+}
+
+/// Returns a new decoder for a number of bytes that are shown, a version and limits, written as
+/// `32 3 depth=4`.
+fn cutter_of(alloc: Global, given: &str) -> Result<CutDecoder> {
+    let (shown, rest) = split(given);
+    let (version_number, limits) = split(rest);
+    Ok(CutDecoder::new(
+        alloc,
+        version(version_number)?,
+        &bounds::limits(limits)?,
+        number(shown)? as usize,
+    ))
 }

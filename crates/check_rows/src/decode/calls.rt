@@ -1,12 +1,13 @@
 //! The calls of a decoder, and the lines printed for their results.
 
+use super::row_decoder::RowDecoder;
 use crate::cut::{Cut, pieces};
-use crate::spelling::{add_fault, add_final_fault, add_value, add_values, is_refused};
+use crate::spelling::{add_fault, add_final_fault, add_values, is_refused};
 use crate::text::{bytes, split, version};
 use anyhow::Result;
-use resp_decode::{Decoder, Fed, decode_all};
+use resp_decode::decode_all;
 use resp_scan::event::Fault;
-use resp_value::{Limits, Value};
+use resp_value::Limits;
 use std::alloc::{AllocError, Global};
 
 /// How a value is printed.
@@ -19,9 +20,9 @@ pub(crate) enum Says {
 }
 
 /// Prints each value of a text, and the fault if there is one.
-pub(crate) fn decode(
+pub(crate) fn decode<D: RowDecoder>(
     alloc: Global,
-    decoder: &mut Decoder,
+    decoder: &mut D,
     given: &str,
     cut: Cut,
     says: Says,
@@ -37,8 +38,8 @@ pub(crate) fn decode(
 }
 
 /// Prints each value that ends in a piece. Returns whether the decoder continues.
-fn decode_piece(
-    decoder: &mut Decoder,
+fn decode_piece<D: RowDecoder>(
+    decoder: &mut D,
     piece: &[u8],
     says: Says,
     said: &mut String,
@@ -46,7 +47,7 @@ fn decode_piece(
     let mut rest = piece;
     for _ in 0..=piece.len() {
         match decoder.feed(rest) {
-            Ok(Fed { used, value }) => {
+            Ok((used, value)) => {
                 rest = &rest[used..];
                 if !say_answer(decoder, value, says, said)? {
                     break;
@@ -60,9 +61,9 @@ fn decode_piece(
 
 /// Prints a value, and a line if the decoder holds more than it should. Returns whether there is a
 /// value.
-fn say_answer(
-    decoder: &Decoder,
-    value: Option<Value>,
+fn say_answer<D: RowDecoder>(
+    decoder: &D,
+    value: Option<D::Value>,
     says: Says,
     said: &mut String,
 ) -> Result<bool, AllocError> {
@@ -72,7 +73,8 @@ fn say_answer(
         }
         return Ok(false);
     };
-    say_value(&value, says, said)?;
+    D::say(&value, says, said)?;
+    said.push_str("\n")?;
     if decoder.taken() != 0 || decoder.weight() != 0 {
         say_held(decoder, said)?;
     }
@@ -80,8 +82,8 @@ fn say_answer(
 }
 
 /// Prints a fault, and a line if it is not returned again or if the decoder still holds anything.
-fn say_refusal(
-    decoder: &mut Decoder,
+fn say_refusal<D: RowDecoder>(
+    decoder: &mut D,
     rest: &[u8],
     fault: Fault,
     said: &mut String,
@@ -95,24 +97,31 @@ fn say_refusal(
 }
 
 /// Makes one call, and prints the number of bytes used and the value that ended with them.
-pub(crate) fn feed(
+pub(crate) fn feed<D: RowDecoder>(
     alloc: Global,
-    decoder: &mut Decoder,
+    decoder: &mut D,
     given: &str,
     says: Says,
     said: &mut String,
 ) -> Result<()> {
     let text = bytes(alloc, given)?;
-    say_fed(decoder.feed(text.as_slice()), says, said)?;
+    say_fed::<D>(decoder.feed(text.as_slice()), says, said)?;
     Ok(())
 }
 
-fn say_fed(fed: Result<Fed, Fault>, says: Says, said: &mut String) -> Result<(), AllocError> {
+fn say_fed<D: RowDecoder>(
+    fed: Result<(usize, Option<D::Value>), Fault>,
+    says: Says,
+    said: &mut String,
+) -> Result<(), AllocError> {
     match fed {
-        Ok(Fed { used, value }) => {
+        Ok((used, value)) => {
             write!(said, "used {used}: ")?;
             match value {
-                Some(value) => say_value(&value, says, said),
+                Some(value) => {
+                    D::say(&value, says, said)?;
+                    said.push_str("\n")
+                }
                 None => said.push_str("more\n"),
             }
         }
@@ -121,12 +130,12 @@ fn say_fed(fed: Result<Fed, Fault>, says: Says, said: &mut String) -> Result<(),
 }
 
 /// Prints the number of bytes read of a value, and the weight held of it.
-pub(crate) fn held(decoder: &Decoder, said: &mut String) -> Result<()> {
+pub(crate) fn held<D: RowDecoder>(decoder: &D, said: &mut String) -> Result<()> {
     say_held(decoder, said)?;
     Ok(())
 }
 
-fn say_held(decoder: &Decoder, said: &mut String) -> Result<(), AllocError> {
+fn say_held<D: RowDecoder>(decoder: &D, said: &mut String) -> Result<(), AllocError> {
     writeln!(
         said,
         "taken {}, weight {}",
@@ -136,7 +145,7 @@ fn say_held(decoder: &Decoder, said: &mut String) -> Result<(), AllocError> {
 }
 
 /// Ends the input, and prints the error if there is one.
-pub(crate) fn finish(decoder: &Decoder, said: &mut String) -> Result<()> {
+pub(crate) fn finish<D: RowDecoder>(decoder: &D, said: &mut String) -> Result<()> {
     match decoder.finish() {
         Ok(()) => said.push_str("whole\n")?,
         Err(fault) => add_fault(said, fault.cause, fault.at)?,
@@ -145,7 +154,11 @@ pub(crate) fn finish(decoder: &Decoder, said: &mut String) -> Result<()> {
 }
 
 /// Changes the version, and prints the error if there is one.
-pub(crate) fn set_version(decoder: &mut Decoder, given: &str, said: &mut String) -> Result<()> {
+pub(crate) fn set_version<D: RowDecoder>(
+    decoder: &mut D,
+    given: &str,
+    said: &mut String,
+) -> Result<()> {
     if let Err(busy) = decoder.set_version(version(given)?) {
         writeln!(said, "refused: {busy:?}")?;
     }
@@ -166,24 +179,4 @@ pub(crate) fn all(alloc: Global, given: &str, said: &mut String) -> Result<()> {
         Err(refusal) => writeln!(said, "{refusal}")?,
     }
     Ok(())
-}
-
-fn say_value(value: &Value, says: Says, said: &mut String) -> Result<(), AllocError> {
-    match says {
-        Says::Value => add_value(said, value)?,
-        Says::Size => add_size(value, said)?,
-    }
-    said.push_str("\n")
-}
-
-/// Adds the kind of an aggregate with the number of its members or pairs, or any other value.
-fn add_size(value: &Value, said: &mut String) -> Result<(), AllocError> {
-    let (kind, size) = match value {
-        Value::Array(members) => ("array", members.list().len()),
-        Value::Set(members) => ("set", members.list().len()),
-        Value::Push(members) => ("push", members.list().len()),
-        Value::Map(pairs) => ("map", pairs.list().len()),
-        _ => return add_value(said, value),
-    };
-    write!(said, "{kind} of {size}")
 }

@@ -37,9 +37,9 @@ returns-clause-counts c =
           new.asked.items rows rows')
           (sym c.follow.ensures.same)
           (subst (λ (n : ℕ). CountsAfter f client what heard (waits_in old.connection.timed) (waits_in stepped.timed) n old.asked.items
-              new.asked.items rows rows') c.asked_at-at.ensures
+          new.asked.items rows rows') c.asked_at-at.ensures
           (subst (λ (n : ℕ). CountsAfter f client what heard n (waits_in stepped.timed) c.asked_at-at.result old.asked.items new.asked.items rows
-              rows') c.waiting-before.ensures
+          rows') c.waiting-before.ensures
           c.follow.ensures.counts));
       name = ap (λ (t : ConnectionTap). naming_of t.name) c.follow.ensures.same ∙ c.step.ensures.names;
     }

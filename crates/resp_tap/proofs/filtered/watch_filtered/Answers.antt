@@ -33,7 +33,7 @@ loop-rest-preserved g c =
             subst (λ told. FiltersAll c.args.filter.now c.args.printing c.args.side c.args.now all.0 c.args.tap.now new c.args.piece.now
                 (g.W.Sink.written c.args.writer.now) after (g.W.Sink.failures c.args.writer.now) failures' told)
                 (error_of_three c.loop-rest.printed watched.result.printed later ∙ ap (λ told. first_error told later)
-                    (sym c.first_error-printed.ensures)) all.1,
+                (sym c.first_error-printed.ensures)) all.1,
           );
     }
 

@@ -38,7 +38,7 @@ returns-clause-watches g c =
         chosen = subst (λ (n : Option Note). IsChosen f n what is_chosen) note c.is_chosen-is_chosen.ensures;
         notes = subst (λ (t : ConnectionTap). (whole : Datum) → IsKeptIn p.shown.most p.kept.most whole what →
             NotesAfter f p c.args.now is_line is_chosen (with_whole whole what) (waits_in old.connection.timed) (waits_in t.timed) old.notes.items
-                new.notes.items) same
+            new.notes.items) same
             (subst (λ n. (whole : Datum) → IsKeptIn p.shown.most p.kept.most whole what →
             NotesAfter f p c.args.now is_line is_chosen (with_whole whole what) n (waits_in c.step-lined.new.self.timed) old.notes.items new.notes.items)
             c.waiting-before.ensures

@@ -62,6 +62,6 @@ returns-clause-watches g c =
         text = λ whole kept. subst (λ (name : List ℕ). Prints (g.W.Sink.written c.args.writer.now) (g.W.Sink.written c.write_kept-printed.new.writer)
             (g.W.Sink.failures c.args.writer.now) (g.W.Sink.failures c.write_kept-printed.new.writer) c.write_kept-printed.result
             (kept_json f facts is_chosen name whole what) 0) (c.name_of_called-name.ensures ∙ ap name_of_called called)
-                (c.write_kept-printed.ensures (tap_state old.connection.timed.tap).kept whole kept);
+            (c.write_kept-printed.ensures (tap_state old.connection.timed.tap).kept whole kept);
       },
     )

@@ -20,7 +20,7 @@ one_more : (f : Filter) (client : ℕ) (what : Seen) (number : ℕ) (words : Lis
 one_more f client what number words lengths heard before after at old new rows rows' is less asks =
     subst (λ w. CountsBy (nat_lt before after) f client w heard before (before - after) at old new rows rows') (sym is)
     (subst (λ b. CountsBy b f client (seen.Command number words lengths) heard before (before - after) at old new rows rows')
-        (sym (is_more before after less)) asks)
+    (sym (is_more before after less)) asks)
 
 pub returns-in-Command-clause-counts : goal.returns-in-Command-clause-counts
 returns-in-Command-clause-counts c =

@@ -33,7 +33,7 @@ returns-in-Command-clause-notes c =
     let more : c.args.before < waits_in c.args.self.now.connection.timed = search rules in
     let some : is_selective c.args.filter.now ≡ true = search rules in
     one_more c.args.filter.now c.args.options c.args.now c.args.is_line c.args.is_chosen c.args.seen.now c.in-Command.number c.in-Command.words
-        c.in-Command.lengths
+    c.in-Command.lengths
     c.args.before (waits_in c.args.self.now.connection.timed) c.args.self.now.notes.items c.add.new.self.notes.items c.in-Command.is more some
     (λ all are. c.add.ensures.notes all (subst (AreKeptOf c.args.options.shown.most c.args.options.kept.most all c.in-Command.words)
-        (sym c.as_slice-lengths.ensures.value) are))
+    (sym c.as_slice-lengths.ensures.value) are))

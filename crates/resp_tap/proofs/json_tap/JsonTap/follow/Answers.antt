@@ -20,5 +20,5 @@ pub returns-in-Command-clause-calls : goal.returns-in-Command-clause-calls
 returns-in-Command-clause-calls c =
     let more : c.args.before < waits_in c.args.self.now.connection.timed = search rules in
     one_more c.args.is_chosen c.args.seen.now c.in-Command.number c.in-Command.words c.in-Command.lengths c.args.before
-        (waits_in c.args.self.now.connection.timed)
+    (waits_in c.args.self.now.connection.timed)
     c.args.self.now.calls.items c.keep.new.self.calls.items c.in-Command.is more c.keep.ensures.calls
