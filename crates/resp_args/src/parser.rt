@@ -1,6 +1,6 @@
 //! The parser of the command line.
 
-ghost use Rattle.std.specs.Prelude.{◌≡◌, IfOk, false, map};
+ghost use Rattle.std.specs.Prelude.{◌≡◌, IfOk, map};
 ghost use Rattle.clap.specs.Words.{App};
 ghost use Rattle.resp_args.specs.CommandWords.{FindsWords};
 ghost use Rattle.resp_args.specs.Program.{IsProgram, IsTask, bare_app};
