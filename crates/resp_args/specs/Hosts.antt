@@ -1,6 +1,5 @@
 -- The addresses of a listener and of a server in words. Each may be a path, and that of a server may have the name of a host.
-use Rattle.std.specs.Prelude.{◌≡◌, ◌≤◌, ◌<◌, ◌++◌, ◌⊎◌, ℕ, All, List, codes, take}
-use Rattle.std.specs.Net.Grammar.{IsSocketText}
+use Rattle.std.specs.Prelude.{◌≡◌, ◌≤◌, ◌++◌, ◌⊎◌, ℕ, All, List, codes, take}
 use Rattle.std.specs.declared.net.socket_addr.SocketAddr.{SocketAddr}
 use Rattle.resp_args.specs.Addresses.{HasPort, IsAddressText}
 use Rattle.resp_args.specs.declared.listen_address.ListenAddress.{ListenAddress}

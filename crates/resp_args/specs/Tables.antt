@@ -1,21 +1,17 @@
 -- What the tables of subcommands and of their options mean to the parser.
-use Rattle.std.specs.Prelude.{◌++◌, Bool, false, true, List, [], ◌∷◌, Some, map}
+use Rattle.std.specs.Prelude.{◌++◌, Bool, false, true, List, [], ◌∷◌, Some, length, map}
 use Rattle.std.specs.Borrow.{Bor}
 use Rattle.clap.specs.Lexer.{usize_max}
-use Rattle.clap.specs.Words.{App, Rule, app_of, new_app, rule_of, with_subcommand}
+use Rattle.clap.specs.Words.{App, Rule, Text, app_of, new_app, new_rule, rule_of, with_subcommand}
+use Rattle.clap.specs.declared.builder.ArgAction.TheVariants.{SetTrue}
 use Rattle.clap.specs.declared.builder.arg.Arg.{Arg}
 use Rattle.clap.specs.declared.builder.command.Command.{Command}
 use Rattle.clap.specs.declared.builder.command.Command.TheViews.{out-Command}
 use Rattle.clap.specs.declared.builder.value_parser.ValueParser.TheVariants as vp
-use Rattle.resp_args.specs.Program.{flag_option, name_option, numbers_between, optional_word, short_flag_option, with_options}
-use Rattle.resp_args.specs.declared.parameter.Check.{Check}
-use Rattle.resp_args.specs.declared.parameter.Check.TheVariants as check
-use Rattle.resp_args.specs.declared.parameter.Fallback.{Fallback}
-use Rattle.resp_args.specs.declared.parameter.Fallback.TheVariants as fallback
+use Rattle.resp_args.specs.Program.{numbers_between, with_options}
+use Rattle.resp_args.specs.declared.parameter.Form.{Form}
+use Rattle.resp_args.specs.declared.parameter.Form.TheVariants as form
 use Rattle.resp_args.specs.declared.parameter.Parameter.{Parameter}
-use Rattle.resp_args.specs.declared.parameter.Parameter.TheVariants as parameter
-use Rattle.resp_args.specs.declared.parameter.Presence.{Presence}
-use Rattle.resp_args.specs.declared.parameter.Presence.TheVariants as presence
 use Rattle.resp_args.specs.declared.parser.Subcommand.{Subcommand}
 
 -- a rule or a command that does not apply to other commands
@@ -30,34 +26,26 @@ local_rule arg = (rule_of arg, arg.global)
 abbrev pub local_app : Command → App × Bool
 local_app command = (app_of command, (out-Command command).has_globals)
 
--- an option with these values
-abbrev pub with_check : Check → Rule → Rule
-with_check check.Any rule = rule
-with_check (check.Between least most) rule = record rule { parser = Some (numbers_between least most) }
-with_check (check.OneOf values) rule = record rule { parser = Some (vp.Names values) }
-
--- an option with this default
-abbrev pub with_fallback : Fallback → Rule → Rule
-with_fallback fallback.Nothing rule = rule
-with_fallback (fallback.Shown value) rule = record rule { defaults = value.now ∷ [] }
-with_fallback (fallback.Hidden value) rule = record rule { defaults = value.now ∷ [] }
-
--- an argument that may be missing or not
-abbrev pub with_presence : Presence → Rule → Rule
-with_presence presence.Required rule = record rule { required = true }
-with_presence presence.Optional rule = rule
-with_presence (presence.Default value) rule = record rule { defaults = value.now ∷ [] }
-with_presence presence.Rest rule = record rule {
+-- an option or an argument of this name that is written so
+abbrev pub with_form : Form → Text → Rule → Rule
+with_form form.Flag name rule = record rule { long = Some name; action = Some SetTrue }
+with_form (form.ShortFlag short) name rule = record rule { short = Some short; action = Some SetTrue }
+with_form form.Text name rule = record rule { long = Some name }
+with_form (form.Between least most) name rule = record rule { long = Some name; parser = Some (numbers_between least most) }
+with_form (form.OneOf texts) name rule = record rule { long = Some name; parser = Some (vp.Names texts) }
+with_form form.Word name rule = rule
+with_form form.Rest name rule = record rule {
   range = Some (record { start_inclusive = 1; end_inclusive = usize_max });
   trailing_var_arg = true;
 }
 
--- an option or an argument that is written so
+-- the option or the argument of a row of a table
 abbrev pub parameter_rule : Parameter → Rule
-parameter_rule (parameter.Flag name help) = flag_option name.now
-parameter_rule (parameter.ShortFlag name short help) = short_flag_option name.now short
-parameter_rule (parameter.Value name shown check fallback help) = with_fallback fallback (with_check check (name_option name.now))
-parameter_rule (parameter.Word name shown presence help) = with_presence presence (optional_word name.now)
+parameter_rule row = with_form row.form row.name.now (record (new_rule row.name.now) {
+  value_names = length row.value_names.now;
+  defaults = map (λ text. text.now) row.defaults.now;
+  required = row.is_required;
+})
 
 -- the options of several tables
 abbrev pub rules_in : List (Bor (List Parameter)) → List Rule
@@ -66,7 +54,7 @@ rules_in (table ∷ tables) = map parameter_rule table.now ++ rules_in tables
 
 -- a subcommand with its options
 abbrev pub subcommand_app : Subcommand → App
-subcommand_app subcommand = with_options (new_app subcommand.name.now) (rules_in subcommand.parameters)
+subcommand_app subcommand = with_options (new_app subcommand.texts.now.name.now) (rules_in subcommand.parameters)
 
 -- a program with these subcommands added
 abbrev pub with_subcommands : App → List Subcommand → App

@@ -1,6 +1,6 @@
 //! The options of `resp ask`.
 
-ghost use Rattle.std.specs.Prelude.{◌≡◌, ◌≢◌, ℕ, Bool, List, Option, [], map, IfErr, IfNone, IfOk, IfSome, OnErr, OnOk, codes, option_map, unwrap_or};
+ghost use Rattle.std.specs.Prelude.{◌≡◌, ◌≢◌, Option, [], map, IfErr, IfNone, IfOk, IfSome, codes, unwrap_or};
 ghost use Rattle.clap.specs.Words.{all_of, found_of, rows_of};
 ghost use Rattle.resp_args.specs.CommandWords.{HasAskOptions, HasAsking};
 

@@ -1,63 +1,58 @@
 //! An option or an argument of a subcommand.
 
 ghost use Rattle.std.specs.Prelude.{◌≡◌, ◌++◌, OnOk, map};
-ghost use Rattle.clap.specs.Words.{new_rule, rule_of};
-ghost use Rattle.resp_args.specs.Tables.{here, local_rule, parameter_rule, with_fallback};
+ghost use Rattle.resp_args.specs.Tables.{here, local_rule, parameter_rule};
 
 use clap::{Arg, ArgAction};
 use std::alloc::{AllocError, Global};
 
-/// An option or an argument of a subcommand, as the parser and its help know it. It begins with the
-/// name by which its values are found, and ends with its help.
+/// An option or an argument of a subcommand, as the parser and its help know it.
+pub(crate) struct Parameter {
+    /// The name by which its values are found.
+    pub(crate) name: &'static str,
+    pub(crate) help: &'static str,
+    pub(crate) form: Form,
+    /// What help calls its value, if it has one.
+    pub(crate) value_names: &'static [&'static str],
+    /// Its value if it is not given, if there is one.
+    pub(crate) defaults: &'static [&'static str],
+    /// Whether help leaves this value out.
+    pub(crate) hides_defaults: bool,
+    /// Whether it has to be given.
+    pub(crate) is_required: bool,
+}
+
+/// A flag without a name and without help.
+pub(crate) const PLAIN: Parameter = Parameter {
+    name: "",
+    help: "",
+    form: Form::Flag,
+    value_names: &[],
+    defaults: &[],
+    hides_defaults: false,
+    is_required: false,
+};
+
+/// How an option or an argument is written.
 #[derive(Clone, Copy)]
-pub(crate) enum Parameter {
+pub(crate) enum Form {
     /// `--name`
-    Flag(&'static str, &'static str),
+    Flag,
     /// A dash and this character.
-    ShortFlag(&'static str, char, &'static str),
-    /// `--name VALUE`, with what help calls the value.
-    Value(&'static str, &'static str, Check, Fallback, &'static str),
-    /// An argument, with what help calls it.
-    Word(&'static str, &'static str, Presence, &'static str),
-}
-
-/// The values of an option.
-#[derive(Clone, Copy)]
-pub(crate) enum Check {
-    /// Any text.
-    Any,
-    /// A number in this range.
+    ShortFlag(char),
+    /// `--name VALUE`, with any text.
+    Text,
+    /// `--name VALUE`, with a number from the first number to the second.
     Between(i64, i64),
-    /// One of these texts.
+    /// `--name VALUE`, with one of the texts in this list.
     OneOf(&'static [&'static str]),
-}
-
-/// The value of an option that is not given.
-#[derive(Clone, Copy)]
-pub(crate) enum Fallback {
-    /// No value.
-    Nothing,
-    /// This value, which help shows.
-    Shown(&'static str),
-    /// This value, which help does not show.
-    Hidden(&'static str),
-}
-
-/// Whether an argument may be missing.
-#[derive(Clone, Copy)]
-pub(crate) enum Presence {
-    /// It has to be there.
-    Required,
-    /// It may be missing.
-    Optional,
-    /// It has this value if it is missing.
-    Default(&'static str),
-    /// It may be missing. All words after its first one belong to it, even if they begin with a
-    /// dash.
+    /// A word.
+    Word,
+    /// A word and all words after it, even if they begin with a dash.
     Rest,
 }
 
-/// Adds the arguments for the parser of these parameters.
+/// Adds the arguments that the parser has for `parameters`.
 pub(crate) fn add<'a>(
     alloc: Global,
     args: &mut Vec<Arg<'a>>,
@@ -67,59 +62,31 @@ pub(crate) fn add<'a>(
         ++ map here (map parameter_rule parameters.now)) }
 {
     for parameter in parameters {
-        args.push(arg(alloc, *parameter))?;
+        args.push(arg(alloc, parameter))?;
     }
     Ok(())
 }
 
-/// Returns the argument for the parser.
-fn arg<'a>(alloc: Global, parameter: Parameter) -> Arg<'a>
-    ensures { local_rule result ≡ here (parameter_rule parameter) }
+/// Returns the argument that the parser has for `parameter`.
+fn arg<'a>(alloc: Global, parameter: &Parameter) -> Arg<'a>
+    ensures { local_rule result ≡ here (parameter_rule parameter.now) }
 {
-    match parameter {
-        Parameter::Flag(name, help) => named(alloc, name, help)
+    let name = parameter.name;
+    let arg = Arg::new(alloc, name)
+        .help(parameter.help)
+        .value_names(parameter.value_names)
+        .default_values(parameter.defaults)
+        .hide_default_value(parameter.hides_defaults)
+        .required(parameter.is_required);
+    match parameter.form {
+        Form::Flag => arg.long(name).action(ArgAction::SetTrue),
+        Form::ShortFlag(short) => arg.short(short).action(ArgAction::SetTrue),
+        Form::Text => arg.long(name),
+        Form::Between(least, most) => arg
             .long(name)
-            .action(ArgAction::SetTrue),
-        Parameter::ShortFlag(name, short, help) => named(alloc, name, help)
-            .short(short)
-            .action(ArgAction::SetTrue),
-        Parameter::Value(name, value_name, check, fallback, help) => {
-            let arg = named(alloc, name, help).long(name).value_name(value_name);
-            match check {
-                Check::Any => with_fallback(arg, fallback),
-                Check::Between(least, most) => {
-                    let numbers = clap::value_parser!(u64).range(least..=most);
-                    with_fallback(arg.value_parser(numbers), fallback)
-                }
-                Check::OneOf(values) => with_fallback(arg.value_parser(values), fallback),
-            }
-        }
-        Parameter::Word(name, value_name, presence, help) => {
-            let arg = named(alloc, name, help).value_name(value_name);
-            match presence {
-                Presence::Required => arg.required(true),
-                Presence::Optional => arg,
-                Presence::Default(value) => arg.default_value(value),
-                Presence::Rest => arg.num_args(1..).trailing_var_arg(true),
-            }
-        }
-    }
-}
-
-/// Returns an argument with this name and this help.
-fn named<'a>(alloc: Global, name: &'a str, help: &'a str) -> Arg<'a>
-    ensures { local_rule result ≡ here (new_rule name.entry.now) }
-{
-    Arg::new(alloc, name).help(help)
-}
-
-/// Returns the argument with this value if it is not given.
-fn with_fallback<'a>(arg: Arg<'a>, fallback: Fallback) -> Arg<'a>
-    ensures { local_rule result ≡ (with_fallback fallback (rule_of arg.entry), arg.entry.global) }
-{
-    match fallback {
-        Fallback::Nothing => arg,
-        Fallback::Shown(value) => arg.default_value(value),
-        Fallback::Hidden(value) => arg.default_value(value).hide_default_value(true),
+            .value_parser(clap::value_parser!(u64).range(least..=most)),
+        Form::OneOf(texts) => arg.long(name).value_parser(texts),
+        Form::Word => arg,
+        Form::Rest => arg.num_args(1..).trailing_var_arg(true),
     }
 }

@@ -1,6 +1,6 @@
 //! The parser of the command line.
 
-ghost use Rattle.std.specs.Prelude.{◌≡◌, IfOk, false, map};
+ghost use Rattle.std.specs.Prelude.{◌≡◌, IfOk, map};
 ghost use Rattle.clap.specs.Words.{App};
 ghost use Rattle.resp_args.specs.CommandWords.{FindsWords};
 ghost use Rattle.resp_args.specs.Program.{IsProgram, IsTask, bare_app};
@@ -20,15 +20,20 @@ const EXAMPLES: &str = r"Examples:
 
 'resp help <COMMAND>' prints the options and the exit status of a command.";
 
+/// The name of a subcommand, and what help says of it.
+pub(crate) struct Texts {
+    pub(crate) name: &'static str,
+    pub(crate) about: &'static str,
+    /// The end of its help.
+    pub(crate) after_help: &'static str,
+}
+
 /// A subcommand of the program, as the parser and its help know it.
 #[derive(Clone, Copy)]
 pub(crate) struct Subcommand {
-    pub(crate) name: &'static str,
-    pub(crate) about: &'static str,
+    pub(crate) texts: &'static Texts,
     /// Its options, and then its arguments in their order, in three parts.
     pub(crate) parameters: [&'static [Parameter]; 3],
-    /// The end of its help.
-    pub(crate) after_help: &'static str,
 }
 
 impl Subcommand {
@@ -37,9 +42,9 @@ impl Subcommand {
         ensures { IfOk result (λ command. IsTask command (subcommand_app self.now)) }
     {
         let args = self.args(alloc)?;
-        Command::new(alloc, self.name)
-            .about(self.about)
-            .after_help(self.after_help)
+        Command::new(alloc, self.texts.name)
+            .about(self.texts.about)
+            .after_help(self.texts.after_help)
             .args(args)
     }
 

@@ -4,7 +4,7 @@ ghost use Rattle.resp_args.specs.Program.{IsProgram, bare_app};
 ghost use Rattle.resp_args.specs.Tables.{with_subcommands};
 
 use crate::parameter::Parameter;
-use crate::parser::Subcommand;
+use crate::parser::{Subcommand, Texts};
 use crate::tables::{
     asking, limits, printing, reading, replying, script, serving, sharing, versions, watching,
     words,
@@ -21,55 +21,95 @@ pub(crate) fn subcommands() -> [Subcommand; 8]
     let stream = [versions(), limits, reading()];
     [
         Subcommand {
-            name: "show",
-            about: "Prints each value of a stream as lines of text",
+            texts: &SHOW,
             parameters: stream,
-            after_help: STREAM_HELP,
         },
         Subcommand {
-            name: "check",
-            about: "Reads a stream and prints the number of its values and bytes",
+            texts: &CHECK,
             parameters: stream,
-            after_help: STREAM_HELP,
         },
         Subcommand {
-            name: "canon",
-            about: "Writes the canonical text of each value of a stream",
+            texts: &CANON,
             parameters: stream,
-            after_help: STREAM_HELP,
         },
         Subcommand {
-            name: "loop",
-            about: "Plays a script of clients of one server",
+            texts: &LOOP,
             parameters: [script(), NONE, NONE],
-            after_help: LOOP_HELP,
         },
         Subcommand {
-            name: "serve",
-            about: "Serves PING, ECHO, GET, SET, DEL and HELLO to many clients at once",
+            texts: &SERVE,
             parameters: [limits, serving(), NONE],
-            after_help: SERVE_HELP,
         },
         Subcommand {
-            name: "tap",
-            about: "Forwards connections to a server and prints the traffic",
+            texts: &TAP,
             parameters: [limits, watching(), printing()],
-            after_help: TAP_HELP,
         },
         Subcommand {
-            name: "proxy",
-            about: "Shares one connection to a server among many clients",
+            texts: &PROXY,
             parameters: [limits, sharing(), replying()],
-            after_help: PROXY_HELP,
         },
         Subcommand {
-            name: "ask",
-            about: "Sends commands to a server and prints the replies",
+            texts: &ASK,
             parameters: [asking(), limits, words()],
-            after_help: ASK_HELP,
         },
     ]
 }
+
+/// The texts of `show`.
+const SHOW: Texts = Texts {
+    name: "show",
+    about: "Prints each value of a stream as lines of text",
+    after_help: STREAM_HELP,
+};
+
+/// The texts of `check`.
+const CHECK: Texts = Texts {
+    name: "check",
+    about: "Reads a stream and prints the number of its values and bytes",
+    after_help: STREAM_HELP,
+};
+
+/// The texts of `canon`.
+const CANON: Texts = Texts {
+    name: "canon",
+    about: "Writes the canonical text of each value of a stream",
+    after_help: STREAM_HELP,
+};
+
+/// The texts of `loop`.
+const LOOP: Texts = Texts {
+    name: "loop",
+    about: "Plays a script of clients of one server",
+    after_help: LOOP_HELP,
+};
+
+/// The texts of `serve`.
+const SERVE: Texts = Texts {
+    name: "serve",
+    about: "Serves PING, ECHO, GET, SET, DEL and HELLO to many clients at once",
+    after_help: SERVE_HELP,
+};
+
+/// The texts of `tap`.
+const TAP: Texts = Texts {
+    name: "tap",
+    about: "Forwards connections to a server and prints the traffic",
+    after_help: TAP_HELP,
+};
+
+/// The texts of `proxy`.
+const PROXY: Texts = Texts {
+    name: "proxy",
+    about: "Shares one connection to a server among many clients",
+    after_help: PROXY_HELP,
+};
+
+/// The texts of `ask`.
+const ASK: Texts = Texts {
+    name: "ask",
+    about: "Sends commands to a server and prints the replies",
+    after_help: ASK_HELP,
+};
 
 /// The end of the help of `show`, `check` and `canon`.
 const STREAM_HELP: &str = r"Examples:

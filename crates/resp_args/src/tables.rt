@@ -6,57 +6,70 @@ ghost use Rattle.resp_args.specs.Program.{TakesVersions, asking_options, clients
 ghost use Rattle.resp_args.specs.Tables.{parameter_rule};
 
 use crate::options::STANDARD_INPUT;
-use crate::parameter::Check::{Any, Between, OneOf};
-use crate::parameter::Fallback::{Hidden, Nothing, Shown};
-use crate::parameter::Parameter;
-use crate::parameter::Parameter::{Flag, ShortFlag, Value, Word};
-use crate::parameter::Presence::{Default, Optional, Required, Rest};
+use crate::parameter::Form::{Between, OneOf, Rest, ShortFlag, Text, Word};
+use crate::parameter::{PLAIN, Parameter};
 
 /// The greatest limit of items, and the greatest number of a client.
 const MOST_ITEMS: i64 = 1_099_511_627_776;
 
 /// `--color`: when text is printed in color.
-const COLOR: Parameter = Value(
-    "color",
-    "WHEN",
-    Any,
-    Nothing,
-    "Prints in color: auto, always or never\n[default: auto, which is on a terminal]",
-);
+const COLOR: Parameter = Parameter {
+    name: "color",
+    form: Text,
+    value_names: &["WHEN"],
+    help: "Prints in color: auto, always or never\n[default: auto, which is on a terminal]",
+    ..PLAIN
+};
 
 /// `--utf8`: whether printable characters are printed as they are.
-const UTF8: Parameter = Flag("utf8", "Prints printable UTF-8 without escapes");
+const UTF8: Parameter = Parameter {
+    name: "utf8",
+    help: "Prints printable UTF-8 without escapes",
+    ..PLAIN
+};
 
 /// `--json`: whether values are printed as JSON.
-const JSON: Parameter = Flag("json", "Prints each value as a line of JSON");
+const JSON: Parameter = Parameter {
+    name: "json",
+    help: "Prints each value as a line of JSON",
+    ..PLAIN
+};
 
 /// `--no-explain`: whether nothing is explained.
-const NO_EXPLAIN: Parameter = Flag("no-explain", "Does not explain errors");
+const NO_EXPLAIN: Parameter = Parameter {
+    name: "no-explain",
+    help: "Does not explain errors",
+    ..PLAIN
+};
 
 /// The input file.
-const FILE: Parameter = Word(
-    "file",
-    "FILE",
-    Default(STANDARD_INPUT),
-    "Input file, or - for standard input",
-);
+const FILE: Parameter = Parameter {
+    name: "file",
+    form: Word,
+    value_names: &["FILE"],
+    defaults: &[STANDARD_INPUT],
+    help: "Input file, or - for standard input",
+    ..PLAIN
+};
 
 /// `--clients`: the most clients at once.
-const CLIENTS: Parameter = Value(
-    "clients",
-    "N",
-    Between(1, 65_536),
-    Nothing,
-    "Maximum clients at once, 1 to 65536\n[default: as many as ulimit -n allows]",
-);
+const CLIENTS: Parameter = Parameter {
+    name: "clients",
+    form: Between(1, 65_536),
+    value_names: &["N"],
+    help: "Maximum clients at once, 1 to 65536\n[default: as many as ulimit -n allows]",
+    ..PLAIN
+};
 
 /// The address of the server.
-const SERVER: Parameter = Word(
-    "server",
-    "SERVER",
-    Required,
-    "Address of the server: HOST, HOST:PORT, PORT or PATH",
-);
+const SERVER: Parameter = Parameter {
+    name: "server",
+    form: Word,
+    value_names: &["SERVER"],
+    is_required: true,
+    help: "Address of the server: HOST, HOST:PORT, PORT or PATH",
+    ..PLAIN
+};
 
 /// The options for the version of the protocol.
 pub(crate) fn versions() -> &'static [Parameter]
@@ -68,15 +81,26 @@ pub(crate) fn versions() -> &'static [Parameter]
 
 /// The parameters of [`versions`].
 const VERSIONS: &[Parameter] = &[
-    Value(
-        "proto",
-        "VERSION",
-        OneOf(&["2", "3"]),
-        Shown("2"),
-        "Protocol version",
-    ),
-    ShortFlag("two", '2', "Protocol version 2, also with -3"),
-    ShortFlag("three", '3', "Protocol version 3 with doubles"),
+    Parameter {
+        name: "proto",
+        form: OneOf(&["2", "3"]),
+        value_names: &["VERSION"],
+        defaults: &["2"],
+        help: "Protocol version",
+        ..PLAIN
+    },
+    Parameter {
+        name: "two",
+        form: ShortFlag('2'),
+        help: "Protocol version 2, also with -3",
+        ..PLAIN
+    },
+    Parameter {
+        name: "three",
+        form: ShortFlag('3'),
+        help: "Protocol version 3 with doubles",
+        ..PLAIN
+    },
 ];
 
 /// The options that limit values.
@@ -88,35 +112,44 @@ pub(crate) fn limits() -> &'static [Parameter]
 
 /// The parameters of [`limits`].
 const LIMITS: &[Parameter] = &[
-    Value(
-        "depth",
-        "N",
-        Between(4, 128),
-        Shown("32"),
-        "Maximum nesting of aggregates, 4 to 128",
-    ),
-    Value(
-        "length",
-        "N",
-        Any,
-        Shown("512M"),
-        "Maximum bytes of a string or line,\n64 to 1G",
-    ),
-    Value(
-        "total",
-        "N",
-        Any,
-        Shown("1G"),
-        "Maximum bytes of a value, 256 to 1024G",
-    ),
-    Value(
-        "items",
-        "N",
-        Between(16, MOST_ITEMS),
-        Hidden("1099511627776"),
-        "Maximum members or pairs of an aggregate,\n16 to 1099511627776 [default: no limit]",
-    ),
-    Flag("no-streamed", "Rejects streamed strings and aggregates"),
+    Parameter {
+        name: "depth",
+        form: Between(4, 128),
+        value_names: &["N"],
+        defaults: &["32"],
+        help: "Maximum nesting of aggregates, 4 to 128",
+        ..PLAIN
+    },
+    Parameter {
+        name: "length",
+        form: Text,
+        value_names: &["N"],
+        defaults: &["512M"],
+        help: "Maximum bytes of a string or line,\n64 to 1G",
+        ..PLAIN
+    },
+    Parameter {
+        name: "total",
+        form: Text,
+        value_names: &["N"],
+        defaults: &["1G"],
+        help: "Maximum bytes of a value, 256 to 1024G",
+        ..PLAIN
+    },
+    Parameter {
+        name: "items",
+        form: Between(16, MOST_ITEMS),
+        value_names: &["N"],
+        defaults: &["1099511627776"],
+        hides_defaults: true,
+        help: "Maximum members or pairs of an aggregate,\n16 to 1099511627776 [default: no limit]",
+        ..PLAIN
+    },
+    Parameter {
+        name: "no-streamed",
+        help: "Rejects streamed strings and aggregates",
+        ..PLAIN
+    },
 ];
 
 /// The options of `show`, `check` and `canon` after the limits, and the file.
@@ -128,21 +161,27 @@ pub(crate) fn reading() -> &'static [Parameter]
 
 /// The parameters of [`reading`].
 const READING: &[Parameter] = &[
-    Flag("doubles", "Accepts RESP3 doubles"),
-    Value(
-        "piece",
-        "N",
-        Any,
-        Shown("4K"),
-        "Maximum bytes of a read, 1 to 64K",
-    ),
+    Parameter {
+        name: "doubles",
+        help: "Accepts RESP3 doubles",
+        ..PLAIN
+    },
+    Parameter {
+        name: "piece",
+        form: Text,
+        value_names: &["N"],
+        defaults: &["4K"],
+        help: "Maximum bytes of a read, 1 to 64K",
+        ..PLAIN
+    },
     COLOR,
     UTF8,
     JSON,
-    Flag(
-        "explain",
-        "Says where in the input an error is, and why;\nthe default if standard error is a terminal",
-    ),
+    Parameter {
+        name: "explain",
+        help: "Says where in the input an error is, and why;\nthe default if standard error is a terminal",
+        ..PLAIN
+    },
     NO_EXPLAIN,
     FILE,
 ];
@@ -156,10 +195,11 @@ pub(crate) fn script() -> &'static [Parameter]
 
 /// The parameters of [`script`].
 const SCRIPT: &[Parameter] = &[
-    Flag(
-        "explain",
-        "Says why a line of the script is wrong;\nthe default if standard error is a terminal",
-    ),
+    Parameter {
+        name: "explain",
+        help: "Says why a line of the script is wrong;\nthe default if standard error is a terminal",
+        ..PLAIN
+    },
     NO_EXPLAIN,
     FILE,
 ];
@@ -174,23 +214,27 @@ pub(crate) fn serving() -> &'static [Parameter]
 /// The parameters of [`serving`].
 const SERVING: &[Parameter] = &[
     CLIENTS,
-    Value(
-        "held",
-        "N",
-        Any,
-        Shown("1M"),
-        "Maximum bytes waiting for a client when its\nnext command is run, 1 to 1024G",
-    ),
-    Flag(
-        "test-server",
-        "Also serves inline commands, QUIT, SELECT, CLIENT,\nEXISTS, DBSIZE, FLUSHDB and FLUSHALL, in 16 databases",
-    ),
-    Word(
-        "address",
-        "ADDRESS",
-        Required,
-        "Address to listen on: IP:PORT, PORT or PATH",
-    ),
+    Parameter {
+        name: "held",
+        form: Text,
+        value_names: &["N"],
+        defaults: &["1M"],
+        help: "Maximum bytes waiting for a client when its\nnext command is run, 1 to 1024G",
+        ..PLAIN
+    },
+    Parameter {
+        name: "test-server",
+        help: "Also serves inline commands, QUIT, SELECT, CLIENT,\nEXISTS, DBSIZE, FLUSHDB and FLUSHALL, in 16 databases",
+        ..PLAIN
+    },
+    Parameter {
+        name: "address",
+        form: Word,
+        value_names: &["ADDRESS"],
+        is_required: true,
+        help: "Address to listen on: IP:PORT, PORT or PATH",
+        ..PLAIN
+    },
 ];
 
 /// The options of `tap` after the limits that say what is printed.
@@ -203,54 +247,65 @@ pub(crate) fn watching() -> &'static [Parameter]
 /// The parameters of [`watching`].
 const WATCHING: &[Parameter] = &[
     CLIENTS,
-    Flag(
-        "time",
-        "Prints the time in UTC, and how long each reply took",
-    ),
-    Flag("errors", "Prints only commands whose reply is an error"),
-    Value(
-        "slower",
-        "DURATION",
-        Any,
-        Nothing,
-        "Prints only commands that wait longer for their\nreply, such as 10ms, 1s or 500us",
-    ),
-    Value(
-        "command",
-        "NAMES",
-        Any,
-        Nothing,
-        "Prints only commands with these names, with a\ncomma between two of them",
-    ),
-    Value(
-        "key",
-        "GLOB",
-        Any,
-        Nothing,
-        "Prints only commands with a key that this glob\nmatches, such as 'user:*'",
-    ),
-    Value(
-        "client",
-        "N",
-        Between(0, MOST_ITEMS),
-        Hidden("0"),
-        "Prints only the lines about client N",
-    ),
-    Flag(
-        "connections",
-        "Prints when clients connect and from where, and the\nnames that they give to their connections",
-    ),
-    Flag(
-        "stats",
-        "Prints a table of commands when the last connection\ncloses, and not the commands",
-    ),
-    Value(
-        "stats-every",
-        "N",
-        Between(0, 86_400),
-        Hidden("0"),
-        "As --stats, and prints the table every N seconds\ntoo, 1 to 86400",
-    ),
+    Parameter {
+        name: "time",
+        help: "Prints the time in UTC, and how long each reply took",
+        ..PLAIN
+    },
+    Parameter {
+        name: "errors",
+        help: "Prints only commands whose reply is an error",
+        ..PLAIN
+    },
+    Parameter {
+        name: "slower",
+        form: Text,
+        value_names: &["DURATION"],
+        help: "Prints only commands that wait longer for their\nreply, such as 10ms, 1s or 500us",
+        ..PLAIN
+    },
+    Parameter {
+        name: "command",
+        form: Text,
+        value_names: &["NAMES"],
+        help: "Prints only commands with these names, with a\ncomma between two of them",
+        ..PLAIN
+    },
+    Parameter {
+        name: "key",
+        form: Text,
+        value_names: &["GLOB"],
+        help: "Prints only commands with a key that this glob\nmatches, such as 'user:*'",
+        ..PLAIN
+    },
+    Parameter {
+        name: "client",
+        form: Between(0, MOST_ITEMS),
+        value_names: &["N"],
+        defaults: &["0"],
+        hides_defaults: true,
+        help: "Prints only the lines about client N",
+        ..PLAIN
+    },
+    Parameter {
+        name: "connections",
+        help: "Prints when clients connect and from where, and the\nnames that they give to their connections",
+        ..PLAIN
+    },
+    Parameter {
+        name: "stats",
+        help: "Prints a table of commands when the last connection\ncloses, and not the commands",
+        ..PLAIN
+    },
+    Parameter {
+        name: "stats-every",
+        form: Between(0, 86_400),
+        value_names: &["N"],
+        defaults: &["0"],
+        hides_defaults: true,
+        help: "As --stats, and prints the table every N seconds\ntoo, 1 to 86400",
+        ..PLAIN
+    },
 ];
 
 /// The other options of `tap`, and the addresses.
@@ -262,56 +317,78 @@ pub(crate) fn printing() -> &'static [Parameter]
 
 /// The parameters of [`printing`].
 const PRINTING: &[Parameter] = &[
-    Flag("exit-with-output", "Ends at once if the output fails"),
-    Flag("keep-going", "Accepts clients after the output has failed"),
-    Flag(
-        "no-inline",
-        "Reads no commands that are lines, such as PING",
-    ),
-    Flag("show-passwords", "Prints the passwords in commands"),
-    Value(
-        "shown",
-        "N",
-        Any,
-        Shown("1K"),
-        "Maximum bytes printed of each text,\n32 to 1024G",
-    ),
-    Value(
-        "record",
-        "FILE",
-        Any,
-        Nothing,
-        "Writes the traffic to a capture (pcap) for --replay,\nwith all passwords",
-    ),
-    Value(
-        "replay",
-        "FILE",
-        Any,
-        Nothing,
-        "Reads the traffic in a capture (pcap, pcapng) in\nplace of LISTEN and SERVER; - is standard input",
-    ),
-    Value(
-        "port",
-        "N",
-        Between(0, 65_535),
-        Hidden("0"),
-        "Port of the server in the capture, for connections\nof which it has no beginning",
-    ),
+    Parameter {
+        name: "exit-with-output",
+        help: "Ends at once if the output fails",
+        ..PLAIN
+    },
+    Parameter {
+        name: "keep-going",
+        help: "Accepts clients after the output has failed",
+        ..PLAIN
+    },
+    Parameter {
+        name: "no-inline",
+        help: "Reads no commands that are lines, such as PING",
+        ..PLAIN
+    },
+    Parameter {
+        name: "show-passwords",
+        help: "Prints the passwords in commands",
+        ..PLAIN
+    },
+    Parameter {
+        name: "shown",
+        form: Text,
+        value_names: &["N"],
+        defaults: &["1K"],
+        help: "Maximum bytes printed of each text,\n32 to 1024G",
+        ..PLAIN
+    },
+    Parameter {
+        name: "record",
+        form: Text,
+        value_names: &["FILE"],
+        help: "Writes the traffic to a capture (pcap) for --replay,\nwith all passwords",
+        ..PLAIN
+    },
+    Parameter {
+        name: "replay",
+        form: Text,
+        value_names: &["FILE"],
+        help: "Reads the traffic in a capture (pcap, pcapng) in\nplace of LISTEN and SERVER; - is standard input",
+        ..PLAIN
+    },
+    Parameter {
+        name: "port",
+        form: Between(0, 65_535),
+        value_names: &["N"],
+        defaults: &["0"],
+        hides_defaults: true,
+        help: "Port of the server in the capture, for connections\nof which it has no beginning",
+        ..PLAIN
+    },
     COLOR,
     UTF8,
-    Flag("json", "Prints each command and reply as a line of JSON"),
-    Word(
-        "listen",
-        "LISTEN",
-        Optional,
-        "Address to listen on: IP:PORT, PORT or PATH",
-    ),
-    Word(
-        "server",
-        "SERVER",
-        Optional,
-        "Address of the server: HOST, HOST:PORT, PORT or PATH",
-    ),
+    Parameter {
+        name: "json",
+        help: "Prints each command and reply as a line of JSON",
+        ..PLAIN
+    },
+    Parameter {
+        name: "listen",
+        form: Word,
+        value_names: &["LISTEN"],
+        help: "Address to listen on: IP:PORT, PORT or PATH",
+        ..PLAIN
+    },
+    Parameter {
+        name: "server",
+        form: Word,
+        value_names: &["SERVER"],
+        help: "Address of the server: HOST, HOST:PORT, PORT or PATH",
+        ..PLAIN
+    },
 ];
 
 /// The options of `proxy` after the limits that are numbers.
@@ -324,69 +401,78 @@ pub(crate) fn sharing() -> &'static [Parameter]
 /// The parameters of [`sharing`].
 const SHARING: &[Parameter] = &[
     CLIENTS,
-    Value(
-        "own",
-        "N",
-        Between(0, 65_536),
-        Shown("1000"),
-        "Maximum clients with a connection of their own,\n0 to 65536",
-    ),
-    Value(
-        "lines",
-        "N",
-        Between(1, 256),
-        Shown("16"),
-        "Maximum connections that clients share, one for\neach version, database and user, 1 to 256",
-    ),
-    Value(
-        "waiting",
-        "N",
-        Between(1, 1_048_576),
-        Shown("1024"),
-        "Maximum commands of a client that wait for\nreplies, 1 to 1048576",
-    ),
-    Value(
-        "held",
-        "N",
-        Any,
-        Shown("1M"),
-        "Maximum bytes waiting for a client when its next\ncommand is read, 1 to 1024G",
-    ),
-    Value(
-        "unread",
-        "N",
-        Any,
-        Shown("1G"),
-        "Maximum bytes waiting for a client before it is\nclosed, 1 to 1024G",
-    ),
-    Value(
-        "unsent",
-        "N",
-        Any,
-        Shown("1M"),
-        "Maximum bytes waiting for the server when a\ncommand is read, 1 to 1024G",
-    ),
-    Value(
-        "patience",
-        "N",
-        Between(1, 3_600_000),
-        Shown("5000"),
-        "Milliseconds without a reply before the\nconnection is closed, 1 to 3600000",
-    ),
-    Value(
-        "report",
-        "N",
-        Between(0, 86_400),
-        Shown("0"),
-        "Prints a line with numbers every N seconds,\n0 to 86400; 0 prints no line",
-    ),
-    Value(
-        "check-every",
-        "N",
-        Between(0, 1_000_000_000),
-        Shown("0"),
-        "Checks by an ECHO after every N commands that replies\nare in step, 0 to 1000000000; 0 checks nothing",
-    ),
+    Parameter {
+        name: "own",
+        form: Between(0, 65_536),
+        value_names: &["N"],
+        defaults: &["1000"],
+        help: "Maximum clients with a connection of their own,\n0 to 65536",
+        ..PLAIN
+    },
+    Parameter {
+        name: "lines",
+        form: Between(1, 256),
+        value_names: &["N"],
+        defaults: &["16"],
+        help: "Maximum connections that clients share, one for\neach version, database and user, 1 to 256",
+        ..PLAIN
+    },
+    Parameter {
+        name: "waiting",
+        form: Between(1, 1_048_576),
+        value_names: &["N"],
+        defaults: &["1024"],
+        help: "Maximum commands of a client that wait for\nreplies, 1 to 1048576",
+        ..PLAIN
+    },
+    Parameter {
+        name: "held",
+        form: Text,
+        value_names: &["N"],
+        defaults: &["1M"],
+        help: "Maximum bytes waiting for a client when its next\ncommand is read, 1 to 1024G",
+        ..PLAIN
+    },
+    Parameter {
+        name: "unread",
+        form: Text,
+        value_names: &["N"],
+        defaults: &["1G"],
+        help: "Maximum bytes waiting for a client before it is\nclosed, 1 to 1024G",
+        ..PLAIN
+    },
+    Parameter {
+        name: "unsent",
+        form: Text,
+        value_names: &["N"],
+        defaults: &["1M"],
+        help: "Maximum bytes waiting for the server when a\ncommand is read, 1 to 1024G",
+        ..PLAIN
+    },
+    Parameter {
+        name: "patience",
+        form: Between(1, 3_600_000),
+        value_names: &["N"],
+        defaults: &["5000"],
+        help: "Milliseconds without a reply before the\nconnection is closed, 1 to 3600000",
+        ..PLAIN
+    },
+    Parameter {
+        name: "report",
+        form: Between(0, 86_400),
+        value_names: &["N"],
+        defaults: &["0"],
+        help: "Prints a line with numbers every N seconds,\n0 to 86400; 0 prints no line",
+        ..PLAIN
+    },
+    Parameter {
+        name: "check-every",
+        form: Between(0, 1_000_000_000),
+        value_names: &["N"],
+        defaults: &["0"],
+        help: "Checks by an ECHO after every N commands that replies\nare in step, 0 to 1000000000; 0 checks nothing",
+        ..PLAIN
+    },
 ];
 
 /// The other options of `proxy`, and the addresses.
@@ -398,30 +484,46 @@ pub(crate) fn replying() -> &'static [Parameter]
 
 /// The parameters of [`replying`].
 const REPLYING: &[Parameter] = &[
-    Flag("local-ping", "Replies to PING without the server"),
-    Flag("no-inline", "Rejects commands that are lines, such as PING"),
-    Flag(
-        "drain",
-        "Ends when standard input ends; each client gets the\nreplies to its commands first",
-    ),
-    Value(
-        "also",
-        "NAME",
-        Any,
-        Nothing,
-        "Also sends these commands of modules, such as\nJSON.GET,JSON.SET; each must have one reply",
-    ),
-    Flag(
-        "check",
-        "Serves no client; prints what the proxy would do\nwith the commands of the server",
-    ),
-    Flag("all", "With --check: prints a line for each command"),
-    Word(
-        "listen",
-        "LISTEN",
-        Required,
-        "Address to listen on: IP:PORT, PORT or PATH",
-    ),
+    Parameter {
+        name: "local-ping",
+        help: "Replies to PING without the server",
+        ..PLAIN
+    },
+    Parameter {
+        name: "no-inline",
+        help: "Rejects commands that are lines, such as PING",
+        ..PLAIN
+    },
+    Parameter {
+        name: "drain",
+        help: "Ends when standard input ends; each client gets the\nreplies to its commands first",
+        ..PLAIN
+    },
+    Parameter {
+        name: "also",
+        form: Text,
+        value_names: &["NAME"],
+        help: "Also sends these commands of modules, such as\nJSON.GET,JSON.SET; each must have one reply",
+        ..PLAIN
+    },
+    Parameter {
+        name: "check",
+        help: "Serves no client; prints what the proxy would do\nwith the commands of the server",
+        ..PLAIN
+    },
+    Parameter {
+        name: "all",
+        help: "With --check: prints a line for each command",
+        ..PLAIN
+    },
+    Parameter {
+        name: "listen",
+        form: Word,
+        value_names: &["LISTEN"],
+        is_required: true,
+        help: "Address to listen on: IP:PORT, PORT or PATH",
+        ..PLAIN
+    },
     SERVER,
 ];
 
@@ -434,29 +536,37 @@ pub(crate) fn asking() -> &'static [Parameter]
 
 /// The parameters of [`asking`].
 const ASKING: &[Parameter] = &[
-    ShortFlag("three", '3', "Sends HELLO 3 first, and accepts doubles"),
-    Value(
-        "user",
-        "NAME",
-        Any,
-        Nothing,
-        "Name of the user whose password is in\nRESP_PASSWORD",
-    ),
-    Value(
-        "window",
-        "N",
-        Between(1, 65_536),
-        Shown("1000"),
-        "Maximum commands that wait for a reply,\n1 to 65536",
-    ),
-    Flag(
-        "raw",
-        "Reads commands from standard input as RESP, and not\nas lines",
-    ),
-    Flag(
-        "count",
-        "Prints only the numbers of replies and errors, and\nthe time",
-    ),
+    Parameter {
+        name: "three",
+        form: ShortFlag('3'),
+        help: "Sends HELLO 3 first, and accepts doubles",
+        ..PLAIN
+    },
+    Parameter {
+        name: "user",
+        form: Text,
+        value_names: &["NAME"],
+        help: "Name of the user whose password is in\nRESP_PASSWORD",
+        ..PLAIN
+    },
+    Parameter {
+        name: "window",
+        form: Between(1, 65_536),
+        value_names: &["N"],
+        defaults: &["1000"],
+        help: "Maximum commands that wait for a reply,\n1 to 65536",
+        ..PLAIN
+    },
+    Parameter {
+        name: "raw",
+        help: "Reads commands from standard input as RESP, and not\nas lines",
+        ..PLAIN
+    },
+    Parameter {
+        name: "count",
+        help: "Prints only the numbers of replies and errors, and\nthe time",
+        ..PLAIN
+    },
     COLOR,
     UTF8,
     JSON,
@@ -472,5 +582,11 @@ pub(crate) fn words() -> &'static [Parameter]
 /// The parameters of [`words`].
 const WORDS: &[Parameter] = &[
     SERVER,
-    Word("words", "WORD", Rest, "Command with its arguments"),
+    Parameter {
+        name: "words",
+        form: Rest,
+        value_names: &["WORD"],
+        help: "Command with its arguments",
+        ..PLAIN
+    },
 ];

@@ -1,4 +1,3 @@
-use Rattle.std.proofs.Common.{◌≡◌}
 use Rattle.resp_args.specs.Hosts.{IsListenText}
 use Rattle.resp_args.specs.declared.listen_address.ListenAddress.{ListenAddress}
 use Rattle.resp_args.specs.declared.listen_address.ListenAddress.TheVariants.{Socket, Path}

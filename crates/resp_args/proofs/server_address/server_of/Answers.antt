@@ -1,4 +1,3 @@
-use Rattle.std.proofs.Common.{◌≡◌}
 use Rattle.resp_args.specs.Hosts.{IsServerText}
 use Rattle.resp_args.specs.declared.server_address.ServerAddress.{ServerAddress}
 use Rattle.resp_args.specs.declared.server_address.ServerAddress.TheVariants.{Socket, Named, Path}

@@ -8,7 +8,7 @@ use Rattle.resp_args.proofs.parser.Subcommand.command.Goals as goal
 
 pub returns : goal.returns
 returns c =
-    let start : IsTask c.after_help.result (new_app c.args.self.now.name.now) = search rules in
+    let start : IsTask c.after_help.result (new_app c.args.self.now.texts.now.name.now) = search rules in
     IfOk-weaker c.args-3.result _ _
     (λ command adds. is_task_with_options c.in_ok-args.args.items (rules_in c.args.self.now.parameters) c.after_help.result command _ adds
     c.in_ok-args.ensures start)
