@@ -85,8 +85,7 @@ passed_value starts after bytes more H h same values start hears =
         values = b.values ++ x ∷ [];
         front = b.front ++ next;
         rest = [];
-        spelled = rw same (spelled_on (rules_of starts.scanner) b.values (x ∷ []) b.front next b.spelled
-            (spelled_one (rules_of starts.scanner) x next spelling));
+        spelled = rw same (spelled_on (rules_of starts.scanner) b.values (x ∷ []) b.front next b.spelled (spelled_one spelling));
         whole = ap (λ z. z ++ more) b.whole ∙ append_assoc b.front b.rest more ∙ sym (append-nil (b.front ++ next));
         counted = omega (arith, b.counted, values, length-append b.values (x ∷ []));
         placed = λ small.
