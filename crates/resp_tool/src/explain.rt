@@ -1,7 +1,7 @@
 //! Explains an error in a stream: the lines of `--explain`.
 
 ghost use Rattle.std.specs.Prelude.{◌≡◌, ◌≢◌, ℕ, [], List, IfErr, IfOk, OnErr, OnOk, length, option_map, replicate};
-ghost use Rattle.resp_tool.specs.Explained.{Explains, ExplainsAt, HasWatched, IsHintOf, IsNextOf, IsTruncated, cause_text, double_text, explanation_lines, held_bytes, margin_text, place_lines, reason_text, rules_watched, sentence_text, system_reason_line};
+ghost use Rattle.resp_tool.specs.Explained.{Explains, ExplainsAt, HasWatched, IsHintOf, IsNextOf, IsTruncated, cause_text, double_text, explanation_lines, held_bytes, margin_text, place_lines, rules_watched, sentence_of, sentence_text, system_reason_line};
 ghost use Rattle.resp_tool.specs.Hints.{hint_line};
 ghost use Rattle.resp_print.specs.Written.{WritesText};
 ghost use Rattle.resp_tool.specs.Streams.{failed_to_write};
@@ -171,9 +171,7 @@ fn write_around<F: Sink>(
 ) -> Result<(), ToolError>
     ensures lines { OnOk result (Appends (F.written faults.old) (F.written faults.new)
         (explanation_lines (margin_text place before.now) after.now
-        (replicate (length (margin_text place before.now)) 32) (reason_text
-        (rules_under reason.now.version reason.now.limits.now) reason.now.missing
-        reason.now.new_type reason.now.error.now reason.now.next)
+        (replicate (length (margin_text place before.now)) 32) (sentence_of reason.now)
         (hint_line reason.now.hint))) }
     ensures write_failed { F.failures faults.new ≡
         failures_after (failed_to_write result) (F.failures faults.old) }
@@ -182,8 +180,8 @@ fn write_around<F: Sink>(
 {
     let margin = margin(alloc, place, before)?;
     let blank = vec![in alloc; b' '; margin.bytes().len()]?;
-    write_lines(faults, margin.bytes(), after, blank.as_slice(), reason)?;
-    Ok(())
+    write_place(faults, margin.bytes(), after, blank.as_slice(), reason)?;
+    Ok(write_hint(reason.hint, faults)?)
 }
 
 /// Finds the bytes that are valid after the front of a value, if the grammar does not allow the
@@ -217,27 +215,6 @@ fn margin(alloc: Global, place: u64, before: &[u8]) -> Result<MemorySink, AllocE
     }
 }
 
-/// Writes the lines.
-fn write_lines<F: Sink>(
-    faults: &mut F,
-    margin: &[u8],
-    after: &[u8],
-    blank: &[u8],
-    reason: &Reason<'_>,
-) -> Result<(), DeviceFault>
-    ensures lines { OnOk result (Appends (F.written faults.old) (F.written faults.new)
-        (explanation_lines margin.now after.now blank.now (reason_text
-        (rules_under reason.now.version reason.now.limits.now) reason.now.missing
-        reason.now.new_type reason.now.error.now reason.now.next)
-        (hint_line reason.now.hint))) }
-    ensures all_written { OnOk result (F.failures faults.new ≡ F.failures faults.old) }
-    ensures write_failed { OnErr result (F.failures faults.new ≡
-        count_after 1 (F.failures faults.old)) }
-{
-    write_place(faults, margin, after, blank, reason)?;
-    write_hint(reason.hint, faults)
-}
-
 /// Writes the line with the place, and the line with the caret and the sentence.
 fn write_place<F: Sink>(
     faults: &mut F,
@@ -247,9 +224,7 @@ fn write_place<F: Sink>(
     reason: &Reason<'_>,
 ) -> Result<(), DeviceFault>
     ensures lines { OnOk result (Appends (F.written faults.old) (F.written faults.new)
-        (place_lines margin.now after.now blank.now (reason_text
-        (rules_under reason.now.version reason.now.limits.now) reason.now.missing
-        reason.now.new_type reason.now.error.now reason.now.next))) }
+        (place_lines margin.now after.now blank.now (sentence_of reason.now))) }
     ensures all_written { OnOk result (F.failures faults.new ≡ F.failures faults.old) }
     ensures write_failed { OnErr result (F.failures faults.new ≡
         count_after 1 (F.failures faults.old)) }
@@ -266,9 +241,7 @@ fn write_place<F: Sink>(
 /// Writes the sentence about an error.
 fn write_reason<F: Sink>(faults: &mut F, reason: &Reason<'_>) -> Result<(), DeviceFault>
     ensures { WritesText (F.written faults.old) (F.written faults.new) (F.failures faults.old)
-        (F.failures faults.new) result (reason_text
-        (rules_under reason.now.version reason.now.limits.now) reason.now.missing
-        reason.now.new_type reason.now.error.now reason.now.next) }
+        (F.failures faults.new) result (sentence_of reason.now) }
 {
     match &reason.next {
         Some(next) => next.write(faults),

@@ -66,6 +66,7 @@ impl Stop {
 
 /// Writes something for each value of a stream.
 pub trait Rendering {
+    ghost use Rattle.resp_tool.specs.Counts.{IsAny, LeavesNothing};
     ghost use Rattle.resp_tool.specs.Stops.{failed_to_write};
     ghost use Rattle.resp_tool.specs.Takings.{EndsInput, Takes};
 
@@ -78,23 +79,26 @@ pub trait Rendering {
     /// The text of a complete value.
     ghost text: { Rules → Datum → List ℕ };
 
-    /// The values for which anything is written.
-    ghost is_written: { Rules → Datum → Type 0 };
+    /// The values that are written. By default each value is.
+    ghost is_written: { Rules → Datum → Type 0 } = { λ _. IsAny };
 
-    /// The text that must have been written for a value that begins with these bytes.
-    ghost is_due: { Rules → List ℕ → List ℕ → Type 0 };
+    /// The text that must have been written for a value that begins with these bytes. By default it
+    /// is empty.
+    ghost is_due: { Rules → List ℕ → List ℕ → Type 0 } = { λ _. LeavesNothing };
 
-    /// The text that was written for a value that goes no further than these bytes.
-    ghost is_left: { Rules → List ℕ → List ℕ → Type 0 };
+    /// The text that was written for a value that ends at these bytes, because the next byte is
+    /// rejected or the input ends. By default it is empty.
+    ghost is_left: { Rules → List ℕ → List ℕ → Type 0 } = { λ _. LeavesNothing };
 
-    /// The text that may have been written for a value that begins in these bytes.
-    ghost is_begun: { Rules → List ℕ → List ℕ → Type 0 };
+    /// The text that may have been written for a value that begins in these bytes. By default it is
+    /// empty.
+    ghost is_begun: { Rules → List ℕ → List ℕ → Type 0 } = { λ _. LeavesNothing };
 
-    /// Whether an allocation may fail for a value.
-    ghost takes_memory: { Type 0 };
+    /// Whether an allocation may fail for a value. By default none is made.
+    ghost takes_memory: { Type 0 } = { ⊥ };
 
-    /// Whether anything is written.
-    ghost writes: { Type 0 };
+    /// Whether anything is written. By default something is.
+    ghost writes: { Type 0 } = { Unit {0} };
 
     /// Reads bytes of the piece until a value is complete or the piece ends, and writes the text
     /// for them.

@@ -185,13 +185,9 @@ impl<R: Source> Source for Watched<R> {
         ensures at_most { IfOk result (λ n. held_bytes self.new ≤ SHOWN + n) }
         ensures no_more { IsErr result → held_bytes self.new ≡ held_bytes self.old }
     {
-        match self.inner.read(into) {
-            Ok(count) => {
-                self.keep(&into[..count]);
-                Ok(count)
-            }
-            Err(fault) => Err(fault),
-        }
+        let count = self.inner.read(into)?;
+        self.keep(&into[..count]);
+        Ok(count)
     }
 }
 
@@ -217,12 +213,8 @@ impl<R: LiveSource<W>, W: LiveSink> LiveSource<W> for Watched<R> {
         ensures no_more { IsErr result → held_bytes self.new ≡ held_bytes self.old }
         ensures same_rules { rules_watched self.new ≡ rules_watched self.old }
     {
-        match self.inner.read_beside(into, writer) {
-            Ok(count) => {
-                self.keep(&into[..count]);
-                Ok(count)
-            }
-            Err(fault) => Err(fault),
-        }
+        let count = self.inner.read_beside(into, writer)?;
+        self.keep(&into[..count]);
+        Ok(count)
     }
 }
