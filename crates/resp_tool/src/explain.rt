@@ -245,14 +245,7 @@ fn write_reason<F: Sink>(faults: &mut F, reason: &Reason<'_>) -> Result<(), Devi
 {
     match &reason.next {
         Some(next) => next.write(faults),
-        None => write_sentence(
-            faults,
-            reason.error,
-            reason.version,
-            reason.limits,
-            reason.missing,
-            reason.new_type,
-        ),
+        None => write_sentence(faults, reason),
     }
 }
 
@@ -266,22 +259,14 @@ fn write_margin<F: Sink>(faults: &mut F, place: u64, before: &[u8]) -> Result<()
 }
 
 /// Writes the sentence about an error without the bytes that are valid there.
-fn write_sentence<F: Sink>(
-    faults: &mut F,
-    error: &ToolError,
-    version: Version,
-    limits: &Limits,
-    missing: u64,
-    new_type: Option<NewType>,
-) -> Result<(), DeviceFault>
+fn write_sentence<F: Sink>(faults: &mut F, reason: &Reason<'_>) -> Result<(), DeviceFault>
     ensures { WritesText (F.written faults.old) (F.written faults.new) (F.failures faults.old)
-        (F.failures faults.new) result
-        (sentence_text (rules_under version limits.now) missing new_type error.now) }
+        (F.failures faults.new) result (sentence_text
+        (rules_under reason.now.version reason.now.limits.now) reason.now.missing
+        reason.now.new_type reason.now.error.now) }
 {
-    match error {
-        ToolError::Refused { cause, .. } => {
-            write_cause(faults, *cause, version, limits, missing, new_type)
-        }
+    match reason.error {
+        ToolError::Refused { cause, .. } => write_cause(faults, *cause, reason),
         ToolError::OverLimits { .. } => {
             write_text(
                 faults,
@@ -300,42 +285,40 @@ fn write_sentence<F: Sink>(
 fn write_cause<F: Sink>(
     faults: &mut F,
     cause: Cause,
-    version: Version,
-    limits: &Limits,
-    missing: u64,
-    new_type: Option<NewType>,
+    reason: &Reason<'_>,
 ) -> Result<(), DeviceFault>
     ensures { WritesText (F.written faults.old) (F.written faults.new) (F.failures faults.old)
-        (F.failures faults.new) result
-        (cause_text (rules_under version limits.now) missing new_type cause) }
+        (F.failures faults.new) result (cause_text
+        (rules_under reason.now.version reason.now.limits.now) reason.now.missing
+        reason.now.new_type cause) }
 {
     match cause {
-        Cause::Double => write_double(faults, version),
-        Cause::Version => write_version(new_type, faults),
+        Cause::Double => write_double(faults, reason.version),
+        Cause::Version => write_version(reason.new_type, faults),
         Cause::NestedPush => write_text(faults, b"a push cannot be inside another value"),
         Cause::Range => write_text(faults, b"the integer doesn't fit into 64 bits"),
         Cause::Depth => write_number(
             faults,
             b"aggregates are nested deeper than --depth ",
-            limits.depth(),
+            reason.limits.depth(),
             b" allows",
         ),
         Cause::Length => write_number(
             faults,
             b"a string or line is longer than --length ",
-            limits.length(),
+            reason.limits.length(),
             b" allows",
         ),
         Cause::Items => write_number(
             faults,
             b"an aggregate has more members or pairs than --items ",
-            limits.items(),
+            reason.limits.items(),
             b" allows",
         ),
         Cause::Total => write_number(
             faults,
             b"the value needs more bytes than --total ",
-            limits.total(),
+            reason.limits.total(),
             b" allows",
         ),
         Cause::Streamed => {
@@ -347,7 +330,7 @@ fn write_cause<F: Sink>(
         Cause::Truncated => write_number(
             faults,
             b"the input ends inside a value; bytes missing: at least ",
-            missing,
+            reason.missing,
             b"",
         ),
         _ => write_text(faults, b"a valid value cannot contain this byte here"),

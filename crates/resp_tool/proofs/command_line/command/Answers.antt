@@ -38,28 +38,16 @@ returns-in_default g c =
 pub returns-then-ne-clause-does : goal.returns-then-ne-clause-does
 returns-then-ne-clause-does g c =
     let asked = c.in-Ok.ensures.asked in
-    let asks = rw c.in-Stream.is at asked.2 in (
-      asked.0,
-      asked.1,
-      inr (inl (
-        refl,
-        refl,
-        runs_no_file asked.0 (map g.S.AsStr.text c.args.words.now) c.in-Stream.options asks (sym c.ne.ensures ∙ c.if-ne.true),
-      )),
-    )
+    let asks = rw c.in-Stream.is at asked.2 in
+    let wrong = runs_no_file asked.0 (map g.S.AsStr.text c.args.words.now) c.in-Stream.options asks (sym c.ne.ensures ∙ c.if-ne.true) in
+    (asked.0, asked.1, inr (inl (refl, refl, wrong)))
 
 pub returns-then-options-clause-does : goal.returns-then-options-clause-does
 returns-then-options-clause-does g c =
     let asked = c.in-Ok.ensures.asked in
-    let asks = rw c.in-Stream.is at asked.2 in (
-      asked.0,
-      asked.1,
-      inr (inl (
-        refl,
-        refl,
-        runs_no_explanation asked.0 (map g.S.AsStr.text c.args.words.now) c.in-Stream.options asks c.if-options.true,
-      )),
-    )
+    let asks = rw c.in-Stream.is at asked.2 in
+    let wrong = runs_no_explanation asked.0 (map g.S.AsStr.text c.args.words.now) c.in-Stream.options asks c.if-options.true in
+    (asked.0, asked.1, inr (inl (refl, refl, wrong)))
 
 pub returns-clause-does : goal.returns-clause-does
 returns-clause-does g c =
