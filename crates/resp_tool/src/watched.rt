@@ -177,12 +177,12 @@ impl<R: Source> Source for Watched<R> {
 
     fn read(&mut self, into: &mut [u8]) -> Result<usize, DeviceFault>
         ensures within { IfOk result (λ n. n ≤ length into.old) }
-        ensures at_most { IfOk result (λ n. held_bytes self.new ≤ SHOWN + n) }
         ensures bytes { Reads (R.remaining self.old.inner) (R.remaining self.new.inner) into.new
             result }
         ensures calls { R.calls self.new.inner ≡ count_after 1 (R.calls self.old.inner) }
         ensures failures { R.failures self.new.inner ≡
             failures_after (read_fails result) (R.failures self.old.inner) }
+        ensures at_most { IfOk result (λ n. held_bytes self.new ≤ SHOWN + n) }
         ensures no_more { IsErr result → held_bytes self.new ≡ held_bytes self.old }
     {
         let count = self.inner.read(into)?;
