@@ -6,7 +6,7 @@ use Rattle.resp_session.specs.Worlds.{World}
 use Rattle.resp_print.specs.Written.{AppendsPart}
 use Rattle.resp_print.proofs.WrittenLemmas.{Appends-append, Appends-none}
 use Rattle.resp_wire.specs.Worlds.{Shows, WorldState}
-use Rattle.resp_script.specs.Plays.{ArePlayed, BreaksInCounts, Plays, PlaysAll, PlaysPart, PlaysScript, PlaysTo, text_of_step}
+use Rattle.resp_script.specs.Plays.{ArePlayed, BreaksInCounts, EventIn, Plays, PlaysAll, PlaysPart, PlaysScript, PlaysTo, text_of_step}
 use Rattle.resp_script.specs.Printed.{PlayedEvent, PlaysText, counts_text}
 use Rattle.resp_script.specs.declared.play.PlayError.{PlayError}
 use Rattle.resp_script.specs.declared.play.PlayError.TheVariants.{Stopped, Write, Memory}
@@ -44,17 +44,32 @@ played_after limits w events more first second = record {
   plays = plays_more limits w first.last second.last events more first.text second.text first.plays second.plays;
 }
 
+-- one of some events, after others
+abbrev after_others : (events : List PlayedEvent) {more : List PlayedEvent} → EventIn more → EventIn (events ++ more)
+after_others events e = record {
+  done = events ++ e.done;
+  event = e.event;
+  later = e.later;
+  whole = ap (λ z. events ++ z) e.whole ∙ sym (append_assoc events e.done (e.event ∷ e.later));
+}
+
+-- and before others
+abbrev before_others : {events : List PlayedEvent} (more : List PlayedEvent) → EventIn events → EventIn (events ++ more)
+before_others more e = record {
+  done = e.done;
+  event = e.event;
+  later = e.later ++ more;
+  whole = ap (λ z. z ++ more) e.whole ∙ append_assoc e.done (e.event ∷ e.later) more;
+}
+
 module _ {L : Type 0} (is_honest : L → Type 0) (limits : Bounds) (w : World) (events : List PlayedEvent) where
   -- all of some events were played, and then a part of more
   part_then : (more : List PlayedEvent) (between after : WorldState L) (a b c : Option (List ℕ)) (first : PlaysAll is_honest limits w events between a b) →
       PlaysPart is_honest limits first.played.last more after b c → PlaysPart is_honest limits w (events ++ more) after a c
   unfolding played_after
   part_then more between after a b c first second = record {
-    done = events ++ second.done;
-    failing = second.failing;
-    later = second.later;
-    whole = ap (λ z. events ++ z) second.whole ∙ sym (append_assoc events second.done (second.failing ∷ second.later));
-    played = played_after limits w events second.done first.played second.played;
+    failing = after_others events second.failing;
+    played = played_after limits w events second.failing.done first.played second.played;
     outcome = second.outcome;
     next = second.next;
     step = second.step;
@@ -77,12 +92,9 @@ module _ {L : Type 0} (is_honest : L → Type 0) (limits : Bounds) (w : World) (
     appended = Appends-append a b c first.played.text second.played.text first.appended second.appended;
   }
   all_then more between after a b c (Err (Stopped line cause)) first second = record {
-    done = events ++ second.done;
-    stopped_at = second.stopped_at;
-    beyond = second.beyond;
-    whole = ap (λ z. events ++ z) second.whole ∙ sym (append_assoc events second.done (second.stopped_at ∷ second.beyond));
+    stopped_at = after_others events second.stopped_at;
     at_line = second.at_line;
-    played = played_after limits w events second.done first.played second.played;
+    played = played_after limits w events second.stopped_at.done first.played second.played;
     appended = Appends-append a b c first.played.text second.played.text first.appended second.appended;
   }
   all_then more between after a b c (Err Write) first second = part_then more between after a b c first second
@@ -92,10 +104,7 @@ module _ {L : Type 0} (is_honest : L → Type 0) (limits : Bounds) (w : World) (
   part_before : (more : List PlayedEvent) (after : WorldState L) (a b : Option (List ℕ)) → PlaysPart is_honest limits w events after a b →
       PlaysPart is_honest limits w (events ++ more) after a b
   part_before more after a b first = record {
-    done = first.done;
-    failing = first.failing;
-    later = first.later ++ more;
-    whole = ap (λ z. z ++ more) first.whole ∙ append_assoc first.done (first.failing ∷ first.later) more;
+    failing = before_others more first.failing;
     played = first.played;
     outcome = first.outcome;
     next = first.next;
@@ -111,10 +120,7 @@ module _ {L : Type 0} (is_honest : L → Type 0) (limits : Bounds) (w : World) (
   pub stops_before : (more : List PlayedEvent) (after : WorldState L) (a b : Option (List ℕ)) (error : PlayError) →
       PlaysTo is_honest limits w events after a b (Err error) → PlaysTo is_honest limits w (events ++ more) after a b (Err error)
   stops_before more after a b (Stopped line cause) first = record {
-    done = first.done;
-    stopped_at = first.stopped_at;
-    beyond = first.beyond ++ more;
-    whole = ap (λ z. z ++ more) first.whole ∙ append_assoc first.done (first.stopped_at ∷ first.beyond) more;
+    stopped_at = before_others more first.stopped_at;
     at_line = first.at_line;
     played = first.played;
     appended = first.appended;

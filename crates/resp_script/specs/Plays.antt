@@ -76,33 +76,34 @@ pub record PlaysAll {L : Type 0} (is_honest : L → Type 0) (limits : Bounds) (w
   pub shows : Shows is_honest after limits played.last
   pub appended : Appends held held' played.text
 
+-- one of these events, the events before it, and the events after it
+pub record EventIn (events : List PlayedEvent) : Type 0 where
+  pub done : List PlayedEvent
+  pub event : PlayedEvent
+  pub later : List PlayedEvent
+  pub whole : events ≡ done ++ event ∷ later
+
 -- the events before one in this line were played, and their text was appended
 pub record PlaysUpTo (limits : Bounds) (w : World) (events : List PlayedEvent) (line : ℕ)
     (held held' : Option (List ℕ)) : Type 0 where
-  pub done : List PlayedEvent
-  pub stopped_at : PlayedEvent
-  pub beyond : List PlayedEvent
-  pub whole : events ≡ done ++ stopped_at ∷ beyond
-  pub at_line : stopped_at.line ≡ line
-  pub played : ArePlayed limits w done
+  pub stopped_at : EventIn events
+  pub at_line : stopped_at.event.line ≡ line
+  pub played : ArePlayed limits w stopped_at.done
   pub appended : Appends held held' played.text
 
 -- The events up to one were played, and no event after it. The text of the events before it was appended, and the first
 -- part of its own text. The world shows what it leaves.
 pub record PlaysPart {L : Type 0} (is_honest : L → Type 0) (limits : Bounds) (w : World) (events : List PlayedEvent)
     (after : WorldState L) (held held' : Option (List ℕ)) : Type 0 where
-  pub done : List PlayedEvent
-  pub failing : PlayedEvent
-  pub later : List PlayedEvent
-  pub whole : events ≡ done ++ failing ∷ later
-  pub played : ArePlayed limits w done
+  pub failing : EventIn events
+  pub played : ArePlayed limits w failing.done
   pub outcome : runs.Outcome
   pub next : World
-  pub step : Step limits played.last failing.event outcome next
+  pub step : Step limits played.last failing.event.event outcome next
   pub shows : Shows is_honest after limits next
   pub begun : List ℕ
   pub unwritten : List ℕ
-  pub parts : text_of_step played.last failing outcome next ≡ begun ++ unwritten
+  pub parts : text_of_step played.last failing.event outcome next ≡ begun ++ unwritten
   pub appended : Appends held held' (played.text ++ begun)
 
 -- The result of playing events: all of them and their text; or the events before the one at which the world stopped,
