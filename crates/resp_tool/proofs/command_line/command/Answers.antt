@@ -1,4 +1,4 @@
-use Rattle.std.proofs.Common.{ap, ◌∙◌, arith, inl, inr, map, refl, sym}
+use Rattle.std.proofs.Common.{rules, ap, ◌∙◌, arith, inl, inr, map, refl, sym}
 use Rattle.resp_tool.proofs.Failures.{fails_by_words, status_is}
 use Rattle.resp_tool.proofs.RunWords.{does_nothing, runs_no_explanation, runs_no_file, runs_no_stream}
 use Rattle.resp_tool.proofs.SameBytes.{same_bytes}
@@ -14,8 +14,11 @@ returns-in-Err-clause-does g c =
           c.in-Err.ensures.never_one,
     )
 
-pub returns-in-Err-clause-fails_at_three : goal.returns-in-Err-clause-fails_at_three
-returns-in-Err-clause-fails_at_three g c = λ three. fails_by_words _ _ _ _ _ _ _ (c.in-Err.ensures.told_at_three (status_is c.in-Err.status 3 three))
+pub returns-in-Err-clause-failures : goal.returns-in-Err-clause-failures
+returns-in-Err-clause-failures g c = record {
+  at_three = λ three. fails_by_words _ _ _ _ _ _ _ (c.in-Err.ensures.told_at_three (status_is c.in-Err.status 3 three));
+  at_others = search rules;
+}
 
 pub returns-in_default : goal.returns-in_default
 returns-in_default g c =
@@ -30,8 +33,7 @@ returns-in_default g c =
       );
       reads_bounded = omega arith;
       nothing_told_at_zero = λ none. absurd (omega arith);
-      fails_at_three = λ three. absurd (omega arith);
-      sound_below_three = λ below. (refl, ap g.W.Sink.failures said.0);
+      failures = record { at_three = λ three. absurd (omega arith); at_others = λ others. (refl, ap g.W.Sink.failures said.0) };
       nothing_at_two = λ two. (refl, said.0);
     }
 
