@@ -1,5 +1,5 @@
 -- What `show --json` has read and written, from what the calls of its decoder say.
-use Rattle.std.proofs.Common.{◌≡◌, ◌⊎◌, inl, inr, ℕ, ◌<◌, true, List, [], ◌∷◌, ◌++◌, length, take, drop, IfErr, IfOk, Option, Result, Ok, Err, refl, sym, ap, subst, ◌∙◌, append-nil, append_assoc, take-append-drop}
+use Rattle.std.proofs.Common.{◌≡◌, ◌⊎◌, inl, inr, ℕ, ◌<◌, true, List, [], ◌++◌, take, IfErr, IfOk, Option, Result, Ok, Err, refl, sym, ap, subst}
 use Rattle.resp_value.specs.Devices.{Appends}
 use Rattle.resp_value.specs.Rules.{Rules}
 use Rattle.resp_value.specs.Values.{datum_of}
@@ -9,14 +9,13 @@ use Rattle.resp_value.specs.declared.value.Value.{Value}
 use Rattle.resp_scan.specs.Reading.{HasNoValue}
 use Rattle.resp_scan.specs.declared.event.Fault.{Fault}
 use Rattle.resp_decode.proofs.Feeding.{no_value_at_start}
-use Rattle.resp_decode.specs.Decoding.{GivesValue, HasTaken, LacksMemory, RefusesByte, TakesPiece}
+use Rattle.resp_decode.specs.Decoding.{GivesValue, HasTaken, LacksMemory, RefusesByte}
 use Rattle.resp_decode.specs.declared.decoder.Decoder.{Decoder}
 use Rattle.resp_json.specs.Json.{json_line}
-use Rattle.resp_print.proofs.WrittenLemmas.{Appends-none}
-use Rattle.resp_print.specs.Written.{AppendsPart, WritesText}
+use Rattle.resp_print.specs.Written.{WritesText}
 use Rattle.resp_tool.specs.Counts.{IsAny, LeavesNothing}
 use Rattle.resp_tool.specs.Decoded.{HasDecoded, stop_by, stop_of}
-use Rattle.resp_tool.specs.Takings.{IsByteFault, LeavesRefused, Takes, TakesUnfinished, WritesPart, WritesValue}
+use Rattle.resp_tool.specs.Takings.{Takes, WritesValue}
 use Rattle.resp_tool.specs.declared.rendering.Stop.{Stop}
 use Rattle.resp_tool.specs.declared.rendering.Stop.TheVariants.{Write}
 use Rattle.resp_tool.specs.declared.rendering.Taken.{Taken}

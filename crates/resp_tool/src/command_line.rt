@@ -96,8 +96,8 @@ pub fn run_options<R: LiveSource<W>, W: LiveSink, F: Sink>(
     }
 }
 
-/// Runs a command line, of which the first word is the name of the program, over the stream of
-/// `reader`. Returns the exit status:
+/// Runs a command line over the stream of `reader`. The first word is the name of the program.
+/// Returns the exit status:
 ///
 /// - 0 if all input was read, or help was written;
 /// - 1 if the input contains an error;

@@ -1,4 +1,5 @@
-//! What is written for the values of a stream as their bytes arrive.
+//! The trait that `show`, `check` and `canon` implement: it reads the values of a stream, and writes
+//! something for each of them.
 
 ghost use Rattle.std.specs.Prelude.{◌≡◌, ◌≤◌, ◌++◌, ℕ, List, [], length, IfOk, IsErr, IsErrOf, OnOk};
 ghost use Rattle.resp_value.specs.Data.{Datum};
@@ -94,10 +95,10 @@ pub trait Rendering {
     /// empty.
     ghost is_begun: { Rules → List ℕ → List ℕ → Type 0 } = { λ _. LeavesNothing };
 
-    /// Whether an allocation may fail for a value. By default none is made.
+    /// Whether an allocation may fail for a value. By default no value needs one.
     ghost takes_memory: { Type 0 } = { ⊥ };
 
-    /// Whether anything is written. By default something is.
+    /// Whether anything is written. By default this is true.
     ghost writes: { Type 0 } = { Unit {0} };
 
     /// Reads bytes of the piece until a value is complete or the piece ends, and writes the text
@@ -115,8 +116,8 @@ pub trait Rendering {
         ensures write_failures { W.failures writer.new ≡
             failures_after (failed_to_write result) (W.failures writer.old) };
 
-    /// The text that was written for an incomplete value is a first part of the text that may be
-    /// written for it, and contains all text that must be.
+    /// Does nothing. Its contract states that the text written for an incomplete value is a first
+    /// part of the text that may be written for it, and contains all text that must be.
     fn part_stands(&self)
         ensures begun { (front so_far : List ℕ) → has_taken self.now front so_far →
             (later : List ℕ) × is_begun (rules self.now) front (so_far ++ later) }

@@ -34,7 +34,8 @@ pub struct Watched<R> {
 }
 
 impl<R: Source + Drop> Watched<R> {
-    /// Watches a source from here on. Its values are read in this version within these limits.
+    /// Watches a source from its next byte. The values are read in this version, within these
+    /// limits.
     pub fn new(alloc: Global, inner: R, version: Version, limits: &Limits) -> Watched<R>
         ensures nothing_read { HasWatched result [] }
         ensures rules { rules_watched result ≡ rules_under version limits.now }

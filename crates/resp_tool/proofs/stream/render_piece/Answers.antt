@@ -1,4 +1,4 @@
-use Rattle.std.proofs.Common.{rules, ◌≡◌, ◌+◌, ◌<◌, ◌++◌, Err, length, take, sym, subst, ◌∙◌, arith, append_assoc}
+use Rattle.std.proofs.Common.{rules, ◌<◌, ◌++◌, Err, length, take, sym, subst, ◌∙◌, arith, append_assoc}
 use Rattle.std.proofs.Math.Seq.{take-length}
 use Rattle.resp_tool.specs.Takings.{Takes}
 use Rattle.resp_tool.proofs.Rendered.{all_done, done_more, left_to_do, length_left, renders_most, renders_on, renders_value, stopped_before_end, took_stop}

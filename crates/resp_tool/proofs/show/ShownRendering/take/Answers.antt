@@ -1,9 +1,9 @@
 use Rattle.std.proofs.Common.{rules, ◌≡◌, List, ℕ, subst, ◌∙◌}
 use Rattle.resp_value.specs.Devices.{count_after}
 use Rattle.resp_scan.specs.Kinds.{rules_of}
-use Rattle.resp_scan.specs.Listening.{HearsRefusal, OnFault, OnStopped, StopsAfter}
+use Rattle.resp_scan.specs.Listening.{HearsRefusal, StopsAfter}
 use Rattle.resp_scan.specs.declared.event.ScanError.TheVariants as stop
-use Rattle.resp_tool.specs.Printing.{HasBroken, HasPrinted, Start}
+use Rattle.resp_tool.specs.Printing.{HasBroken, HasPrinted}
 use Rattle.resp_tool.specs.Scans.{HasShown}
 use Rattle.resp_tool.proofs.Showing.{none_failed, printed_before, shows_broken, shows_end_part, shows_on, shows_refused}
 use Rattle.resp_tool.proofs.show.ShownRendering.take.Given.{Over}
