@@ -23,6 +23,17 @@ use std::alloc::{AllocError, Global};
 /// A margin has fewer bytes than this.
 const MOST_IN_MARGIN: usize = 256;
 
+// The sentences about limits, before and after the number.
+const DEEPER: &[u8] = b"aggregates are nested deeper than --depth ";
+
+const LONGER: &[u8] = b"a string or line is longer than --length ";
+
+const MORE_ITEMS: &[u8] = b"an aggregate has more members or pairs than --items ";
+
+const MORE_BYTES: &[u8] = b"the value needs more bytes than --total ";
+
+const ALLOWED: &[u8] = b" allows";
+
 /// What is known of an error at a place.
 #[derive(Drop)]
 struct Reason<'a> {
@@ -297,30 +308,10 @@ fn write_cause<F: Sink>(
         Cause::Version => write_version(reason.new_type, faults),
         Cause::NestedPush => write_text(faults, b"a push cannot be inside another value"),
         Cause::Range => write_text(faults, b"the integer doesn't fit into 64 bits"),
-        Cause::Depth => write_number(
-            faults,
-            b"aggregates are nested deeper than --depth ",
-            reason.limits.depth(),
-            b" allows",
-        ),
-        Cause::Length => write_number(
-            faults,
-            b"a string or line is longer than --length ",
-            reason.limits.length(),
-            b" allows",
-        ),
-        Cause::Items => write_number(
-            faults,
-            b"an aggregate has more members or pairs than --items ",
-            reason.limits.items(),
-            b" allows",
-        ),
-        Cause::Total => write_number(
-            faults,
-            b"the value needs more bytes than --total ",
-            reason.limits.total(),
-            b" allows",
-        ),
+        Cause::Depth => write_number(faults, DEEPER, reason.limits.depth(), ALLOWED),
+        Cause::Length => write_number(faults, LONGER, reason.limits.length(), ALLOWED),
+        Cause::Items => write_number(faults, MORE_ITEMS, reason.limits.items(), ALLOWED),
+        Cause::Total => write_number(faults, MORE_BYTES, reason.limits.total(), ALLOWED),
         Cause::Streamed => {
             write_text(
                 faults,
