@@ -5,7 +5,6 @@ ghost use Rattle.resp_script.specs.Plays.{AreThere, EndsPrint, FailsToWrite, Are
 ghost use Rattle.resp_script.specs.Printed.{PlaysText, counts_text, key_count, gone_text, heard_text, outcome_text, refused_text};
 ghost use Rattle.resp_session.specs.Connections.{Connection};
 ghost use Rattle.resp_session.specs.Worlds as session;
-ghost use Rattle.resp_session.specs.Worlds.{connection_at};
 ghost use Rattle.resp_print.specs.Written.{WritesText};
 ghost use Rattle.resp_value.specs.Bounds.{Bounds};
 ghost use Rattle.resp_wire.specs.Worlds.{Shows, event_of, outcome_of};
@@ -263,7 +262,7 @@ impl Before {
         ensures client { result.client ≡ client }
         ensures heard { (limits : Bounds) (w : session.World) →
             Shows L.is_honest world.now limits w →
-            AreShownOn result.replies result.pushes (connection_at w.connections client) }
+            AreShownOn result.replies result.pushes (session.connection_at w.connections client) }
     {
         if client == 0 || client > world.clients() {
             return Before {
@@ -292,10 +291,10 @@ impl Before {
         ensures prints { (limits : Bounds) (next : session.World) →
             Shows L.is_honest world.now limits next → (c : Option Connection) →
             AreShownOn self.now.replies self.now.pushes c →
-            AreThere outcome c (connection_at next.connections self.now.client) →
+            AreThere outcome c (session.connection_at next.connections self.now.client) →
             PlaysText (W.written writer.old) (W.written writer.new) (W.failures writer.old)
             (W.failures writer.new) result (outcome_text self.now.client is_flush
-            (outcome_of outcome) c (connection_at next.connections self.now.client)) }
+            (outcome_of outcome) c (session.connection_at next.connections self.now.client)) }
         ensures ends { EndsPrint (W.failures writer.old) (W.failures writer.new) result }
         ensures memory { LacksMemoryOnlyTooDeep L.is_honest world.now world.now result }
     {
@@ -315,7 +314,7 @@ impl Before {
     ) -> Result<(), PlayError>
         ensures prints { (limits : Bounds) (next : session.World) →
             Shows L.is_honest world.now limits next → (c : Connection) →
-            connection_at next.connections self.now.client ≡ Some c →
+            session.connection_at next.connections self.now.client ≡ Some c →
             PlaysText (W.written writer.old) (W.written writer.new) (W.failures writer.old)
             (W.failures writer.new) result
             (heard_text self.now.client self.now.replies self.now.pushes c) }
