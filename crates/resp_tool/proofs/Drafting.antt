@@ -295,7 +295,8 @@ hears_scalar old mid new event x written goes_on builds begins wrote appends end
     draft_hears old new (event ∷ []) goes_on (λ b may is goes.
     let begun = begins b may in
     let added : mid.text.items ≡ old.text.items ++ canonical_text old.version x = on_ok written (if_written goes) appends in
-    let same : new ≡ record old { text = mid.text; aggregates = new.aggregates } = ended ∙ ap (λ z. let h : Draft = z in record h { aggregates = new.aggregates }) wrote in
+    let same : new ≡ record old { text = mid.text; aggregates = new.aggregates } =
+    ended ∙ ap (λ z. let h : Draft = z in record h { aggregates = new.aggregates }) wrote in
     let version = ap (λ z. let h : Draft = z in h.version) same in
     let counts = subst (λ z. let h : Draft = z in CountsOne (reverse h.aggregates.items) (reverse new.aggregates.items)) wrote (counted goes) in (
       version,

@@ -133,8 +133,8 @@ reason_text r missing new_type error None = sentence_text r missing new_type err
 
 -- that sentence, for what is known of the error
 abbrev pub sentence_of : Reason → List ℕ
-sentence_of reason =
-    reason_text (rules_under reason.version reason.limits.now) reason.missing reason.new_type reason.error.now reason.next
+sentence_of reason = reason_text (rules_under reason.version reason.limits.now) reason.missing reason.new_type
+    reason.error.now reason.next
 
 -- The sentence about a byte of the value that begins after these bytes. For a byte that the grammar doesn't allow it
 -- names just the bytes that are valid there, if the bytes of the value before it are still in memory.

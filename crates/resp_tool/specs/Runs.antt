@@ -71,8 +71,8 @@ pub record FailsAtThree (said said' : Option (List ℕ)) (failures failures' rea
   pub written : writes' ≡ failures_after (is_of_writer error) writes
 
 -- The failures of a run with this exit status: at status 3 those above, and at another status no read and no write.
-pub record HasFailures (status : ℕ) (said said' : Option (List ℕ)) (failures failures' reads reads' writes writes' : ℕ) :
-    Type 0 where
+pub record HasFailures (status : ℕ) (said said' : Option (List ℕ))
+    (failures failures' reads reads' writes writes' : ℕ) : Type 0 where
   pub at_three : status ≡ 3 → FailsAtThree said said' failures failures' reads reads' writes writes'
   pub at_others : (status ≡ 3 → ⊥) → (reads' ≡ reads) × (writes' ≡ writes)
 

@@ -1,5 +1,5 @@
-//! The trait that `show`, `check` and `canon` implement: it reads the values of a stream, and writes
-//! something for each of them.
+//! The trait that `show`, `check` and `canon` implement. It reads the values of a stream, and
+//! writes something for each of them.
 
 ghost use Rattle.std.specs.Prelude.{◌≡◌, ◌≤◌, ◌++◌, ℕ, List, [], length, IfOk, IsErr, IsErrOf, OnOk};
 ghost use Rattle.resp_value.specs.Data.{Datum};

@@ -31,7 +31,8 @@ returns-clause-explains g c = λ bytes h scanned. on_ok c.write_around.result _ 
     let front = λ (fits : length bytes ≤ last_count). of_text c.front-front.result (λ text. text ≡ take c.args.at (drop (length place.front) bytes))
     (c.front-front.ensures.front bytes place.front holds fits (begins fits)) in
     let kept = λ (fits : length bytes ≤ last_count) (is_held : IsHeld held bytes place.front c.args.at). is_text c.front-front.result
-    (c.front-front.ensures.none bytes place.front holds (begins fits) (subst (λ n. IsHeld n bytes place.front c.args.at) (sym c.in-Some.ensures.same_size) is_held)) in
+    (c.front-front.ensures.none bytes place.front holds (begins fits)
+    (subst (λ n. IsHeld n bytes place.front c.args.at) (sym c.in-Some.ensures.same_size) is_held)) in
     record {
       start = c.place_of.new.self.starts.start;
       place = c.in-Some.place;

@@ -12,8 +12,8 @@ returns-clause-lines g c =
     let hint = hint_line c.args.reason.now.hint in
     let said = g.F.Sink.written c.args.faults.now in
     let said' = g.F.Sink.written c.write_hint.new.faults in
-    let told = Appends-append said (g.F.Sink.written c.write_place.new.faults) said' (place_lines c.bytes-2.result.now after c.as_slice.result.now sentence) hint
-    c.in_ok-write_place.ensures.lines c.in_ok-write_hint.ensures.0 in
+    let told = Appends-append said (g.F.Sink.written c.write_place.new.faults) said'
+    (place_lines c.bytes-2.result.now after c.as_slice.result.now sentence) hint c.in_ok-write_place.ensures.lines c.in_ok-write_hint.ensures.0 in
     let blank : c.as_slice.result.now ≡ replicate (length c.bytes-2.result.now) 32 = search rules in
     subst (λ z. Appends said said' (explanation_lines z after (replicate (length z) 32) sentence hint)) (c.bytes-2.ensures ∙ c.in_ok-margin.ensures)
     (subst (λ z. Appends said said' (explanation_lines c.bytes-2.result.now after z sentence hint)) blank told)

@@ -6,6 +6,7 @@ use Rattle.resp_tool.proofs.Drafting.{hears_scalar}
 use Rattle.resp_tool.proofs.draft.DraftListener.null.Goals as goal
 
 pub returns : goal.returns
-returns c = hears_scalar c.args.self.now (record c.args.self.now { text = c.null-written.new.out }) c.end_value.new.self e.Null (scalar d.Null) c.null-written.result
-    c.end_value.result (λ b. refl) (λ b may. may.0) refl c.null-written.ensures.appended c.end_value.ensures.same c.end_value.ensures.written
-    c.end_value.ensures.counted
+returns c =
+    let old = c.args.self.now in
+    hears_scalar old (record old { text = c.null-written.new.out }) c.end_value.new.self e.Null (scalar d.Null) c.null-written.result c.end_value.result
+    (λ b. refl) (λ b may. may.0) refl c.null-written.ensures.appended c.end_value.ensures.same c.end_value.ensures.written c.end_value.ensures.counted
