@@ -1,5 +1,8 @@
 //! The errors of a framed stream or sink.
 
+ghost use Rattle.std.specs.Prelude.{◌≡◌};
+ghost use Rattle.resp_codec.specs.declared.error.CodecError.TheVariants as variant;
+
 use resp_encode::EncodeError;
 use resp_scan::event::Fault;
 use std::io;
@@ -21,10 +24,7 @@ pub enum CodecError {
 }
 
 impl From<Fault> for CodecError {
-    ghost use Rattle.std.specs.Prelude.{◌≡◌};
-    ghost use Rattle.resp_codec.specs.declared.error.CodecError.{CodecError};
-
-    ghost from_gives = { λ fault error. error ≡ CodecError.Fault fault };
+    ghost from_gives = { λ fault error. error ≡ variant.Fault fault };
 
     fn from(fault: Fault) -> CodecError {
         CodecError::Fault(fault)
@@ -32,10 +32,7 @@ impl From<Fault> for CodecError {
 }
 
 impl From<EncodeError> for CodecError {
-    ghost use Rattle.std.specs.Prelude.{◌≡◌};
-    ghost use Rattle.resp_codec.specs.declared.error.CodecError.{CodecError};
-
-    ghost from_gives = { λ refusal error. error ≡ CodecError.Refused refusal };
+    ghost from_gives = { λ refusal error. error ≡ variant.Refused refusal };
 
     fn from(refusal: EncodeError) -> CodecError {
         CodecError::Refused(refusal)
@@ -43,10 +40,7 @@ impl From<EncodeError> for CodecError {
 }
 
 impl From<io::Error> for CodecError {
-    ghost use Rattle.std.specs.Prelude.{◌≡◌};
-    ghost use Rattle.resp_codec.specs.declared.error.CodecError.{CodecError};
-
-    ghost from_gives = { λ failure error. error ≡ CodecError.Io failure };
+    ghost from_gives = { λ failure error. error ≡ variant.Io failure };
 
     fn from(failure: io::Error) -> CodecError {
         CodecError::Io(failure)

@@ -6,7 +6,7 @@ use Rattle.resp_session.specs.Worlds.{World}
 use Rattle.resp_print.specs.Written.{AppendsPart}
 use Rattle.resp_print.proofs.WrittenLemmas.{Appends-append, Appends-none}
 use Rattle.resp_wire.specs.Worlds.{Shows, WorldState}
-use Rattle.resp_script.specs.Plays.{ArePlayed, BreaksInCounts, Plays, PlaysAll, PlaysPart, PlaysScript, PlaysTo, text_of_step}
+use Rattle.resp_script.specs.Plays.{ArePlayed, BreaksInCounts, EventIn, Plays, PlaysAll, PlaysPart, PlaysScript, PlaysTo, text_of_step}
 use Rattle.resp_script.specs.Printed.{PlayedEvent, PlaysText, counts_text}
 use Rattle.resp_script.specs.declared.play.PlayError.{PlayError}
 use Rattle.resp_script.specs.declared.play.PlayError.TheVariants.{Stopped, Write, Memory}
@@ -44,117 +44,118 @@ played_after limits w events more first second = record {
   plays = plays_more limits w first.last second.last events more first.text second.text first.plays second.plays;
 }
 
--- all of some events were played, and then a part of more
-part_then : {L : Type 0} (is_honest : L → Type 0) (limits : Bounds) (w : World) (events more : List PlayedEvent) (between after : WorldState L)
-    (a b c : Option (List ℕ)) (first : PlaysAll is_honest limits w events between a b) →
-    PlaysPart is_honest limits first.played.last more after b c → PlaysPart is_honest limits w (events ++ more) after a c
-unfolding played_after
-part_then is_honest limits w events more between after a b c first second = record {
-  done = events ++ second.done;
-  failing = second.failing;
-  later = second.later;
-  whole = ap (λ z. events ++ z) second.whole ∙ sym (append_assoc events second.done (second.failing ∷ second.later));
-  played = played_after limits w events second.done first.played second.played;
-  outcome = second.outcome;
-  next = second.next;
-  step = second.step;
-  shows = second.shows;
-  begun = second.begun;
-  unwritten = second.unwritten;
-  parts = second.parts;
-  appended = subst (Appends a c) (sym (append_assoc first.played.text second.played.text second.begun))
-      (Appends-append a b c first.played.text (second.played.text ++ second.begun) first.appended second.appended);
+-- one of some events, after others
+abbrev after_others : (events : List PlayedEvent) {more : List PlayedEvent} → EventIn more → EventIn (events ++ more)
+after_others events e = record {
+  done = events ++ e.done;
+  event = e.event;
+  later = e.later;
+  whole = ap (λ z. events ++ z) e.whole ∙ sym (append_assoc events e.done (e.event ∷ e.later));
 }
 
--- all of some events were played, and then more came to something
-pub all_then : {L : Type 0} (is_honest : L → Type 0) (limits : Bounds) (w : World) (events more : List PlayedEvent) (between after : WorldState L)
-    (a b c : Option (List ℕ)) (r : Result (Unit {0}) PlayError) (first : PlaysAll is_honest limits w events between a b) →
-    PlaysTo is_honest limits first.played.last more after b c r → PlaysTo is_honest limits w (events ++ more) after a c r
-unfolding played_after
-all_then is_honest limits w events more between after a b c (Ok x) first second = record {
-  played = played_after limits w events more first.played second.played;
-  shows = second.shows;
-  appended = Appends-append a b c first.played.text second.played.text first.appended second.appended;
-}
-all_then is_honest limits w events more between after a b c (Err (Stopped line cause)) first second = record {
-  done = events ++ second.done;
-  stopped_at = second.stopped_at;
-  beyond = second.beyond;
-  whole = ap (λ z. events ++ z) second.whole ∙ sym (append_assoc events second.done (second.stopped_at ∷ second.beyond));
-  at_line = second.at_line;
-  played = played_after limits w events second.done first.played second.played;
-  appended = Appends-append a b c first.played.text second.played.text first.appended second.appended;
-}
-all_then is_honest limits w events more between after a b c (Err Write) first second =
-    part_then is_honest limits w events more between after a b c first second
-all_then is_honest limits w events more between after a b c (Err Memory) first second =
-    part_then is_honest limits w events more between after a b c first second
-
--- a part of some events is a part of them and more
-part_before : {L : Type 0} (is_honest : L → Type 0) (limits : Bounds) (w : World) (events more : List PlayedEvent) (after : WorldState L)
-    (a b : Option (List ℕ)) → PlaysPart is_honest limits w events after a b → PlaysPart is_honest limits w (events ++ more) after a b
-part_before is_honest limits w events more after a b first = record {
-  done = first.done;
-  failing = first.failing;
-  later = first.later ++ more;
-  whole = ap (λ z. z ++ more) first.whole ∙ append_assoc first.done (first.failing ∷ first.later) more;
-  played = first.played;
-  outcome = first.outcome;
-  next = first.next;
-  step = first.step;
-  shows = first.shows;
-  begun = first.begun;
-  unwritten = first.unwritten;
-  parts = first.parts;
-  appended = first.appended;
+-- and before others
+abbrev before_others : {events : List PlayedEvent} (more : List PlayedEvent) → EventIn events → EventIn (events ++ more)
+before_others more e = record {
+  done = e.done;
+  event = e.event;
+  later = e.later ++ more;
+  whole = ap (λ z. z ++ more) e.whole ∙ append_assoc e.done (e.event ∷ e.later) more;
 }
 
--- what stopped some events stops them and more
-pub stops_before : {L : Type 0} (is_honest : L → Type 0) (limits : Bounds) (w : World) (events more : List PlayedEvent) (after : WorldState L)
-    (a b : Option (List ℕ)) (error : PlayError) → PlaysTo is_honest limits w events after a b (Err error) →
-    PlaysTo is_honest limits w (events ++ more) after a b (Err error)
-stops_before is_honest limits w events more after a b (Stopped line cause) first = record {
-  done = first.done;
-  stopped_at = first.stopped_at;
-  beyond = first.beyond ++ more;
-  whole = ap (λ z. z ++ more) first.whole ∙ append_assoc first.done (first.stopped_at ∷ first.beyond) more;
-  at_line = first.at_line;
-  played = first.played;
-  appended = first.appended;
-}
-stops_before is_honest limits w events more after a b Write first = part_before is_honest limits w events more after a b first
-stops_before is_honest limits w events more after a b Memory first = part_before is_honest limits w events more after a b first
+module _ {L : Type 0} (is_honest : L → Type 0) (limits : Bounds) (w : World) (events : List PlayedEvent) where
+  -- all of some events were played, and then a part of more
+  part_then : (more : List PlayedEvent) (between after : WorldState L) (a b c : Option (List ℕ)) (first : PlaysAll is_honest limits w events between a b) →
+      PlaysPart is_honest limits first.played.last more after b c → PlaysPart is_honest limits w (events ++ more) after a c
+  unfolding played_after
+  part_then more between after a b c first second = record {
+    failing = after_others events second.failing;
+    played = played_after limits w events second.failing.done first.played second.played;
+    outcome = second.outcome;
+    next = second.next;
+    step = second.step;
+    shows = second.shows;
+    begun = second.begun;
+    unwritten = second.unwritten;
+    parts = second.parts;
+    appended = subst (Appends a c) (sym (append_assoc first.played.text second.played.text second.begun))
+        (Appends-append a b c first.played.text (second.played.text ++ second.begun) first.appended second.appended);
+  }
 
--- what stopped the steps of a script stopped the script
-pub stops_script : {L : Type 0} (is_honest : L → Type 0) (limits : Bounds) (w : World) (events : List PlayedEvent) (after : WorldState L)
-    (a b : Option (List ℕ)) (error : PlayError) → PlaysTo is_honest limits w events after a b (Err error) →
-    PlaysScript is_honest limits w events after a b (Err error)
-stops_script is_honest limits w events after a b (Stopped line cause) stops = stops
-stops_script is_honest limits w events after a b Write stops = inl stops
-stops_script is_honest limits w events after a b Memory stops = inl stops
+  -- all of some events were played, and then more came to something
+  pub all_then : (more : List PlayedEvent) (between after : WorldState L) (a b c : Option (List ℕ)) (r : Result (Unit {0}) PlayError)
+      (first : PlaysAll is_honest limits w events between a b) → PlaysTo is_honest limits first.played.last more after b c r →
+      PlaysTo is_honest limits w (events ++ more) after a c r
+  unfolding played_after
+  all_then more between after a b c (Ok x) first second = record {
+    played = played_after limits w events more first.played second.played;
+    shows = second.shows;
+    appended = Appends-append a b c first.played.text second.played.text first.appended second.appended;
+  }
+  all_then more between after a b c (Err (Stopped line cause)) first second = record {
+    stopped_at = after_others events second.stopped_at;
+    at_line = second.at_line;
+    played = played_after limits w events second.stopped_at.done first.played second.played;
+    appended = Appends-append a b c first.played.text second.played.text first.appended second.appended;
+  }
+  all_then more between after a b c (Err Write) first second = part_then more between after a b c first second
+  all_then more between after a b c (Err Memory) first second = part_then more between after a b c first second
 
--- all of the events were played, and a part of the line of counts was written
-breaks_in_counts : {L : Type 0} (is_honest : L → Type 0) (limits : Bounds) (w : World) (events : List PlayedEvent) (after : WorldState L)
-    (a b c : Option (List ℕ)) (all : PlaysAll is_honest limits w events after a b) → AppendsPart b c (counts_text all.played.last) →
-    BreaksInCounts is_honest limits w events after a c
-breaks_in_counts is_honest limits w events after a b c all part = record {
-  played = all.played;
-  shows = all.shows;
-  begun = part.part;
-  unwritten = part.beyond;
-  parts = part.whole;
-  appended = Appends-append a b c all.played.text part.part all.appended part.appended;
-}
+  -- a part of some events is a part of them and more
+  part_before : (more : List PlayedEvent) (after : WorldState L) (a b : Option (List ℕ)) → PlaysPart is_honest limits w events after a b →
+      PlaysPart is_honest limits w (events ++ more) after a b
+  part_before more after a b first = record {
+    failing = before_others more first.failing;
+    played = first.played;
+    outcome = first.outcome;
+    next = first.next;
+    step = first.step;
+    shows = first.shows;
+    begun = first.begun;
+    unwritten = first.unwritten;
+    parts = first.parts;
+    appended = first.appended;
+  }
 
--- all of the events were played, and then what came of the line of counts
-pub counts_then : {L : Type 0} (is_honest : L → Type 0) (limits : Bounds) (w : World) (events : List PlayedEvent) (after : WorldState L)
-    (a b c : Option (List ℕ)) (f g : ℕ) (r : Result (Unit {0}) PlayError) (all : PlaysAll is_honest limits w events after a b) →
-    PlaysText b c f g r (counts_text all.played.last) → PlaysScript is_honest limits w events after a c r
-counts_then is_honest limits w events after a b c f g (Ok x) all prints = record {
-  played = all.played;
-  shows = all.shows;
-  appended = Appends-append a b c all.played.text (counts_text all.played.last) all.appended prints.0;
-}
-counts_then is_honest limits w events after a b c f g (Err Write) all prints = inr (breaks_in_counts is_honest limits w events after a b c all prints.0)
-counts_then is_honest limits w events after a b c f g (Err Memory) all prints = inr (breaks_in_counts is_honest limits w events after a b c all prints.0)
-counts_then is_honest limits w events after a b c f g (Err (Stopped line cause)) all prints = absurd prints
+  -- what stopped some events stops them and more
+  pub stops_before : (more : List PlayedEvent) (after : WorldState L) (a b : Option (List ℕ)) (error : PlayError) →
+      PlaysTo is_honest limits w events after a b (Err error) → PlaysTo is_honest limits w (events ++ more) after a b (Err error)
+  stops_before more after a b (Stopped line cause) first = record {
+    stopped_at = before_others more first.stopped_at;
+    at_line = first.at_line;
+    played = first.played;
+    appended = first.appended;
+  }
+  stops_before more after a b Write first = part_before more after a b first
+  stops_before more after a b Memory first = part_before more after a b first
+
+  -- what stopped the steps of a script stopped the script
+  pub stops_script : (after : WorldState L) (a b : Option (List ℕ)) (error : PlayError) → PlaysTo is_honest limits w events after a b (Err error) →
+      PlaysScript is_honest limits w events after a b (Err error)
+  stops_script after a b (Stopped line cause) stops = stops
+  stops_script after a b Write stops = inl stops
+  stops_script after a b Memory stops = inl stops
+
+  -- all of the events were played, and a part of the line of counts was written
+  breaks_in_counts : (after : WorldState L) (a b c : Option (List ℕ)) (all : PlaysAll is_honest limits w events after a b) →
+      AppendsPart b c (counts_text all.played.last) → BreaksInCounts is_honest limits w events after a c
+  breaks_in_counts after a b c all part = record {
+    played = all.played;
+    shows = all.shows;
+    begun = part.part;
+    unwritten = part.beyond;
+    parts = part.whole;
+    appended = Appends-append a b c all.played.text part.part all.appended part.appended;
+  }
+
+  -- all of the events were played, and then what came of the line of counts
+  pub counts_then : (after : WorldState L) (a b c : Option (List ℕ)) (f g : ℕ) (r : Result (Unit {0}) PlayError)
+      (all : PlaysAll is_honest limits w events after a b) → PlaysText b c f g r (counts_text all.played.last) →
+      PlaysScript is_honest limits w events after a c r
+  counts_then after a b c f g (Ok x) all prints = record {
+    played = all.played;
+    shows = all.shows;
+    appended = Appends-append a b c all.played.text (counts_text all.played.last) all.appended prints.0;
+  }
+  counts_then after a b c f g (Err Write) all prints = inr (breaks_in_counts after a b c all prints.0)
+  counts_then after a b c f g (Err Memory) all prints = inr (breaks_in_counts after a b c all prints.0)
+  counts_then after a b c f g (Err (Stopped line cause)) all prints = absurd prints

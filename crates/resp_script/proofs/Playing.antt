@@ -1,5 +1,5 @@
 -- Playing the steps of a script.
-use Rattle.std.proofs.Common.{◌≡◌, ℕ, ◌<◌, List, Option, Result, Ok, Err, length, get_or, sym, ap, subst, ◌∙◌, arith}
+use Rattle.std.proofs.Common.{◌≡◌, ℕ, ◌<◌, List, Option, None, Result, Ok, Err, length, get_or, sym, ap, subst, ◌∙◌, arith}
 use Rattle.std.proofs.lemmas.List.{get_or-map, length-map}
 use Rattle.resp_wire.specs.declared.event.Event.{Event}
 use Rattle.std.specs.Result.{IfErr}
@@ -32,11 +32,12 @@ no_stop_at_step steps f g (Err Write) ends = tt
 no_stop_at_step steps f g (Err Memory) ends = tt
 no_stop_at_step steps f g (Err (Stopped line cause)) ends = absurd ends
 
-pub no_stop_kept : (stopped : Option Cause) (f g : ℕ) (r : Result (Unit {0}) PlayError) → EndsPrint f g r → IfErr r (KeepsCause stopped)
-no_stop_kept stopped f g (Ok x) ends = tt
-no_stop_kept stopped f g (Err Write) ends = tt
-no_stop_kept stopped f g (Err Memory) ends = tt
-no_stop_kept stopped f g (Err (Stopped line cause)) ends = absurd ends
+pub no_stop_kept : (before after : Option Cause) (f g : ℕ) (r : Result (Unit {0}) PlayError) → (before ≡ None → after ≡ None) → EndsPrint f g r →
+    KeepsCause before after r
+no_stop_kept before after f g (Ok x) going ends = going
+no_stop_kept before after f g (Err Write) going ends = tt
+no_stop_kept before after f g (Err Memory) going ends = tt
+no_stop_kept before after f g (Err (Stopped line cause)) going ends = absurd ends
 
 -- and one write failed where that was the reason to end
 pub fails_to_write : (f g h : ℕ) (r : Result (Unit {0}) PlayError) → g ≡ f → EndsPrint g h r → FailsToWrite f h r

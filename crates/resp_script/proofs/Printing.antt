@@ -1,10 +1,9 @@
 -- Text that is printed part after part.
-use Rattle.std.proofs.Common.{◌≡◌, ℕ, List, [], ◌++◌, Option, Result, Ok, Err, refl, sym, subst, ◌∙◌}
+use Rattle.std.proofs.Common.{◌≡◌, ℕ, List, ◌++◌, Option, Result, Ok, Err, sym, subst, ◌∙◌}
 use Rattle.resp_value.specs.Devices.{Appends, count_after}
 use Rattle.resp_print.specs.Written.{AppendsPart}
-use Rattle.resp_print.proofs.WrittenLemmas.{Appends-append, Appends-none}
+use Rattle.resp_print.proofs.WrittenLemmas.{Appends-append}
 use Rattle.resp_print.proofs.Printing.{HasPrintedUpTo, part_next, part_of_more}
-use Rattle.resp_script.specs.Plays.{EndsPrint}
 use Rattle.resp_script.specs.Printed.{PlaysText}
 use Rattle.resp_script.specs.declared.play.PlayError.{PlayError}
 use Rattle.resp_script.specs.declared.play.PlayError.TheVariants.{Stopped, Write, Memory}

@@ -9,7 +9,7 @@ use Rattle.std.proofs.lemmas.List.Elements.{All-get_or, All-head, All-tail, All-
 use Rattle.std.proofs.lemmas.List.Splits.{join_with_byte-slice_split, length-slice_split, slice_split_at, slice_split_none}
 use Rattle.resp_script.specs.ScriptSteps.{AreWords, IsSeen, IsWord, IsStepInRange, clients_words, joined_words, step_words}
 use Rattle.resp_wire.specs.declared.event.Event.{Event}
-use Rattle.resp_script.specs.Reasons.{AreProper, HaveFirstUnfit, IsNoStep, IsReason, IsUnfit, WhereBad, parts_of_line}
+use Rattle.resp_script.specs.Reasons.{HaveFirstUnfit, IsReason, IsUnfit, WhereBad}
 use Rattle.resp_script.specs.declared.script.reasons.BadLine.TheVariants as reasons
 use Rattle.resp_script.specs.Scripts.{SaysSomething}
 use Rattle.resp_script.specs.declared.script.reasons.BadLine.{BadLine}

@@ -27,10 +27,7 @@ one_part : {L : Type 0} (is_honest : L → Type 0) (limits : Bounds) (w next : W
     (a b : Option (List ℕ)) → Step limits w played.event (outcome_of outcome) next → Shows is_honest after limits next →
     AppendsPart a b (text_of_step w played (outcome_of outcome) next) → PlaysPart is_honest limits w (played ∷ []) after a b
 one_part is_honest limits w next played outcome after a b step shows part = record {
-  done = [];
-  failing = played;
-  later = [];
-  whole = refl;
+  failing = record { done = []; event = played; later = []; whole = refl };
   played = record { text = []; last = w; plays = (refl, refl) };
   outcome = outcome_of outcome;
   next = next;

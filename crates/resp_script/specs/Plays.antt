@@ -1,5 +1,5 @@
 -- What the steps of a script come to, and why they are not played to their end.
-use Rattle.std.specs.Prelude.{◌≡◌, ◌⊎◌, ℕ, zero, suc, List, [], ◌∷◌, ◌++◌, length, Contains, map, Bool, true, false, Option, None, Some, Result, Ok, Err, codes, decimal}
+use Rattle.std.specs.Prelude.{◌≡◌, ◌⊎◌, ℕ, zero, suc, List, [], ◌∷◌, ◌++◌, length, Contains, map, Bool, true, false, Option, None, Some, Result, Ok, Err, IsErrOf, codes, decimal}
 use Rattle.std.specs.List.{flat_map}
 use Rattle.resp_value.specs.Bounds.{Bounds}
 use Rattle.resp_value.specs.Causes.{name_of}
@@ -76,33 +76,34 @@ pub record PlaysAll {L : Type 0} (is_honest : L → Type 0) (limits : Bounds) (w
   pub shows : Shows is_honest after limits played.last
   pub appended : Appends held held' played.text
 
+-- one of these events, the events before it, and the events after it
+pub record EventIn (events : List PlayedEvent) : Type 0 where
+  pub done : List PlayedEvent
+  pub event : PlayedEvent
+  pub later : List PlayedEvent
+  pub whole : events ≡ done ++ event ∷ later
+
 -- the events before one in this line were played, and their text was appended
 pub record PlaysUpTo (limits : Bounds) (w : World) (events : List PlayedEvent) (line : ℕ)
     (held held' : Option (List ℕ)) : Type 0 where
-  pub done : List PlayedEvent
-  pub stopped_at : PlayedEvent
-  pub beyond : List PlayedEvent
-  pub whole : events ≡ done ++ stopped_at ∷ beyond
-  pub at_line : stopped_at.line ≡ line
-  pub played : ArePlayed limits w done
+  pub stopped_at : EventIn events
+  pub at_line : stopped_at.event.line ≡ line
+  pub played : ArePlayed limits w stopped_at.done
   pub appended : Appends held held' played.text
 
 -- The events up to one were played, and no event after it. The text of the events before it was appended, and the first
 -- part of its own text. The world shows what it leaves.
 pub record PlaysPart {L : Type 0} (is_honest : L → Type 0) (limits : Bounds) (w : World) (events : List PlayedEvent)
     (after : WorldState L) (held held' : Option (List ℕ)) : Type 0 where
-  pub done : List PlayedEvent
-  pub failing : PlayedEvent
-  pub later : List PlayedEvent
-  pub whole : events ≡ done ++ failing ∷ later
-  pub played : ArePlayed limits w done
+  pub failing : EventIn events
+  pub played : ArePlayed limits w failing.done
   pub outcome : runs.Outcome
   pub next : World
-  pub step : Step limits played.last failing.event outcome next
+  pub step : Step limits played.last failing.event.event outcome next
   pub shows : Shows is_honest after limits next
   pub begun : List ℕ
   pub unwritten : List ℕ
-  pub parts : text_of_step played.last failing outcome next ≡ begun ++ unwritten
+  pub parts : text_of_step played.last failing.event outcome next ≡ begun ++ unwritten
   pub appended : Appends held held' (played.text ++ begun)
 
 -- The result of playing events: all of them and their text; or the events before the one at which the world stopped,
@@ -152,6 +153,12 @@ pub record ShowsTooDeep {L : Type 0} (is_honest : L → Type 0) (limits : Bounds
   pub there : connection_at next.connections client ≡ Some connection
   pub deep : HaveTooDeep (shown_replies connection) ⊎ HaveTooDeep (shown_pushes connection)
 
+-- the call runs out of memory only if the world then shows a reply or a push that is nested too deeply to be printed
+abbrev pub LacksMemoryOnlyTooDeep : {L : Type 0} → (L → Type 0) → WorldState L → WorldState L →
+    Result (Unit {0}) PlayError → Type 0
+LacksMemoryOnlyTooDeep {L} is_honest before after result = IsErrOf result Memory → (limits : Bounds) (w : World) →
+    Shows is_honest before limits w → ShowsTooDeep is_honest limits after
+
 -- the world stopped at this line
 abbrev pub IsAtLine : ℕ → PlayError → Type 0
 IsAtLine line (Stopped stopped cause) = stopped ≡ line
@@ -162,10 +169,15 @@ abbrev pub IsAtStep : List (ℕ × Option Event) → PlayError → Type 0
 IsAtStep steps (Stopped line cause) = Contains (map (λ (step : ℕ × Option Event). step.0) steps) line
 IsAtStep steps _ = Unit {0}
 
--- when the world stops, it keeps the cause
-abbrev pub KeepsCause : Option Cause → PlayError → Type 0
-KeepsCause stopped (Stopped line cause) = stopped ≡ Some cause
-KeepsCause stopped _ = Unit {0}
+-- the world keeps the cause, if the error is its stop
+abbrev pub IsKept : Option Cause → PlayError → Type 0
+IsKept stopped (Stopped line cause) = stopped ≡ Some cause
+IsKept stopped _ = Unit {0}
+
+-- if the world stops, it keeps the cause; if the call succeeds, a world that had not stopped goes on
+abbrev pub KeepsCause : Option Cause → Option Cause → Result (Unit {0}) PlayError → Type 0
+KeepsCause before after (Ok x) = before ≡ None → after ≡ None
+KeepsCause before after (Err error) = IsKept after error
 
 -- one write failed if the error is a failed write, and otherwise none did
 abbrev pub FailsToWrite : ℕ → ℕ → Result (Unit {0}) PlayError → Type 0

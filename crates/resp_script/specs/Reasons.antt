@@ -84,10 +84,9 @@ WhereBad P fault.Memory = Unit {0}
 abbrev pub arguments_text : Verb → List ℕ
 arguments_text verb.Send = codes "send needs a client and a command of at least one word"
 arguments_text verb.Hello = codes "hello needs a client, optionally followed by 2 or 3"
-arguments_text verb.Server = codes "server and client need a client and a number of bytes from 1 to 1000000000"
-arguments_text verb.Client = codes "server and client need a client and a number of bytes from 1 to 1000000000"
 arguments_text verb.Push = codes "push needs a client, optionally followed by words"
 arguments_text verb.Drop = codes "drop takes nothing after the client"
+arguments_text _ = codes "server and client need a client and a number of bytes from 1 to 1000000000"
 
 -- the sentence of a reason
 abbrev pub reason_text : BadLine → List ℕ

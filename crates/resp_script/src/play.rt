@@ -1,11 +1,10 @@
 //! Plays the events of a script, and prints the result of each.
 
 ghost use Rattle.std.specs.Prelude.{◌≡◌, true, ◌+◌, ◌<◌, ◌^◌, ◌++◌, ◌∷◌, [], codes, decimal, drop, length, None, Option, Some, IfErr, IsErrOf, OnOk};
-ghost use Rattle.resp_script.specs.Plays.{AreThere, EndsPrint, FailsToWrite, AreShownOn, IsAtLine, IsAtStep, KeepsCause, PlaysScript, PlaysTo, ShowsTooDeep, flush_events, no_connection_line, played, step_events, steps_events};
+ghost use Rattle.resp_script.specs.Plays.{AreThere, EndsPrint, FailsToWrite, AreShownOn, IsAtLine, IsAtStep, KeepsCause, LacksMemoryOnlyTooDeep, PlaysScript, PlaysTo, flush_events, no_connection_line, played, step_events, steps_events};
 ghost use Rattle.resp_script.specs.Printed.{PlaysText, counts_text, key_count, gone_text, heard_text, outcome_text, refused_text};
 ghost use Rattle.resp_session.specs.Connections.{Connection};
 ghost use Rattle.resp_session.specs.Worlds as session;
-ghost use Rattle.resp_session.specs.Worlds.{connection_at};
 ghost use Rattle.resp_print.specs.Written.{WritesText};
 ghost use Rattle.resp_value.specs.Bounds.{Bounds};
 ghost use Rattle.resp_wire.specs.Worlds.{Shows, event_of, outcome_of};
@@ -116,11 +115,9 @@ pub fn play<L: Link, S: BuildHasher + Drop, W: Sink>(
         PlaysScript L.is_honest limits w (steps_events script.now.clients script.now.steps.items)
         world.new (W.written writer.old) (W.written writer.new) result }
     ensures stopped { IfErr result (λ error. IsAtStep script.now.steps.items error) }
-    ensures cause { IfErr result (KeepsCause world.new.stopped) }
-    ensures going { OnOk result (world.old.stopped ≡ None → world.new.stopped ≡ None) }
+    ensures cause { KeepsCause world.old.stopped world.new.stopped result }
     ensures failed { FailsToWrite (W.failures writer.old) (W.failures writer.new) result }
-    ensures memory { IsErrOf result PlayError.Memory → (limits : Bounds) → (w : session.World) →
-        Shows L.is_honest world.old limits w → ShowsTooDeep L.is_honest limits world.new }
+    ensures memory { LacksMemoryOnlyTooDeep L.is_honest world.old world.new result }
 {
     for (line, step) in &script.steps {
         if let Err(error) = play_step(alloc, *line, step, script.clients, world, writer) {
@@ -181,11 +178,9 @@ fn play_step<L: Link, S: BuildHasher + Drop, W: Sink>(
         PlaysTo L.is_honest limits w (step_events clients line step.now) world.new
         (W.written writer.old) (W.written writer.new) result }
     ensures stopped { IfErr result (λ error. IsAtLine line error) }
-    ensures cause { IfErr result (KeepsCause world.new.stopped) }
-    ensures going { OnOk result (world.old.stopped ≡ None → world.new.stopped ≡ None) }
+    ensures cause { KeepsCause world.old.stopped world.new.stopped result }
     ensures failed { FailsToWrite (W.failures writer.old) (W.failures writer.new) result }
-    ensures memory { IsErrOf result PlayError.Memory → (limits : Bounds) → (w : session.World) →
-        Shows L.is_honest world.old limits w → ShowsTooDeep L.is_honest limits world.new }
+    ensures memory { LacksMemoryOnlyTooDeep L.is_honest world.old world.new result }
 {
     match step {
         Some(event) => take(alloc, line, event, false, world, writer),
@@ -206,11 +201,9 @@ fn flush<L: Link, S: BuildHasher + Drop, W: Sink>(
         PlaysTo L.is_honest limits w (flush_events line clients) world.new
         (W.written writer.old) (W.written writer.new) result }
     ensures stopped { IfErr result (λ error. IsAtLine line error) }
-    ensures cause { IfErr result (KeepsCause world.new.stopped) }
-    ensures going { OnOk result (world.old.stopped ≡ None → world.new.stopped ≡ None) }
+    ensures cause { KeepsCause world.old.stopped world.new.stopped result }
     ensures failed { FailsToWrite (W.failures writer.old) (W.failures writer.new) result }
-    ensures memory { IsErrOf result PlayError.Memory → (limits : Bounds) → (w : session.World) →
-        Shows L.is_honest world.old limits w → ShowsTooDeep L.is_honest limits world.new }
+    ensures memory { LacksMemoryOnlyTooDeep L.is_honest world.old world.new result }
 {
     for index in 0..clients {
         let to_server = Event::ToServer(index + 1, ALL);
@@ -238,11 +231,9 @@ fn take<L: Link, S: BuildHasher + Drop, W: Sink>(
         PlaysTo L.is_honest limits w (played line is_flush (event_of event.now) ∷ [])
         world.new (W.written writer.old) (W.written writer.new) result }
     ensures stopped { IfErr result (λ error. IsAtLine line error) }
-    ensures cause { IfErr result (KeepsCause world.new.stopped) }
-    ensures going { OnOk result (world.old.stopped ≡ None → world.new.stopped ≡ None) }
+    ensures cause { KeepsCause world.old.stopped world.new.stopped result }
     ensures failed { FailsToWrite (W.failures writer.old) (W.failures writer.new) result }
-    ensures memory { IsErrOf result PlayError.Memory → (limits : Bounds) → (w : session.World) →
-        Shows L.is_honest world.old limits w → ShowsTooDeep L.is_honest limits world.new }
+    ensures memory { LacksMemoryOnlyTooDeep L.is_honest world.old world.new result }
 {
     let before = Before::new(event.client(), world);
     let outcome = match world.step(event) {
@@ -271,7 +262,7 @@ impl Before {
         ensures client { result.client ≡ client }
         ensures heard { (limits : Bounds) (w : session.World) →
             Shows L.is_honest world.now limits w →
-            AreShownOn result.replies result.pushes (connection_at w.connections client) }
+            AreShownOn result.replies result.pushes (session.connection_at w.connections client) }
     {
         if client == 0 || client > world.clients() {
             return Before {
@@ -300,14 +291,12 @@ impl Before {
         ensures prints { (limits : Bounds) (next : session.World) →
             Shows L.is_honest world.now limits next → (c : Option Connection) →
             AreShownOn self.now.replies self.now.pushes c →
-            AreThere outcome c (connection_at next.connections self.now.client) →
+            AreThere outcome c (session.connection_at next.connections self.now.client) →
             PlaysText (W.written writer.old) (W.written writer.new) (W.failures writer.old)
             (W.failures writer.new) result (outcome_text self.now.client is_flush
-            (outcome_of outcome) c (connection_at next.connections self.now.client)) }
+            (outcome_of outcome) c (session.connection_at next.connections self.now.client)) }
         ensures ends { EndsPrint (W.failures writer.old) (W.failures writer.new) result }
-        ensures memory { IsErrOf result PlayError.Memory → (limits : Bounds) →
-            (next : session.World) → Shows L.is_honest world.now limits next →
-            ShowsTooDeep L.is_honest limits world.now }
+        ensures memory { LacksMemoryOnlyTooDeep L.is_honest world.now world.now result }
     {
         match outcome {
             Outcome::Done => self.write_heard(alloc, world, writer),
@@ -325,14 +314,12 @@ impl Before {
     ) -> Result<(), PlayError>
         ensures prints { (limits : Bounds) (next : session.World) →
             Shows L.is_honest world.now limits next → (c : Connection) →
-            connection_at next.connections self.now.client ≡ Some c →
+            session.connection_at next.connections self.now.client ≡ Some c →
             PlaysText (W.written writer.old) (W.written writer.new) (W.failures writer.old)
             (W.failures writer.new) result
             (heard_text self.now.client self.now.replies self.now.pushes c) }
         ensures ends { EndsPrint (W.failures writer.old) (W.failures writer.new) result }
-        ensures memory { IsErrOf result PlayError.Memory → (limits : Bounds) →
-            (next : session.World) → Shows L.is_honest world.now limits next →
-            ShowsTooDeep L.is_honest limits world.now }
+        ensures memory { LacksMemoryOnlyTooDeep L.is_honest world.now world.now result }
     {
         if self.client == 0 || self.client > world.clients() {
             return Ok(());

@@ -1,5 +1,6 @@
 -- Where the values of a stream begin, as more of its bytes come.
 use Rattle.std.proofs.Common.{◌≡◌, ◌≤◌, inl, inr, ℕ, ◌+◌, ◌-◌, List, [], ◌∷◌, ◌++◌, length, drop, take, refl, sym, ap, ◌∙◌, arith, append_assoc, append-nil, subst, length-append}
+use Rattle.std.proofs.Math.Seq.{drop-append_seam}
 use Rattle.std.proofs.lemmas.List.{take-append-drop}
 use Rattle.resp_value.specs.Devices.{last_count}
 use Rattle.resp_value.specs.Rules.{Rules, WithinTotal}
@@ -17,33 +18,26 @@ use Rattle.resp_tool.specs.declared.starts.Starts.{Starts}
 use Rattle.resp_tool.proofs.Rendered.{spelled_on, spelled_one}
 use Rattle.resp_tool.proofs.Scanned.{scanned_nothing}
 
--- more bytes
-pub begins_on : (r : Rules) (bytes more : List ℕ) (count start : ℕ) → BeginsAt r bytes count start → BeginsAt r (bytes ++ more) count start
-begins_on r bytes more count start b = record {
+-- more bytes, under the same rules, with the same counts
+abbrev pub begins_on : {r r' : Rules} {bytes : List ℕ} {count count' start start' : ℕ} (more : List ℕ) → r' ≡ r → count' ≡ count → start' ≡ start →
+    BeginsAt r bytes count start → BeginsAt r' (bytes ++ more) count' start'
+begins_on more same values start b = record {
   values = b.values;
   front = b.front;
   rest = b.rest ++ more;
-  spelled = b.spelled;
+  spelled = rw same b.spelled;
   whole = ap (λ z. z ++ more) b.whole ∙ append_assoc b.front b.rest more;
-  counted = b.counted;
-  placed = b.placed;
+  counted = b.counted ∙ sym values;
+  placed = λ small. start ∙ b.placed small;
 }
 
 -- a byte was refused in them, or before
-pub passed_refused : (starts after : Starts) (bytes more : List ℕ) (fault : Fault) (h : HavePassed starts bytes) →
+pub passed_refused : {starts : Starts} (after : Starts) {bytes : List ℕ} (more : List ℕ) (fault : Fault) (h : HavePassed starts bytes) →
     rules_of after.scanner ≡ rules_of starts.scanner → after.values ≡ starts.values → after.start ≡ starts.start → IsFaulted after.scanner fault →
     ((given : Events) → HasScanned starts.scanner h.begins.rest given → IsViable (rules_of starts.scanner) WithinTotal (h.begins.rest ++ more) → ⊥) →
     HavePassed after (bytes ++ more)
-passed_refused starts after bytes more fault h same values start faulted refused = record {
-  begins = record {
-    values = h.begins.values;
-    front = h.begins.front;
-    rest = h.begins.rest ++ more;
-    spelled = rw same h.begins.spelled;
-    whole = ap (λ z. z ++ more) h.begins.whole ∙ append_assoc h.begins.front h.begins.rest more;
-    counted = h.begins.counted ∙ sym values;
-    placed = λ small. start ∙ h.begins.placed small;
-  };
+passed_refused {starts} after {bytes} more fault h same values start faulted refused = record {
+  begins = begins_on more same values start h.begins;
   come = inr (fault, faulted, λ viable. not_viable h.come (subst (λ z. IsViable z WithinTotal (h.begins.rest ++ more)) same viable));
 }
   where
@@ -53,28 +47,20 @@ passed_refused starts after bytes more fault h same values start faulted refused
         dead (fronts_of_viable_texts_are_viable (rules_of starts.scanner) WithinTotal h.begins.rest more viable)
 
 -- no value has ended in them
-pub passed_on : (starts after : Starts) (bytes more : List ℕ) (H : Events → Type 0) (h : HavePassed starts bytes) →
+pub passed_on : {starts : Starts} (after : Starts) {bytes : List ℕ} (more : List ℕ) {H : Events → Type 0} (h : HavePassed starts bytes) →
     rules_of after.scanner ≡ rules_of starts.scanner → after.values ≡ starts.values → after.start ≡ starts.start →
     HearsPiece after.scanner H (h.begins.rest ++ more) → HavePassed after (bytes ++ more)
-passed_on starts after bytes more H h same values start hears = record {
-  begins = record {
-    values = h.begins.values;
-    front = h.begins.front;
-    rest = h.begins.rest ++ more;
-    spelled = rw same h.begins.spelled;
-    whole = ap (λ z. z ++ more) h.begins.whole ∙ append_assoc h.begins.front h.begins.rest more;
-    counted = h.begins.counted ∙ sym values;
-    placed = λ small. start ∙ h.begins.placed small;
-  };
+passed_on after more h same values start hears = record {
+  begins = begins_on more same values start h.begins;
   come = inl (hears.heard, record { reads = hears.reads; all_due = hears.all_due; no_value = hears.no_value });
 }
 
 -- a value has ended with them
-pub passed_value : (starts after : Starts) (bytes more : List ℕ) (H : Events → Type 0) (h : HavePassed starts bytes) →
+pub passed_value : {starts : Starts} (after : Starts) {bytes : List ℕ} (more : List ℕ) {H : Events → Type 0} (h : HavePassed starts bytes) →
     rules_of after.scanner ≡ rules_of starts.scanner → after.values ≡ starts.values + 1 →
     (starts.start + length (h.begins.rest ++ more) ≤ last_count → after.start ≡ starts.start + length (h.begins.rest ++ more)) →
     HearsValue (rules_of starts.scanner) after.scanner H (h.begins.rest ++ more) → HavePassed after (bytes ++ more)
-passed_value starts after bytes more H h same values start hears =
+passed_value {starts} after more h same values start hears =
     let b = h.begins in
     let tree = hears.is_value.tree in
     let x = value tree in
@@ -85,8 +71,7 @@ passed_value starts after bytes more H h same values start hears =
         values = b.values ++ x ∷ [];
         front = b.front ++ next;
         rest = [];
-        spelled = rw same (spelled_on (rules_of starts.scanner) b.values (x ∷ []) b.front next b.spelled
-            (spelled_one (rules_of starts.scanner) x next spelling));
+        spelled = rw same (spelled_on (rules_of starts.scanner) b.values (x ∷ []) b.front next b.spelled (spelled_one spelling));
         whole = ap (λ z. z ++ more) b.whole ∙ append_assoc b.front b.rest more ∙ sym (append-nil (b.front ++ next));
         counted = omega (arith, b.counted, values, length-append b.values (x ∷ []));
         placed = λ small.
@@ -119,8 +104,4 @@ last_kept bytes more gone held beyond is =
 pub last_of : (xs ys all : List ℕ) → all ≡ xs ++ ys → drop (length all - length ys) all ≡ ys
 last_of xs ys all is =
     let size : length all - length ys ≡ length xs = omega (arith, ap length is, length-append xs ys) in
-    ap (λ k. drop k all) size ∙ ap (drop (length xs)) is ∙ beyond xs ys
-  where
-    beyond : (xs ys : List ℕ) → drop (length xs) (xs ++ ys) ≡ ys
-    beyond [] ys = refl
-    beyond (x ∷ xs) ys = beyond xs ys
+    ap (λ k. drop k all) size ∙ ap (drop (length xs)) is ∙ drop-append_seam xs ys

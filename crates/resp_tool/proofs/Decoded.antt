@@ -1,5 +1,5 @@
 -- What `show --json` has read and written, from what the calls of its decoder say.
-use Rattle.std.proofs.Common.{◌≡◌, ◌⊎◌, inl, inr, ℕ, ◌<◌, true, List, [], ◌∷◌, ◌++◌, length, take, drop, IfErr, IfOk, Option, Result, Ok, Err, refl, sym, ap, subst, ◌∙◌, append-nil, append_assoc, take-append-drop}
+use Rattle.std.proofs.Common.{◌≡◌, ◌⊎◌, inl, inr, ℕ, ◌<◌, true, List, [], ◌++◌, take, IfErr, IfOk, Option, Result, Ok, Err, refl, sym, ap, subst}
 use Rattle.resp_value.specs.Devices.{Appends}
 use Rattle.resp_value.specs.Rules.{Rules}
 use Rattle.resp_value.specs.Values.{datum_of}
@@ -9,19 +9,17 @@ use Rattle.resp_value.specs.declared.value.Value.{Value}
 use Rattle.resp_scan.specs.Reading.{HasNoValue}
 use Rattle.resp_scan.specs.declared.event.Fault.{Fault}
 use Rattle.resp_decode.proofs.Feeding.{no_value_at_start}
-use Rattle.resp_decode.specs.Decoding.{GivesValue, HasTaken, LacksMemory, RefusesByte, TakesPiece}
+use Rattle.resp_decode.specs.Decoding.{GivesValue, HasTaken, LacksMemory, RefusesByte}
 use Rattle.resp_decode.specs.declared.decoder.Decoder.{Decoder}
 use Rattle.resp_json.specs.Json.{json_line}
-use Rattle.resp_print.proofs.WrittenLemmas.{Appends-none}
-use Rattle.resp_print.specs.Written.{AppendsPart, WritesText}
+use Rattle.resp_print.specs.Written.{WritesText}
 use Rattle.resp_tool.specs.Counts.{IsAny, LeavesNothing}
 use Rattle.resp_tool.specs.Decoded.{HasDecoded, stop_by, stop_of}
-use Rattle.resp_tool.specs.Takings.{IsByteFault, LeavesRefused, Takes, TakesUnfinished, WritesPart, WritesValue}
+use Rattle.resp_tool.specs.Takings.{Takes, WritesValue}
 use Rattle.resp_tool.specs.declared.rendering.Stop.{Stop}
 use Rattle.resp_tool.specs.declared.rendering.Stop.TheVariants.{Write}
 use Rattle.resp_tool.specs.declared.rendering.Taken.{Taken}
-use Rattle.resp_tool.proofs.Rendered.{spelled_one}
-use Rattle.resp_tool.proofs.Scanned.{value_uses_some}
+use Rattle.resp_tool.proofs.Scanned.{no_part, nothing_left, part_of_value, value_uses_some}
 
 -- a decoder before the first value
 pub decoded_nothing : (d : Decoder) → HasTaken d [] → HasDecoded d [] []
@@ -44,68 +42,18 @@ decoded_value r d front piece so_far used value before after none nothing gives 
   },
 )
 
--- a piece at the place where a value ends
-cut : (front piece : List ℕ) (used : ℕ) → front ++ piece ≡ (front ++ take used piece) ++ drop used piece
-cut front piece used = ap (λ z. front ++ z) (sym (take-append-drop used piece)) ∙ sym (append_assoc front (take used piece) (drop used piece))
-
--- a value that was read, and the first part of its line was written
-pub decoded_part : (r : Rules) (d : Decoder) (front piece so_far : List ℕ) (used : ℕ) (value : Value) (before after : Option (List ℕ)) →
-    so_far ≡ [] → GivesValue r d (front ++ take used piece) value → AppendsPart before after (json_line (datum_of value)) →
-    WritesPart r json_line LeavesNothing (front ++ piece) so_far before after
-decoded_part r d front piece so_far used value before after nothing gives written = record {
-  values = datum_of value ∷ [];
-  front = front ++ take used piece;
-  beyond = drop used piece;
-  split = cut front piece used;
-  spelled = spelled_one r (datum_of value) (front ++ take used piece) gives.spelling;
-  begun = [];
-  is_begun = refl;
-  more = written.part;
-  later = written.beyond;
-  parts = append-nil (json_line (datum_of value) ++ []) ∙ append-nil (json_line (datum_of value)) ∙ written.whole ∙
-      ap (λ z. z ++ (written.part ++ written.beyond)) (sym nothing);
-  appended = written.appended;
-}
-
--- a byte that is refused
-refused_byte : (r : Rules) (front piece so_far : List ℕ) (held : Option (List ℕ)) (fault : Fault) → so_far ≡ [] → RefusesByte r front piece fault →
-    LeavesRefused r (IsByteFault r) LeavesNothing (front ++ piece) so_far held held fault.cause fault.at
-refused_byte r front piece so_far held fault nothing refuses = record {
-  fault = record { rule = refuses.rule; names = refuses.names; fault_of = refuses.fault_of };
-  no_spelling = refuses.no_value;
-  more = [];
-  appended = Appends-none held;
-  is_left = append-nil so_far ∙ nothing;
-}
-
--- nothing more was written
-no_part : (r : Rules) (whole so_far : List ℕ) (held : Option (List ℕ)) → so_far ≡ [] → WritesPart r json_line LeavesNothing whole so_far held held
-no_part r whole so_far held nothing = record {
-  values = [];
-  front = [];
-  beyond = whole;
-  split = refl;
-  spelled = refl;
-  begun = [];
-  is_begun = refl;
-  more = [];
-  later = [];
-  parts = sym (append-nil so_far ∙ nothing);
-  appended = Appends-none held;
-}
-
 -- a fault of the decoder
 pub decoded_fault : (r : Rules) (d : Decoder) (front piece so_far : List ℕ) (held : Option (List ℕ)) (fault : Fault) → so_far ≡ [] →
     RefusesByte r front piece fault ⊎ LacksMemory r front piece fault →
     Takes r json_line IsAny LeavesNothing LeavesNothing (HasDecoded d) front piece so_far held held (Err (stop_of fault))
 decoded_fault r d front piece so_far held fault nothing (inr lacks) =
     subst (λ c. Takes r json_line IsAny LeavesNothing LeavesNothing (HasDecoded d) front piece so_far held held (Err (stop_by c fault))) (sym lacks.names)
-    (no_part r (front ++ piece) so_far held nothing)
+    (no_part nothing)
 decoded_fault r d front piece so_far held fault nothing (inl refuses) = by_cause fault.cause
   where
     by_cause : (c : Cause) → Takes r json_line IsAny LeavesNothing LeavesNothing (HasDecoded d) front piece so_far held held (Err (stop_by c fault))
-    by_cause cause.OutOfMemory = no_part r (front ++ piece) so_far held nothing
-    by_cause c = refused_byte r front piece so_far held fault nothing refuses
+    by_cause cause.OutOfMemory = no_part nothing
+    by_cause c = nothing_left nothing (record { rule = refuses.rule; names = refuses.names; fault_of = refuses.fault_of }) refuses.no_value
 
 -- the same of the error that a call returns for it
 pub decoded_stop : (r : Rules) (d : Decoder) (front piece so_far : List ℕ) (held : Option (List ℕ)) (fault : Fault) (stop : Stop) → stop ≡ stop_of fault →
@@ -126,4 +74,4 @@ decoded_line r d front piece so_far used value before after failures failures' (
     (decoded_value r d front piece so_far used value before after none nothing gives written.0)
 decoded_line r d front piece so_far used value before after failures failures' (Err stop) none nothing gives written whole stops =
     subst (λ z. Takes r json_line IsAny LeavesNothing LeavesNothing (HasDecoded d) front piece so_far before after (Err z)) (sym stops)
-    (decoded_part r d front piece so_far used value before after nothing gives written.0)
+    (part_of_value json_line (datum_of value) front piece used nothing gives.spelling written.0)

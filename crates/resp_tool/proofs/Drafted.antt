@@ -1,5 +1,5 @@
 -- What `canon` has taken and written of a value, from what the scanner says and the draft has.
-use Rattle.std.proofs.Common.{◌≡◌, ℕ, ◌<◌, ◌≤◌, List, [], ◌∷◌, ◌++◌, length, take, drop, Option, Some, refl, sym, ap, subst, ◌∙◌, arith, append_assoc, append-nil, take-append-drop}
+use Rattle.std.proofs.Common.{◌≡◌, ℕ, ◌<◌, ◌≤◌, List, [], ◌++◌, length, take, drop, Option, Some, refl, sym, ap, subst, ◌∙◌, arith, append-nil}
 use Rattle.resp_value.specs.Canonical.{canonical_text, Fits}
 use Rattle.resp_value.specs.Data.{Datum}
 use Rattle.resp_value.specs.Devices.{Appends}
@@ -21,8 +21,7 @@ use Rattle.resp_tool.specs.Takings as tool
 use Rattle.resp_print.specs.Written.{AppendsPart}
 use Rattle.resp_tool.specs.declared.draft.Draft.{Draft}
 use Rattle.resp_tool.proofs.Drafting.{draft_is_text}
-use Rattle.resp_tool.proofs.Scanned.{scanned_nothing, value_uses_some}
-use Rattle.resp_tool.proofs.Rendered.{spelled_one}
+use Rattle.resp_tool.proofs.Scanned.{cut, part_of_value, scanned_nothing, value_uses_some}
 use Rattle.resp_print.proofs.WrittenLemmas.{Appends-none}
 
 -- a value that was read whole, and the draft of it, which has its text
@@ -78,27 +77,6 @@ drafts_value law r s draft next front piece so_far before after used none nothin
       },
     )
 
--- nothing more was written
-pub no_part : (r : Rules) (whole so_far : List ℕ) (held : Option (List ℕ)) → so_far ≡ [] →
-    tool.WritesPart r (canonical_text r.version) LeavesNothing whole so_far held held
-no_part r whole so_far held nothing = record {
-  values = [];
-  front = [];
-  beyond = whole;
-  split = refl;
-  spelled = refl;
-  begun = [];
-  is_begun = refl;
-  more = [];
-  later = [];
-  parts = sym (append-nil so_far ∙ nothing);
-  appended = Appends-none held;
-}
-
--- a piece at the place where a value ends
-cut : (front piece : List ℕ) (used : ℕ) → front ++ piece ≡ (front ++ take used piece) ++ drop used piece
-cut front piece used = ap (λ z. front ++ z) (sym (take-append-drop used piece)) ∙ sym (append_assoc front (take used piece) (drop used piece))
-
 -- a value whose text is over the limit of total
 pub declines : (r : Rules) (s : Place) (draft : Draft) (front piece so_far : List ℕ) (used : ℕ) (held : Option (List ℕ)) → so_far ≡ [] →
     HearsValue r s (HasDrafted r.version draft) (front ++ take used piece) → r.limits.total < length draft.text.items →
@@ -116,33 +94,13 @@ declines r s draft front piece so_far used held nothing h over =
       appended = Appends-none held;
     }
 
--- a first part of a text that was to be written
-pub part_of_value : (r : Rules) (x : Datum) (front piece so_far : List ℕ) (used : ℕ) (before after : Option (List ℕ)) → so_far ≡ [] →
-    IsSpelling r x (front ++ take used piece) → AppendsPart before after (canonical_text r.version x) →
-    tool.WritesPart r (canonical_text r.version) LeavesNothing (front ++ piece) so_far before after
-part_of_value r x front piece so_far used before after nothing spelling written = record {
-  values = x ∷ [];
-  front = front ++ take used piece;
-  beyond = drop used piece;
-  split = cut front piece used;
-  spelled = spelled_one r x (front ++ take used piece) spelling;
-  begun = [];
-  is_begun = refl;
-  more = written.part;
-  later = written.beyond;
-  parts =
-      let whole = canonical_text r.version x in
-      append-nil (whole ++ []) ∙ append-nil whole ∙ written.whole ∙ ap (λ z. z ++ (written.part ++ written.beyond)) (sym nothing);
-  appended = written.appended;
-}
-
--- and of the text of a draft
+-- a first part of the text of a draft
 pub part_of_draft : (r : Rules) (s : Place) (draft : Draft) (front piece so_far : List ℕ) (used : ℕ) (before after : Option (List ℕ)) → so_far ≡ [] →
     HearsValue r s (HasDrafted r.version draft) (front ++ take used piece) → AppendsPart before after draft.text.items →
     tool.WritesPart r (canonical_text r.version) LeavesNothing (front ++ piece) so_far before after
 part_of_draft r s draft front piece so_far used before after nothing h written =
     let is = is_drafted r s draft (front ++ take used piece) h in
-    part_of_value r is.x front piece so_far used before after nothing is.spelling (subst (AppendsPart before after) is.text written)
+    part_of_value (canonical_text r.version) is.x front piece used nothing is.spelling (subst (AppendsPart before after) is.text written)
 
 -- a piece that was taken whole
 pub drafts_front : (r : Rules) (s : Place) (draft : Draft) (front piece so_far : List ℕ) (held : Option (List ℕ)) → so_far ≡ [] →

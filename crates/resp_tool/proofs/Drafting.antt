@@ -1,6 +1,6 @@
 -- A draft takes in events: what it has is the canonical text of what they build.
-use Rattle.std.proofs.Common.{◌≡◌, ℕ, ◌+◌, ◌-◌, ◌<◌, Bool, true, false, Option, None, Some, List, [], ◌∷◌, ◌++◌, length, take, drop, get_or, reverse, refl, sym, ap, subst, ◌∙◌, append_assoc, append-nil, length-append, arith}
-use Rattle.std.specs.Prelude.{flat_map}
+use Rattle.std.proofs.Common.{◌≡◌, ℕ, ◌+◌, ◌-◌, ◌<◌, Bool, true, false, Option, None, Some, List, [], ◌∷◌, ◌++◌, length, take, drop, get_or, reverse, OnOk, Result, Ok, Err, refl, sym, ap, subst, ◌∙◌, append_assoc, append-nil, length-append, arith}
+use Rattle.std.specs.Prelude.{flat_map, is_ok}
 use Rattle.std.proofs.Common.{inl, inr}
 use Rattle.std.proofs.lemmas.List.{reverse-append}
 use Rattle.std.proofs.Math.ListN.{set}
@@ -273,15 +273,6 @@ draft_whole_text old new b kind s may is version same_kind same_content added co
     (draft_value old.version (reverse old.aggregates.items) old.text.items new b (text_value (text_kind_of kind) s) no_text none (open_at old b none is) version
     (still old.kind new.kind old.content.items new.content.items b.text same_kind (ap (λ c. c.items) same_content) no_text is.read) added counts)
 
--- ---- a scalar without content
-
-pub draft_scalar : (old new : Draft) (b : Construction) (x : Datum) → MayBegin b → IsDraftOf old b → new.version ≡ old.version → new.kind ≡ old.kind →
-    new.content ≡ old.content → new.text.items ≡ old.text.items ++ canonical_text old.version x →
-    CountsOne (reverse old.aggregates.items) (reverse new.aggregates.items) → IsDraftOf new (with_value x b)
-draft_scalar old new b x may is version kind content added counts =
-    draft_value old.version (reverse old.aggregates.items) old.text.items new b x may.0 may.1 (open_at old b may.1 is) version
-    (still old.kind new.kind old.content.items new.content.items b.text kind (ap (λ c. c.items) content) may.0 is.read) added counts
-
 -- ---- the listener
 
 -- a call that hears these events, or stops
@@ -293,6 +284,31 @@ draft_hears old new more true drafts version given (same, is) may =
     let (kept, more_is) = drafts (built_from given) (room_for given more may).may is refl in
     (kept ∙ same, subst (IsDraftOf new) (sym (with_events-append given more nothing)) more_is)
 draft_hears old new more false drafts version given is may = record { told = more; later = []; parts = sym (append-nil more); has_stopped = tt }
+
+-- a call that appends the text of a scalar without content, and then counts its value
+pub hears_scalar : {E : Type 0} (old mid new : Draft) (event : e.Event) (x : Datum) (written : Result (Unit {0}) E) (goes_on : Bool) →
+    ((b : Construction) → with_events (event ∷ []) b ≡ with_value x b) → ((b : Construction) → MayAllCome (event ∷ []) b → MayBegin b) →
+    mid ≡ record old { text = mid.text } → OnOk written (mid.text.items ≡ old.text.items ++ canonical_text old.version x) →
+    new ≡ record mid { aggregates = new.aggregates } → (goes_on ≡ true → is_ok written ≡ true) →
+    (goes_on ≡ true → CountsOne (reverse mid.aggregates.items) (reverse new.aggregates.items)) → DraftHears old new (event ∷ []) goes_on
+hears_scalar old mid new event x written goes_on builds begins wrote appends ended if_written counted =
+    draft_hears old new (event ∷ []) goes_on (λ b may is goes.
+    let begun = begins b may in
+    let added : mid.text.items ≡ old.text.items ++ canonical_text old.version x = on_ok written (if_written goes) appends in
+    let same : new ≡ record old { text = mid.text; aggregates = new.aggregates } =
+    ended ∙ ap (λ z. let h : Draft = z in record h { aggregates = new.aggregates }) wrote in
+    let version = ap (λ z. let h : Draft = z in h.version) same in
+    let counts = subst (λ z. let h : Draft = z in CountsOne (reverse h.aggregates.items) (reverse new.aggregates.items)) wrote (counted goes) in (
+      version,
+      subst (IsDraftOf new) (sym (builds b))
+          (draft_value old.version (reverse old.aggregates.items) old.text.items new b x begun.0 begun.1 (open_at old b begun.1 is) version
+          (still old.kind new.kind old.content.items new.content.items b.text (ap (λ z. let h : Draft = z in h.kind) same)
+          (ap (λ z. let h : Draft = z in h.content.items) same) begun.0 is.read) (ap (λ z. let h : Draft = z in h.text.items) same ∙ added) counts),
+    ))
+  where
+    on_ok : {E : Type 0} {P : Type 0} (written : Result (Unit {0}) E) → is_ok written ≡ true → OnOk written P → P
+    on_ok (Ok u) is p = p
+    on_ok (Err error) is p = absurd (cc)
 
 -- once a value is whole, the draft is its text
 pub draft_is_text : (draft : Draft) (x : Datum) → IsDraftOf draft (record nothing { whole = Some x }) → draft.text.items ≡ canonical_text draft.version x

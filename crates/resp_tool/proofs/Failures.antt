@@ -1,10 +1,8 @@
 -- Which device failed when the status is 3.
-use Rattle.std.proofs.Common.{◌≡◌, ℕ, false, List, Option, Result, Err, IsErrOf, inl, inr, refl, ap}
-use Rattle.resp_args.specs.Faults.{TellsFailure, status_of}
-use Rattle.resp_args.specs.declared.tool_error.ToolError.{ToolError}
-use Rattle.resp_args.specs.declared.tool_error.ToolError.TheVariants.{Refused, OverLimits, TooManyValues, Read, Write, TooManyTurns, Memory}
+use Rattle.std.proofs.Common.{◌≡◌, ℕ, List, Option, Result, Err, IsErrOf, inl, inr, refl, ap}
+use Rattle.resp_args.specs.Faults.{TellsFailure}
+use Rattle.resp_args.specs.declared.tool_error.ToolError.TheVariants.{Write, Memory}
 use Rattle.resp_tool.specs.Runs.{FailsAtThree}
-use Rattle.resp_tool.specs.Streams.{is_of_reader, is_of_writer}
 
 -- a status that was returned
 pub status_is : {X : Type 0} (status n : ℕ) → status ≡ n → IsErrOf {T = X} (Err status) n

@@ -6,7 +6,7 @@ use Rattle.std.proofs.lemmas.List.{append_cancel_right}
 use Rattle.std.proofs.lemmas.List.Elements.{Contains-append_left, Contains-append_right, Contains-append_cases, Contains-push, Contains-push_cases}
 use Rattle.std.proofs.lemmas.Bool.{eq-eqb}
 use Rattle.std.proofs.Math.Seq.{take-append_seam}
-use Rattle.resp_tool.specs.Hints.{Ends, EndsWithContent, EndsWithLength, EndsWithMark, EndsWithNumber, IsMark, Shows}
+use Rattle.resp_tool.specs.Hints.{Ends, EndsWithContent, EndsWithLength, EndsWithMark, EndsWithNumber, Shows}
 use Rattle.resp_tool.specs.declared.hint.Clue.{Clue}
 
 -- all bytes are digits

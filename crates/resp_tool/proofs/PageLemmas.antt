@@ -1,5 +1,5 @@
 -- What is open in the lines so far.
-use Rattle.std.proofs.Common.{◌≡◌, ℕ, ℤ, suc, ◌+◌, ◌-◌, ◌<◌, ◌≤◌, ◌^◌, Bool, cond, Option, None, Some, Result, Ok, Err, List, [], ◌∷◌, ◌++◌, length, map, reverse, codes, decimal, refl, sym, ap, subst, ◌∙◌, append_assoc, append-nil, arith}
+use Rattle.std.proofs.Common.{◌≡◌, ℕ, ℤ, suc, ◌+◌, ◌-◌, ◌<◌, ◌≤◌, ◌^◌, Option, None, Some, Result, Ok, Err, List, [], ◌∷◌, ◌++◌, length, map, reverse, codes, decimal, refl, sym, ap, subst, ◌∙◌, append_assoc, append-nil, arith}
 use Rattle.std.specs.Fmt.{signed_decimal}
 use Rattle.std.specs.Result.{IsErr, OnOk}
 use Rattle.std.proofs.lemmas.List.{length-reverse}
@@ -13,7 +13,7 @@ use Rattle.resp_value.specs.Devices.{Appends, count_after}
 use Rattle.resp_print.specs.Shown.{indentation, quoted_byte, quoted_text}
 use Rattle.resp_print.specs.Written.{AppendsPart, WritesText}
 use Rattle.resp_tool.specs.Lines.{HasRoomFor, around, innermost, line_of, page_of}
-use Rattle.resp_tool.specs.Pages.{OpenLine, OpenText, Page, beginning, end_of_text, has_all_pairs, is_big, last_line, of_line, page_after, shown_on, text_line, text_words, with_byte, with_bytes, with_member, with_value}
+use Rattle.resp_tool.specs.Pages.{OpenLine, OpenText, Page, beginning, end_of_text, is_big, last_line, page_after, shown_on, text_line, text_words, with_byte, with_bytes, with_member, with_value}
 use Rattle.resp_tool.specs.declared.lines.Lines.{Lines}
 use Rattle.resp_tool.specs.declared.lines.OpenLine as line
 use Rattle.resp_tool.proofs.ShownTrees.{page-append, shown-append}

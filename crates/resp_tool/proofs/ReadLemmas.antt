@@ -1,6 +1,5 @@
 -- What was read so far.
 use Rattle.std.proofs.Common.{◌≡◌, ℕ, zero, suc, ◌+◌, ◌*◌, ◌<◌, ◌≤◌, List, [], ◌++◌, length, take, drop, Option, None, Some, Ok, Err, refl, sym, ap, subst, ◌∙◌, arith, append_assoc, append-nil, take-append-drop}
-use Rattle.std.specs.Option.{IfSome}
 use Rattle.std.proofs.lemmas.List.{take-take, take-append-le}
 use Rattle.resp_value.specs.Devices.{Reads, count_after}
 use Rattle.resp_value.specs.declared.device.DeviceFault.{DeviceFault}

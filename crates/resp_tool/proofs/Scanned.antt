@@ -1,10 +1,11 @@
 -- What a scanner has read of a value, from what its calls say.
-use Rattle.std.proofs.Common.{◌≡◌, inl, inr, ℕ, zero, suc, ◌<◌, Bool, true, false, List, [], ◌∷◌, ◌++◌, length, take, MatchBool, Option, refl, sym, subst, ◌∙◌, arith, append-nil}
+use Rattle.std.proofs.Common.{◌≡◌, inl, inr, ℕ, zero, suc, ◌<◌, Bool, true, false, List, [], ◌∷◌, ◌++◌, length, take, drop, MatchBool, Option, refl, sym, ap, subst, ◌∙◌, arith, append_assoc, append-nil, take-append-drop}
 use Rattle.std.proofs.lemmas.List.{take_all}
+use Rattle.resp_value.specs.Data.{Datum}
 use Rattle.resp_value.specs.Trees.{Tree, Spells}
 use Rattle.resp_value.specs.TreeValues.{value}
 use Rattle.resp_value.specs.Rules.{Rules, WithinTotal}
-use Rattle.resp_value.specs.Spellings.{IsViable}
+use Rattle.resp_value.specs.Spellings.{IsSpelling, IsViable}
 use Rattle.resp_value.specs.declared.cause.Cause.{Cause}
 use Rattle.resp_value.specs.declared.cause.Cause.TheVariants as cause
 use Rattle.resp_fronts.specs.Events.{all_events}
@@ -16,8 +17,10 @@ use Rattle.resp_scan.specs.declared.event.Scanned.{Scanned}
 use Rattle.resp_decode.proofs.Feeding.{due_at_start, fault_of_refused, no_value_at_start}
 use Rattle.resp_tool.specs.Counts.{IsAny, LeavesNothing, no_text}
 use Rattle.resp_tool.specs.Scans.{HasLookedAt, HasScanned}
-use Rattle.resp_tool.specs.Takings.{IsByteFault, IsEndFault, LeavesRefused, TakesUnfinished, WritesValue}
+use Rattle.resp_tool.specs.Takings.{IsByteFault, IsEndFault, LeavesRefused, TakesUnfinished, WritesPart, WritesValue}
+use Rattle.resp_print.specs.Written.{AppendsPart}
 use Rattle.resp_print.proofs.WrittenLemmas.{Appends-none}
+use Rattle.resp_tool.proofs.Rendered.{spelled_one}
 
 -- between two values nothing was scanned
 pub scanned_nothing : (s : Place) → HasRead s [] [] → HasScanned s [] []
@@ -107,16 +110,11 @@ looks_on r s s' H front piece so_far held scanned looked whole part all viable =
           },
         )
 
--- a byte that is refused where nothing was written
-pub nothing_left : (r : Rules) (H : Events → Type 0) (front piece so_far : List ℕ) (held : Option (List ℕ)) (fault : Fault) → so_far ≡ [] →
-    HearsRefusal r H front piece fault → LeavesRefused r (IsByteFault r) LeavesNothing (front ++ piece) so_far held held fault.cause fault.at
-nothing_left r H front piece so_far held fault nothing h = record {
-  fault = byte_fault r front piece fault h.heard h.refused;
-  no_spelling = h.refused.no_value;
-  more = [];
-  appended = Appends-none held;
-  is_left = append-nil so_far ∙ nothing;
-}
+-- a rest that is refused where nothing was written
+pub nothing_left : {r : Rules} {F : List ℕ → Cause → ℕ → Type 0} {whole so_far : List ℕ} {held : Option (List ℕ)} {c : Cause} {at : ℕ} → so_far ≡ [] →
+    F whole c at → HasNoSpelling r whole → LeavesRefused r F LeavesNothing whole so_far held held c at
+nothing_left {r} {F} {whole} {so_far} {held} nothing fault none =
+    record { fault = fault; no_spelling = none; more = []; appended = Appends-none held; is_left = append-nil so_far ∙ nothing }
 
 pub looks_refused : (r : Rules) (s : Place) (H : Events → Type 0) (front piece so_far : List ℕ) (held : Option (List ℕ)) (fault : Fault) →
     HasLookedAt s front so_far →
@@ -124,16 +122,51 @@ pub looks_refused : (r : Rules) (s : Place) (H : Events → Type 0) (front piece
     LeavesRefused r (IsByteFault r) LeavesNothing (front ++ piece) so_far held held fault.cause fault.at
 looks_refused r s H front piece so_far held fault looked refusal =
     let ((given, scanned_so), nothing) = looked in
-    nothing_left r H front piece so_far held fault nothing (refusal given scanned_so.reads)
+    let h = refusal given scanned_so.reads in
+    nothing_left nothing (byte_fault r front piece fault h.heard h.refused) h.refused.no_value
+
+-- nothing more was written
+pub no_part : {r : Rules} {text : Datum → List ℕ} {whole so_far : List ℕ} {held : Option (List ℕ)} → so_far ≡ [] →
+    WritesPart r text LeavesNothing whole so_far held held
+no_part {r} {text} {whole} {so_far} {held} nothing = record {
+  values = [];
+  front = [];
+  beyond = whole;
+  split = refl;
+  spelled = refl;
+  begun = [];
+  is_begun = refl;
+  more = [];
+  later = [];
+  parts = sym (append-nil so_far ∙ nothing);
+  appended = Appends-none held;
+}
+
+-- a piece at the place where a value ends
+pub cut : (front piece : List ℕ) (used : ℕ) → front ++ piece ≡ (front ++ take used piece) ++ drop used piece
+cut front piece used = ap (λ z. front ++ z) (sym (take-append-drop used piece)) ∙ sym (append_assoc front (take used piece) (drop used piece))
+
+-- a first part of the text of a value that was read
+pub part_of_value : {r : Rules} (text : Datum → List ℕ) (x : Datum) (front piece : List ℕ) {so_far : List ℕ} (used : ℕ) {before after : Option (List ℕ)} →
+    so_far ≡ [] → IsSpelling r x (front ++ take used piece) → AppendsPart before after (text x) →
+    WritesPart r text LeavesNothing (front ++ piece) so_far before after
+part_of_value {r} text x front piece {so_far} used {before} {after} nothing spelling written = record {
+  values = x ∷ [];
+  front = front ++ take used piece;
+  beyond = drop used piece;
+  split = cut front piece used;
+  spelled = spelled_one spelling;
+  begun = [];
+  is_begun = refl;
+  more = written.part;
+  later = written.beyond;
+  parts = append-nil (text x ++ []) ∙ append-nil (text x) ∙ written.whole ∙ ap (λ z. z ++ (written.part ++ written.beyond)) (sym nothing);
+  appended = written.appended;
+}
 
 -- the end of the input inside a value
 pub looks_truncated : (r : Rules) (front so_far : List ℕ) (held : Option (List ℕ)) (c : Cause) (at : ℕ) → HasNoValue front → IsViable r WithinTotal front →
     c ≡ cause.Truncated → at ≡ length front → (front ≡ [] → ⊥) → so_far ≡ [] →
     LeavesRefused r (IsEndFault r) LeavesNothing front so_far held held c at
-looks_truncated r front so_far held c at none viable names place begun nothing = record {
-  fault = ends_inside r front c at viable names place begun;
-  no_spelling = no_spelling_without_value r front none;
-  more = [];
-  appended = Appends-none held;
-  is_left = append-nil so_far ∙ nothing;
-}
+looks_truncated r front so_far held c at none viable names place begun nothing =
+    nothing_left nothing (ends_inside r front c at viable names place begun) (no_spelling_without_value r front none)

@@ -289,9 +289,9 @@ stopped_as H K r front piece (Err (stop.Stopped n)) so stops = record {
 -- What comes of a piece.
 
 -- what was shown before a call has been printed since its start
-pub printed_before : (s : Place) (lines : Lines) (front so_far : List ℕ) (held : Option (List ℕ)) (f : ℕ) (w : HasShown s lines front so_far) →
+pub printed_before : {s : Place} {lines : Lines} {front so_far : List ℕ} (held : Option (List ℕ)) (f : ℕ) (w : HasShown s lines front so_far) →
     HasPrinted (record { held = held; failures = f; so_far = so_far }) lines held f w.given
-printed_before s lines front so_far held f w = record {
+printed_before {s} {lines} {front} {so_far} held f w = record {
   shown_lines = w.shown_lines;
   more = [];
   appended = Appends-none held;
@@ -368,11 +368,11 @@ module _ (r : Rules) (since : Start) (front piece : List ℕ) (after : Option (L
       case false is = (part is).has_heard.none_failed
 
 -- a refused byte, after which an open line was ended
-pub shows_refused : (r : Rules) (since : Start) (front piece : List ℕ) (lines : Lines) (now after : Option (List ℕ)) (f : ℕ) (fault : Fault) →
+pub shows_refused : {r : Rules} {since : Start} {front piece : List ℕ} {lines : Lines} {now after : Option (List ℕ)} {f : ℕ} {fault : Fault} →
     HearsRefusal r (HasPrinted since lines now f) front piece fault →
     Appends now after (end_of_line (page_of lines).text) →
     LeavesRefused r (IsByteFault r) IsShownOf (front ++ piece) since.so_far since.held after fault.cause fault.at
-shows_refused r since front piece lines now after f fault h ended =
+shows_refused {r} {since} {front} {piece} {lines} {now} {after} {f} {fault} h ended =
     let w = h.has_heard in
     let ending = end_of_line (page_of lines).text in
     record {
@@ -410,10 +410,10 @@ part_shown r whole so_far size given before now after more text rest viable due 
     regroup a b c d = ap (λ z. a ++ z) (append_assoc b c d) ∙ sym (append_assoc a b (c ++ d))
 
 -- the write of a line's end failed
-pub shows_end_part : (r : Rules) (since : Start) (front piece : List ℕ) (lines : Lines) (now after : Option (List ℕ)) (f : ℕ) (fault : Fault) →
+pub shows_end_part : {r : Rules} {since : Start} {front piece : List ℕ} {lines : Lines} {now after : Option (List ℕ)} {f : ℕ} {fault : Fault} →
     HearsRefusal r (HasPrinted since lines now f) front piece fault → AppendsPart now after (end_of_line (page_of lines).text) →
     WritesPart r shown_text (IsShownIn r) (front ++ piece) since.so_far since.held after
-shows_end_part r since front piece lines now after f fault h part =
+shows_end_part {r} {since} {front} {piece} {lines} {now} {after} {f} {fault} h part =
     let w = h.has_heard in
     let given = h.heard in
     let ending = end_of_line (page_of lines).text in
@@ -423,9 +423,9 @@ shows_end_part r since front piece lines now after f fault h part =
     append_assoc since.so_far w.more ending ∙ ap (λ z. since.so_far ++ (w.more ++ z)) (sym (append-nil ending)))
 
 -- the write of what an event calls for failed
-pub shows_broken : (r : Rules) (since : Start) (front piece : List ℕ) (after : Option (List ℕ)) (f taken : ℕ) →
+pub shows_broken : {r : Rules} {since : Start} {front piece : List ℕ} {after : Option (List ℕ)} {f taken : ℕ} →
     StopsAfter r (HasBroken since after f) front piece taken → WritesPart r shown_text (IsShownIn r) (front ++ piece) since.so_far since.held after
-shows_broken r since front piece after f taken h =
+shows_broken {r} {since} {front} {piece} {after} {f} {taken} h =
     let w = h.has_stopped in
     let given = h.told in
     let ending = end_of_line (page_after given blank).text in

@@ -3,12 +3,13 @@ use Rattle.std.specs.Prelude.{◌≡◌, ◌⊎◌, ℕ, ◌+◌, ◌-◌, ◌�
 use Rattle.std.specs.Prelude.{Some, None}
 use Rattle.resp_tool.specs.Hints.{IsHint, IsNewType, hint_line, version_text}
 use Rattle.resp_tool.specs.Valid.{AreNext, NamesNext, next_text}
+use Rattle.resp_tool.specs.declared.explain.Reason.{Reason}
 use Rattle.resp_tool.specs.declared.hint.Hint.{Hint}
 use Rattle.resp_tool.specs.declared.hint.NewType.{NewType}
 use Rattle.resp_tool.specs.declared.valid.NextBytes.{NextBytes}
 use Rattle.resp_value.specs.Data.{Datum}
 use Rattle.resp_value.specs.Devices.{Appends, last_count}
-use Rattle.resp_value.specs.Rules.{Rules, WithinTotal}
+use Rattle.resp_value.specs.Rules.{Rules, WithinTotal, rules_under}
 use Rattle.resp_value.specs.Spellings.{AreSpellings, IsViable}
 use Rattle.resp_value.specs.declared.cause.Cause.{Cause}
 use Rattle.resp_value.specs.declared.cause.Cause.TheVariants as cause
@@ -129,6 +130,11 @@ sentence_text r missing new_type _ = codes "a run reads at most 1000000000 value
 abbrev pub reason_text : Rules → ℕ → Option NewType → ToolError → Option NextBytes → List ℕ
 reason_text r missing new_type error (Some next) = next_text next.goes_on next.bytes.items
 reason_text r missing new_type error None = sentence_text r missing new_type error
+
+-- that sentence, for what is known of the error
+abbrev pub sentence_of : Reason → List ℕ
+sentence_of reason = reason_text (rules_under reason.version reason.limits.now) reason.missing reason.new_type
+    reason.error.now reason.next
 
 -- The sentence about a byte of the value that begins after these bytes. For a byte that the grammar doesn't allow it
 -- names just the bytes that are valid there, if the bytes of the value before it are still in memory.

@@ -70,6 +70,12 @@ pub record FailsAtThree (said said' : Option (List ℕ)) (failures failures' rea
   pub read : reads' ≡ failures_after (is_of_reader error) reads
   pub written : writes' ≡ failures_after (is_of_writer error) writes
 
+-- The failures of a run with this exit status: at status 3 those above, and at another status no read and no write.
+pub record HasFailures (status : ℕ) (said said' : Option (List ℕ))
+    (failures failures' reads reads' writes writes' : ℕ) : Type 0 where
+  pub at_three : status ≡ 3 → FailsAtThree said said' failures failures' reads reads' writes writes'
+  pub at_others : (status ≡ 3 → ⊥) → (reads' ≡ reads) × (writes' ≡ writes)
+
 -- the words ask for a task over standard input, and for nothing else
 abbrev pub AskForRun : App → List Text → Options → Type 0
 AskForRun program words options =

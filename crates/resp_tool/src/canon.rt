@@ -52,15 +52,7 @@ impl Rendering for Canonical<'_> {
 
     ghost is_written = { Fits };
 
-    ghost is_due = { λ _. LeavesNothing };
-
-    ghost is_left = { λ _. LeavesNothing };
-
-    ghost is_begun = { λ _. LeavesNothing };
-
     ghost takes_memory = { Unit {0} };
-
-    ghost writes = { Unit {0} };
 
     fn take<W: Sink>(&mut self, piece: &[u8], writer: &mut W) -> Result<Taken, Stop> {
         laws::what_was_read_can_be_written();

@@ -28,7 +28,7 @@ struct Unwritten {
 
 impl Rendering for Unwritten {
     ghost use Rattle.resp_scan.specs.Kinds.{rules_of};
-    ghost use Rattle.resp_tool.specs.Counts.{IsAny, LeavesNothing, no_text};
+    ghost use Rattle.resp_tool.specs.Counts.{no_text};
     ghost use Rattle.resp_tool.specs.Scans.{HasLookedAt};
 
     ghost rules = { λ u. rules_of u.scanner };
@@ -36,16 +36,6 @@ impl Rendering for Unwritten {
     ghost has_taken = { λ u. HasLookedAt u.scanner };
 
     ghost text = { λ _. no_text };
-
-    ghost is_written = { λ _. IsAny };
-
-    ghost is_due = { λ _. LeavesNothing };
-
-    ghost is_left = { λ _. LeavesNothing };
-
-    ghost is_begun = { λ _. LeavesNothing };
-
-    ghost takes_memory = { ⊥ };
 
     ghost writes = { ⊥ };
 

@@ -3,7 +3,7 @@
 ghost use Rattle.std.specs.Prelude.{◌≡◌, ◌≢◌, ◌≤◌, ◌+◌, ℕ, List, [], Some, IfSome, map};
 ghost use Rattle.clap.specs.Words.{App};
 ghost use Rattle.resp_args.specs.Program.{IsProgram};
-ghost use Rattle.resp_tool.specs.Runs.{DoesWords, FailsAtThree, HasRun, Lives, TaskWrites};
+ghost use Rattle.resp_tool.specs.Runs.{DoesWords, HasFailures, HasRun, Lives, TaskWrites};
 ghost use Rattle.resp_tool.specs.Streams.{AreRead, AtEnd, UsesReader, failed_to_write};
 ghost use Rattle.resp_args.specs.Tried.{WritesSome};
 ghost use Rattle.resp_value.specs.Devices.{failures_after};
@@ -86,13 +86,9 @@ pub fn run_options<R: LiveSource<W>, W: LiveSink, F: Sink>(
         (F.failures faults.old) (F.failures faults.new) result }
     ensures reads_bounded { R.calls reader.new ≤ R.calls reader.old + MOST_READS }
     ensures nothing_told_at_zero { result ≡ 0 → faults.new ≡ faults.old }
-    ensures fails_at_three { result ≡ 3 → FailsAtThree (F.written faults.old)
-        (F.written faults.new) (F.failures faults.old) (F.failures faults.new)
-        (R.failures reader.old) (R.failures reader.new) (W.failures writer.old)
-        (W.failures writer.new) }
-    ensures sound_below_three { (result ≡ 3 → ⊥) →
-        (R.failures reader.new ≡ R.failures reader.old) ×
-        (W.failures writer.new ≡ W.failures writer.old) }
+    ensures failures { HasFailures result (F.written faults.old) (F.written faults.new)
+        (F.failures faults.old) (F.failures faults.new) (R.failures reader.old)
+        (R.failures reader.new) (W.failures writer.old) (W.failures writer.new) }
 {
     match perform(alloc, options, reader, writer) {
         Ok(()) => 0,
@@ -100,8 +96,8 @@ pub fn run_options<R: LiveSource<W>, W: LiveSink, F: Sink>(
     }
 }
 
-/// Runs a command line, of which the first word is the name of the program, over the stream of
-/// `reader`. Returns the exit status:
+/// Runs a command line over the stream of `reader`. The first word is the name of the program.
+/// Returns the exit status:
 ///
 /// - 0 if all input was read, or help was written;
 /// - 1 if the input contains an error;
@@ -128,13 +124,9 @@ pub fn command<S: AsStr, R: LiveSource<W>, W: LiveSink, F: Sink>(
         (F.failures faults.old) (F.failures faults.new) result) result }
     ensures reads_bounded { R.calls reader.new ≤ R.calls reader.old + MOST_READS }
     ensures nothing_told_at_zero { result ≡ 0 → faults.new ≡ faults.old }
-    ensures fails_at_three { result ≡ 3 → FailsAtThree (F.written faults.old)
-        (F.written faults.new) (F.failures faults.old) (F.failures faults.new)
-        (R.failures reader.old) (R.failures reader.new) (W.failures writer.old)
-        (W.failures writer.new) }
-    ensures sound_below_three { (result ≡ 3 → ⊥) →
-        (R.failures reader.new ≡ R.failures reader.old) ×
-        (W.failures writer.new ≡ W.failures writer.old) }
+    ensures failures { HasFailures result (F.written faults.old) (F.written faults.new)
+        (F.failures faults.old) (F.failures faults.new) (R.failures reader.old)
+        (R.failures reader.new) (W.failures writer.old) (W.failures writer.new) }
     ensures nothing_at_two { result ≡ 2 →
         (reader.new ≡ reader.old) × (writer.new ≡ writer.old) }
 {

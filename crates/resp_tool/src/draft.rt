@@ -117,8 +117,8 @@ impl Draft {
         self.text.clear();
     }
 
-    /// Counts a complete value as a member of the innermost aggregate. Returns whether it did and
-    /// the value's text was written.
+    /// Counts a complete value as a member of the innermost aggregate, if there is one. Returns
+    /// true if the value was counted and its text was written.
     #[inline]
     fn end_value(&mut self, written: Result<(), AllocError>) -> bool
         ensures counted { result ≡ true → CountsOne (reverse self.old.aggregates.items)
@@ -302,7 +302,7 @@ fn append_text(text: &mut BytesMut, kind: TextKind, content: &[u8]) -> Result<()
     }
 }
 
-/// Returns the digits of a big number. The content of zero has none.
+/// Returns the digits of a big number. For zero the content is empty, and the digits are `0`.
 fn digits_of(content: &[u8]) -> &[u8]
     ensures { result.now ≡ zero_if_none content.now }
 {

@@ -1,7 +1,7 @@
 //! Explains an error in a stream: the lines of `--explain`.
 
 ghost use Rattle.std.specs.Prelude.{◌≡◌, ◌≢◌, ℕ, [], List, IfErr, IfOk, OnErr, OnOk, length, option_map, replicate};
-ghost use Rattle.resp_tool.specs.Explained.{Explains, ExplainsAt, HasWatched, IsHintOf, IsNextOf, IsTruncated, cause_text, double_text, explanation_lines, held_bytes, margin_text, place_lines, reason_text, rules_watched, sentence_text, system_reason_line};
+ghost use Rattle.resp_tool.specs.Explained.{Explains, ExplainsAt, HasWatched, IsHintOf, IsNextOf, IsTruncated, cause_text, double_text, explanation_lines, held_bytes, margin_text, place_lines, rules_watched, sentence_of, sentence_text, system_reason_line};
 ghost use Rattle.resp_tool.specs.Hints.{hint_line};
 ghost use Rattle.resp_print.specs.Written.{WritesText};
 ghost use Rattle.resp_tool.specs.Streams.{failed_to_write};
@@ -22,6 +22,17 @@ use std::alloc::{AllocError, Global};
 
 /// A margin has fewer bytes than this.
 const MOST_IN_MARGIN: usize = 256;
+
+// The sentences about limits, before and after the number.
+const DEEPER: &[u8] = b"aggregates are nested deeper than --depth ";
+
+const LONGER: &[u8] = b"a string or line is longer than --length ";
+
+const MORE_ITEMS: &[u8] = b"an aggregate has more members or pairs than --items ";
+
+const MORE_BYTES: &[u8] = b"the value needs more bytes than --total ";
+
+const ALLOWED: &[u8] = b" allows";
 
 /// What is known of an error at a place.
 #[derive(Drop)]
@@ -171,9 +182,7 @@ fn write_around<F: Sink>(
 ) -> Result<(), ToolError>
     ensures lines { OnOk result (Appends (F.written faults.old) (F.written faults.new)
         (explanation_lines (margin_text place before.now) after.now
-        (replicate (length (margin_text place before.now)) 32) (reason_text
-        (rules_under reason.now.version reason.now.limits.now) reason.now.missing
-        reason.now.new_type reason.now.error.now reason.now.next)
+        (replicate (length (margin_text place before.now)) 32) (sentence_of reason.now)
         (hint_line reason.now.hint))) }
     ensures write_failed { F.failures faults.new ≡
         failures_after (failed_to_write result) (F.failures faults.old) }
@@ -182,8 +191,8 @@ fn write_around<F: Sink>(
 {
     let margin = margin(alloc, place, before)?;
     let blank = vec![in alloc; b' '; margin.bytes().len()]?;
-    write_lines(faults, margin.bytes(), after, blank.as_slice(), reason)?;
-    Ok(())
+    write_place(faults, margin.bytes(), after, blank.as_slice(), reason)?;
+    Ok(write_hint(reason.hint, faults)?)
 }
 
 /// Finds the bytes that are valid after the front of a value, if the grammar does not allow the
@@ -217,27 +226,6 @@ fn margin(alloc: Global, place: u64, before: &[u8]) -> Result<MemorySink, AllocE
     }
 }
 
-/// Writes the lines.
-fn write_lines<F: Sink>(
-    faults: &mut F,
-    margin: &[u8],
-    after: &[u8],
-    blank: &[u8],
-    reason: &Reason<'_>,
-) -> Result<(), DeviceFault>
-    ensures lines { OnOk result (Appends (F.written faults.old) (F.written faults.new)
-        (explanation_lines margin.now after.now blank.now (reason_text
-        (rules_under reason.now.version reason.now.limits.now) reason.now.missing
-        reason.now.new_type reason.now.error.now reason.now.next)
-        (hint_line reason.now.hint))) }
-    ensures all_written { OnOk result (F.failures faults.new ≡ F.failures faults.old) }
-    ensures write_failed { OnErr result (F.failures faults.new ≡
-        count_after 1 (F.failures faults.old)) }
-{
-    write_place(faults, margin, after, blank, reason)?;
-    write_hint(reason.hint, faults)
-}
-
 /// Writes the line with the place, and the line with the caret and the sentence.
 fn write_place<F: Sink>(
     faults: &mut F,
@@ -247,9 +235,7 @@ fn write_place<F: Sink>(
     reason: &Reason<'_>,
 ) -> Result<(), DeviceFault>
     ensures lines { OnOk result (Appends (F.written faults.old) (F.written faults.new)
-        (place_lines margin.now after.now blank.now (reason_text
-        (rules_under reason.now.version reason.now.limits.now) reason.now.missing
-        reason.now.new_type reason.now.error.now reason.now.next))) }
+        (place_lines margin.now after.now blank.now (sentence_of reason.now))) }
     ensures all_written { OnOk result (F.failures faults.new ≡ F.failures faults.old) }
     ensures write_failed { OnErr result (F.failures faults.new ≡
         count_after 1 (F.failures faults.old)) }
@@ -266,20 +252,11 @@ fn write_place<F: Sink>(
 /// Writes the sentence about an error.
 fn write_reason<F: Sink>(faults: &mut F, reason: &Reason<'_>) -> Result<(), DeviceFault>
     ensures { WritesText (F.written faults.old) (F.written faults.new) (F.failures faults.old)
-        (F.failures faults.new) result (reason_text
-        (rules_under reason.now.version reason.now.limits.now) reason.now.missing
-        reason.now.new_type reason.now.error.now reason.now.next) }
+        (F.failures faults.new) result (sentence_of reason.now) }
 {
     match &reason.next {
         Some(next) => next.write(faults),
-        None => write_sentence(
-            faults,
-            reason.error,
-            reason.version,
-            reason.limits,
-            reason.missing,
-            reason.new_type,
-        ),
+        None => write_sentence(faults, reason),
     }
 }
 
@@ -293,22 +270,14 @@ fn write_margin<F: Sink>(faults: &mut F, place: u64, before: &[u8]) -> Result<()
 }
 
 /// Writes the sentence about an error without the bytes that are valid there.
-fn write_sentence<F: Sink>(
-    faults: &mut F,
-    error: &ToolError,
-    version: Version,
-    limits: &Limits,
-    missing: u64,
-    new_type: Option<NewType>,
-) -> Result<(), DeviceFault>
+fn write_sentence<F: Sink>(faults: &mut F, reason: &Reason<'_>) -> Result<(), DeviceFault>
     ensures { WritesText (F.written faults.old) (F.written faults.new) (F.failures faults.old)
-        (F.failures faults.new) result
-        (sentence_text (rules_under version limits.now) missing new_type error.now) }
+        (F.failures faults.new) result (sentence_text
+        (rules_under reason.now.version reason.now.limits.now) reason.now.missing
+        reason.now.new_type reason.now.error.now) }
 {
-    match error {
-        ToolError::Refused { cause, .. } => {
-            write_cause(faults, *cause, version, limits, missing, new_type)
-        }
+    match reason.error {
+        ToolError::Refused { cause, .. } => write_cause(faults, *cause, reason),
         ToolError::OverLimits { .. } => {
             write_text(
                 faults,
@@ -327,44 +296,22 @@ fn write_sentence<F: Sink>(
 fn write_cause<F: Sink>(
     faults: &mut F,
     cause: Cause,
-    version: Version,
-    limits: &Limits,
-    missing: u64,
-    new_type: Option<NewType>,
+    reason: &Reason<'_>,
 ) -> Result<(), DeviceFault>
     ensures { WritesText (F.written faults.old) (F.written faults.new) (F.failures faults.old)
-        (F.failures faults.new) result
-        (cause_text (rules_under version limits.now) missing new_type cause) }
+        (F.failures faults.new) result (cause_text
+        (rules_under reason.now.version reason.now.limits.now) reason.now.missing
+        reason.now.new_type cause) }
 {
     match cause {
-        Cause::Double => write_double(faults, version),
-        Cause::Version => write_version(new_type, faults),
+        Cause::Double => write_double(faults, reason.version),
+        Cause::Version => write_version(reason.new_type, faults),
         Cause::NestedPush => write_text(faults, b"a push cannot be inside another value"),
         Cause::Range => write_text(faults, b"the integer doesn't fit into 64 bits"),
-        Cause::Depth => write_number(
-            faults,
-            b"aggregates are nested deeper than --depth ",
-            limits.depth(),
-            b" allows",
-        ),
-        Cause::Length => write_number(
-            faults,
-            b"a string or line is longer than --length ",
-            limits.length(),
-            b" allows",
-        ),
-        Cause::Items => write_number(
-            faults,
-            b"an aggregate has more members or pairs than --items ",
-            limits.items(),
-            b" allows",
-        ),
-        Cause::Total => write_number(
-            faults,
-            b"the value needs more bytes than --total ",
-            limits.total(),
-            b" allows",
-        ),
+        Cause::Depth => write_number(faults, DEEPER, reason.limits.depth(), ALLOWED),
+        Cause::Length => write_number(faults, LONGER, reason.limits.length(), ALLOWED),
+        Cause::Items => write_number(faults, MORE_ITEMS, reason.limits.items(), ALLOWED),
+        Cause::Total => write_number(faults, MORE_BYTES, reason.limits.total(), ALLOWED),
         Cause::Streamed => {
             write_text(
                 faults,
@@ -374,7 +321,7 @@ fn write_cause<F: Sink>(
         Cause::Truncated => write_number(
             faults,
             b"the input ends inside a value; bytes missing: at least ",
-            missing,
+            reason.missing,
             b"",
         ),
         _ => write_text(faults, b"a valid value cannot contain this byte here"),

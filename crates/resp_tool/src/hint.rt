@@ -9,7 +9,7 @@ use itoa::Buffer;
 use resp_print::text::{write_number, write_text};
 use resp_value::device::{DeviceFault, Sink};
 
-/// What an input is, if it is no RESP.
+/// A format that an input may have in place of RESP.
 #[derive(Clone, Copy)]
 pub(crate) enum Format {
     /// A TLS handshake.
@@ -161,8 +161,8 @@ pub(crate) enum NewType {
     Streamed,
 }
 
-/// Returns a hint at the reason for the byte after `before`, which the grammar does not allow and
-/// with which `from` begins. `before` are the bytes of the value up to it.
+/// Returns a hint at the reason why the grammar does not allow the first byte of `from`. `before`
+/// has the bytes of the value before that byte.
 pub(crate) fn hint_of(before: &[u8], from: &[u8]) -> Option<Hint>
     ensures { IsHint before.now from.now result }
 {

@@ -41,17 +41,7 @@ impl Rendering for JsonLines {
 
     ghost text = { λ _. json_line };
 
-    ghost is_written = { λ _. IsAny };
-
-    ghost is_due = { λ _. LeavesNothing };
-
-    ghost is_left = { λ _. LeavesNothing };
-
-    ghost is_begun = { λ _. LeavesNothing };
-
     ghost takes_memory = { Unit {0} };
-
-    ghost writes = { Unit {0} };
 
     fn take<W: Sink>(&mut self, piece: &[u8], writer: &mut W) -> Result<Taken, Stop> {
         let fed = match self.decoder.feed(piece) {

@@ -1,4 +1,5 @@
-//! What is written for the values of a stream as their bytes arrive.
+//! The trait that `show`, `check` and `canon` implement. It reads the values of a stream, and
+//! writes something for each of them.
 
 ghost use Rattle.std.specs.Prelude.{◌≡◌, ◌≤◌, ◌++◌, ℕ, List, [], length, IfOk, IsErr, IsErrOf, OnOk};
 ghost use Rattle.resp_value.specs.Data.{Datum};
@@ -66,6 +67,7 @@ impl Stop {
 
 /// Writes something for each value of a stream.
 pub trait Rendering {
+    ghost use Rattle.resp_tool.specs.Counts.{IsAny, LeavesNothing};
     ghost use Rattle.resp_tool.specs.Stops.{failed_to_write};
     ghost use Rattle.resp_tool.specs.Takings.{EndsInput, Takes};
 
@@ -78,23 +80,26 @@ pub trait Rendering {
     /// The text of a complete value.
     ghost text: { Rules → Datum → List ℕ };
 
-    /// The values for which anything is written.
-    ghost is_written: { Rules → Datum → Type 0 };
+    /// The values that are written. By default each value is.
+    ghost is_written: { Rules → Datum → Type 0 } = { λ _. IsAny };
 
-    /// The text that must have been written for a value that begins with these bytes.
-    ghost is_due: { Rules → List ℕ → List ℕ → Type 0 };
+    /// The text that must have been written for a value that begins with these bytes. By default it
+    /// is empty.
+    ghost is_due: { Rules → List ℕ → List ℕ → Type 0 } = { λ _. LeavesNothing };
 
-    /// The text that was written for a value that goes no further than these bytes.
-    ghost is_left: { Rules → List ℕ → List ℕ → Type 0 };
+    /// The text that was written for a value that ends at these bytes, because the next byte is
+    /// rejected or the input ends. By default it is empty.
+    ghost is_left: { Rules → List ℕ → List ℕ → Type 0 } = { λ _. LeavesNothing };
 
-    /// The text that may have been written for a value that begins in these bytes.
-    ghost is_begun: { Rules → List ℕ → List ℕ → Type 0 };
+    /// The text that may have been written for a value that begins in these bytes. By default it is
+    /// empty.
+    ghost is_begun: { Rules → List ℕ → List ℕ → Type 0 } = { λ _. LeavesNothing };
 
-    /// Whether an allocation may fail for a value.
-    ghost takes_memory: { Type 0 };
+    /// Whether an allocation may fail for a value. By default no value needs one.
+    ghost takes_memory: { Type 0 } = { ⊥ };
 
-    /// Whether anything is written.
-    ghost writes: { Type 0 };
+    /// Whether anything is written. By default this is true.
+    ghost writes: { Type 0 } = { Unit {0} };
 
     /// Reads bytes of the piece until a value is complete or the piece ends, and writes the text
     /// for them.
@@ -111,8 +116,8 @@ pub trait Rendering {
         ensures write_failures { W.failures writer.new ≡
             failures_after (failed_to_write result) (W.failures writer.old) };
 
-    /// The text that was written for an incomplete value is a first part of the text that may be
-    /// written for it, and contains all text that must be.
+    /// Does nothing. Its contract states that the text written for an incomplete value is a first
+    /// part of the text that may be written for it, and contains all text that must be.
     fn part_stands(&self)
         ensures begun { (front so_far : List ℕ) → has_taken self.now front so_far →
             (later : List ℕ) × is_begun (rules self.now) front (so_far ++ later) }

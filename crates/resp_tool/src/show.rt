@@ -39,17 +39,11 @@ impl Rendering for Shown {
 
     ghost text = { λ _. shown_text };
 
-    ghost is_written = { λ _. IsAny };
-
     ghost is_due = { λ _. IsShownDue };
 
     ghost is_left = { λ _. IsShownOf };
 
     ghost is_begun = { IsShownIn };
-
-    ghost takes_memory = { ⊥ };
-
-    ghost writes = { Unit {0} };
 
     fn take<W: Sink>(&mut self, piece: &[u8], writer: &mut W) -> Result<Taken, Stop> {
         match print_piece(&mut self.scanner, piece, &mut self.lines, writer) {

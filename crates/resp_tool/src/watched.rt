@@ -34,7 +34,8 @@ pub struct Watched<R> {
 }
 
 impl<R: Source + Drop> Watched<R> {
-    /// Watches a source from here on. Its values are read in this version within these limits.
+    /// Watches a source from its next byte. The values are read in this version, within these
+    /// limits.
     pub fn new(alloc: Global, inner: R, version: Version, limits: &Limits) -> Watched<R>
         ensures nothing_read { HasWatched result [] }
         ensures rules { rules_watched result ≡ rules_under version limits.now }
@@ -185,13 +186,9 @@ impl<R: Source> Source for Watched<R> {
         ensures at_most { IfOk result (λ n. held_bytes self.new ≤ SHOWN + n) }
         ensures no_more { IsErr result → held_bytes self.new ≡ held_bytes self.old }
     {
-        match self.inner.read(into) {
-            Ok(count) => {
-                self.keep(&into[..count]);
-                Ok(count)
-            }
-            Err(fault) => Err(fault),
-        }
+        let count = self.inner.read(into)?;
+        self.keep(&into[..count]);
+        Ok(count)
     }
 }
 
@@ -217,12 +214,8 @@ impl<R: LiveSource<W>, W: LiveSink> LiveSource<W> for Watched<R> {
         ensures no_more { IsErr result → held_bytes self.new ≡ held_bytes self.old }
         ensures same_rules { rules_watched self.new ≡ rules_watched self.old }
     {
-        match self.inner.read_beside(into, writer) {
-            Ok(count) => {
-                self.keep(&into[..count]);
-                Ok(count)
-            }
-            Err(fault) => Err(fault),
-        }
+        let count = self.inner.read_beside(into, writer)?;
+        self.keep(&into[..count]);
+        Ok(count)
     }
 }

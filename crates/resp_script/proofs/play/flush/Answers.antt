@@ -52,7 +52,7 @@ loop-index-preserved g c = record {
       (all_then g.L.Link.is_honest limits w first (to_client line (i + 1) ∷ []) c.take.new.world c.take-in-loop-index.new.world _ _ _
       (Ok tt) half (c.in_default-take.ensures.plays limits half.played.last half.shows));
   none_failed = c.in_default-take.ensures.failed ∙ c.in_default.ensures.failed ∙ c.loop-index.invariant.none_failed;
-  going = λ going. c.in_default-take.ensures.going (c.in_default.ensures.going (c.loop-index.invariant.going going));
+  going = λ going. c.in_default-take.ensures.cause (c.in_default.ensures.cause (c.loop-index.invariant.going going));
 }
 
 pub returns-clause-plays : goal.returns-clause-plays

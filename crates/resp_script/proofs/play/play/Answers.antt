@@ -43,7 +43,7 @@ loop-line-preserved g c = record {
       (all_then g.L.Link.is_honest limits w (steps_events clients (take i steps)) (step_events clients step.0 step.1) c.loop-line.world c.play_step.new.world _ _ _
       (Ok tt) so_far (c.in_default.ensures.plays limits so_far.played.last so_far.shows));
   none_failed = c.in_default.ensures.failed ∙ c.loop-line.invariant.none_failed;
-  going = λ going. c.in_default.ensures.going (c.loop-line.invariant.going going);
+  going = λ going. c.in_default.ensures.cause (c.loop-line.invariant.going going);
 }
 
 pub returns-clause-plays : goal.returns-clause-plays
@@ -63,7 +63,7 @@ pub returns-clause-stopped : goal.returns-clause-stopped
 returns-clause-stopped g c = no_stop_at_step c.args.script.now.steps.items _ _ c.write_counts.result c.write_counts.ensures.ends
 
 pub returns-clause-cause : goal.returns-clause-cause
-returns-clause-cause g c = no_stop_kept c.loop-line.world.stopped _ _ c.write_counts.result c.write_counts.ensures.ends
+returns-clause-cause g c = no_stop_kept _ c.loop-line.world.stopped _ _ c.write_counts.result c.loop-line.invariant.going c.write_counts.ensures.ends
 
 pub returns-clause-failed : goal.returns-clause-failed
 returns-clause-failed g c = fails_to_write _ _ _ c.write_counts.result c.loop-line.invariant.none_failed c.write_counts.ensures.ends

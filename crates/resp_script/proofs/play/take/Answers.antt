@@ -10,10 +10,7 @@ use Rattle.resp_script.proofs.play.take.Goals as goal
 
 pub returns-in-Err-clause-plays : goal.returns-in-Err-clause-plays
 returns-in-Err-clause-plays g c = λ limits w shows. record {
-  done = [];
-  stopped_at = played c.args.line c.args.is_flush (event_of c.args.event.now);
-  beyond = [];
-  whole = refl;
+  stopped_at = record { done = []; event = played c.args.line c.args.is_flush (event_of c.args.event.now); later = []; whole = refl };
   at_line = refl;
   played = record { text = []; last = w; plays = (refl, refl) };
   appended = Appends-none (g.W.Sink.written c.args.writer.now);

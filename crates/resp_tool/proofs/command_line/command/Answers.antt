@@ -1,4 +1,4 @@
-use Rattle.std.proofs.Common.{ap, ◌∙◌, arith, inl, inr, map, refl, sym}
+use Rattle.std.proofs.Common.{rules, ap, ◌∙◌, arith, inl, inr, map, refl, sym}
 use Rattle.resp_tool.proofs.Failures.{fails_by_words, status_is}
 use Rattle.resp_tool.proofs.RunWords.{does_nothing, runs_no_explanation, runs_no_file, runs_no_stream}
 use Rattle.resp_tool.proofs.SameBytes.{same_bytes}
@@ -14,8 +14,11 @@ returns-in-Err-clause-does g c =
           c.in-Err.ensures.never_one,
     )
 
-pub returns-in-Err-clause-fails_at_three : goal.returns-in-Err-clause-fails_at_three
-returns-in-Err-clause-fails_at_three g c = λ three. fails_by_words _ _ _ _ _ _ _ (c.in-Err.ensures.told_at_three (status_is c.in-Err.status 3 three))
+pub returns-in-Err-clause-failures : goal.returns-in-Err-clause-failures
+returns-in-Err-clause-failures g c = record {
+  at_three = λ three. fails_by_words _ _ _ _ _ _ _ (c.in-Err.ensures.told_at_three (status_is c.in-Err.status 3 three));
+  at_others = search rules;
+}
 
 pub returns-in_default : goal.returns-in_default
 returns-in_default g c =
@@ -30,36 +33,23 @@ returns-in_default g c =
       );
       reads_bounded = omega arith;
       nothing_told_at_zero = λ none. absurd (omega arith);
-      fails_at_three = λ three. absurd (omega arith);
-      sound_below_three = λ below. (refl, ap g.W.Sink.failures said.0);
+      failures = record { at_three = λ three. absurd (omega arith); at_others = λ others. (refl, ap g.W.Sink.failures said.0) };
       nothing_at_two = λ two. (refl, said.0);
     }
 
 pub returns-then-ne-clause-does : goal.returns-then-ne-clause-does
 returns-then-ne-clause-does g c =
     let asked = c.in-Ok.ensures.asked in
-    let asks = rw c.in-Stream.is at asked.2 in (
-      asked.0,
-      asked.1,
-      inr (inl (
-        refl,
-        refl,
-        runs_no_file asked.0 (map g.S.AsStr.text c.args.words.now) c.in-Stream.options asks (sym c.ne.ensures ∙ c.if-ne.true),
-      )),
-    )
+    let asks = rw c.in-Stream.is at asked.2 in
+    let wrong = runs_no_file asked.0 (map g.S.AsStr.text c.args.words.now) c.in-Stream.options asks (sym c.ne.ensures ∙ c.if-ne.true) in
+    (asked.0, asked.1, inr (inl (refl, refl, wrong)))
 
 pub returns-then-options-clause-does : goal.returns-then-options-clause-does
 returns-then-options-clause-does g c =
     let asked = c.in-Ok.ensures.asked in
-    let asks = rw c.in-Stream.is at asked.2 in (
-      asked.0,
-      asked.1,
-      inr (inl (
-        refl,
-        refl,
-        runs_no_explanation asked.0 (map g.S.AsStr.text c.args.words.now) c.in-Stream.options asks c.if-options.true,
-      )),
-    )
+    let asks = rw c.in-Stream.is at asked.2 in
+    let wrong = runs_no_explanation asked.0 (map g.S.AsStr.text c.args.words.now) c.in-Stream.options asks c.if-options.true in
+    (asked.0, asked.1, inr (inl (refl, refl, wrong)))
 
 pub returns-clause-does : goal.returns-clause-does
 returns-clause-does g c =

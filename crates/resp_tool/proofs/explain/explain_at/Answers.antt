@@ -1,6 +1,7 @@
-use Rattle.std.proofs.Common.{◌≡◌, ◌+◌, Err, Ok, OnOk, Result, length, length-append, refl, take, drop, option_map, subst, sym, ap, arith, ◌∙◌}
+use Rattle.std.proofs.Common.{◌≡◌, ◌+◌, ◌≤◌, Err, Ok, OnOk, Result, length, length-append, refl, take, drop, option_map, subst, sym, ap, arith, ◌∙◌}
 use Rattle.resp_tool.specs.Explained.{AreAround, IsHeld, held_bytes, reason_text}
 use Rattle.resp_fronts.specs.LeastCompletions.{IsLeast}
+use Rattle.resp_value.specs.Devices.{last_count}
 use Rattle.resp_value.specs.Rules.{WithinTotal, rules_under}
 use Rattle.resp_value.specs.Spellings.{IsViable}
 use Rattle.resp_tool.proofs.ValidLemmas.{hints_reason, is_text, of_text, says_reason}
@@ -25,6 +26,13 @@ returns-clause-explains g c = λ bytes h scanned. on_ok c.write_around.result _ 
     let holds = c.in-Some.ensures.holds bytes h refl in
     let held = held_bytes c.args.watched.now in
     let same = c.in-Some.ensures.same_rules in
+    let size : length bytes ≡ length place.front + length place.rest = ap (λ z. length z) place.whole ∙ length-append place.front place.rest in
+    let begins = λ (fits : length bytes ≤ last_count). place.begins (omega (arith, fits, size)) in
+    let front = λ (fits : length bytes ≤ last_count). of_text c.front-front.result (λ text. text ≡ take c.args.at (drop (length place.front) bytes))
+    (c.front-front.ensures.front bytes place.front holds fits (begins fits)) in
+    let kept = λ (fits : length bytes ≤ last_count) (is_held : IsHeld held bytes place.front c.args.at). is_text c.front-front.result
+    (c.front-front.ensures.none bytes place.front holds (begins fits)
+    (subst (λ n. IsHeld n bytes place.front c.args.at) (sym c.in-Some.ensures.same_size) is_held)) in
     record {
       start = c.place_of.new.self.starts.start;
       place = c.in-Some.place;
@@ -38,24 +46,10 @@ returns-clause-explains g c = λ bytes h scanned. on_ok c.write_around.result _ 
       new_type = new_type;
       typed = c.new_type_of.ensures;
       sentence = sentence;
-      says = λ fits.
-          let size : length bytes ≡ length place.front + length place.rest = ap (λ z. length z) place.whole ∙ length-append place.front place.rest in
-          let begins = place.begins (omega (arith, fits, size)) in
-          says_reason r held bytes place.front place.rest c.args.at missing new_type c.args.error.now place.whole
-          (option_map (λ text. text.now) c.front-front.result)
-          (of_text c.front-front.result (λ text. text ≡ take c.args.at (drop (length place.front) bytes)) (c.front-front.ensures.front bytes place.front holds fits begins))
-          (λ is_held. is_text c.front-front.result (c.front-front.ensures.none bytes place.front holds begins
-          (subst (λ n. IsHeld n bytes place.front c.args.at) (sym c.in-Some.ensures.same_size) is_held)))
-          next c.in_ok-next.ensures;
+      says = λ fits. says_reason r held bytes place.front place.rest c.args.at missing new_type c.args.error.now place.whole
+          (option_map (λ text. text.now) c.front-front.result) (front fits) (kept fits) next c.in_ok-next.ensures;
       hint = hint;
-      hints = λ fits.
-          let size : length bytes ≡ length place.front + length place.rest = ap (λ z. length z) place.whole ∙ length-append place.front place.rest in
-          let begins = place.begins (omega (arith, fits, size)) in
-          hints_reason r held bytes place.front place.rest c.args.at missing new_type c.args.error.now place.whole
-          (option_map (λ text. text.now) c.front-front.result)
-          (of_text c.front-front.result (λ text. text ≡ take c.args.at (drop (length place.front) bytes)) (c.front-front.ensures.front bytes place.front holds fits begins))
-          (λ is_held. is_text c.front-front.result (c.front-front.ensures.none bytes place.front holds begins
-          (subst (λ n. IsHeld n bytes place.front c.args.at) (sym c.in-Some.ensures.same_size) is_held)))
-          after hint c.hint_at.ensures;
+      hints = λ fits. hints_reason r held bytes place.front place.rest c.args.at missing new_type c.args.error.now place.whole
+          (option_map (λ text. text.now) c.front-front.result) (front fits) (kept fits) after hint c.hint_at.ensures;
       told = told;
     }) c.write_around.ensures.lines

@@ -18,5 +18,6 @@ returns-in-Total g c = rw (c.in-Total.is, sym c.total.ensures.total) c.write_num
 pub returns-in_default : goal.returns-in_default
 returns-in_default g c =
     let n = c.in_default in
-    rw (other_cause (rules_under c.args.version c.args.limits.now) c.args.missing c.args.new_type c.args.cause n.not-Double n.not-Version n.not-NestedPush n.not-Range
-    n.not-Depth n.not-Length n.not-Total n.not-Truncated n.not-Streamed n.not-Items) c.write_text-in_default.ensures
+    let reason = c.args.reason.now in
+    rw (other_cause (rules_under reason.version reason.limits.now) reason.missing reason.new_type c.args.cause n.not-Double n.not-Version n.not-NestedPush
+    n.not-Range n.not-Depth n.not-Length n.not-Total n.not-Truncated n.not-Streamed n.not-Items) c.write_text-in_default.ensures

@@ -1,13 +1,33 @@
-use Rattle.std.proofs.Common.{◌≡◌, ◌∙◌, drop, None, Err, inl, inr, ap, arith, subst}
-use Rattle.resp_session.specs.Connections.{shown_pushes, shown_replies}
-use Rattle.resp_session.specs.Worlds.{connection_at}
+use Rattle.std.proofs.Common.{◌≡◌, ◌∙◌, drop, None, Some, Err, inl, inr, ap, arith, subst}
+use Rattle.resp_value.specs.Bounds.{Bounds}
+use Rattle.resp_session.specs.Connections.{Connection, shown_pushes, shown_replies}
+use Rattle.resp_session.specs.Worlds.{World, connection_at}
 use Rattle.resp_wire.proofs.worlds.Places.{none_beyond}
-use Rattle.resp_wire.specs.Worlds.{pushes_with, values_in}
+use Rattle.resp_wire.specs.Worlds.{Shows, pushes_with, values_in}
 use Rattle.resp_script.specs.Printed.{HaveTooDeep, push_texts, reply_texts}
 use Rattle.resp_script.proofs.HeardOf.{deep_beyond, never_there, none_at_zero, pushes_beyond, replies_beyond, there_is}
 use Rattle.resp_script.proofs.Printing.{printed_text, prints_as, prints_next, prints_part}
-use Rattle.resp_script.proofs.play.Before.write_heard.Goals.{then-self-eq0-via-then-self-eq0, then-self-eq0-via-else-self-eq0+then-self-clients}
+use Rattle.resp_script.proofs.play.Before.write_heard.Given.{Over}
+use Rattle.resp_script.proofs.play.Before.write_heard.Goals.{After-beyond-pushes, then-self-eq0-via-then-self-eq0, then-self-eq0-via-else-self-eq0+then-self-clients}
 use Rattle.resp_script.proofs.play.Before.write_heard.Goals as goal
+
+-- the replies and the pushes that the client has heard since then
+heard : (g : Over) (c : After-beyond-pushes g) (limits : Bounds) (next : World) → Shows g.L.Link.is_honest c.args.world.now limits next →
+    (d : Connection) → connection_at next.connections c.args.self.now.client ≡ Some d →
+    (values_in c.beyond-replies.result.now ≡ drop c.args.self.now.replies (shown_replies d)) ×
+    (pushes_with c.beyond-pushes.result.now ≡ drop c.args.self.now.pushes (shown_pushes d))
+heard g c limits next shows d there =
+    let b = c.args.self.now in
+    let o = connection_at next.connections b.client in (
+      ap values_in c.beyond-replies.ensures.items ∙ replies_beyond c.replies.result.now b.replies o d there (c.replies.ensures limits next shows),
+      ap pushes_with c.beyond-pushes.ensures.items ∙ pushes_beyond c.pushes.result.now b.pushes o d there (c.pushes.ensures limits next shows),
+    )
+
+-- the client has a connection
+is_there : (g : Over) (c : After-beyond-pushes g) (limits : Bounds) (next : World) → Shows g.L.Link.is_honest c.args.world.now limits next →
+    (d : Connection) × (connection_at next.connections c.args.self.now.client ≡ Some d)
+is_there g c limits next shows = there_is next.connections c.args.self.now.client (omega (arith, c.if-self-eq0.false))
+    (omega (arith, c.clients.ensures, c.if-self-clients.false, shows.each.as_many))
 
 pub returns-then-self-eq0-clause-prints : goal.returns-then-self-eq0-clause-prints
 returns-then-self-eq0-clause-prints g c = λ limits next shows d there.
@@ -22,50 +42,31 @@ returns-then-self-eq0-clause-prints g c = λ limits next shows d there.
 pub returns-in-Err-clause-prints : goal.returns-in-Err-clause-prints
 returns-in-Err-clause-prints g c = λ limits next shows d there.
     let b = c.args.self.now in
-    let shown = ap values_in c.beyond-replies.ensures.items ∙
-    replies_beyond c.replies.result.now b.replies (connection_at next.connections b.client) d there (c.replies.ensures limits next shows) in
+    let heard = heard g (goal.at.returns-in-Err-clause-prints g c).After-beyond-pushes limits next shows d there in
     prints_part c.in-Err.error _ _ _ _ (reply_texts b.client b.replies (drop b.replies (shown_replies d))) (push_texts b.client (drop b.pushes (shown_pushes d)))
-    (prints_as (Err c.in-Err.error) _ _ _ _ _ _ (ap (reply_texts b.client b.replies) shown) c.in-Err.ensures.prints)
+    (prints_as (Err c.in-Err.error) _ _ _ _ _ _ (ap (reply_texts b.client b.replies) heard.0) c.in-Err.ensures.prints)
 
 pub returns-clause-prints : goal.returns-clause-prints
 returns-clause-prints g c = λ limits next shows d there.
     let b = c.args.self.now in
-    let o = connection_at next.connections b.client in
-    let replies = ap values_in c.beyond-replies.ensures.items ∙ replies_beyond c.replies.result.now b.replies o d there (c.replies.ensures limits next shows) in
-    let pushes = ap pushes_with c.beyond-pushes.ensures.items ∙ pushes_beyond c.pushes.result.now b.pushes o d there (c.pushes.ensures limits next shows) in
-    let first = printed_text _ _ _ _ _ _ (ap (reply_texts b.client b.replies) replies) c.in_default.ensures.prints in
-    let second = prints_as c.write_pushes.result _ _ _ _ _ _ (ap (push_texts b.client) pushes) c.write_pushes.ensures.prints in
+    let heard = heard g (goal.at.returns-clause-prints g c).After-beyond-pushes limits next shows d there in
+    let first = printed_text _ _ _ _ _ _ (ap (reply_texts b.client b.replies) heard.0) c.in_default.ensures.prints in
+    let second = prints_as c.write_pushes.result _ _ _ _ _ _ (ap (push_texts b.client) heard.1) c.write_pushes.ensures.prints in
     prints_next c.write_pushes.result _ _ _ _ _ _ (reply_texts b.client b.replies (drop b.replies (shown_replies d)))
     (push_texts b.client (drop b.pushes (shown_pushes d))) first second
 
 pub returns-in-Err-clause-memory : goal.returns-in-Err-clause-memory
 returns-in-Err-clause-memory g c = λ memory limits next shows.
     let b = c.args.self.now in
-    let (d, there) = there_is next.connections b.client (omega (arith, c.if-self-eq0.false))
-    (omega (arith, c.clients.ensures, c.if-self-clients.false, shows.each.as_many)) in
-    let shown = ap values_in c.beyond-replies.ensures.items ∙
-    replies_beyond c.replies.result.now b.replies (connection_at next.connections b.client) d there (c.replies.ensures limits next shows) in
-    record {
-      next = next;
-      shows = shows;
-      client = b.client;
-      connection = d;
-      there = there;
-      deep = inl (deep_beyond b.replies (shown_replies d) (subst HaveTooDeep shown (c.in-Err.ensures.memory memory)));
-    }
+    let at = (goal.at.returns-in-Err-clause-memory g c).After-beyond-pushes in
+    let (d, there) = is_there g at limits next shows in
+    let deep = subst HaveTooDeep (heard g at limits next shows d there).0 (c.in-Err.ensures.memory memory) in
+    record { next = next; shows = shows; client = b.client; connection = d; there = there; deep = inl (deep_beyond b.replies (shown_replies d) deep) }
 
 pub returns-clause-memory : goal.returns-clause-memory
 returns-clause-memory g c = λ memory limits next shows.
     let b = c.args.self.now in
-    let (d, there) = there_is next.connections b.client (omega (arith, c.if-self-eq0.false))
-    (omega (arith, c.clients.ensures, c.if-self-clients.false, shows.each.as_many)) in
-    let shown = ap pushes_with c.beyond-pushes.ensures.items ∙
-    pushes_beyond c.pushes.result.now b.pushes (connection_at next.connections b.client) d there (c.pushes.ensures limits next shows) in
-    record {
-      next = next;
-      shows = shows;
-      client = b.client;
-      connection = d;
-      there = there;
-      deep = inr (deep_beyond b.pushes (shown_pushes d) (subst HaveTooDeep shown (c.write_pushes.ensures.memory memory)));
-    }
+    let at = (goal.at.returns-clause-memory g c).After-beyond-pushes in
+    let (d, there) = is_there g at limits next shows in
+    let deep = subst HaveTooDeep (heard g at limits next shows d there).1 (c.write_pushes.ensures.memory memory) in
+    record { next = next; shows = shows; client = b.client; connection = d; there = there; deep = inr (deep_beyond b.pushes (shown_pushes d) deep) }

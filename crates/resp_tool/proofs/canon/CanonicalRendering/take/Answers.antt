@@ -10,8 +10,8 @@ use Rattle.resp_tool.specs.Drafts.{HasDrafted}
 use Rattle.resp_tool.specs.Takings.{Takes}
 use Rattle.resp_tool.specs.declared.rendering.Stop.{Stop}
 use Rattle.resp_tool.specs.declared.rendering.Stop.TheVariants.{OverLimits}
-use Rattle.resp_tool.proofs.Drafted.{declines, drafts_front, drafts_value, no_part, part_of_draft}
-use Rattle.resp_tool.proofs.Scanned.{nothing_left}
+use Rattle.resp_tool.proofs.Drafted.{declines, drafts_front, drafts_value, part_of_draft}
+use Rattle.resp_tool.proofs.Scanned.{byte_fault, no_part, nothing_left}
 use Rattle.resp_tool.proofs.canon.CanonicalRendering.take.Goals as goal
 
 pub returns-in-Err-Fault-clause-takes : goal.returns-in-Err-Fault-clause-takes
@@ -23,12 +23,11 @@ returns-in-Err-Fault-clause-takes g c = λ front so_far w.
     let is : c.in-Err-Fault.field-0 ≡ stop.Fault c.in-Err-Fault.fault = search rules in
     let refusal = subst (λ z. OnFault z (HearsRefusal (rules_of self.scanner) heard front piece)) is
     (c.in-Err-Fault.ensures.refusal self.version front w.given w.scanned.reads w.drafted) in
-    nothing_left r heard front piece so_far (g.W.Sink.written c.args.writer.now) c.in-Err-Fault.fault w.nothing
-    (subst (λ z. HearsRefusal z heard front piece c.in-Err-Fault.fault) w.same_rules refusal)
+    let h = subst (λ z. HearsRefusal z heard front piece c.in-Err-Fault.fault) w.same_rules refusal in
+    nothing_left w.nothing (byte_fault r front piece c.in-Err-Fault.fault h.heard h.refused) h.refused.no_value
 
 pub returns-in-Err-Stopped-clause-takes : goal.returns-in-Err-Stopped-clause-takes
-returns-in-Err-Stopped-clause-takes g c = λ front so_far w.
-    no_part (rules_under c.args.self.now.version c.args.self.now.limits.now) (front ++ c.args.piece.now) so_far (g.W.Sink.written c.args.writer.now) w.nothing
+returns-in-Err-Stopped-clause-takes g c = λ front so_far w. no_part w.nothing
 
 pub returns-then-not-scanned-clause-takes : goal.returns-then-not-scanned-clause-takes
 returns-then-not-scanned-clause-takes g c = λ front so_far w.

@@ -1,14 +1,30 @@
-use Rattle.std.proofs.Common.{rules, ◌≡◌, ◌++◌, [], ◌+◌, length, take, refl, sym, ap, subst, ◌∙◌, arith, append_assoc, append-nil, length-append}
-use Rattle.std.proofs.lemmas.List.{length-take-le, take_all}
+use Rattle.std.proofs.Common.{rules, ◌≡◌, ◌++◌, ℕ, List, [], ◌+◌, length, take, refl, sym, subst, ◌∙◌, arith, append_assoc, append-nil, length-append}
+use Rattle.std.proofs.lemmas.List.{length-take-le}
+use Rattle.std.proofs.Math.Seq.{take-length}
 use Rattle.resp_scan.specs.Kinds.{rules_of}
 use Rattle.resp_scan.specs.Listening.{fault_of}
 use Rattle.resp_scan.specs.Reading.{Events}
-use Rattle.resp_tool.specs.Begun.{HavePassed}
+use Rattle.resp_tool.specs.Begun.{BeginsAt, HavePassed}
+use Rattle.resp_tool.specs.Scans.{HasScanned}
 use Rattle.resp_tool.specs.declared.starts.Starts.{Starts}
 use Rattle.resp_tool.proofs.BegunLemmas.{begins_on, came, passed_on, passed_refused, passed_value}
-use Rattle.resp_tool.proofs.Rendered.{after_used, done_more, nothing_left}
+use Rattle.resp_tool.proofs.Rendered.{all_done, done_more, left_to_do}
 use Rattle.resp_tool.proofs.ValidLemmas.{stop_is_not_viable}
 use Rattle.resp_tool.proofs.starts.Starts.pass.Goals as goal
+use Rattle.resp_tool.proofs.starts.Starts.pass.Goals.{At-loop-self, In-Ok}
+
+-- where the next value begins, with the rest of the piece
+begins : (c : At-loop-self) (bytes : List ℕ) → HavePassed c.args.self.now bytes →
+    BeginsAt (rules_of c.args.self.now.scanner) (bytes ++ c.args.piece.now) c.loop-self.self.values c.loop-self.self.start
+begins c bytes h =
+    let w = c.loop-self.invariant in
+    rw (sym (left_to_do bytes w.done c.loop-self.rest.now w.split))
+    (begins_on c.loop-self.rest.now (sym w.same_rules) refl refl (w.stands bytes h).begins)
+
+-- what the scanner has read before the call, since no fault stands
+read : (c : In-Ok) (bytes : List ℕ) (h : HavePassed c.loop-self.self bytes) → (given : Events) × HasScanned c.loop-self.self.scanner h.begins.rest given
+read c bytes h = came c.loop-self.self.scanner h.begins.rest h.come
+    (λ fault faulted. let e = (c.in-Ok.ensures.fault_is_final fault faulted).0 in absurd (cc))
 
 pub loop-self-init : goal.loop-self-init
 loop-self-init c = record {
@@ -22,61 +38,39 @@ loop-self-init c = record {
 pub returns-in-Err-clause-passed : goal.returns-in-Err-clause-passed
 returns-in-Err-clause-passed c = λ bytes h is.
     let w = c.loop-self.invariant in
-    let whole : (bytes ++ w.done) ++ c.loop-self.rest.now ≡ bytes ++ c.args.piece.now = append_assoc bytes w.done c.loop-self.rest.now ∙
-    ap (λ z. bytes ++ z) (sym w.split) in
+    let rest = c.loop-self.rest.now in
+    let s = w.stands bytes h in
     let after : Starts = record { scanner = c.scan.new.self; values = c.loop-self.self.values; start = c.loop-self.self.start } in
-    subst (HavePassed after) whole
-    (passed_refused c.loop-self.self after (bytes ++ w.done) c.loop-self.rest.now (fault_of c.in-Err.field-0) (w.stands bytes h) c.in-Err.ensures.same_rules refl
-    refl c.in-Err.ensures.fault_is_kept
-    (λ given scanned. stop_is_not_viable (rules_of c.loop-self.self.scanner) (λ (es : Events). Unit {0}) (w.stands bytes h).begins.rest c.loop-self.rest.now
-    c.in-Err.field-0 (c.in-Err.ensures.refusal tt (w.stands bytes h).begins.rest given scanned.reads tt)
-    (c.in-Err.ensures.stopped tt (w.stands bytes h).begins.rest given scanned.reads tt)))
+    subst (HavePassed after) (left_to_do bytes w.done rest w.split)
+    (passed_refused after rest (fault_of c.in-Err.field-0) s c.in-Err.ensures.same_rules refl refl c.in-Err.ensures.fault_is_kept
+    (λ given scanned. stop_is_not_viable (rules_of c.loop-self.self.scanner) (λ (es : Events). Unit {0}) s.begins.rest rest c.in-Err.field-0
+    (c.in-Err.ensures.refusal tt s.begins.rest given scanned.reads tt) (c.in-Err.ensures.stopped tt s.begins.rest given scanned.reads tt)))
 
 pub returns-in-Err-clause-begins : goal.returns-in-Err-clause-begins
-returns-in-Err-clause-begins c = λ bytes h.
-    let w = c.loop-self.invariant in
-    let whole : (bytes ++ w.done) ++ c.loop-self.rest.now ≡ bytes ++ c.args.piece.now = append_assoc bytes w.done c.loop-self.rest.now ∙
-    ap (λ z. bytes ++ z) (sym w.split) in
-    rw (sym w.same_rules, sym whole)
-    (begins_on (rules_of c.loop-self.self.scanner) (bytes ++ w.done) c.loop-self.rest.now c.loop-self.self.values c.loop-self.self.start
-    (w.stands bytes h).begins)
+returns-in-Err-clause-begins c = begins (goal.at.returns-in-Err-clause-begins c).At-loop-self
 
 pub returns-then-scanned-eq0-clause-begins : goal.returns-then-scanned-eq0-clause-begins
-returns-then-scanned-eq0-clause-begins c = λ bytes h.
-    let w = c.loop-self.invariant in
-    let whole : (bytes ++ w.done) ++ c.loop-self.rest.now ≡ bytes ++ c.args.piece.now = append_assoc bytes w.done c.loop-self.rest.now ∙
-    ap (λ z. bytes ++ z) (sym w.split) in
-    rw (sym w.same_rules, sym whole)
-    (begins_on (rules_of c.loop-self.self.scanner) (bytes ++ w.done) c.loop-self.rest.now c.loop-self.self.values c.loop-self.self.start
-    (w.stands bytes h).begins)
+returns-then-scanned-eq0-clause-begins c = begins (goal.at.returns-then-scanned-eq0-clause-begins c).At-loop-self
 
 pub returns-clause-begins : goal.returns-clause-begins
-returns-clause-begins c = λ bytes h.
-    let w = c.loop-self.invariant in
-    let whole : (bytes ++ w.done) ++ c.loop-self.rest.now ≡ bytes ++ c.args.piece.now = append_assoc bytes w.done c.loop-self.rest.now ∙
-    ap (λ z. bytes ++ z) (sym w.split) in
-    rw (sym w.same_rules, sym whole)
-    (begins_on (rules_of c.loop-self.self.scanner) (bytes ++ w.done) c.loop-self.rest.now c.loop-self.self.values c.loop-self.self.start
-    (w.stands bytes h).begins)
+returns-clause-begins c = begins (goal.at.returns-clause-begins c).At-loop-self
 
 pub loop-self-preserved-then-scanned : goal.loop-self-preserved-then-scanned
 loop-self-preserved-then-scanned c =
     let w = c.loop-self.invariant in
-    let rest = c.loop-self.rest.now in
-    let used = c.in-Ok.scanned.used in
+    let front = take c.in-Ok.scanned.used c.loop-self.rest.now in
     let after : Starts = record { scanner = c.scan.new.self; values = c.loop-self.self.values + 1; start = c.saturating_add-self.result } in
     record {
-      done = w.done ++ take used rest;
-      split = done_more c.args.piece.now w.done rest _ used w.split (after_used used (length rest) rest refl);
+      done = w.done ++ front;
+      split = done_more c.args.piece.now w.done c.loop-self.rest.now c.in-Ok.scanned.used w.split;
       stands = λ bytes h.
           let s = w.stands bytes h in
-          let read = came c.loop-self.self.scanner s.begins.rest s.come
-          (λ fault faulted. let e = (c.in-Ok.ensures.fault_is_final fault faulted).0 in absurd (cc)) in
+          let read = read (goal.at.loop-self-preserved-then-scanned c).In-Ok (bytes ++ w.done) s in
           let size : c.taken-taken.result ≡ length s.begins.rest = c.taken-taken.ensures.length_of_front s.begins.rest read.0 read.1.reads in
-          let more = length-take-le used rest c.in-Ok.ensures.within_piece in
-          let whole = length-append s.begins.rest (take used rest) in
-          subst (HavePassed after) (append_assoc bytes w.done (take used rest))
-          (passed_value c.loop-self.self after (bytes ++ w.done) (take used rest) (λ (es : Events). Unit {0}) s c.in-Ok.ensures.same_rules refl
+          let more = length-take-le c.in-Ok.scanned.used c.loop-self.rest.now c.in-Ok.ensures.within_piece in
+          let whole = length-append s.begins.rest front in
+          subst (HavePassed after) (append_assoc bytes w.done front)
+          (passed_value after front s c.in-Ok.ensures.same_rules refl
           (λ small. omega (arith, small, size, more, whole, c.saturating_add-self.ensures, c.saturating_add-size.ensures))
           (c.in-Ok.ensures.value_whole tt s.begins.rest read.0 read.1.reads tt c.if-scanned.true));
       same_rules = c.in-Ok.ensures.same_rules ∙ w.same_rules;
@@ -87,21 +81,15 @@ pub loop-self-preserved : goal.loop-self-preserved
 loop-self-preserved c =
     let w = c.loop-self.invariant in
     let rest = c.loop-self.rest.now in
-    let used = c.in-Ok.scanned.used in
     let after : Starts = record { scanner = c.scan.new.self; values = c.loop-self.self.values; start = c.loop-self.self.start } in
     record {
-      done = w.done ++ take used rest;
-      split = done_more c.args.piece.now w.done rest _ used w.split (after_used used (length rest) rest refl);
+      done = w.done ++ take c.in-Ok.scanned.used rest;
+      split = done_more c.args.piece.now w.done rest c.in-Ok.scanned.used w.split;
       stands = λ bytes h.
           let s = w.stands bytes h in
-          let read = came c.loop-self.self.scanner s.begins.rest s.come
-          (λ fault faulted. let e = (c.in-Ok.ensures.fault_is_final fault faulted).0 in absurd (cc)) in
-          let all : take used rest ≡ rest = ap (λ k. take k rest) (c.in-Ok.ensures.whole_piece c.if-scanned.false) ∙
-          take_all (length rest) rest (omega arith) in
-          let hears = c.in-Ok.ensures.used_up tt s.begins.rest read.0 read.1.reads tt c.if-scanned.false in
-          subst (λ z. HavePassed after (bytes ++ (w.done ++ z))) (sym all)
-          (subst (HavePassed after) (append_assoc bytes w.done rest)
-          (passed_on c.loop-self.self after (bytes ++ w.done) rest (λ (es : Events). Unit {0}) s c.in-Ok.ensures.same_rules refl refl hears));
+          let read = read (goal.at.loop-self-preserved c).In-Ok (bytes ++ w.done) s in
+          rw (c.in-Ok.ensures.whole_piece c.if-scanned.false, take-length rest) (subst (HavePassed after) (append_assoc bytes w.done rest)
+          (passed_on after rest s c.in-Ok.ensures.same_rules refl refl (c.in-Ok.ensures.used_up tt s.begins.rest read.0 read.1.reads tt c.if-scanned.false)));
       same_rules = c.in-Ok.ensures.same_rules ∙ w.same_rules;
       at_most = w.at_most;
     }
@@ -109,6 +97,4 @@ loop-self-preserved c =
 pub returns-clause-passed : goal.returns-clause-passed
 returns-clause-passed c = λ bytes h is.
     let w = c.loop-self.invariant in
-    let none : c.loop-self.rest.now ≡ [] = nothing_left c.loop-self.rest.now (search rules) in
-    let whole : w.done ≡ c.args.piece.now = sym (append-nil w.done) ∙ ap (λ z. w.done ++ z) (sym none) ∙ sym w.split in
-    subst (λ z. HavePassed c.loop-self.self (bytes ++ z)) whole (w.stands bytes h)
+    rw (sym (all_done w.done c.loop-self.rest.now w.split (search rules))) (w.stands bytes h)
