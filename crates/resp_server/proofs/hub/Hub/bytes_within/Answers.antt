@@ -48,15 +48,16 @@ returns-then-session-clause-no_session g c none =
     absurd (seat_is_there i.shared.limits i.sessions.entries i.shared.store i.last c.args.self.now c.self.view_is c.args.id c.in-Some.session.now
     c.in-Some.ensures.value none)
 
-pub answer-answered-requires-clause-reading : goal.answer-answered-requires-clause-reading
-answer-answered-requires-clause-reading g c =
+pub answer-answered-requires : goal.answer-answered-requires
+answer-answered-requires g c =
     let i = c.self.inside in
-    (sound_at i.shared.limits i.last i.sessions.entries c.args.id c.in-Some.session.now c.in-Some.ensures.value c.self.invariant.sound).reading
-
-pub answer-answered-requires-clause-taking : goal.answer-answered-requires-clause-taking
-answer-answered-requires-clause-taking g c =
-    let i = c.self.inside in
-    (sound_at i.shared.limits i.last i.sessions.entries c.args.id c.in-Some.session.now c.in-Some.ensures.value c.self.invariant.sound).taking c.if-session.false
+    let sound = sound_at i.shared.limits i.last i.sessions.entries c.args.id c.in-Some.session.now c.in-Some.ensures.value c.self.invariant.sound in
+    record {
+      is_open = c.if-session.false;
+      stored = c.self.invariant.stored;
+      reading = sound.reading;
+      taking = sound.taking c.if-session.false;
+    }
 
 pub invariant_of-self-in-Err : goal.invariant_of-self-in-Err
 invariant_of-self-in-Err g c =
