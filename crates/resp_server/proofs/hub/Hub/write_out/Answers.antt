@@ -1,4 +1,4 @@
-use Rattle.std.proofs.Common.{None, Some, ◌<◌, ◌≤◌, arith, rules, length, length-drop, drop, refl, ap, subst, take, ◌∙◌}
+use Rattle.std.proofs.Common.{None, arith, rules, length, length-drop, drop, refl, ap, subst, take, ◌∙◌}
 use Rattle.std.specs.Option.{option_map}
 use Rattle.resp_value.specs.Devices.{Appends}
 use Rattle.resp_server.specs.Hubs.{Seat}
