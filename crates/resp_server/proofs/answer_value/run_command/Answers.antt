@@ -1,4 +1,4 @@
-use Rattle.std.proofs.Common.{◌∷◌, length, ap, sym, subst, ◌∙◌, arith}
+use Rattle.std.proofs.Common.{◌∷◌, length, ap, sym, subst, arith}
 use Rattle.resp_session.specs.Fitting.{FitsEffect, FitsStore}
 use Rattle.resp_session.specs.Stores.{effect_of}
 use Rattle.resp_server.specs.Words.{words_left}

@@ -1,4 +1,4 @@
-use Rattle.std.proofs.Common.{◌-◌, [], arith, length, refl, rules, subst, sym}
+use Rattle.std.proofs.Common.{◌-◌, arith, length, refl, rules, subst, sym}
 use Rattle.resp_server.specs.Answering.{AnswersBytes}
 use Rattle.resp_server.specs.Reading.{HasReadFront}
 use Rattle.resp_server.proofs.WholeTurns.{whole_turn}
