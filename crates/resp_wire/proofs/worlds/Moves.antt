@@ -151,19 +151,17 @@ moves_to_server {L} is_honest answered nothing_else goes_on sent hub hub' ends l
     let i = number - 1 in
     let its = its_link is_honest ends links number link shows.honest as_many there link_is in
     let work = at_work limits hub ends order w number e shows.each there open_end e_is in
-    let is = work.is in
     let a = work.at in
     let s = work.stands in
-    let c = a.connection in
     let come : HasBrought hub hub' (suc i) s.session (s.front ++ take count (state_of e.client).out) order order' (suc i) =
     at_open hub (suc i) (λ t front. HasBrought hub hub' (suc i) t (front ++ take count (state_of e.client).out) order order' (suc i)) s.session s.front
-    (subst (λ n. WhereOpen hub n (λ t front. HasBrought hub hub' n t (front ++ take count (state_of e.client).out) order order' n)) (sym is) (brought
+    (subst (λ n. WhereOpen hub n (λ t front. HasBrought hub hub' n t (front ++ take count (state_of e.client).out) order order' n)) (sym work.is) (brought
     its.honest))
     s.there s.is_open s.taking in
-    let done = arrived answered nothing_else goes_on sent limits hub hub' ends order order' w shows.each i count e client' c a.here a.its a.is_open a.within s
+    let done = arrived answered nothing_else goes_on sent limits hub hub' ends order order' w shows.each i count e client' a.connection a.here a.its a.is_open a.within s
     come
     queue reading in
-    subst (λ n. Leads is_honest limits w (world_of hub' (set ends i (with_client e client')) (set links i link') order' stopped) (ToServer n count) Done) is
+    subst (λ n. Leads is_honest limits w (world_of hub' (set ends i (with_client e client')) (set links i link') order' stopped) (ToServer n count) Done) work.is
     (after_event w (ToServer (suc i) count), done.0, record { each = done.1; honest = all_with is_honest links i link' shows.honest (stays its.honest) })
 
 pub stops_to_server : {L : Type 0} (is_honest : L → Type 0) (failures : L → ℕ) → WhatArrivesIsAnswered → (hub hub' : HubState) (ends ends' : List End)
@@ -179,19 +177,17 @@ stops_to_server {L} is_honest failures answered hub hub' ends ends' links order 
     let i = number - 1 in
     let its = its_link is_honest ends links number link shows.honest as_many there link_is in
     let work = at_work limits hub ends order w number e shows.each there open_end e_is in
-    let is = work.is in
     let a = work.at in
     let s = work.stands in
-    let c = a.connection in
     let why : StopsCarrying hub (suc i) s.session s.front (state_of e.client).out (failures link) (failures link') cause =
     at_open hub (suc i) (λ t front. StopsCarrying hub (suc i) t front (state_of e.client).out (failures link) (failures link') cause) s.session s.front
-    (subst (λ n. WhereOpen hub n (λ t front. StopsCarrying hub n t front (state_of e.client).out (failures link) (failures link') cause)) (sym is) (refused
+    (subst (λ n. WhereOpen hub n (λ t front. StopsCarrying hub n t front (state_of e.client).out (failures link) (failures link') cause)) (sym work.is) (refused
     its.honest))
     s.there s.is_open s.taking in
     elim why as (λ _. StopsBy failures links (set links i link') cause) [
       | inl memory ↦ inl memory
       | inr (inl risen) ↦ inr (failed_at failures links i link link' its.within link_is risen.0, risen.1)
-      | inr (inr closed) ↦ absurd (never_closed answered limits hub ends order w shows.each (suc i) e c (seat_at hub (suc i)) a.its s closed)
+      | inr (inr closed) ↦ absurd (never_closed answered limits hub ends order w shows.each (suc i) e a.connection (seat_at hub (suc i)) a.its s closed)
     ]
 
 pub moves_to_client : {L : Type 0} (is_honest : L → Type 0) → ReadingsGoOn → WhatIsReadIsShown → AChangeIsOfOneConnection → (hub hub' : HubState)
@@ -210,24 +206,22 @@ moves_to_client {L} is_honest go_on nothing_else change hub hub' ends links orde
     let i = number - 1 in
     let its = its_link is_honest ends links number link shows.honest as_many there link_is in
     let work = at_work limits hub ends order w number e shows.each there open_end e_is in
-    let is = work.is in
     let a = work.at in
     let s = work.stands in
-    let c = a.connection in
     let same : between ≡ with_client e client' = between_is ∙ get_or-set_same ends i (with_client e client') between a.within in
     let heard_on : HearsOn (state_of e.client) client' fresh heard (s.rest ++ take count s.session.out) =
     at_there hub (suc i) (λ t. WhereTaken e.client (λ front. HearsOn (state_of e.client) client' fresh heard (front ++ take count t.out))) s.session s.there
     (subst (λ n. IfSome (seat_at hub n) (λ t. WhereTaken e.client (λ front. HearsOn (state_of e.client) client' fresh heard (front ++ take count t.out))))
-    (sym is) (on its.honest)) s.rest s.reading in
+    (sym work.is) (on its.honest)) s.rest s.reading in
     let seated_so : hub' ≡ seated hub (suc i) (sent_seat count s.session) =
     at_there hub (suc i) (λ t. hub' ≡ seated hub (suc i) (sent_seat count t)) s.session s.there
-    (subst (λ n. IfSome (seat_at hub n) (λ t. hub' ≡ seated hub n (sent_seat count t))) (sym is) now) in
-    let done = shown_on go_on nothing_else change limits hub hub' ends order w shows.each i count e e' client' fresh heard c a.here a.its a.is_open a.within s
+    (subst (λ n. IfSome (seat_at hub n) (λ t. hub' ≡ seated hub n (sent_seat count t))) (sym work.is) now) in
+    let done = shown_on go_on nothing_else change limits hub hub' ends order w shows.each i count e e' client' fresh heard a.connection a.here a.its a.is_open a.within s
     no_reply
     no_push heard_on seated_so (subst (λ d. KeepsHeard d e' heard) same kept) in
     let ends_are : set ends i e' ≡ set (set ends i (with_client e client')) i e' = sym (set_twice ends i (with_client e client') e') in
     subst (λ n. Leads is_honest limits w (world_of hub' (set (set ends i (with_client e client')) i e') (set links i link') order stopped) (ToClient n count)
-    Done) is (
+    Done) work.is (
       after_event w (ToClient (suc i) count),
       done.0,
       record {
@@ -250,26 +244,25 @@ stops_to_client {L} is_honest failures go_on no_fault change hub hub' ends ends'
     let i = number - 1 in
     let its = its_link is_honest ends links number link shows.honest as_many there link_is in
     let work = at_work limits hub ends order w number e shows.each there open_end e_is in
-    let is = work.is in
     let a = work.at in
     let s = work.stands in
-    let c = a.connection in
     let why : StopsShowing (state_of e.client) fresh heard s.rest s.session.out (failures link) (failures link') cause =
     at_there hub (suc i) (λ t. WhereTaken e.client (λ front. StopsShowing (state_of e.client) fresh heard front t.out (failures link) (failures link') cause))
     s.session
     s.there (subst (λ n. IfSome (seat_at hub n) (λ t. WhereTaken e.client (λ front.
-    StopsShowing (state_of e.client) fresh heard front t.out (failures link) (failures link') cause))) (sym is) (refused its.honest)) s.rest s.reading in
+    StopsShowing (state_of e.client) fresh heard front t.out (failures link) (failures link') cause))) (sym work.is) (refused its.honest)) s.rest s.reading in
     elim why as (λ _. StopsBy failures links (set links i link') cause) [
       | inl memory ↦ inl memory
       | inr (inl risen) ↦ inr (failed_at failures links i link link' its.within link_is risen.0, risen.1)
-      | inr (inr met) ↦ absurd (never_refused go_on no_fault change limits hub ends order w shows.each i e c (seat_at hub (suc i)) fresh heard cause a.its
+      | inr (inr met) ↦ absurd (never_refused go_on no_fault change limits hub ends order w shows.each i e a.connection (seat_at hub (suc i)) fresh heard cause a.its
           a.is_open s met)
     ]
 
 -- a stop when out of memory
-pub stops_for_memory : {L : Type 0} (is_honest : L → Type 0) (failures : L → ℕ) (old new : WorldState L) (cause : Cause) → cause ≡ OutOfMemory →
-    Fails is_honest failures old new cause
-stops_for_memory {L} is_honest failures old new cause memory limits w shows = inl memory
+pub stops_for_memory : {L : Type 0} (is_honest : L → Type 0) (failures : L → ℕ) (old new : WorldState L) (result : Result Outcome Cause) →
+    IfErr result (λ cause. cause ≡ OutOfMemory) → IfErr result (Fails is_honest failures old new)
+stops_for_memory {L} is_honest failures old new (Ok outcome) memory = tt
+stops_for_memory {L} is_honest failures old new (Err cause) memory = λ limits w shows. inl memory
 
 pub pushes : {L : Type 0} (is_honest : L → Type 0) → WhatIsReadIsShown → WhatIsLeftMayGoOn → WhatHasComeWasSent → AChangeIsOfOneConnection →
     (hub hub' : HubState) (ends : List End) (links : List L) (order : List ℕ) (stopped : Option Cause) (number : ℕ) (items : List Value) →

@@ -44,9 +44,7 @@ returns-then-session-clause-closing g c =
 
 pub returns-then-session-clause-no_session : goal.returns-then-session-clause-no_session
 returns-then-session-clause-no_session g c none =
-    let i = c.self.inside in
-    absurd (seat_is_there i.shared.limits i.sessions.entries i.shared.store i.last c.args.self.now c.self.view_is c.args.id c.in-Some.session.now
-    c.in-Some.ensures.value none)
+    absurd (seat_is_there _ _ _ _ c.args.self.now c.self.view_is c.args.id _ c.in-Some.ensures.value none)
 
 pub answer-answered-requires : goal.answer-answered-requires
 answer-answered-requires g c =
@@ -80,16 +78,11 @@ returns-in-Err-clause-cut_short g c =
     (c.in-Err.ensures.cut_short front taken))
 
 pub returns-in-Err-clause-closing : goal.returns-in-Err-clause-closing
-returns-in-Err-clause-closing g c =
-    let i = c.self.inside in
-    not_closing i.shared.limits i.sessions.entries i.shared.store i.last c.args.self.now c.self.view_is c.args.id c.in-Some.session.now
-    c.in-Some.ensures.value c.if-session.false _
+returns-in-Err-clause-closing g c = not_closing _ _ _ _ c.args.self.now c.self.view_is c.args.id _ c.in-Some.ensures.value c.if-session.false _
 
 pub returns-in-Err-clause-no_session : goal.returns-in-Err-clause-no_session
 returns-in-Err-clause-no_session g c none =
-    let i = c.self.inside in
-    absurd (seat_is_there i.shared.limits i.sessions.entries i.shared.store i.last c.args.self.now c.self.view_is c.args.id c.in-Some.session.now
-    c.in-Some.ensures.value none)
+    absurd (seat_is_there _ _ _ _ c.args.self.now c.self.view_is c.args.id _ c.in-Some.ensures.value none)
 
 pub invariant_of-self-2 : goal.invariant_of-self-2
 invariant_of-self-2 g c =
@@ -114,16 +107,11 @@ returns-clause-answered g c =
     s.same_taken (c.in-Ok.ensures.answered front taken))
 
 pub returns-clause-closing : goal.returns-clause-closing
-returns-clause-closing g c =
-    let i = c.self.inside in
-    not_closing i.shared.limits i.sessions.entries i.shared.store i.last c.args.self.now c.self.view_is c.args.id c.in-Some.session.now
-    c.in-Some.ensures.value c.if-session.false _
+returns-clause-closing g c = not_closing _ _ _ _ c.args.self.now c.self.view_is c.args.id _ c.in-Some.ensures.value c.if-session.false _
 
 pub returns-clause-no_session : goal.returns-clause-no_session
 returns-clause-no_session g c none =
-    let i = c.self.inside in
-    absurd (seat_is_there i.shared.limits i.sessions.entries i.shared.store i.last c.args.self.now c.self.view_is c.args.id c.in-Some.session.now
-    c.in-Some.ensures.value none)
+    absurd (seat_is_there _ _ _ _ c.args.self.now c.self.view_is c.args.id _ c.in-Some.ensures.value none)
 
 pub returns-in_default-clause-idle : goal.returns-in_default-clause-idle
 returns-in_default-clause-idle g c =
@@ -160,17 +148,13 @@ returns-then-session-clause-bounded g c =
 
 pub returns-in-Err-clause-bounded : goal.returns-in-Err-clause-bounded
 returns-in-Err-clause-bounded g c =
-    let i = c.self.inside in
-    answer_is_bounded i.shared.limits i.sessions.entries i.shared.store i.last c.args.self.now c.self.view_is c.answer-answered.new.shared.limits
-    c.answer-answered.new.shared.store _ c.args.id c.in-Some.session.now c.answer-answered.new.session c.shrink.new.self
-    (c.get_mut.follows.holds _).0 c.in-Some.ensures.value c.args.held c.answer-answered.ensures.bounded c.shrink.ensures.same_out
+    answer_is_bounded _ _ _ _ c.args.self.now c.self.view_is c.answer-answered.new.shared.limits c.answer-answered.new.shared.store _ c.args.id _
+    c.answer-answered.new.session _ (c.get_mut.follows.holds _).0 c.in-Some.ensures.value c.args.held c.answer-answered.ensures.bounded c.shrink.ensures.same_out
 
 pub returns-clause-bounded : goal.returns-clause-bounded
 returns-clause-bounded g c =
-    let i = c.self.inside in
-    answer_is_bounded i.shared.limits i.sessions.entries i.shared.store i.last c.args.self.now c.self.view_is c.answer-answered.new.shared.limits
-    c.answer-answered.new.shared.store _ c.args.id c.in-Some.session.now c.answer-answered.new.session c.shrink.new.self
-    (c.get_mut.follows.holds _).0 c.in-Some.ensures.value c.args.held c.answer-answered.ensures.bounded c.shrink.ensures.same_out
+    answer_is_bounded _ _ _ _ c.args.self.now c.self.view_is c.answer-answered.new.shared.limits c.answer-answered.new.shared.store _ c.args.id _
+    c.answer-answered.new.session _ (c.get_mut.follows.holds _).0 c.in-Some.ensures.value c.args.held c.answer-answered.ensures.bounded c.shrink.ensures.same_out
 
 pub returns-clause-within : goal.returns-clause-within
 returns-clause-within g c =
