@@ -31,9 +31,9 @@ pub record HasClosed (old : HubState) (id : ℕ) (s : Seat) (front text : List �
   pub is_closing : answered.closing ≡ true
 
 -- an honest link stays honest, and a link has failed once if that stopped the call, otherwise not
-pub record LinkGoesOn {L : Type 0} (is_honest : L → Type 0) (failures : L → ℕ) (old new : L) (failed : Bool) : Type 0 where
+pub record LinkGoesOn {L : Type 0} (is_honest : L → Type 0) (fails : L → ℕ) (old new : L) (failed : Bool) : Type 0 where
   pub honest : is_honest old → is_honest new
-  pub failures : failures new ≡ failures_after failed (failures old)
+  pub failures : fails new ≡ failures_after failed (fails old)
 
 -- Why no more bytes are carried: memory was out, the link failed, or the session was closed by the bytes received.
 abbrev pub StopsCarrying : HubState → ℕ → Seat → List ℕ → List ℕ → ℕ → ℕ → Cause → Type 0

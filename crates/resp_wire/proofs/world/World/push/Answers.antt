@@ -40,11 +40,11 @@ pub returns-in-Err : goal.returns-in-Err
 returns-in-Err g c =
     let s = c.self.inside in
     let n = c.args.number in
+    let items = list_of c.args.items.now in
+    let event = Push n (map datum_of items) in
     let hub' = c.push.new.self in
     let old = world_of s.hub s.ends.items s.links.items s.order.items s.stopped in
     let new = world_of hub' s.ends.items s.links.items s.order.items s.stopped in
-    let items = list_of c.args.items.now in
-    let event = Push n (map datum_of items) in
     let result = c.outcome_of_push.result in
     let is = c.outcome_of_push.ensures in
     let verdict = subst (λ l. IsPushVerdict s.hub.limits (seat_at s.hub n) (push_message (map datum_of l)).value (Err c.in-Err.error)) c.list.ensures
