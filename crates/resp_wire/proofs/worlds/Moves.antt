@@ -164,14 +164,14 @@ moves_to_server {L} is_honest answered nothing_else goes_on sent hub hub' ends l
     subst (λ n. Leads is_honest limits w (world_of hub' (set ends i (with_client e client')) (set links i link') order' stopped) (ToServer n count) Done) work.is
     (after_event w (ToServer (suc i) count), done.0, record { each = done.1; honest = all_with is_honest links i link' shows.honest (stays its.honest) })
 
-pub stops_to_server : {L : Type 0} (is_honest : L → Type 0) (failures : L → ℕ) → WhatArrivesIsAnswered → (hub hub' : HubState) (ends ends' : List End)
-    (links : List L) (order order' : List ℕ) (stopped : Option Cause) (number : ℕ) (e : End) (link link' : L) (cause : Cause) →
+pub stops_to_server : {L : Type 0} (is_honest : L → Type 0) (failures : L → ℕ) → WhatArrivesIsAnswered → (hub : HubState) (ends : List End)
+    (links : List L) (order : List ℕ) (stopped : Option Cause) (number : ℕ) (e : End) (link link' : L) (cause : Cause) →
     length links ≡ length ends → (1 ≤ number) × (number ≤ length ends) → IsOpenEnd ends (number - 1) → e ≡ get_or ends (number - 1) e →
     link ≡ get_or links (number - 1) link →
     (is_honest link → WhereOpen hub number (λ s front. StopsCarrying hub number s front (state_of e.client).out (failures link) (failures link') cause)) →
     Fails is_honest failures (world_of hub ends links order stopped)
-    (world_of hub' ends' (set links (number - 1) link') order' stopped) cause
-stops_to_server {L} is_honest failures answered hub hub' ends ends' links order order' stopped number e link link' cause as_many there open_end e_is link_is
+    (world_of hub ends (set links (number - 1) link') order stopped) cause
+stops_to_server {L} is_honest failures answered hub ends links order stopped number e link link' cause as_many there open_end e_is link_is
     refused
     limits w shows =
     let i = number - 1 in
@@ -231,14 +231,14 @@ moves_to_client {L} is_honest go_on nothing_else change hub hub' ends links orde
     )
 
 pub stops_to_client : {L : Type 0} (is_honest : L → Type 0) (failures : L → ℕ) → ReadingsGoOn → NoClientMeetsAFault → AChangeIsOfOneConnection →
-    (hub hub' : HubState) (ends ends' : List End) (links : List L) (order order' : List ℕ) (stopped : Option Cause) (number : ℕ) (e : End)
+    (hub : HubState) (ends : List End) (links : List L) (order : List ℕ) (stopped : Option Cause) (number : ℕ) (e : End)
     (link link' : L) (fresh heard : Asked) (cause : Cause) → length links ≡ length ends → (1 ≤ number) × (number ≤ length ends) →
     IsOpenEnd ends (number - 1) → e ≡ get_or ends (number - 1) e → link ≡ get_or links (number - 1) link →
     (is_honest link → IfSome (seat_at hub number) (λ s. WhereTaken e.client (λ front.
     StopsShowing (state_of e.client) fresh heard front s.out (failures link) (failures link') cause))) →
     Fails is_honest failures (world_of hub ends links order stopped)
-    (world_of hub' ends' (set links (number - 1) link') order' stopped) cause
-stops_to_client {L} is_honest failures go_on no_fault change hub hub' ends ends' links order order' stopped number e link link' fresh heard cause as_many there
+    (world_of hub ends (set links (number - 1) link') order stopped) cause
+stops_to_client {L} is_honest failures go_on no_fault change hub ends links order stopped number e link link' fresh heard cause as_many there
     open_end
     e_is link_is refused limits w shows =
     let i = number - 1 in

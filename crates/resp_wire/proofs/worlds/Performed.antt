@@ -59,6 +59,13 @@ of_number {L} is_honest failures carried old new result event its number of numb
     subst (λ e. Performs is_honest failures carried old new e result)
     (ap of (numbered ∙ ap (λ e. client_of (event_of e)) is) ∙ sym same ∙ sym (ap event_of is))
 
+-- what an open client's event performs in a world performs in the same world
+pub from_inside : {L : Type 0} (is_honest : L → Type 0) (failures : L → ℕ) (carried : L → Option Traffic) (number : ℕ) (s z new : WorldState L)
+    (event : WorldEvent) (result : Result Outcome Cause) → s ≡ z → IsOpenClient z.ends number →
+    (IsOpenClient s.ends number → Performs is_honest failures carried s new event result) → Performs is_honest failures carried z new event result
+from_inside {L} is_honest failures carried number s z new event result same client performs =
+    subst (λ (w : WorldState L). IsOpenClient w.ends number → Performs is_honest failures carried w new event result) same performs client
+
 -- an event over no link
 pub over_none : {L : Type 0} (is_honest : L → Type 0) (failures : L → ℕ) (carried : L → Option Traffic) (old new : WorldState L) (event : WorldEvent)
     (result : Result Outcome Cause) → ((outcome : Outcome) → LinksAfter carried old new event outcome) → new.links ≡ old.links → new.stopped ≡ old.stopped →

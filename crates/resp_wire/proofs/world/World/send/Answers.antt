@@ -4,19 +4,14 @@ use Rattle.resp_session.specs.Requests.{Command}
 use Rattle.resp_session.specs.Worlds.{Send}
 use Rattle.resp_wire.specs.Happening.{IsOpenClient, Performs}
 use Rattle.resp_wire.specs.Worlds.{WorldState}
-use Rattle.resp_wire.proofs.worlds.Performed.{of_request}
+use Rattle.resp_wire.proofs.worlds.Performed.{from_inside, of_request}
 use Rattle.resp_wire.proofs.worlds.Places.{world_of}
 use Rattle.resp_wire.proofs.world.World.send.Goals as goal
 
 pub returns : goal.returns
-returns g c =
+returns g c = from_inside _ _ _ c.args.number _ _ _ _ _ c.self.view_is c.requires (
     let s = c.self.inside in
-    let n = c.args.number in
-    let words = words_of c.args.command.now in
-    let done = c.send in
-    let new = world_of s.hub (set s.ends.items (n - 1) done.new.self) s.links.items s.order.items s.stopped in
-    subst (λ (z : WorldState g.row.L.Denot). IsOpenClient z.ends n → Performs g.L.Link.is_honest g.L.Link.failures g.L.Link.traffic z new (Send n words) done.result)
-    c.self.view_is (of_request g.L.Link.is_honest g.L.Link.failures g.L.Link.traffic c.readings_stay.ensures c.what_has_come_was_sent.ensures.was_sent
-    c.what_has_come_was_sent.ensures.stays c.a_change_is_of_one_connection.ensures s.hub s.ends.items s.links.items s.order.items s.stopped n
-    (λ k. Send k words) (Command words) c.index_mut.result.now done.new.self done.result ((λ limits c k cause. (λ r. r, λ r. r)), (λ w k. (refl, refl)))
-    (λ k. done.ensures.bytes) tt (λ outcome. refl) c.index_mut.ensures.value done.ensures.takes done.ensures.memory done.ensures.may_be_sent) c.requires
+    of_request _ _ _ c.readings_stay.ensures c.what_has_come_was_sent.ensures.was_sent c.what_has_come_was_sent.ensures.stays
+    c.a_change_is_of_one_connection.ensures s.hub s.ends.items s.links.items s.order.items s.stopped c.args.number (λ n. Send n (words_of c.args.command.now)) (Command (words_of c.args.command.now))
+    c.index_mut.result.now c.send.new.self c.send.result ((λ limits connection n cause. (λ r. r, λ r. r)), (λ world n. (refl, refl))) (λ n. c.send.ensures.bytes) tt
+    (λ outcome. refl) c.index_mut.ensures.value c.send.ensures.takes c.send.ensures.memory c.send.ensures.may_be_sent)
