@@ -276,19 +276,17 @@ pushes {L} is_honest nothing_else goes_on sent change hub hub' ends links order 
     let i = number - 1 in
     let x = (push_message (map datum_of items)).value in
     let (e, work) = some_at_work limits hub ends order w number shows.each there open_end in
-    let is = work.is in
     let a = work.at in
     let s = work.stands in
-    let c = a.connection in
     let seated_so : hub' ≡ seated hub (suc i) (pushed_seat x s.session) =
     at_there hub (suc i) (λ t. hub' ≡ seated hub (suc i) (pushed_seat x t)) s.session s.there
-    (subst (λ n. IfSome (seat_at hub n) (λ t. hub' ≡ seated hub n (pushed_seat x t))) (sym is) now) in
+    (subst (λ n. IfSome (seat_at hub n) (λ t. hub' ≡ seated hub n (pushed_seat x t))) (sym work.is) now) in
     let of_session : server.IsPushVerdict limits (Some s.session) x (Ok tt) =
-    subst (λ o. server.IsPushVerdict limits o x (Ok tt)) s.there (subst (λ n. server.IsPushVerdict limits (seat_at hub n) x (Ok tt)) (sym is)
+    subst (λ o. server.IsPushVerdict limits o x (Ok tt)) s.there (subst (λ n. server.IsPushVerdict limits (seat_at hub n) x (Ok tt)) (sym work.is)
     (subst (λ l. server.IsPushVerdict l (seat_at hub number) x (Ok tt)) shows.each.same_limits verdict)) in
-    let done = pushed nothing_else goes_on sent change limits hub hub' ends order w shows.each i items e c a.here a.its a.is_open a.within s of_session
+    let done = pushed nothing_else goes_on sent change limits hub hub' ends order w shows.each i items e a.connection a.here a.its a.is_open a.within s of_session
     is_value seated_so in
-    subst (λ n. Leads is_honest limits w (world_of hub' ends links order stopped) (Push n (map datum_of items)) Done) is (
+    subst (λ n. Leads is_honest limits w (world_of hub' ends links order stopped) (Push n (map datum_of items)) Done) work.is (
       after_event w (Push (suc i) (map datum_of items)),
       done.0,
       record {
@@ -373,15 +371,13 @@ pub refuses_push : {L : Type 0} (is_honest : L → Type 0) (hub hub' : HubState)
     (world_of hub' ends links order stopped) (Push number (map datum_of items)))
 refuses_push {L} is_honest hub hub' ends links order stopped number items error result is verdict same there open_end = ok_of result _ (λ outcome gives limits
     w shows.
-    let i = number - 1 in
     let x = (push_message (map datum_of items)).value in
     let (e, work) = some_at_work limits hub ends order w number shows.each there open_end in
-    let number_is = work.is in
     let a = work.at in
     let s = work.stands in
     let c = a.connection in
-    let its : connection_at w.connections number ≡ Some c = ap (connection_at w.connections) (sym number_is) ∙ a.its in
-    let refused = session_refuses limits hub ends order w number x error shows.each s.session (ap (seat_at hub) (sym number_is) ∙ s.there) verdict in
+    let its : connection_at w.connections number ≡ Some c = ap (connection_at w.connections) (sym work.is) ∙ a.its in
+    let refused = session_refuses limits hub ends order w number x error shows.each s.session (ap (seat_at hub) (sym work.is) ∙ s.there) verdict in
     let reasons = subst (λ r. IfOk r (λ o. (cause : Cause) × (o ≡ Refused cause) × RefusesPush limits c.version x cause)) (sym is ∙ gives)
     (push_refused limits s.session c.version x error s.version refused) in
     let (cause, outcome_is, refusal) = reasons in
@@ -403,10 +399,8 @@ pub stops_push : {L : Type 0} (is_honest : L → Type 0) (failures : L → ℕ) 
     (Fails is_honest failures (world_of hub ends links order stopped) new)
 stops_push {L} is_honest failures hub ends links order stopped new number items error result is verdict there open_end = err_of result _ (λ cause gives limits
     w shows.
-    let i = number - 1 in
     let x = (push_message (map datum_of items)).value in
     let (e, work) = some_at_work limits hub ends order w number shows.each there open_end in
-    let number_is = work.is in
     let s = work.stands in
-    let refused = session_refuses limits hub ends order w number x error shows.each s.session (ap (seat_at hub) (sym number_is) ∙ s.there) verdict in
+    let refused = session_refuses limits hub ends order w number x error shows.each s.session (ap (seat_at hub) (sym work.is) ∙ s.there) verdict in
     inl (subst (λ r. IfErr r (λ z. z ≡ OutOfMemory)) (sym is ∙ gives) (push_stopped limits s.session x error s.is_open refused)))

@@ -5,57 +5,47 @@ use Rattle.resp_session.specs.Connections.{push_message}
 use Rattle.resp_session.specs.Worlds.{Push}
 use Rattle.resp_server.specs.Hubs.{seat_at, seated}
 use Rattle.resp_server.specs.PushRefusals.{IsPushVerdict}
-use Rattle.resp_wire.specs.Happening.{IsOpenClient, MayLackMemory, Performs}
+use Rattle.resp_wire.specs.Happening.{MayLackMemory}
 use Rattle.resp_wire.specs.Links.{is_of_link}
-use Rattle.resp_wire.specs.Worlds.{WorldState}
 use Rattle.resp_wire.specs.declared.event.Outcome.TheVariants.{Done}
 use Rattle.resp_wire.proofs.LinkStops.{push_of_no_link}
 use Rattle.resp_wire.proofs.worlds.Lacking.{if_err_of, push_lacks}
 use Rattle.resp_wire.proofs.worlds.Moves.{pushes, refuses_push, stops_push}
-use Rattle.resp_wire.proofs.worlds.Performed.{over_none}
+use Rattle.resp_wire.proofs.worlds.Performed.{from_inside, over_none}
 use Rattle.resp_wire.proofs.worlds.Places.{world_of}
 use Rattle.resp_wire.proofs.worlds.Pushed.{pushed_seat}
 use Rattle.resp_wire.proofs.world.World.push.Goals as goal
 
 pub returns : goal.returns
-returns g c =
+returns g c = from_inside _ _ _ c.args.number _ _ _ _ _ c.self.view_is c.requires (λ client.
     let s = c.self.inside in
     let n = c.args.number in
     let hub' = c.push.new.self in
-    let old = world_of s.hub s.ends.items s.links.items s.order.items s.stopped in
-    let new = world_of hub' s.ends.items s.links.items s.order.items s.stopped in
     let items = list_of c.args.items.now in
     let now = subst (λ l. IfSome (seat_at s.hub n) (λ t. hub' ≡ seated s.hub n (pushed_seat (push_message (map datum_of l)).value t))) c.list.ensures
     c.in_default.ensures.queued in
     let verdict = subst (λ l. IsPushVerdict s.hub.limits (seat_at s.hub n) (push_message (map datum_of l)).value (Ok tt)) c.list.ensures
     c.in_default.ensures.verdict in
     let value = subst (λ l. IsValue (push_message (map datum_of l)).value) c.list.ensures c.in_default.ensures.is_value in
-    subst (λ (z : WorldState g.row.L.Denot). IsOpenClient z.ends n → Performs g.L.Link.is_honest g.L.Link.failures g.L.Link.traffic z new (Push n (map datum_of items)) (Ok Done))
-    c.self.view_is (λ client. over_none g.L.Link.is_honest g.L.Link.failures g.L.Link.traffic old new (Push n (map datum_of items)) (Ok Done) (λ outcome. refl) refl
-    refl refl tt (pushes g.L.Link.is_honest c.what_is_shown_is_read.ensures.nothing_else c.what_is_shown_is_read.ensures.goes_on
-    c.what_has_come_was_sent.ensures.was_sent c.a_change_is_of_one_connection.ensures s.hub hub' s.ends.items s.links.items s.order.items s.stopped n items
-    client.there client.is_open now verdict value) tt tt) c.requires
+    over_none _ _ _ _ _ (Push n (map datum_of items)) (Ok Done) (λ outcome. refl) refl refl refl tt
+    (pushes _ c.what_is_shown_is_read.ensures.nothing_else c.what_is_shown_is_read.ensures.goes_on c.what_has_come_was_sent.ensures.was_sent
+    c.a_change_is_of_one_connection.ensures s.hub hub' s.ends.items s.links.items s.order.items s.stopped n items client.there client.is_open now verdict
+    value) tt tt)
 
 pub returns-in-Err : goal.returns-in-Err
-returns-in-Err g c =
+returns-in-Err g c = from_inside _ _ _ c.args.number _ _ _ _ _ c.self.view_is c.requires (λ client.
     let s = c.self.inside in
     let n = c.args.number in
     let items = list_of c.args.items.now in
-    let event = Push n (map datum_of items) in
-    let hub' = c.push.new.self in
     let old = world_of s.hub s.ends.items s.links.items s.order.items s.stopped in
-    let new = world_of hub' s.ends.items s.links.items s.order.items s.stopped in
     let result = c.outcome_of_push.result in
     let is = c.outcome_of_push.ensures in
     let verdict = subst (λ l. IsPushVerdict s.hub.limits (seat_at s.hub n) (push_message (map datum_of l)).value (Err c.in-Err.error)) c.list.ensures
     c.in-Err.ensures.verdict in
-    subst (λ (z : WorldState g.row.L.Denot). IsOpenClient z.ends n → Performs g.L.Link.is_honest g.L.Link.failures g.L.Link.traffic z new event result) c.self.view_is
-    (λ client. over_none g.L.Link.is_honest g.L.Link.failures g.L.Link.traffic old new event result (λ outcome. refl) refl refl refl
+    over_none _ _ _ old _ (Push n (map datum_of items)) result (λ outcome. refl) refl refl refl
     (subst (λ r. IfErr r (λ cause. is_of_link cause ≡ false)) (sym is) (push_of_no_link c.in-Err.error))
-    (refuses_push g.L.Link.is_honest s.hub hub' s.ends.items s.links.items s.order.items s.stopped n items c.in-Err.error result is verdict
-    c.in-Err.ensures.unchanged client.there client.is_open)
-    (stops_push g.L.Link.is_honest g.L.Link.failures s.hub s.ends.items s.links.items s.order.items s.stopped new n items c.in-Err.error result is verdict
+    (refuses_push _ s.hub _ s.ends.items s.links.items s.order.items s.stopped n items c.in-Err.error result is verdict c.in-Err.ensures.unchanged
     client.there client.is_open)
-    (if_err_of result _ _ (subst (λ r. OnErr r (MayLackMemory g.L.Link.is_honest old event)) (sym is)
-    (push_lacks g.L.Link.is_honest s.hub s.ends.items s.links.items s.order.items s.stopped n (map datum_of items) c.in-Err.error verdict client.there
-    client.is_open)))) c.requires
+    (stops_push _ _ s.hub s.ends.items s.links.items s.order.items s.stopped old n items c.in-Err.error result is verdict client.there client.is_open)
+    (if_err_of result _ _ (subst (λ r. OnErr r (MayLackMemory g.L.Link.is_honest old (Push n (map datum_of items)))) (sym is)
+    (push_lacks _ s.hub s.ends.items s.links.items s.order.items s.stopped n (map datum_of items) c.in-Err.error verdict client.there client.is_open))))

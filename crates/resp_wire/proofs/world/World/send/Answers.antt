@@ -1,11 +1,8 @@
-use Rattle.std.proofs.Common.{◌-◌, refl, set, subst}
+use Rattle.std.proofs.Common.{refl}
 use Rattle.resp_value.specs.Commands.{words_of}
 use Rattle.resp_session.specs.Requests.{Command}
 use Rattle.resp_session.specs.Worlds.{Send}
-use Rattle.resp_wire.specs.Happening.{IsOpenClient, Performs}
-use Rattle.resp_wire.specs.Worlds.{WorldState}
 use Rattle.resp_wire.proofs.worlds.Performed.{from_inside, of_request}
-use Rattle.resp_wire.proofs.worlds.Places.{world_of}
 use Rattle.resp_wire.proofs.world.World.send.Goals as goal
 
 pub returns : goal.returns

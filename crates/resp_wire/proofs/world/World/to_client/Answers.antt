@@ -1,12 +1,10 @@
-use Rattle.std.proofs.Common.{◌≡◌, ◌∙◌, ◌-◌, Err, IfErr, Result, false, refl, set, subst, sym, ap}
+use Rattle.std.proofs.Common.{◌≡◌, ◌∙◌, ◌-◌, set, subst, sym, ap}
 use Rattle.std.proofs.lemmas.List.{length-set}
 use Rattle.resp_value.specs.Devices.{failures_after}
 use Rattle.resp_session.specs.Worlds.{ToClient}
-use Rattle.resp_turns.specs.Turns.{stopped_by}
 use Rattle.resp_wire.specs.Ends.{KeepsHeard}
-use Rattle.resp_wire.specs.Happening.{Happens, IsOpenClient, Performs}
-use Rattle.resp_wire.specs.Links.{is_of_link}
-use Rattle.resp_wire.specs.Worlds.{LinksAfter, WorldState}
+use Rattle.resp_wire.specs.Happening.{Happens}
+use Rattle.resp_wire.specs.Worlds.{LinksAfter}
 use Rattle.resp_wire.specs.declared.event.Outcome.TheVariants.{Done}
 use Rattle.resp_wire.proofs.LinkStops.{of_no_link, stopped_by_none}
 use Rattle.resp_wire.proofs.worlds.Carried.{with_client}

@@ -1,14 +1,9 @@
-use Rattle.std.proofs.Common.{◌-◌, Err, Ok, set, subst}
+use Rattle.std.proofs.Common.{◌-◌}
 use Rattle.std.proofs.lemmas.List.{length-set}
 use Rattle.resp_session.specs.Worlds.{ToServer}
-use Rattle.resp_wire.specs.Happening.{IsOpenClient, Performs}
-use Rattle.resp_wire.specs.Worlds.{WorldState}
-use Rattle.resp_wire.specs.declared.event.Outcome.TheVariants.{Done}
-use Rattle.resp_wire.proofs.worlds.Carried.{with_client}
 use Rattle.resp_wire.proofs.worlds.Lacking.{to_server_lacks}
 use Rattle.resp_wire.proofs.worlds.Moves.{moves_to_server, stops_to_server}
 use Rattle.resp_wire.proofs.worlds.Performed.{from_inside, client_carries, over_link}
-use Rattle.resp_wire.proofs.worlds.Places.{world_of}
 use Rattle.resp_wire.proofs.world.World.to_server.Goals as goal
 
 pub returns : goal.returns
