@@ -143,8 +143,3 @@ all_errs {T} {E} (Err e) Q q = q
 pub if_err_of : {T E : Type 0} (r : Result T E) (P : E → Type 0) (Q : Type 0) → OnErr r Q → IfErr r (λ e. P e → Q)
 if_err_of {T} {E} (Ok x) P Q q = tt
 if_err_of {T} {E} (Err e) P Q q = λ _. q
-
--- a drop stops for no memory
-pub never_memory : {T : Type 0} (r : Result T Cause) (Q : Type 0) → IfErr r (λ cause. cause ≡ NoSession) → IfErr r (λ cause. cause ≡ OutOfMemory → Q)
-never_memory {T} (Ok x) Q no_session = tt
-never_memory {T} (Err cause) Q no_session = λ memory. let both : NoSession ≡ OutOfMemory = sym no_session ∙ memory in absurd (cc)

@@ -129,13 +129,6 @@ failed_at {L} failures links i link link' within is risen =
     slice_get-map failures (set links i link') i ∙ ap (option_map failures) (set_there links i link' within) in
     (i, failures link, failures link', old, new, risen)
 
--- where a link's count is as before, so is each
-pub keep_failures : {L : Type 0} (failures : L → ℕ) (links : List L) (i : ℕ) (link link' : L) → link ≡ get_or links i link →
-    failures link' ≡ failures link → KeepFailures failures links (set links i link')
-keep_failures {L} failures [] i link link' is same = refl
-keep_failures {L} failures (x ∷ links) zero link link' is same = ap (λ n. n ∷ map failures links) (same ∙ ap failures is)
-keep_failures {L} failures (x ∷ links) (suc i) link link' is same = ap (λ l. failures x ∷ l) (keep_failures failures links i link link' is same)
-
 pub moves_to_server : {L : Type 0} (is_honest : L → Type 0) → WhatArrivesIsAnswered → WhatIsReadIsShown → WhatIsLeftMayGoOn → WhatHasComeWasSent →
     (hub hub' : HubState) (ends : List End) (links : List L) (order order' : List ℕ) (stopped : Option Cause) (number count : ℕ) (e : End)
     (client' : Client) (link link' : L) → length links ≡ length ends → (1 ≤ number) × (number ≤ length ends) → IsOpenEnd ends (number - 1) →

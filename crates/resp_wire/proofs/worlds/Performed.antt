@@ -52,10 +52,11 @@ of_nobody {L} is_honest failures carried s event happens = record {
 }
 
 -- the event of a number is that of the client with this number
-pub of_number : {L : Type 0} (is_honest : L → Type 0) (failures : L → ℕ) (carried : L → Option Traffic) (old new : WorldState L) (result : Result Outcome Cause)
-    (event its : Event) (number : ℕ) (of : ℕ → WorldEvent) → number ≡ client_of (event_of event) → event ≡ its → event_of its ≡ of (client_of (event_of its)) →
-    Performs is_honest failures carried old new (of number) result → Performs is_honest failures carried old new (event_of event) result
-of_number {L} is_honest failures carried old new result event its number of numbered is same =
+pub of_number : {L : Type 0} {is_honest : L → Type 0} {failures : L → ℕ} {carried : L → Option Traffic} {old new : WorldState L} {result : Result Outcome Cause}
+    {event its : Event} {number : ℕ} (of : ℕ → WorldEvent) → number ≡ client_of (event_of event) → event ≡ its →
+    event_of its ≡ of (client_of (event_of its)) → Performs is_honest failures carried old new (of number) result →
+    Performs is_honest failures carried old new (event_of event) result
+of_number {L} {is_honest} {failures} {carried} {old} {new} {result} {event} {its} {number} of numbered is same =
     subst (λ e. Performs is_honest failures carried old new e result)
     (ap of (numbered ∙ ap (λ e. client_of (event_of e)) is) ∙ sym same ∙ sym (ap event_of is))
 

@@ -18,31 +18,19 @@ returns-then-not-is_open g c =
     (when_false c.is_open.result _ (search rules) c.is_open.ensures.gone event c.client-number.ensures)
 
 pub returns-in-Hello : goal.returns-in-Hello
-returns-in-Hello g c =
-    of_number g.L.Link.is_honest g.L.Link.failures g.L.Link.traffic c.args.self.now c.hello.new.self c.hello.result c.args.event.now _ c.client-number.result
-    (λ n. session.Greet n c.in-Hello.asked) c.client-number.ensures c.in-Hello.is refl c.hello.ensures
+returns-in-Hello g c = of_number (λ n. session.Greet n c.in-Hello.asked) c.client-number.ensures c.in-Hello.is refl c.hello.ensures
 
 pub returns-in-Send : goal.returns-in-Send
-returns-in-Send g c =
-    of_number g.L.Link.is_honest g.L.Link.failures g.L.Link.traffic c.args.self.now c.send.new.self c.send.result c.args.event.now _ c.client-number.result
-    (λ n. session.Send n (words_of c.in-Send.command)) c.client-number.ensures c.in-Send.is refl c.send.ensures
+returns-in-Send g c = of_number (λ n. session.Send n (words_of c.in-Send.command)) c.client-number.ensures c.in-Send.is refl c.send.ensures
 
 pub returns-in-ToServer : goal.returns-in-ToServer
-returns-in-ToServer g c =
-    of_number g.L.Link.is_honest g.L.Link.failures g.L.Link.traffic c.args.self.now c.to_server.new.self c.to_server.result c.args.event.now _ c.client-number.result
-    (λ n. session.ToServer n c.in-ToServer.count) c.client-number.ensures c.in-ToServer.is refl c.to_server.ensures
+returns-in-ToServer g c = of_number (λ n. session.ToServer n c.in-ToServer.count) c.client-number.ensures c.in-ToServer.is refl c.to_server.ensures
 
 pub returns-in-Push : goal.returns-in-Push
-returns-in-Push g c =
-    of_number g.L.Link.is_honest g.L.Link.failures g.L.Link.traffic c.args.self.now c.push.new.self c.push.result c.args.event.now _ c.client-number.result
-    (λ n. session.Push n (map datum_of (list_of c.in-Push.items))) c.client-number.ensures c.in-Push.is refl c.push.ensures
+returns-in-Push g c = of_number (λ n. session.Push n (map datum_of (list_of c.in-Push.items))) c.client-number.ensures c.in-Push.is refl c.push.ensures
 
 pub returns-in-ToClient : goal.returns-in-ToClient
-returns-in-ToClient g c =
-    of_number g.L.Link.is_honest g.L.Link.failures g.L.Link.traffic c.args.self.now c.to_client.new.self c.to_client.result c.args.event.now _ c.client-number.result
-    (λ n. session.ToClient n c.in-ToClient.count) c.client-number.ensures c.in-ToClient.is refl c.to_client.ensures
+returns-in-ToClient g c = of_number (λ n. session.ToClient n c.in-ToClient.count) c.client-number.ensures c.in-ToClient.is refl c.to_client.ensures
 
 pub returns-in-Drop : goal.returns-in-Drop
-returns-in-Drop g c =
-    of_number g.L.Link.is_honest g.L.Link.failures g.L.Link.traffic c.args.self.now c.drop_client.new.self c.drop_client.result c.args.event.now _ c.client-number.result
-    (λ n. session.Drop n) c.client-number.ensures c.in-Drop.is refl c.drop_client.ensures
+returns-in-Drop g c = of_number (λ n. session.Drop n) c.client-number.ensures c.in-Drop.is refl c.drop_client.ensures
