@@ -16,15 +16,11 @@ returns-in_default-clause-closing g c =
     c.args.id None c.in_default.ensures.value)
 
 pub returns-in_default-clause-none : goal.returns-in_default-clause-none
-returns-in_default-clause-none g c refused =
-    let i = c.self.inside in
-    seat_is i.shared.limits i.sessions.entries i.shared.store i.last c.args.self.now c.self.view_is c.args.id None c.in_default.ensures.value
+returns-in_default-clause-none g c refused = seat_is _ _ _ _ c.args.self.now c.self.view_is c.args.id None c.in_default.ensures.value
 
 pub invariant_of-self-then-session : goal.invariant_of-self-then-session
-invariant_of-self-then-session g c =
-    let i = c.self.inside in
-    sound_with i.shared.limits i.sessions.entries i.shared.store i.last c.self.invariant _ c.args.id c.in-Some.session.now _ (c.get_mut.follows.holds _).0
-    c.in-Some.ensures.value (record { same_id = refl; same_decoder = refl; same_closing = refl })
+invariant_of-self-then-session g c = sound_with _ _ _ _ c.self.invariant _ c.args.id _ _ (c.get_mut.follows.holds _).0 c.in-Some.ensures.value
+    (record { same_id = refl; same_decoder = refl; same_closing = refl })
 
 pub returns-then-session-clause-answered : goal.returns-then-session-clause-answered
 returns-then-session-clause-answered g c =

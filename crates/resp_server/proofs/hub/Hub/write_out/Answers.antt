@@ -7,18 +7,14 @@ use Rattle.resp_turns.proofs.Turning.{spends_nothing}
 use Rattle.resp_server.proofs.hub.Hub.write_out.Goals as goal
 
 pub returns-in_default-clause-none : goal.returns-in_default-clause-none
-returns-in_default-clause-none g c =
-    let i = c.self.inside in
-    seat_is i.shared.limits i.sessions.entries i.shared.store i.last c.args.self.now c.self.view_is c.args.id None c.in_default.ensures.value
+returns-in_default-clause-none g c = seat_is _ _ _ _ c.args.self.now c.self.view_is c.args.id None c.in_default.ensures.value
 
 pub returns-in_default-clause-turns : goal.returns-in_default-clause-turns
 returns-in_default-clause-turns g c = spends_nothing (g.W.Sink.calls c.args.writer.now) c.args.turns.now
 
 pub invariant_of-self-2 : goal.invariant_of-self-2
-invariant_of-self-2 g c =
-    let i = c.self.inside in
-    sound_with i.shared.limits i.sessions.entries i.shared.store i.last c.self.invariant _ c.args.id c.in-Some.session.now _ (c.get_mut.follows.holds _).0
-    c.in-Some.ensures.value (record { same_id = refl; same_decoder = refl; same_closing = refl })
+invariant_of-self-2 g c = sound_with _ _ _ _ c.self.invariant _ c.args.id _ _ (c.get_mut.follows.holds _).0 c.in-Some.ensures.value
+    (record { same_id = refl; same_decoder = refl; same_closing = refl })
 
 pub returns-clause-sent : goal.returns-clause-sent
 returns-clause-sent g c = (written_out _ _ _ _ _ c.self.view_is _ c.args.id _ _ (c.get_mut.follows.holds _).0 c.in-Some.ensures.value _ c.as_slice.ensures
