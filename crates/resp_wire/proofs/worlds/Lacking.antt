@@ -3,7 +3,6 @@ use Rattle.std.proofs.Common.{◌≡◌, ℕ, ◌-◌, ◌≤◌, false, Some, O
 use Rattle.resp_value.specs.Bounds.{Bounds}
 use Rattle.resp_value.specs.Data.{Datum}
 use Rattle.resp_value.specs.declared.cause.Cause.{Cause}
-use Rattle.resp_value.specs.declared.cause.Cause.TheVariants.{NoSession, OutOfMemory}
 use Rattle.resp_session.specs.Connections.{Connection, push_message}
 use Rattle.resp_session.specs.Requests.{FitsRequest, RefusesRequest, Request}
 use Rattle.resp_session.specs.Runs.{Done, RefusesEvent, Step, connection_of, is_gone}

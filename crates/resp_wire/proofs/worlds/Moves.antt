@@ -33,7 +33,7 @@ use Rattle.resp_wire.specs.Carrying.{HasBrought, HearsOn, StopsCarrying, StopsSh
 use Rattle.resp_wire.specs.Ends.{KeepsHeard, outcome_of_push}
 use Rattle.resp_wire.specs.Happening.{Fails, Happens, IsOpenEnd}
 use Rattle.resp_wire.specs.Hearing.{pushes_in, replies_in}
-use Rattle.resp_wire.specs.Worlds.{HasFailed, KeepFailures, Shows, ShowsEach, Stands, StopsBy, WorldState, outcome_of}
+use Rattle.resp_wire.specs.Worlds.{HasFailed, Shows, ShowsEach, Stands, StopsBy, WorldState, outcome_of}
 use Rattle.resp_wire.specs.declared.asked.Asked.{Asked}
 use Rattle.resp_wire.specs.declared.end.End.{End}
 use Rattle.resp_wire.specs.declared.event.Outcome.{Outcome}

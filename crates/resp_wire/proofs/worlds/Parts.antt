@@ -1,12 +1,12 @@
 -- What a world shows of its parts.
-use Rattle.std.proofs.Common.{◌≡◌, ◌⊎◌, inl, inr, ℕ, zero, suc, ◌-◌, ◌<◌, ◌≤◌, true, false, None, Some, Option, IfSome, List, [], ◌∷◌, length, slice_get, slice_index_or, refl, sym, ap, subst, ◌∙◌, arith}
+use Rattle.std.proofs.Common.{◌≡◌, ◌⊎◌, inl, inr, ℕ, zero, suc, ◌-◌, ◌<◌, ◌≤◌, true, None, Some, Option, IfSome, List, [], ◌∷◌, length, slice_get, slice_index_or, refl, sym, ap, subst, ◌∙◌, arith}
 use Rattle.resp_value.specs.Bounds.{Bounds}
 use Rattle.resp_value.specs.declared.cause.Cause.{Cause}
 use Rattle.resp_session.specs.Connections.{Connection}
 use Rattle.resp_session.specs.Runs.{is_gone}
 use Rattle.resp_session.specs.Worlds.{World, WorldEvent, client_of, connection_at}
 use Rattle.resp_server.specs.Hubs.{seat_at}
-use Rattle.resp_wire.specs.Happening.{Happens, IsOpenEnd}
+use Rattle.resp_wire.specs.Happening.{Happens}
 use Rattle.resp_wire.specs.Worlds.{Shows, ShowsClient, StopsBy, WorldState}
 use Rattle.resp_wire.specs.declared.end.End.{End}
 use Rattle.resp_wire.specs.declared.event.Outcome.TheVariants as outcome

@@ -1,5 +1,5 @@
 use Rattle.std.specs.List.{concat}
-use Rattle.std.proofs.Common.{rules, refl, false, [], ◌≡◌, ◌-◌, ◌∷◌, ◌++◌, take, subst, sym, length}
+use Rattle.std.proofs.Common.{rules, refl, false, [], ◌≡◌, ◌∷◌, ◌++◌, take, subst, sym, length}
 use Rattle.resp_client.specs.Clients.{state_of}
 use Rattle.resp_wire.specs.Hearing.{HearsAll}
 use Rattle.resp_wire.specs.Stops.{StopsHearing, StopsListening, is_of_last_read}
