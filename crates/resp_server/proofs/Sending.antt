@@ -1,17 +1,19 @@
 -- The bytes of a session that were written.
-use Rattle.std.proofs.Common.{arith, length, take, drop, ◌≡◌, ℕ, Option, Some, List, [], IfSome, sym, subst}
+use Rattle.std.proofs.Common.{arith, length, length-drop, take, drop, ◌≡◌, ◌<◌, ℕ, Option, Some, List, [], IfSome, OnErr, OnOk, ap, sym, subst, ◌∙◌}
 use Rattle.std.specs.Map.{lookup, set_value}
 use Rattle.std.proofs.lemmas.List.{drop_all, take-append-drop}
 use Rattle.resp_value.specs.Bounds.{Bounds}
 use Rattle.resp_value.specs.Devices.{Appends}
 use Rattle.resp_session.specs.Stores.{Store}
 use Rattle.resp_server.specs.Hubs.{HubState, Seat, seat_of, seated}
-use Rattle.resp_server.specs.Sending.{HasSent}
+use Rattle.resp_server.specs.Sending.{HasSent, HasSentPart}
 use Rattle.resp_server.specs.declared.session.Session.{Session}
-use Rattle.resp_server.proofs.Seats.{is_id, seat_is, seated_is, state_of}
+use Rattle.resp_server.proofs.Seats.{is_id, same_seat, seat_is, seated_is, state_of}
+use Rattle.resp_turns.specs.declared.write.Written.{Written}
+use Rattle.resp_turns.proofs.Turning.{on_err, on_ok}
 
 -- this many of the bytes that waited in a session were written, and no longer wait
-pub session_sent : (limits : Bounds) (es : List (ℕ × Session)) (store : Store) (last : ℕ) (hub : HubState) → state_of limits es store last ≡ hub →
+session_sent : (limits : Bounds) (es : List (ℕ × Session)) (store : Store) (last : ℕ) (hub : HubState) → state_of limits es store last ≡ hub →
     (ns : List (ℕ × Session)) (id : ℕ) (old new : Session) → ns ≡ set_value (is_id id) es new → Some old ≡ lookup (is_id id) es →
     (count : ℕ) (held held' : Option (List ℕ)) → seat_of new ≡ record (seat_of old) { out = drop count old.out.items } →
     Appends held held' (take count old.out.items) → HasSent hub (state_of limits ns store last) id held held' (drop count old.out.items)
@@ -28,5 +30,23 @@ session_sent limits es store last hub view ns id old new written found count hel
           (seated_is limits es store last hub view ns id old new written found change changed);
     }
 
-pub all_dropped : (count : ℕ) (text : List ℕ) → count ≡ length text → drop count text ≡ []
+all_dropped : (count : ℕ) (text : List ℕ) → count ≡ length text → drop count text ≡ []
 all_dropped count text whole = drop_all count text (omega (arith, whole))
+
+-- all that waited was written, or only a part of it
+pub written_out : (limits : Bounds) (es : List (ℕ × Session)) (store : Store) (last : ℕ) (hub : HubState) → state_of limits es store last ≡ hub →
+    (ns : List (ℕ × Session)) (id : ℕ) (old new : Session) → ns ≡ set_value (is_id id) es new → Some old ≡ lookup (is_id id) es → (text : List ℕ) →
+    text ≡ old.out.items → (w : Written) (held held' : Option (List ℕ)) → new.version ≡ old.version → new.out.items ≡ drop w.count old.out.items →
+    new.closing ≡ old.closing → new.decoder ≡ old.decoder → Appends held held' (take w.count text) → OnOk w.end (w.count ≡ length text) →
+    OnErr w.end (w.count < length text) →
+    OnOk w.end (HasSent hub (state_of limits ns store last) id held held' []) × OnErr w.end (HasSentPart hub (state_of limits ns store last) id held held')
+written_out limits es store last hub view ns id old new written found text same w held held' version out closing decoder appended whole part =
+    let sent = session_sent limits es store last hub view ns id old new written found w.count held held'
+    (same_seat new old (drop w.count old.out.items) version out closing decoder) (subst (λ t. Appends held held' (take w.count t)) same appended) in (
+      on_ok w.end (λ all. subst (HasSent hub (state_of limits ns store last) id held held') (all_dropped w.count old.out.items (all ∙ ap length same)) sent) whole,
+      on_err w.end (λ less. (
+        drop w.count old.out.items,
+        let rest = length-drop w.count old.out.items in let size = ap length same in omega (arith, less, rest, size),
+        sent,
+      )) part,
+    )

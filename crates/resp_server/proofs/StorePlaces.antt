@@ -6,14 +6,14 @@ use Rattle.std.specs.Map.{lookup, keys_of, values_of}
 use Rattle.std.specs.Option.{is_some, option_map}
 use Rattle.std.specs.Str.{bytes_eq}
 use Rattle.std.proofs.lemmas.Bool.{cases_eq, cases_lt}
-use Rattle.std.proofs.lemmas.List.{length-set, length-take, length-append, map-append}
+use Rattle.std.proofs.lemmas.List.{length-set, length-take, map-append}
 use Rattle.std.proofs.lemmas.List.Quantifiers.{position-Some}
 use Rattle.std.proofs.lemmas.Map.Keys.{IsDistinct-head, IsDistinct-tail}
 use Rattle.std.proofs.lemmas.Map.Entries.{place_from_lookup}
 use Rattle.std.proofs.lemmas.Option.{slice_get-map, slice_get_within, slice_get-get_or, get_or_from_slice_get}
 use Rattle.indexmap.specs.IndexMap.{set_value_at}
 use Rattle.resp_session.specs.Stores.{store_with, store_without, value_at}
-use Rattle.resp_server.specs.Entries.{Rows, AreInPlace, same_bytes, entry_of, entry_at, entries_in, somes}
+use Rattle.resp_server.specs.Entries.{Rows, AreInPlace, LosesRow, same_bytes, entry_of, entry_at, entries_in, somes}
 use Rattle.resp_server.specs.declared.row.Row.{Row}
 use Rattle.resp_server.proofs.Slots.{Slots, IsOnly, IsAbsent, get_set_same, get_set_other, get_take, same_slots, lookup_absent, lookup_only, with_only, with_new, without_absent, without_only, fewer}
 use Rattle.resp_server.proofs.StoreEntries.{Bytes}
@@ -482,7 +482,7 @@ module _ (rows : Rows) (places : List (Option ℕ)) (h : AreInPlace rows places)
   gone_slots = same_slots _ _ gone_slot
 
 -- what is left of the entries without the row's key
-pub gone_entries : (rows : Rows) (places : List (Option ℕ)) → AreInPlace rows places → (i : ℕ)
+gone_entries : (rows : Rows) (places : List (Option ℕ)) → AreInPlace rows places → (i : ℕ)
     (gone : Bytes × Row) → slice_get rows i ≡ Some gone → (rows' : Rows) (places' : List (Option ℕ)) →
     slots_of rows' places' ≡ set (slots_of rows places) gone.1.place None → (key : List ℕ) → key ≡ gone.0.items →
     (entries_in rows' places' ≡ store_without (entries_in rows places) (key ∷ [])) × (length (entries_in rows' places') + 1 ≡ length (entries_in rows places))
@@ -535,17 +535,29 @@ is_last rows i gone at none = elim (cases_lt (i + 1) (length rows)) [
   | inr past ↦ let some = slice_get_within rows i gone at in omega (arith, past, some)
 ]
 
+-- so it is lost
+loses_row : (rows : Rows) (places : List (Option ℕ)) → AreInPlace rows places → (i : ℕ) (gone : Bytes × Row) → slice_get rows i ≡ Some gone →
+    (rows' : Rows) (places' : List (Option ℕ)) → IsGone rows places rows' places' gone.1.place → LosesRow rows rows' places places' i
+loses_row rows places h i gone at rows' places' left = record {
+  removed = λ key found.
+      let is = (bytes_decides key gone.0.items).0 (key_at (λ (k : Bytes). bytes_eq key k.items) rows i gone found at) in
+      (gone_entries rows places h i gone at rows' places' left.slots key is).0;
+  count = (gone_entries rows places h i gone at rows' places' left.slots gone.0.items refl).1;
+  in_place = left.in_place;
+}
+
 -- the last row goes
 pub gone_last : (rows : Rows) (places : List (Option ℕ)) → AreInPlace rows places → (i : ℕ) (gone : Bytes × Row) → slice_get rows i ≡ Some gone →
     (rows' : Rows) → rows' ≡ swap_remove rows i gone → IsDistinct same_bytes (keys_of rows') → slice_get rows' i ≡ None →
-    IsGone rows places rows' (set places gone.1.place None) gone.1.place
+    LosesRow rows rows' places (set places gone.1.place None) i
 gone_last rows places h i gone at rows' is distinct none =
     let all : IsDistinct same_bytes (keys_of (swap_remove rows i gone)) = subst (λ r. IsDistinct same_bytes (keys_of r)) is distinct in
     let end : i + 1 ≡ length rows = is_last rows i gone at (ap (λ r. slice_get r i) (sym is) ∙ none) in
-    subst (λ r. IsGone rows places r (set places gone.1.place None) gone.1.place) (sym is) (record {
+    loses_row rows places h i gone at rows' (set places gone.1.place None)
+    (subst (λ r. IsGone rows places r (set places gone.1.place None) gone.1.place) (sym is) (record {
       in_place = last_gone_in_place rows places h i gone at end all;
       slots = last_gone_slots rows places h i gone at end all;
-    })
+    }))
 
 -- the row that takes the index was the last
 pub was_last : (rows : Rows) (i : ℕ) (gone : Bytes × Row) → slice_get rows i ≡ Some gone → (rows' : Rows) → rows' ≡ swap_remove rows i gone →
@@ -557,15 +569,16 @@ was_last rows i gone at rows' is moved found =
 -- another goes
 pub gone_moved : (rows : Rows) (places : List (Option ℕ)) → AreInPlace rows places → (i : ℕ) (gone : Bytes × Row) → slice_get rows i ≡ Some gone →
     (rows' : Rows) → rows' ≡ swap_remove rows i gone → IsDistinct same_bytes (keys_of rows') → (moved : Bytes × Row) → slice_get rows' i ≡ Some moved →
-    IsGone rows places rows' (set (set places gone.1.place None) moved.1.place (Some i)) gone.1.place
+    LosesRow rows rows' places (set (set places gone.1.place None) moved.1.place (Some i)) i
 gone_moved rows places h i gone at rows' is distinct moved found =
     let all : IsDistinct same_bytes (keys_of (swap_remove rows i gone)) = subst (λ r. IsDistinct same_bytes (keys_of r)) is distinct in
     let within : i + 1 < length rows = left_row rows i gone at i moved (ap (λ r. slice_get r i) (sym is) ∙ found) in
     let there = was_last rows i gone at rows' is moved found in
-    subst (λ r. IsGone rows places r (set (set places gone.1.place None) moved.1.place (Some i)) gone.1.place) (sym is) (record {
+    loses_row rows places h i gone at rows' (set (set places gone.1.place None) moved.1.place (Some i))
+    (subst (λ r. IsGone rows places r (set (set places gone.1.place None) moved.1.place (Some i)) gone.1.place) (sym is) (record {
       in_place = gone_in_place rows places h i gone at within moved there all;
       slots = gone_slots rows places h i gone at within moved there all;
-    })
+    }))
 
 -- ---- an addition
 

@@ -1,11 +1,11 @@
 -- What is answered to a value, by what it means.
-use Rattle.std.proofs.Common.{◌≡◌, ℕ, ◌+◌, ◌<◌, ◌≤◌, true, false, List, [], ◌∷◌, ◌++◌, length, drop, get_or, Some, Result, Ok, Err, OnOk, OnErr, codes, sym, ap, ◌∙◌, arith, append-nil, length-append}
+use Rattle.std.proofs.Common.{◌≡◌, ℕ, ◌+◌, ◌<◌, ◌≤◌, true, false, List, [], ◌∷◌, ◌++◌, length, drop, get_or, Some, Result, Ok, Err, OnOk, OnErr, codes, sym, ap, ◌∙◌, arith, length-append}
 use Rattle.resp_value.specs.Canonical.{canonical_text}
 use Rattle.resp_value.specs.Data.{Datum}
 use Rattle.resp_value.specs.Words.{command_of}
 use Rattle.resp_session.specs.AnswerLaws.{ACommandIsItsWords}
 use Rattle.resp_session.specs.Answers.{after_meaning}
-use Rattle.resp_session.specs.Commands.{Meaning, Call, Nothing, NoCommand, meaning_of, array_meaning}
+use Rattle.resp_session.specs.Commands.{Meaning, Call, NoCommand, meaning_of, array_meaning}
 use Rattle.resp_session.specs.Replies.{error}
 use Rattle.resp_session.specs.Operations.{operation_of}
 use Rattle.resp_session.specs.Stores.{Store, Effect, effect_of}

@@ -1,5 +1,5 @@
 -- The answers of a session, in terms of its state.
-use Rattle.std.specs.Prelude.{◌≡◌, ℕ, ◌+◌, ◌<◌, ◌≤◌, ◌^◌, Bool, true, false, List, [], ◌++◌, length, take}
+use Rattle.std.specs.Prelude.{◌≡◌, ℕ, ◌+◌, ◌<◌, ◌≤◌, ◌^◌, Bool, true, false, List, [], ◌++◌, length, take, IfOk, OnErr, Result}
 use Rattle.resp_value.specs.Bounds.{Bounds}
 use Rattle.resp_value.specs.Canonical.{canonical_text}
 use Rattle.resp_value.specs.Causes.{name_of}
@@ -7,12 +7,15 @@ use Rattle.resp_value.specs.Data.{Datum}
 use Rattle.resp_value.specs.declared.cause.Cause.TheVariants.{OutOfMemory}
 use Rattle.resp_value.specs.declared.version.Version.{Version}
 use Rattle.resp_scan.specs.declared.event.Fault.{Fault}
-use Rattle.resp_session.specs.Answers.{SessionState, Answers, after_value}
+use Rattle.resp_session.specs.Answers.{SessionState, Answers, after_value, server_rules}
+use Rattle.resp_session.specs.Fitting.{FitsStore}
 use Rattle.resp_session.specs.Replies.{error}
 use Rattle.resp_session.specs.Stores.{Store}
-use Rattle.resp_server.specs.Reading.{HasReadFront}
+use Rattle.resp_server.specs.Reading.{HasReadFront, ReadsBy, WhereFrontRead}
 use Rattle.resp_server.specs.ReplyTexts.{fault_text}
+use Rattle.resp_server.specs.Running.{IsAsBefore, KeepsWithin}
 use Rattle.resp_server.specs.declared.session.Session.{Session}
+use Rattle.resp_server.specs.declared.turn.Turn.{Turn}
 
 -- a session over this store that has written this text and run this many commands
 abbrev pub state_with : Store → Version → List ℕ → Bool → ℕ → SessionState
@@ -38,6 +41,25 @@ pub record AnswersBytes (limits : Bounds) (store store' : Store) (before after :
   pub within : used ≤ length piece
   -- an open session uses at least one byte, if there is one
   pub onward : after.closing ≡ false → 0 < length piece → 0 < used
+
+-- an open session over a store within the limits, that has read the first bytes of a value
+pub record IsReading (limits : Bounds) (store : Store) (session : Session) : Type 0 where
+  pub is_open : session.closing ≡ false
+  pub stored : FitsStore limits store
+  pub reading : ReadsBy (server_rules limits) session.decoder
+  pub taking : (front : List ℕ) × HasReadFront session.decoder front
+
+-- A turn answers bytes of the piece after each front that was read. When out of memory, the store, the version and the
+-- waiting bytes are unchanged.
+pub record TakesTurn {E : Type 0} (limits limits' : Bounds) (store store' : Store) (before after : Session)
+    (piece : List ℕ) (result : Result Turn E) : Type 0 where
+  pub answered : WhereFrontRead before.decoder (λ front. IfOk result (λ turn.
+      AnswersBytes limits store store' before after front piece turn.used turn.commands))
+  pub unchanged : OnErr result (IsAsBefore store store' before after)
+  pub within : KeepsWithin limits limits' store' before after
+  pub same_id : after.id ≡ before.id
+  pub reading : ReadsBy (server_rules limits) after.decoder
+  pub at_most_one : IfOk result (λ turn. turn.commands ≤ 1)
 
 -- the text was answered: the reply follows the bytes that waited, and an open session has read the rest
 pub record IsAnswered (limits : Bounds) (store store' : Store) (before after : Session) (text : List ℕ)

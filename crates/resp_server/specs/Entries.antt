@@ -5,6 +5,7 @@ use Rattle.std.specs.Map.{keys_of}
 use Rattle.std.specs.Option.{option_map}
 use Rattle.std.specs.Str.{bytes_eq}
 use Rattle.std.proofs.Common.{Global}
+use Rattle.resp_session.specs.Stores.{store_without}
 use Rattle.resp_server.specs.declared.row.Row.{Row}
 
 -- whether two keys are the same bytes
@@ -49,6 +50,13 @@ pub record AreInPlace (rows : Rows) (places : List (Option ℕ)) : Type 0 where
       slice_get places row.1.place ≡ Some (Some i)
   pub alone : (place i : ℕ) → slice_get places place ≡ Some (Some i) →
       (row : Vec ℕ Global × Row) × (slice_get rows i ≡ Some row) × (row.1.place ≡ place)
+
+-- the row with this index is gone, and the entries are those without its key
+pub record LosesRow (rows rows' : Rows) (places places' : List (Option ℕ)) (index : ℕ) : Type 0 where
+  pub removed : (key : List ℕ) → IsKeyAt rows index key →
+      entries_in rows' places' ≡ store_without (entries_in rows places) (key ∷ [])
+  pub count : length (entries_in rows' places') + 1 ≡ length (entries_in rows places)
+  pub in_place : AreInPlace rows' places'
 
 -- the rows are in their places, and no more than half of the places are empty, or one more
 pub record HoldsRows (rows : Rows) (places : List (Option ℕ)) : Type 0 where

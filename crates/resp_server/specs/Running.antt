@@ -1,6 +1,8 @@
 -- The effect of a command on a session.
-use Rattle.std.specs.Prelude.{◌≡◌, ◌++◌}
+use Rattle.std.specs.Prelude.{◌≡◌, ◌+◌, ◌≤◌, ◌++◌, length, OnOk, OnErr, Result}
+use Rattle.resp_value.specs.Bounds.{Bounds}
 use Rattle.resp_value.specs.Canonical.{canonical_text}
+use Rattle.resp_session.specs.Fitting.{FitsStore}
 use Rattle.resp_session.specs.Stores.{Store, Effect}
 use Rattle.resp_server.specs.declared.session.Session.{Session}
 
@@ -21,3 +23,16 @@ pub record HasSameRest (before after : Session) : Type 0 where
   pub same_id : after.id ≡ before.id
   pub same_decoder : after.decoder ≡ before.decoder
   pub same_closing : after.closing ≡ before.closing
+
+-- A command has had its effect. When out of memory, it has had none. The rest of the session is unchanged.
+pub record Runs {T E : Type 0} (store store' : Store) (before after : Session) (effect : Effect)
+    (result : Result T E) : Type 0 where
+  pub done : OnOk result (HasEffect store' before after effect)
+  pub unchanged : OnErr result (IsAsBefore store store' before after)
+  pub rest : HasSameRest before after
+
+-- what was queued is within the limits and so is the store, and the limits are unchanged
+pub record KeepsWithin (limits limits' : Bounds) (store' : Store) (before after : Session) : Type 0 where
+  pub short : length after.out.items ≤ length before.out.items + limits.total
+  pub stored : FitsStore limits store'
+  pub same_limits : limits' ≡ limits

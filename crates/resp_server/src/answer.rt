@@ -1,10 +1,10 @@
 //! The response of a session to a piece.
 
-ghost use Rattle.std.specs.Prelude.{◌≡◌, ◌≤◌, ◌+◌, ◌++◌, List, ℕ, false, length, take, IfOk, IfErr};
+ghost use Rattle.std.specs.Prelude.{◌≡◌, ◌≤◌, ◌+◌, ◌++◌, length, take, IfOk, IfErr};
 ghost use Rattle.resp_session.specs.Answers.{server_rules};
 ghost use Rattle.resp_session.specs.Fitting.{FitsStore};
-ghost use Rattle.resp_server.specs.Answering.{IsAnswered, IsCutShort, TakesWithin};
-ghost use Rattle.resp_server.specs.Reading.{HasReadFront, ReadsBy, WhereFrontRead};
+ghost use Rattle.resp_server.specs.Answering.{IsAnswered, IsCutShort, IsReading, TakesWithin};
+ghost use Rattle.resp_server.specs.Reading.{ReadsBy, WhereFrontRead};
 
 use crate::hub::Taken;
 use crate::session::Session;
@@ -22,10 +22,7 @@ pub(crate) fn answer<S: BuildHasher>(
     piece: &[u8],
     held: usize,
 ) -> Result<Taken, u64>
-    requires is_open { session.old.closing ≡ false }
-    requires stored { FitsStore shared.old.limits shared.old.store }
-    requires reading { ReadsBy (server_rules shared.old.limits) session.old.decoder }
-    requires taking { (front : List ℕ) × HasReadFront session.old.decoder front }
+    requires { IsReading shared.old.limits shared.old.store session.old }
     ensures answered { WhereFrontRead session.old.decoder (λ front. IfOk result (λ taken.
         IsAnswered shared.old.limits shared.old.store shared.new.store session.old session.new
         (front ++ take taken.used piece.now) taken.commands)) }

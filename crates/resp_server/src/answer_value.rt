@@ -1,6 +1,6 @@
 //! The response to a complete value.
 
-ghost use Rattle.std.specs.Prelude.{◌≡◌, ◌+◌, ◌≤◌, ◌∷◌, List, ℕ, false, length, IfOk, OnOk, OnErr};
+ghost use Rattle.std.specs.Prelude.{◌≡◌, ◌≤◌, ◌∷◌, List, ℕ, false, IfOk, OnErr};
 ghost use Rattle.resp_value.specs.Spellings.{IsSpelling};
 ghost use Rattle.resp_value.specs.Values.{datum_of};
 ghost use Rattle.resp_value.specs.Words.{command_of};
@@ -9,7 +9,7 @@ ghost use Rattle.resp_session.specs.Fitting.{FitsStore};
 ghost use Rattle.resp_session.specs.Operations.{operation_of};
 ghost use Rattle.resp_session.specs.Stores.{effect_of};
 ghost use Rattle.resp_server.specs.Answering.{IsAnswerTo};
-ghost use Rattle.resp_server.specs.Running.{HasEffect, IsAsBefore, HasSameRest};
+ghost use Rattle.resp_server.specs.Running.{IsAsBefore, KeepsWithin, Runs};
 ghost use Rattle.resp_server.specs.Words.{words_left};
 
 use crate::operation::operation_of;
@@ -36,16 +36,11 @@ pub(crate) fn run_command<S: BuildHasher>(
     requires stored { FitsStore shared.old.limits shared.old.store }
     requires spelled { (written : List ℕ) × IsSpelling (server_rules shared.old.limits)
         (command_of (name.now ∷ words_left arguments)) written }
-    ensures done { OnOk result (HasEffect shared.new.store session.old session.new
+    ensures runs { Runs shared.old.store shared.new.store session.old session.new
         (effect_of shared.old.store session.old.version session.old.id
-        (operation_of name.now (words_left arguments.entry)))) }
-    ensures unchanged { OnErr result (IsAsBefore shared.old.store shared.new.store session.old
-        session.new) }
-    ensures short { length session.new.out.items ≤
-        length session.old.out.items + shared.old.limits.total }
-    ensures stored { FitsStore shared.old.limits shared.new.store }
-    ensures same_limits { shared.new.limits ≡ shared.old.limits }
-    ensures rest { HasSameRest session.old session.new }
+        (operation_of name.now (words_left arguments.entry))) result }
+    ensures within { KeepsWithin shared.old.limits shared.new.limits shared.new.store session.old
+        session.new }
 {
     laws::effects_fit();
     shared.limits.are_in_range();
@@ -68,10 +63,8 @@ pub(crate) fn answer_value<S: BuildHasher>(
         session.old session.new) }
     ensures unchanged { OnErr result (IsAsBefore shared.old.store shared.new.store session.old
         session.new) }
-    ensures short { length session.new.out.items ≤
-        length session.old.out.items + shared.old.limits.total }
-    ensures stored { FitsStore shared.old.limits shared.new.store }
-    ensures same_limits { shared.new.limits ≡ shared.old.limits }
+    ensures within { KeepsWithin shared.old.limits shared.new.limits shared.new.store session.old
+        session.new }
     ensures same_decoder { session.new.decoder ≡ session.old.decoder }
     ensures same_id { session.new.id ≡ session.old.id }
     ensures at_most_one { IfOk result (λ commands. commands ≤ 1) }

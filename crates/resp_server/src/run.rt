@@ -1,12 +1,12 @@
 //! Runs a command. All allocations come first, and after them nothing can fail.
 
-ghost use Rattle.std.specs.Prelude.{◌≡◌, OnOk, OnErr};
+ghost use Rattle.std.specs.Prelude.{◌≡◌};
 ghost use Rattle.resp_session.specs.Fitting.{FitsEffect};
 ghost use Rattle.resp_session.specs.Operations as spec;
 ghost use Rattle.resp_session.specs.Stores.{effect_of, value_at};
 ghost use Rattle.resp_session.specs.Stores as stores;
 ghost use Rattle.resp_server.specs.Operations.{operation_in, condition_in};
-ghost use Rattle.resp_server.specs.Running.{HasEffect, IsAsBefore, HasSameRest};
+ghost use Rattle.resp_server.specs.Running.{Runs};
 ghost use Rattle.resp_server.specs.Words.{words_left};
 
 use crate::operation::{Condition, Operation};
@@ -31,12 +31,9 @@ pub(crate) fn run<S: BuildHasher>(
 ) -> Result<(), AllocError>
     requires fits { FitsEffect shared.old.limits (effect_of shared.old.store session.old.version
         session.old.id (operation_in operation)) }
-    ensures done { OnOk result (HasEffect shared.new.store session.old session.new (effect_of
-        shared.old.store session.old.version session.old.id (operation_in operation.entry))) }
-    ensures unchanged { OnErr result (IsAsBefore shared.old.store shared.new.store session.old
-        session.new) }
+    ensures runs { Runs shared.old.store shared.new.store session.old session.new (effect_of
+        shared.old.store session.old.version session.old.id (operation_in operation.entry)) result }
     ensures same_limits { shared.new.limits ≡ shared.old.limits }
-    ensures rest { HasSameRest session.old session.new }
 {
     match operation {
         Operation::Ping => session.out.extend_from_slice(b"+PONG\r\n"),
@@ -57,11 +54,8 @@ fn echo<S: BuildHasher>(
 ) -> Result<(), AllocError>
     requires { FitsEffect shared.now.limits
         (effect_of shared.now.store session.old.version 0 (spec.Echo word.now)) }
-    ensures done { OnOk result (HasEffect shared.now.store session.old session.new
-        (effect_of shared.now.store session.old.version 0 (spec.Echo word.now))) }
-    ensures unchanged { OnErr result (IsAsBefore shared.now.store shared.now.store session.old
-        session.new) }
-    ensures rest { HasSameRest session.old session.new }
+    ensures runs { Runs shared.now.store shared.now.store session.old session.new
+        (effect_of shared.now.store session.old.version 0 (spec.Echo word.now)) result }
 {
     let word = Value::Bulk(Content::new(Vec::from_slice(shared.alloc, word)?));
     reply(&mut session.out, session.version, &shared.limits, &word)
@@ -75,11 +69,8 @@ fn get<S: BuildHasher>(
 ) -> Result<(), AllocError>
     requires { FitsEffect shared.now.limits
         (effect_of shared.now.store session.old.version 0 (spec.Get key.now)) }
-    ensures done { OnOk result (HasEffect shared.now.store session.old session.new
-        (effect_of shared.now.store session.old.version 0 (spec.Get key.now))) }
-    ensures unchanged { OnErr result (IsAsBefore shared.now.store shared.now.store session.old
-        session.new) }
-    ensures rest { HasSameRest session.old session.new }
+    ensures runs { Runs shared.now.store shared.now.store session.old session.new
+        (effect_of shared.now.store session.old.version 0 (spec.Get key.now)) result }
 {
     match shared.store.get(key) {
         Some(stored) => reply(
@@ -119,13 +110,10 @@ fn set<S: BuildHasher>(
 ) -> Result<(), AllocError>
     requires { FitsEffect shared.old.limits (effect_of shared.old.store session.old.version 0
         (spec.Set (condition_in condition) key.now value.now)) }
-    ensures done { OnOk result (HasEffect shared.new.store session.old session.new
+    ensures runs { Runs shared.old.store shared.new.store session.old session.new
         (effect_of shared.old.store session.old.version 0
-        (spec.Set (condition_in condition) key.now value.now))) }
-    ensures unchanged { OnErr result (IsAsBefore shared.old.store shared.new.store session.old
-        session.new) }
+        (spec.Set (condition_in condition) key.now value.now)) result }
     ensures same_limits { shared.new.limits ≡ shared.old.limits }
-    ensures rest { HasSameRest session.old session.new }
 {
     if !is_met(condition, key, &shared.store) {
         return reply(
@@ -149,12 +137,10 @@ fn del<S: BuildHasher>(
 ) -> Result<(), AllocError>
     requires { FitsEffect shared.old.limits (effect_of shared.old.store session.old.version 0
         (spec.Del (words_left keys))) }
-    ensures done { OnOk result (HasEffect shared.new.store session.old session.new
-        (effect_of shared.old.store session.old.version 0 (spec.Del (words_left keys.entry)))) }
-    ensures unchanged { OnErr result (IsAsBefore shared.old.store shared.new.store session.old
-        session.new) }
+    ensures runs { Runs shared.old.store shared.new.store session.old session.new
+        (effect_of shared.old.store session.old.version 0 (spec.Del (words_left keys.entry)))
+        result }
     ensures same_limits { shared.new.limits ≡ shared.old.limits }
-    ensures rest { HasSameRest session.old session.new }
 {
     session.out.reserve(NUMBER_ROOM)?;
     let removed = shared.store.remove(keys);
@@ -169,11 +155,8 @@ fn hello<S: BuildHasher>(
     shared: &Shared<S>,
     session: &mut Session,
 ) -> Result<(), AllocError>
-    ensures done { OnOk result (HasEffect shared.now.store session.old session.new
-        (effect_of shared.now.store session.old.version session.old.id (spec.Hello asked))) }
-    ensures unchanged { OnErr result (IsAsBefore shared.now.store shared.now.store session.old
-        session.new) }
-    ensures rest { HasSameRest session.old session.new }
+    ensures runs { Runs shared.now.store shared.now.store session.old session.new
+        (effect_of shared.now.store session.old.version session.old.id (spec.Hello asked)) result }
 {
     let next = asked.unwrap_or(session.version);
     greeting(&mut session.out, next, session.id)?;

@@ -5,7 +5,7 @@ ghost use Rattle.std.proofs.Common.{Global};
 ghost use Rattle.std.specs.Option.{option_map};
 ghost use Rattle.resp_value.specs.Values.{content_bytes};
 ghost use Rattle.indexmap.specs.IndexMap.{index_map_len, set_value_at};
-ghost use Rattle.resp_server.specs.Entries.{AreInPlace, IsKeyAt, entries_in};
+ghost use Rattle.resp_server.specs.Entries.{AreInPlace, LosesRow, entries_in};
 ghost use Rattle.resp_server.specs.declared.row.Row.{Row};
 ghost use Rattle.resp_server.specs.Words.{words_left};
 ghost use Rattle.resp_session.specs.Stores.{value_at, store_with, store_without};
@@ -164,12 +164,7 @@ fn remove_row<S: BuildHasher>(
 )
     requires there { index < index_map_len rows.old }
     requires before { AreInPlace rows.old.entries places.old.items }
-    ensures removed { (key : List ℕ) → IsKeyAt rows.old.entries index key →
-        entries_in rows.new.entries places.new.items ≡
-        store_without (entries_in rows.old.entries places.old.items) (key ∷ []) }
-    ensures count { length (entries_in rows.new.entries places.new.items) + 1 ≡
-        length (entries_in rows.old.entries places.old.items) }
-    ensures in_place { AreInPlace rows.new.entries places.new.items }
+    ensures { LosesRow rows.old.entries rows.new.entries places.old.items places.new.items index }
 {
     let Some(removed) = rows.swap_remove_index(index) else {
         unreachable!()

@@ -1,7 +1,7 @@
 -- Parts of a piece, answered one after another.
 use Rattle.std.specs.Prelude.{⊤}
 use Rattle.std.specs.List.{concat}
-use Rattle.std.proofs.Common.{◌≡◌, ◌⊎◌, inl, inr, ℕ, ◌+◌, ◌-◌, ◌<◌, ◌≤◌, Bool, true, List, [], ◌∷◌, ◌++◌, length, take, drop, arith, take_all, Option, Some, Result, Ok, Err, OnOk, OnErr, IfErr, refl, sym, ap, subst, ◌∙◌, take-add, length-drop}
+use Rattle.std.proofs.Common.{◌≡◌, ◌⊎◌, inl, inr, ℕ, ◌+◌, ◌<◌, ◌≤◌, Bool, true, List, [], ◌∷◌, ◌++◌, length, take, drop, arith, take_all, Option, Some, Result, Ok, Err, OnOk, OnErr, IfErr, refl, sym, ap, subst, ◌∙◌, take-add, length-drop}
 use Rattle.std.specs.Result.{is_ok}
 use Rattle.std.proofs.lemmas.List.{length-append, take-append-le}
 use Rattle.resp_session.specs.AnswerLaws.{AnswersAreAdded, AnswersGoOn}
@@ -63,14 +63,14 @@ ends_more total old cur new id fails fails' fails'' left left' n m closing end a
     subst (λ z. EndsAnswering (total + old.limits.total) cur new id z fails'' left' (record { used = m; end = end })) a.failures
     (subst (λ z. EndsAnswering z cur new id fails' fails'' left' (record { used = m; end = end })) bound b) in
     record {
+      same_limits = part.same_limits ∙ a.same_limits;
+      bounded = λ few. part.bounded (a.bounded few);
       closing = part.closing;
       is_open = part.is_open;
       sent = part.sent;
+      refusal = part.refusal;
       failures = part.failures;
       no_read = part.no_read;
-      refusal = part.refusal;
-      same_limits = part.same_limits ∙ a.same_limits;
-      bounded = λ few. part.bounded (a.bounded few);
     }
 
 -- a piece that was answered was given whole

@@ -59,6 +59,11 @@ pub of_no_link : {T : Type 0} (r : Result T Cause) → IfErr r (λ c. c ≡ caus
 of_no_link {T} (Ok x) memory = tt
 of_no_link {T} (Err c) memory = ap is_of_link memory
 
+-- nor does one stop a result that has no such cause
+pub stopped_by_none : {T : Type 0} (r : Result T Cause) → IfErr r (λ c. is_of_link c ≡ false) → stopped_by is_of_link r ≡ false
+stopped_by_none {T} (Ok x) none = refl
+stopped_by_none {T} (Err c) none = none
+
 -- where no link failed and the stop, if any, is for no cause of links
 pub counts_none : {L T : Type 0} (failures : L → ℕ) (client : ℕ) (old new : List L) (r : Result T Cause) → KeepFailures failures old new →
     IfErr r (λ c. is_of_link c ≡ false) → CountsFailures failures client old new (stopped_by is_of_link r)

@@ -1,12 +1,11 @@
 -- The bytes that a link carries, and the links of a world after an event.
-use Rattle.std.proofs.Common.{◌≡◌, ℕ, ◌+◌, ◌-◌, ◌<◌, ◌≤◌, List, [], ◌++◌, Option, None, Some, length, min, set, take, drop, get_or, slice_get, IfSome, refl, sym, ap, subst, ◌∙◌, arith, append_assoc}
+use Rattle.std.proofs.Common.{◌≡◌, ℕ, ◌+◌, ◌-◌, ◌≤◌, List, [], ◌++◌, Option, None, Some, length, min, set, take, drop, slice_get, IfSome, sym, ap, subst, ◌∙◌, arith, append_assoc}
 use Rattle.std.proofs.Math.Seq.{take-add}
 use Rattle.std.proofs.lemmas.List.{append-nil, take_min}
-use Rattle.std.proofs.lemmas.Option.{slice_get_read}
 use Rattle.resp_server.proofs.Slots.{get_set_other}
 use Rattle.resp_server.specs.Hubs.{HubState, Seat, seat_at, seated}
 use Rattle.resp_wire.specs.Links.{Carries, Traffic, with_carried}
-use Rattle.resp_wire.specs.Worlds.{LinkCarries, OthersStay}
+use Rattle.resp_wire.specs.Worlds.{OthersStay}
 use Rattle.resp_wire.specs.declared.link.Direction.{Direction}
 use Rattle.resp_wire.specs.declared.link.Direction.TheVariants.{ToServer, ToClient}
 use Rattle.resp_wire.proofs.Showing.{at_there, if_there, there_still, without}

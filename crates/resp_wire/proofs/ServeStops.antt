@@ -1,18 +1,17 @@
 -- Why serving stops, by its errors.
-use Rattle.std.proofs.Common.{◌≡◌, inl, inr, ℕ, ◌<◌, ◌≤◌, false, Option, None, Some, Err, List, [], ◌++◌, length, IfSome, refl, subst, sym, ◌∙◌}
+use Rattle.std.proofs.Common.{◌≡◌, inl, inr, ℕ, ◌<◌, false, Option, Err, List, [], ◌++◌, length, refl, subst, sym, ◌∙◌}
 use Rattle.std.specs.Prelude.{IsErrOf, Result}
-use Rattle.std.specs.Option.{option_map}
 use Rattle.resp_server.specs.Handling.{IfOutOfMemory}
 use Rattle.resp_server.specs.Hubs.{HubState, Seat}
 use Rattle.resp_server.specs.declared.error.HubError.{HubError}
 use Rattle.resp_server.specs.declared.error.HubError.TheVariants as hub
-use Rattle.resp_server.specs.Sending.{HasSentPart, IsClosing}
+use Rattle.resp_server.specs.Sending.{IsClosing}
 use Rattle.resp_turns.specs.Turns.{Halts}
 use Rattle.resp_turns.specs.declared.halt.Halt.{Halt}
 use Rattle.resp_turns.specs.declared.halt.Halt.TheVariants.{Failed, NoTurn}
-use Rattle.resp_wire.specs.Serving.{FailsServing, Serves, ServesClosing, StopsAnswering, StopsServing, read_error, write_error}
+use Rattle.resp_wire.specs.Serving.{FailsServing, Serves, StopsAnswering, StopsServing, read_error, write_error}
 use Rattle.resp_wire.specs.declared.error.ServeError.{ServeError}
-use Rattle.resp_wire.specs.declared.error.ServeError.TheVariants.{NoSession, OutOfMemory, Read, Write, TooManyTurns}
+use Rattle.resp_wire.specs.declared.error.ServeError.TheVariants.{OutOfMemory, TooManyTurns}
 
 -- a write that stopped leaves the rest
 pub stops_writing : (old given new : HubState) (id : ℕ) (s : Seat) (front came : List ℕ) (held held' : Option (List ℕ)) (waits : List ℕ) (halt : Halt) →

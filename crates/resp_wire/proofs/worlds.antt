@@ -9,6 +9,7 @@ pub mod Opened
 pub mod Events
 pub mod Moves
 pub mod Lacking
+pub mod Performed
 pub mod Parts
 pub mod Kept
 pub mod Memory

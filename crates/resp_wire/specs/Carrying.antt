@@ -1,5 +1,6 @@
 -- Carrying bytes between a client and its session.
-use Rattle.std.specs.Prelude.{◌≡◌, ◌⊎◌, ℕ, true, false, List, ◌++◌, take, replicate}
+use Rattle.std.specs.Prelude.{◌≡◌, ◌⊎◌, ℕ, Bool, true, false, List, ◌++◌, take, replicate}
+use Rattle.resp_value.specs.Devices.{failures_after}
 use Rattle.resp_value.specs.declared.cause.Cause.{Cause}
 use Rattle.resp_value.specs.declared.cause.Cause.TheVariants.{OutOfMemory}
 use Rattle.resp_scan.specs.declared.event.Fault.{Fault}
@@ -28,6 +29,11 @@ pub record HasClosed (old : HubState) (id : ℕ) (s : Seat) (front text : List �
   pub commands : ℕ
   pub answered : HasAnswered old new id s (front ++ take count text) commands
   pub is_closing : answered.closing ≡ true
+
+-- an honest link stays honest, and a link has failed once if that stopped the call, otherwise not
+pub record LinkGoesOn {L : Type 0} (is_honest : L → Type 0) (fails : L → ℕ) (old new : L) (failed : Bool) : Type 0 where
+  pub honest : is_honest old → is_honest new
+  pub failures : fails new ≡ failures_after failed (fails old)
 
 -- Why no more bytes are carried: memory was out, the link failed, or the session was closed by the bytes received.
 abbrev pub StopsCarrying : HubState → ℕ → Seat → List ℕ → List ℕ → ℕ → ℕ → Cause → Type 0

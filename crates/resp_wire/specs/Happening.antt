@@ -1,5 +1,5 @@
 -- The effect of events on a world.
-use Rattle.std.specs.Prelude.{◌≡◌, ℕ, suc, ◌<◌, false, List, [], length, take, None, Some, IfSome}
+use Rattle.std.specs.Prelude.{◌≡◌, ℕ, suc, ◌<◌, ◌≤◌, ◌-◌, false, List, [], length, take, Option, None, Some, IfErr, IfOk, IfSome, Result}
 use Rattle.std.specs.List.{slice_get}
 use Rattle.resp_value.specs.Bounds.{Bounds}
 use Rattle.resp_value.specs.declared.cause.Cause.{Cause}
@@ -11,8 +11,9 @@ use Rattle.resp_session.specs.Worlds.{World, WorldEvent, Drop, after_event, clie
 use Rattle.resp_server.specs.Hubs.{HubState, seat_at}
 use Rattle.resp_server.specs.Reading.{HasReadFront, Reading}
 use Rattle.resp_wire.specs.Ends.{IsNew}
-use Rattle.resp_wire.specs.Links.{is_of_link}
-use Rattle.resp_wire.specs.Worlds.{CountsFailures, Shows, StopsBy, WorldState, outcome_of}
+use Rattle.resp_turns.specs.Turns.{stopped_by}
+use Rattle.resp_wire.specs.Links.{Traffic, is_of_link}
+use Rattle.resp_wire.specs.Worlds.{CountsFailures, LinksAfter, OthersStay, Shows, StopsBy, WorldState, outcome_of}
 use Rattle.resp_wire.specs.declared.end.End.{End}
 use Rattle.resp_wire.specs.declared.event.Outcome.{Outcome}
 use Rattle.resp_wire.specs.declared.event.Stop.{Stop}
@@ -20,6 +21,11 @@ use Rattle.resp_wire.specs.declared.event.Stop.{Stop}
 -- the client of this index was not dropped
 abbrev pub IsOpenEnd : List End → ℕ → Type 0
 IsOpenEnd ends index = IfSome (slice_get ends index) (λ e. e.is_dropped ≡ false)
+
+-- the client of this number is there and was not dropped
+pub record IsOpenClient (ends : List End) (number : ℕ) : Type 0 where
+  pub there : (1 ≤ number) × (number ≤ length ends)
+  pub is_open : IsOpenEnd ends (number - 1)
 
 -- The event has its outcome in the definitions, and the world shows the state after it.
 abbrev pub Happens : {L : Type 0} → (L → Type 0) → WorldState L → WorldState L → WorldEvent → Outcome → Type 0
@@ -42,6 +48,19 @@ pub record MayLackMemory {L : Type 0} (is_honest : L → Type 0) (s : WorldState
   pub no_drop : IsNoDrop event
   pub done : (limits : Bounds) (w : World) → Shows is_honest s limits w →
       Step limits w event runs.Done (after_event w event)
+
+-- An event has this outcome, or this cause stopped it. If the cause is a link's, the link of the event's client has
+-- failed, once, and no other link. The bytes go over the link of that client.
+pub record Performs {L : Type 0} (is_honest : L → Type 0) (failures : L → ℕ) (carried : L → Option Traffic)
+    (old new : WorldState L) (event : WorldEvent) (result : Result Outcome Cause) : Type 0 where
+  pub happens : IfOk result (Happens is_honest old new event)
+  pub stops : IfErr result (Fails is_honest failures old new)
+  pub memory : IfErr result (λ cause. cause ≡ OutOfMemory → MayLackMemory is_honest old event)
+  pub going : new.stopped ≡ old.stopped
+  pub links : CountsFailures failures (client_of event) old.links new.links (stopped_by is_of_link result)
+  pub traffic : IfOk result (LinksAfter carried old new event)
+  pub others : OthersStay (client_of event) old.links new.links
+  pub as_many : length new.ends ≡ length old.ends
 
 -- The events have their outcomes in the definitions, and the world shows the state after them.
 abbrev pub RunsTo : {L : Type 0} → (L → Type 0) → WorldState L → WorldState L → List WorldEvent → Type 0

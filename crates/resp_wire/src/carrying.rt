@@ -1,14 +1,13 @@
 //! Carrying bytes between a client and its session.
 
 ghost use Rattle.std.specs.Prelude.{◌≡◌, ◌≤◌, ◌++◌, [], length, take, drop, min, replicate, false, IfSome, IfErr, OnOk};
-ghost use Rattle.resp_value.specs.Devices.{failures_after};
 ghost use Rattle.resp_scan.specs.declared.event.Fault.{Fault};
 ghost use Rattle.resp_session.specs.Reading.{MayGoOn};
 ghost use Rattle.resp_client.specs.Clients.{state_of, without_front};
 ghost use Rattle.resp_client.specs.Hearing.{HasTaken, KeepsReading, Refuses, WhereTaken};
 ghost use Rattle.resp_server.specs.Handling.{WhereOpen};
 ghost use Rattle.resp_server.specs.Hubs.{Seat, seat_at, seated};
-ghost use Rattle.resp_wire.specs.Carrying.{HasBrought, HearsOn, StopsCarrying, StopsShowing, cause_of};
+ghost use Rattle.resp_wire.specs.Carrying.{HasBrought, HearsOn, LinkGoesOn, StopsCarrying, StopsShowing, cause_of};
 ghost use Rattle.resp_wire.specs.Hearing.{HearsAll};
 ghost use Rattle.resp_wire.specs.Links.{Carries, is_of_link};
 ghost use Rattle.resp_turns.specs.Turns.{stopped_by};
@@ -48,10 +47,8 @@ pub(crate) fn carry_to_server<L: Link, S: BuildHasher>(
     ensures traffic { OnOk result (Carries Direction.ToServer
         (take count (state_of client.old).out) (L.traffic link.old) (L.traffic link.new)) }
     ensures same_reading { KeepsReading client.old client.new }
-    ensures honest { L.is_honest link.old → L.is_honest link.new }
-    ensures none_failed { OnOk result (L.failures link.new ≡ L.failures link.old) }
-    ensures failures { L.failures link.new ≡
-        failures_after (stopped_by is_of_link result) (L.failures link.old) }
+    ensures link { LinkGoesOn L.is_honest L.failures link.old link.new
+        (stopped_by is_of_link result) }
 {
     laws::answers_go_on();
     laws::answers_are_added();
@@ -95,10 +92,8 @@ pub(crate) fn carry_to_client<L: Link, S: BuildHasher>(
         hub.new ≡ seated hub.old id (record s { out = drop count s.out }))) }
     ensures traffic { OnOk result (IfSome (seat_at hub.old id) (λ (s : Seat).
         Carries Direction.ToClient (take count s.out) (L.traffic link.old) (L.traffic link.new))) }
-    ensures honest { L.is_honest link.old → L.is_honest link.new }
-    ensures none_failed { OnOk result (L.failures link.new ≡ L.failures link.old) }
-    ensures failures { L.failures link.new ≡
-        failures_after (stopped_by is_of_link result) (L.failures link.old) }
+    ensures link { LinkGoesOn L.is_honest L.failures link.old link.new
+        (stopped_by is_of_link result) }
 {
     laws::readings_go_on();
     laws::hearing_goes_on();
@@ -145,10 +140,8 @@ fn give<L: Link, S: BuildHasher>(
     ensures traffic { OnOk result (Carries Direction.ToServer (take (length room.old)
         (state_of client.old).out) (L.traffic link.old) (L.traffic link.new)) }
     ensures same_reading { KeepsReading client.old client.new }
-    ensures honest { L.is_honest link.old → L.is_honest link.new }
-    ensures none_failed { OnOk result (L.failures link.new ≡ L.failures link.old) }
-    ensures failures { L.failures link.new ≡
-        failures_after (stopped_by is_of_link result) (L.failures link.old) }
+    ensures link { LinkGoesOn L.is_honest L.failures link.old link.new
+        (stopped_by is_of_link result) }
 {
     let length = room.len();
     if let Err(fault) = link.carry(Direction::ToServer, front(client.out(), length), room) {
@@ -207,10 +200,8 @@ fn show<L: Link, S: BuildHasher>(
     ensures traffic { OnOk result (IfSome (seat_at hub.old id) (λ (s : Seat).
         Carries Direction.ToClient (take (length room.old) s.out) (L.traffic link.old)
         (L.traffic link.new))) }
-    ensures honest { L.is_honest link.old → L.is_honest link.new }
-    ensures none_failed { OnOk result (L.failures link.new ≡ L.failures link.old) }
-    ensures failures { L.failures link.new ≡
-        failures_after (stopped_by is_of_link result) (L.failures link.old) }
+    ensures link { LinkGoesOn L.is_honest L.failures link.old link.new
+        (stopped_by is_of_link result) }
 {
     let length = room.len();
     let Ok(out) = hub.out(id) else {

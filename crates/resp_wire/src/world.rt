@@ -1,6 +1,7 @@
 //! Worlds: clients and their sessions over one store, and events that happen one after another.
 
-ghost use Rattle.std.specs.Prelude.{◌≡◌, ◌↔◌, ◌+◌, ◌<◌, ◌≤◌, ◌-◌, ℕ, [], ◌∷◌, length, map, false, None, Some, Err, IfErr, IfOk, IfSome, IsErrOf, OnErr, OnOk};
+ghost use Rattle.std.specs.Prelude.{◌≡◌, ◌↔◌, ◌+◌, ◌<◌, ◌≤◌, ℕ, [], ◌∷◌, length, map, None, Some, Err, IfErr, IfOk, IfSome, IsErrOf, OnErr, OnOk};
+ghost use Rattle.std.specs.Bool.{OnFalse, OnTrue};
 ghost use Rattle.std.specs.List.{AllByRecursion};
 ghost use Rattle.resp_value.specs.Bounds.{AreBounds, Bounds};
 ghost use Rattle.resp_value.specs.Commands.{words_of};
@@ -11,9 +12,7 @@ ghost use Rattle.resp_session.specs.Serving.{clients_in};
 ghost use Rattle.resp_session.specs.Worlds as session;
 ghost use Rattle.resp_session.specs.Worlds.{client_of, connection_at, new_world};
 ghost use Rattle.resp_wire.specs.Ends.{outcome_of_push};
-ghost use Rattle.resp_wire.specs.Happening.{AreOpened, Fails, Happens, IsOpenEnd, MayLackMemory, RunsTo, StopsAt};
-ghost use Rattle.resp_wire.specs.Links.{is_of_link};
-ghost use Rattle.resp_turns.specs.Turns.{stopped_by};
+ghost use Rattle.resp_wire.specs.Happening.{AreOpened, Fails, Happens, IsOpenClient, MayLackMemory, Performs, RunsTo, StopsAt};
 ghost use Rattle.resp_wire.specs.Worlds.{CountsFailures, KeepFailures, LinksAfter, OthersStay, Shows, event_of, pushes_with, requests_of, stop_is_of_link, values_in};
 
 use crate::asked::{Asked, Request};
@@ -227,27 +226,11 @@ impl<L: Link, S: BuildHasher + Drop> World<L, S> {
 
     /// Returns the outcome of an event, or the cause at which the world stops.
     fn happen(&mut self, event: &Event) -> Result<Outcome, Cause>
-        ensures happens { IfOk result (Happens L.is_honest self.old self.new (event_of event.now)) }
-        ensures stops { IfErr result (Fails L.is_honest L.failures self.old self.new) }
-        ensures memory { IfErr result (λ cause. cause ≡ Cause.OutOfMemory →
-            MayLackMemory L.is_honest self.old (event_of event.now)) }
-        ensures going { self.new.stopped ≡ self.old.stopped }
-        ensures none_failed { OnOk result
-            (KeepFailures L.failures self.old.links self.new.links) }
-        ensures links { CountsFailures L.failures (client_of (event_of event.now))
-            self.old.links self.new.links
-            (stopped_by is_of_link result) }
-        ensures traffic { IfOk result
-            (LinksAfter L.traffic self.old self.new (event_of event.now)) }
-        ensures others { OthersStay (client_of (event_of event.now)) self.old.links
-            self.new.links }
-        ensures as_many { length self.new.ends ≡ length self.old.ends }
+        ensures { Performs L.is_honest L.failures L.traffic self.old self.new (event_of event.now)
+            result }
     {
         let number = event.client();
-        if number == 0 || number > self.ends.len() {
-            return Ok(Outcome::Gone);
-        }
-        if self.ends[number - 1].is_dropped {
+        if !self.is_open(number) {
             return Ok(Outcome::Gone);
         }
         match event {
@@ -260,22 +243,23 @@ impl<L: Link, S: BuildHasher + Drop> World<L, S> {
         }
     }
 
+    /// Returns whether a client has this number and was not dropped.
+    fn is_open(&self, number: usize) -> bool
+        ensures open { OnTrue result (IsOpenClient self.now.ends number) }
+        ensures gone { OnFalse result ((event : session.WorldEvent) → number ≡ client_of event →
+            Happens L.is_honest self.now self.now event Outcome.Gone) }
+    {
+        if number == 0 || number > self.ends.len() {
+            return false;
+        }
+        !self.ends[number - 1].is_dropped
+    }
+
     /// Queues a command of a client.
     fn send(&mut self, number: usize, command: &Command) -> Result<Outcome, Cause>
-        requires there { (1 ≤ number) × (number ≤ length self.old.ends) }
-        requires is_open { IsOpenEnd self.old.ends (number - 1) }
-        ensures happens { IfOk result (Happens L.is_honest self.old self.new
-            (session.Send number (words_of command.now))) }
-        ensures stops { IfErr result (λ cause. cause ≡ Cause.OutOfMemory) }
-        ensures memory { OnErr result (MayLackMemory L.is_honest self.old
-            (session.Send number (words_of command.now))) }
-        ensures going { self.new.stopped ≡ self.old.stopped }
-        ensures none_failed { OnOk result
-            (KeepFailures L.failures self.old.links self.new.links) }
-        ensures links { CountsFailures L.failures number self.old.links self.new.links
-            (stopped_by is_of_link result) }
-        ensures same_links { self.new.links ≡ self.old.links }
-        ensures as_many { length self.new.ends ≡ length self.old.ends }
+        requires { IsOpenClient self.old.ends number }
+        ensures { Performs L.is_honest L.failures L.traffic self.old self.new
+            (session.Send number (words_of command.now)) result }
     {
         laws::readings_stay();
         laws::what_has_come_was_sent();
@@ -285,20 +269,9 @@ impl<L: Link, S: BuildHasher + Drop> World<L, S> {
 
     /// Queues a HELLO of a client.
     fn hello(&mut self, number: usize, asked: Option<Version>) -> Result<Outcome, Cause>
-        requires there { (1 ≤ number) × (number ≤ length self.old.ends) }
-        requires is_open { IsOpenEnd self.old.ends (number - 1) }
-        ensures happens { IfOk result (Happens L.is_honest self.old self.new
-            (session.Greet number asked)) }
-        ensures stops { IfErr result (λ cause. cause ≡ Cause.OutOfMemory) }
-        ensures memory { OnErr result (MayLackMemory L.is_honest self.old
-            (session.Greet number asked)) }
-        ensures going { self.new.stopped ≡ self.old.stopped }
-        ensures none_failed { OnOk result
-            (KeepFailures L.failures self.old.links self.new.links) }
-        ensures links { CountsFailures L.failures number self.old.links self.new.links
-            (stopped_by is_of_link result) }
-        ensures same_links { self.new.links ≡ self.old.links }
-        ensures as_many { length self.new.ends ≡ length self.old.ends }
+        requires { IsOpenClient self.old.ends number }
+        ensures { Performs L.is_honest L.failures L.traffic self.old self.new
+            (session.Greet number asked) result }
     {
         laws::readings_stay();
         laws::what_has_come_was_sent();
@@ -308,22 +281,9 @@ impl<L: Link, S: BuildHasher + Drop> World<L, S> {
 
     /// Carries `count` of a client's waiting bytes to its session, or all if fewer wait.
     fn to_server(&mut self, number: usize, count: u64) -> Result<Outcome, Cause>
-        requires there { (1 ≤ number) × (number ≤ length self.old.ends) }
-        requires is_open { IsOpenEnd self.old.ends (number - 1) }
-        ensures happens { IfOk result (Happens L.is_honest self.old self.new
-            (session.ToServer number count)) }
-        ensures stops { IfErr result (Fails L.is_honest L.failures self.old self.new) }
-        ensures memory { OnErr result (MayLackMemory L.is_honest self.old
-            (session.ToServer number count)) }
-        ensures going { self.new.stopped ≡ self.old.stopped }
-        ensures none_failed { OnOk result
-            (KeepFailures L.failures self.old.links self.new.links) }
-        ensures links { CountsFailures L.failures number self.old.links self.new.links
-            (stopped_by is_of_link result) }
-        ensures traffic { IfOk result
-            (LinksAfter L.traffic self.old self.new (session.ToServer number count)) }
-        ensures others { OthersStay number self.old.links self.new.links }
-        ensures as_many { length self.new.ends ≡ length self.old.ends }
+        requires { IsOpenClient self.old.ends number }
+        ensures { Performs L.is_honest L.failures L.traffic self.old self.new
+            (session.ToServer number count) result }
     {
         laws::what_arrives_is_answered();
         laws::what_is_shown_is_read();
@@ -346,22 +306,9 @@ impl<L: Link, S: BuildHasher + Drop> World<L, S> {
     /// Carries `count` of a session's waiting bytes to its client, or all if fewer wait, and stores
     /// the replies and pushes that they complete.
     fn to_client(&mut self, number: usize, count: u64) -> Result<Outcome, Cause>
-        requires there { (1 ≤ number) × (number ≤ length self.old.ends) }
-        requires is_open { IsOpenEnd self.old.ends (number - 1) }
-        ensures happens { IfOk result (Happens L.is_honest self.old self.new
-            (session.ToClient number count)) }
-        ensures stops { IfErr result (Fails L.is_honest L.failures self.old self.new) }
-        ensures memory { OnErr result (MayLackMemory L.is_honest self.old
-            (session.ToClient number count)) }
-        ensures going { self.new.stopped ≡ self.old.stopped }
-        ensures none_failed { OnOk result
-            (KeepFailures L.failures self.old.links self.new.links) }
-        ensures links { CountsFailures L.failures number self.old.links self.new.links
-            (stopped_by is_of_link result) }
-        ensures traffic { IfOk result
-            (LinksAfter L.traffic self.old self.new (session.ToClient number count)) }
-        ensures others { OthersStay number self.old.links self.new.links }
-        ensures as_many { length self.new.ends ≡ length self.old.ends }
+        requires { IsOpenClient self.old.ends number }
+        ensures { Performs L.is_honest L.failures L.traffic self.old self.new
+            (session.ToClient number count) result }
     {
         laws::readings_go_on();
         laws::what_is_shown_is_read();
@@ -383,20 +330,9 @@ impl<L: Link, S: BuildHasher + Drop> World<L, S> {
 
     /// Sends a push of the items to a client.
     fn push(&mut self, number: usize, items: &Members) -> Result<Outcome, Cause>
-        requires there { (1 ≤ number) × (number ≤ length self.old.ends) }
-        requires is_open { IsOpenEnd self.old.ends (number - 1) }
-        ensures happens { IfOk result (Happens L.is_honest self.old self.new
-            (session.Push number (map datum_of (list_of items.now)))) }
-        ensures stops { IfErr result (Fails L.is_honest L.failures self.old self.new) }
-        ensures memory { OnErr result (MayLackMemory L.is_honest self.old
-            (session.Push number (map datum_of (list_of items.now)))) }
-        ensures going { self.new.stopped ≡ self.old.stopped }
-        ensures none_failed { OnOk result
-            (KeepFailures L.failures self.old.links self.new.links) }
-        ensures links { CountsFailures L.failures number self.old.links self.new.links
-            (stopped_by is_of_link result) }
-        ensures same_links { self.new.links ≡ self.old.links }
-        ensures as_many { length self.new.ends ≡ length self.old.ends }
+        requires { IsOpenClient self.old.ends number }
+        ensures { Performs L.is_honest L.failures L.traffic self.old self.new
+            (session.Push number (map datum_of (list_of items.now))) result }
     {
         laws::what_is_shown_is_read();
         laws::what_has_come_was_sent();
@@ -409,19 +345,9 @@ impl<L: Link, S: BuildHasher + Drop> World<L, S> {
 
     /// Closes a client's session. No more bytes are carried in either direction.
     fn drop_client(&mut self, number: usize) -> Result<Outcome, Cause>
-        requires there { (1 ≤ number) × (number ≤ length self.old.ends) }
-        requires is_open { IsOpenEnd self.old.ends (number - 1) }
-        ensures happens { IfOk result (Happens L.is_honest self.old self.new
-            (session.Drop number)) }
-        ensures stops { IfErr result (Fails L.is_honest L.failures self.old self.new) }
-        ensures memory { IfErr result (λ cause. cause ≡ Cause.NoSession) }
-        ensures going { self.new.stopped ≡ self.old.stopped }
-        ensures none_failed { OnOk result
-            (KeepFailures L.failures self.old.links self.new.links) }
-        ensures links { CountsFailures L.failures number self.old.links self.new.links
-            (stopped_by is_of_link result) }
-        ensures same_links { self.new.links ≡ self.old.links }
-        ensures as_many { length self.new.ends ≡ length self.old.ends }
+        requires { IsOpenClient self.old.ends number }
+        ensures { Performs L.is_honest L.failures L.traffic self.old self.new
+            (session.Drop number) result }
     {
         laws::a_change_is_of_one_connection();
         if let Err(_) = self.hub.close(number as u64) {

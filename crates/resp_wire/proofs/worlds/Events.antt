@@ -3,15 +3,14 @@ use Rattle.std.proofs.Common.{◌≡◌, ℕ, suc, ◌-◌, ◌<◌, ◌≤◌, 
 use Rattle.std.proofs.lemmas.Option.{slice_get_read}
 use Rattle.resp_value.specs.Bounds.{Bounds}
 use Rattle.resp_value.specs.declared.cause.Cause.{Cause}
-use Rattle.resp_value.specs.declared.version.Version.{Version}
 use Rattle.resp_session.specs.Connections.{Connection, with_request}
 use Rattle.resp_session.specs.ReadingLaws.{ReadingsStay}
-use Rattle.resp_session.specs.Requests.{Command, FitsRequest, HasBytes, Hello, RefusesRequest, Request}
+use Rattle.resp_session.specs.Requests.{FitsRequest, RefusesRequest, Request}
 use Rattle.resp_session.specs.Runs as runs
 use Rattle.resp_session.specs.Runs.{RefusesEvent, Step, connection_of, is_gone}
 use Rattle.resp_session.specs.Serving.{ArrivalsStay, WhatHasComeWasSent}
 use Rattle.resp_session.specs.WorldLaws.{AChangeIsOfOneConnection, IsPossible}
-use Rattle.resp_session.specs.Worlds.{Greet, Send, World, WorldEvent, after_event, connection_at, world_with}
+use Rattle.resp_session.specs.Worlds.{World, WorldEvent, after_event, connection_at, world_with}
 use Rattle.resp_session.proofs.FittingSent.{requests_that_fit_are_sent}
 use Rattle.resp_server.specs.Hubs.{HubState, seat_at}
 use Rattle.resp_client.specs.Clients.{queued, state_of}
@@ -134,7 +133,7 @@ pub numbered : (number : ℕ) → 1 ≤ number → suc (number - 1) ≡ number
 numbered number least = omega (arith, least)
 
 -- what an event of this request asks of each connection
-abbrev Asks : (ℕ → WorldEvent) → Request → Type 0
+abbrev pub Asks : (ℕ → WorldEvent) → Request → Type 0
 Asks event request = ((limits : Bounds) (c : Connection) (n : ℕ) (cause : Cause) →
     (RefusesEvent limits (Some c) (event n) cause → RefusesRequest limits (length c.requests) request cause) ×
     (RefusesRequest limits (length c.requests) request cause → RefusesEvent limits (Some c) (event n) cause)) ×
@@ -142,7 +141,7 @@ Asks event request = ((limits : Bounds) (c : Connection) (n : ℕ) (cause : Caus
     (after_event w (event n) ≡ world_with (with_request request) w n))
 
 -- what came of a request of a client that was not dropped
-asks : {L : Type 0} (is_honest : L → Type 0) → ReadingsStay → WhatHasComeWasSent → ArrivalsStay → AChangeIsOfOneConnection → (hub : HubState)
+pub asks : {L : Type 0} (is_honest : L → Type 0) → ReadingsStay → WhatHasComeWasSent → ArrivalsStay → AChangeIsOfOneConnection → (hub : HubState)
     (ends : List End) (links : List L) (order : List ℕ) (stopped : Option Cause) (number : ℕ) (event : ℕ → WorldEvent) (request : Request)
     (e e' : End) (outcome : Outcome) → Asks event request → (outcome ≡ Done → (n : ℕ) → IsPossible (event n)) →
     (1 ≤ number) × (number ≤ length ends) → IsOpenEnd ends (number - 1) → e ≡ get_or ends (number - 1) e → TakesRequest e e' request outcome →
@@ -159,23 +158,3 @@ asks {L} is_honest readings sent arrivals change hub ends links order stopped nu
     Shows is_honest (world_of hub (set ends i e') links order stopped) limits next) (numbered number least)
     (request_taken is_honest readings sent arrivals change limits hub ends links order stopped w i e e' (event (suc i)) request outcome shows a takes
     (λ done. possible done (suc i)) (λ cause. (refusals cause).0) (λ cause. (refusals cause).1) (changes.0 ∙ a.its) changes.1)
-
-pub sends : {L : Type 0} (is_honest : L → Type 0) → ReadingsStay → WhatHasComeWasSent → ArrivalsStay → AChangeIsOfOneConnection → (hub : HubState)
-    (ends : List End) (links : List L) (order : List ℕ) (stopped : Option Cause) (number : ℕ) (words : List (List ℕ)) (e e' : End)
-    (outcome : Outcome) → (1 ≤ number) × (number ≤ length ends) → IsOpenEnd ends (number - 1) → e ≡ get_or ends (number - 1) e →
-    TakesRequest e e' (Command words) outcome → (outcome ≡ Done → HasBytes (Command words)) →
-    Happens is_honest (world_of hub ends links order stopped)
-    (world_of hub (set ends (number - 1) e') links order stopped) (Send number words) outcome
-sends {L} is_honest readings sent arrivals change hub ends links order stopped number words e e' outcome there open_end e_is takes bytes =
-    asks is_honest readings sent arrivals change hub ends links order stopped number (λ n. Send n words) (Command words) e e' outcome
-    ((λ limits c n cause. (λ r. r, λ r. r)), (λ v n. (refl, refl))) (λ done n. bytes done) there open_end e_is takes
-
-pub greets : {L : Type 0} (is_honest : L → Type 0) → ReadingsStay → WhatHasComeWasSent → ArrivalsStay → AChangeIsOfOneConnection → (hub : HubState)
-    (ends : List End) (links : List L) (order : List ℕ) (stopped : Option Cause) (number : ℕ) (asked : Option Version) (e e' : End)
-    (outcome : Outcome) → (1 ≤ number) × (number ≤ length ends) → IsOpenEnd ends (number - 1) → e ≡ get_or ends (number - 1) e →
-    TakesRequest e e' (Hello asked) outcome →
-    Happens is_honest (world_of hub ends links order stopped)
-    (world_of hub (set ends (number - 1) e') links order stopped) (Greet number asked) outcome
-greets {L} is_honest readings sent arrivals change hub ends links order stopped number asked e e' outcome =
-    asks is_honest readings sent arrivals change hub ends links order stopped number (λ n. Greet n asked) (Hello asked) e e' outcome
-    ((λ limits c n cause. (λ r. r, λ r. r)), (λ v n. (refl, refl))) (λ done n. tt)

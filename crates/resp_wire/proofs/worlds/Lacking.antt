@@ -3,12 +3,10 @@ use Rattle.std.proofs.Common.{◌≡◌, ℕ, ◌-◌, ◌≤◌, false, Some, O
 use Rattle.resp_value.specs.Bounds.{Bounds}
 use Rattle.resp_value.specs.Data.{Datum}
 use Rattle.resp_value.specs.declared.cause.Cause.{Cause}
-use Rattle.resp_value.specs.declared.cause.Cause.TheVariants.{NoSession, OutOfMemory}
-use Rattle.resp_value.specs.declared.version.Version.{Version}
 use Rattle.resp_session.specs.Connections.{Connection, push_message}
-use Rattle.resp_session.specs.Requests.{Command, FitsRequest, Hello, RefusesRequest, Request}
+use Rattle.resp_session.specs.Requests.{FitsRequest, RefusesRequest, Request}
 use Rattle.resp_session.specs.Runs.{Done, RefusesEvent, Step, connection_of, is_gone}
-use Rattle.resp_session.specs.Worlds.{Greet, Push, Send, ToClient, ToServer, World, WorldEvent, after_event, connection_at}
+use Rattle.resp_session.specs.Worlds.{Push, ToClient, ToServer, World, WorldEvent, after_event, connection_at}
 use Rattle.resp_session.proofs.FittingSent.{requests_that_fit_are_sent}
 use Rattle.resp_client.specs.Clients.{state_of}
 use Rattle.resp_client.specs.Sending.{MayBeSent}
@@ -51,7 +49,7 @@ to_client_lacks {L} is_honest hub ends links order stopped number count =
     bytes_lack is_honest hub ends links order stopped number (ToClient number count) tt (λ w. refl) (λ limits c cause r. r)
 
 -- nor is a request that the client may send
-request_lacks : {L : Type 0} (is_honest : L → Type 0) (hub : HubState) (ends : List End) (links : List L) (order : List ℕ) (stopped : Option Cause)
+pub request_lacks : {L : Type 0} (is_honest : L → Type 0) (hub : HubState) (ends : List End) (links : List L) (order : List ℕ) (stopped : Option Cause)
     (number : ℕ) (e : End) (event : WorldEvent) (request : Request) → IsNoDrop event →
     ((w : World) → connection_of w event ≡ connection_at w.connections number) →
     ((limits : Bounds) (c : Connection) (cause : Cause) → RefusesEvent limits (Some c) event cause →
@@ -72,20 +70,6 @@ request_lacks {L} is_honest hub ends links order stopped number e event request 
       (omega (arith, few, counts)) cause (refusing limits c cause (subst (λ o. RefusesEvent limits o event cause) at r)) in
       (ap is_gone at ∙ work.at.is_open, refused, refl);
 }
-
-pub send_lacks : {L : Type 0} (is_honest : L → Type 0) (hub : HubState) (ends : List End) (links : List L) (order : List ℕ) (stopped : Option Cause)
-    (number : ℕ) (e : End) (words : List (List ℕ)) → (1 ≤ number) × (number ≤ length ends) → IsOpenEnd ends (number - 1) →
-    e ≡ get_or ends (number - 1) e → MayBeSent (state_of e.client) (Command words) →
-    MayLackMemory is_honest (world_of hub ends links order stopped) (Send number words)
-send_lacks {L} is_honest hub ends links order stopped number e words =
-    request_lacks is_honest hub ends links order stopped number e (Send number words) (Command words) tt (λ w. refl) (λ limits c cause r. r)
-
-pub hello_lacks : {L : Type 0} (is_honest : L → Type 0) (hub : HubState) (ends : List End) (links : List L) (order : List ℕ) (stopped : Option Cause)
-    (number : ℕ) (e : End) (asked : Option Version) → (1 ≤ number) × (number ≤ length ends) → IsOpenEnd ends (number - 1) →
-    e ≡ get_or ends (number - 1) e → MayBeSent (state_of e.client) (Hello asked) →
-    MayLackMemory is_honest (world_of hub ends links order stopped) (Greet number asked)
-hello_lacks {L} is_honest hub ends links order stopped number e asked =
-    request_lacks is_honest hub ends links order stopped number e (Greet number asked) (Hello asked) tt (λ w. refl) (λ limits c cause r. r)
 
 -- nor is a push that an open session has no memory for
 push_done : (limits : Bounds) (hub : HubState) (ends : List End) (order : List ℕ) (w : World) (number : ℕ) (items : List Datum) (error : PushError) →
@@ -158,8 +142,3 @@ all_errs {T} {E} (Err e) Q q = q
 pub if_err_of : {T E : Type 0} (r : Result T E) (P : E → Type 0) (Q : Type 0) → OnErr r Q → IfErr r (λ e. P e → Q)
 if_err_of {T} {E} (Ok x) P Q q = tt
 if_err_of {T} {E} (Err e) P Q q = λ _. q
-
--- a drop stops for no memory
-pub never_memory : {T : Type 0} (r : Result T Cause) (Q : Type 0) → IfErr r (λ cause. cause ≡ NoSession) → IfErr r (λ cause. cause ≡ OutOfMemory → Q)
-never_memory {T} (Ok x) Q no_session = tt
-never_memory {T} (Err cause) Q no_session = λ memory. let both : NoSession ≡ OutOfMemory = sym no_session ∙ memory in absurd (cc)

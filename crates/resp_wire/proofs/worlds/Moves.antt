@@ -33,7 +33,7 @@ use Rattle.resp_wire.specs.Carrying.{HasBrought, HearsOn, StopsCarrying, StopsSh
 use Rattle.resp_wire.specs.Ends.{KeepsHeard, outcome_of_push}
 use Rattle.resp_wire.specs.Happening.{Fails, Happens, IsOpenEnd}
 use Rattle.resp_wire.specs.Hearing.{pushes_in, replies_in}
-use Rattle.resp_wire.specs.Worlds.{HasFailed, KeepFailures, Shows, ShowsEach, Stands, StopsBy, WorldState, outcome_of}
+use Rattle.resp_wire.specs.Worlds.{HasFailed, Shows, ShowsEach, Stands, StopsBy, WorldState, outcome_of}
 use Rattle.resp_wire.specs.declared.asked.Asked.{Asked}
 use Rattle.resp_wire.specs.declared.end.End.{End}
 use Rattle.resp_wire.specs.declared.event.Outcome.{Outcome}
@@ -129,13 +129,6 @@ failed_at {L} failures links i link link' within is risen =
     slice_get-map failures (set links i link') i ∙ ap (option_map failures) (set_there links i link' within) in
     (i, failures link, failures link', old, new, risen)
 
--- where a link's count is as before, so is each
-pub keep_failures : {L : Type 0} (failures : L → ℕ) (links : List L) (i : ℕ) (link link' : L) → link ≡ get_or links i link →
-    failures link' ≡ failures link → KeepFailures failures links (set links i link')
-keep_failures {L} failures [] i link link' is same = refl
-keep_failures {L} failures (x ∷ links) zero link link' is same = ap (λ n. n ∷ map failures links) (same ∙ ap failures is)
-keep_failures {L} failures (x ∷ links) (suc i) link link' is same = ap (λ l. failures x ∷ l) (keep_failures failures links i link link' is same)
-
 pub moves_to_server : {L : Type 0} (is_honest : L → Type 0) → WhatArrivesIsAnswered → WhatIsReadIsShown → WhatIsLeftMayGoOn → WhatHasComeWasSent →
     (hub hub' : HubState) (ends : List End) (links : List L) (order order' : List ℕ) (stopped : Option Cause) (number count : ℕ) (e : End)
     (client' : Client) (link link' : L) → length links ≡ length ends → (1 ≤ number) × (number ≤ length ends) → IsOpenEnd ends (number - 1) →
@@ -151,47 +144,43 @@ moves_to_server {L} is_honest answered nothing_else goes_on sent hub hub' ends l
     let i = number - 1 in
     let its = its_link is_honest ends links number link shows.honest as_many there link_is in
     let work = at_work limits hub ends order w number e shows.each there open_end e_is in
-    let is = work.is in
     let a = work.at in
     let s = work.stands in
-    let c = a.connection in
     let come : HasBrought hub hub' (suc i) s.session (s.front ++ take count (state_of e.client).out) order order' (suc i) =
     at_open hub (suc i) (λ t front. HasBrought hub hub' (suc i) t (front ++ take count (state_of e.client).out) order order' (suc i)) s.session s.front
-    (subst (λ n. WhereOpen hub n (λ t front. HasBrought hub hub' n t (front ++ take count (state_of e.client).out) order order' n)) (sym is) (brought
+    (subst (λ n. WhereOpen hub n (λ t front. HasBrought hub hub' n t (front ++ take count (state_of e.client).out) order order' n)) (sym work.is) (brought
     its.honest))
     s.there s.is_open s.taking in
-    let done = arrived answered nothing_else goes_on sent limits hub hub' ends order order' w shows.each i count e client' c a.here a.its a.is_open a.within s
+    let done = arrived answered nothing_else goes_on sent limits hub hub' ends order order' w shows.each i count e client' a.connection a.here a.its a.is_open a.within s
     come
     queue reading in
-    subst (λ n. Leads is_honest limits w (world_of hub' (set ends i (with_client e client')) (set links i link') order' stopped) (ToServer n count) Done) is
+    subst (λ n. Leads is_honest limits w (world_of hub' (set ends i (with_client e client')) (set links i link') order' stopped) (ToServer n count) Done) work.is
     (after_event w (ToServer (suc i) count), done.0, record { each = done.1; honest = all_with is_honest links i link' shows.honest (stays its.honest) })
 
-pub stops_to_server : {L : Type 0} (is_honest : L → Type 0) (failures : L → ℕ) → WhatArrivesIsAnswered → (hub hub' : HubState) (ends ends' : List End)
-    (links : List L) (order order' : List ℕ) (stopped : Option Cause) (number : ℕ) (e : End) (link link' : L) (cause : Cause) →
+pub stops_to_server : {L : Type 0} (is_honest : L → Type 0) (failures : L → ℕ) → WhatArrivesIsAnswered → (hub : HubState) (ends : List End)
+    (links : List L) (order : List ℕ) (stopped : Option Cause) (number : ℕ) (e : End) (link link' : L) (cause : Cause) →
     length links ≡ length ends → (1 ≤ number) × (number ≤ length ends) → IsOpenEnd ends (number - 1) → e ≡ get_or ends (number - 1) e →
     link ≡ get_or links (number - 1) link →
     (is_honest link → WhereOpen hub number (λ s front. StopsCarrying hub number s front (state_of e.client).out (failures link) (failures link') cause)) →
     Fails is_honest failures (world_of hub ends links order stopped)
-    (world_of hub' ends' (set links (number - 1) link') order' stopped) cause
-stops_to_server {L} is_honest failures answered hub hub' ends ends' links order order' stopped number e link link' cause as_many there open_end e_is link_is
+    (world_of hub ends (set links (number - 1) link') order stopped) cause
+stops_to_server {L} is_honest failures answered hub ends links order stopped number e link link' cause as_many there open_end e_is link_is
     refused
     limits w shows =
     let i = number - 1 in
     let its = its_link is_honest ends links number link shows.honest as_many there link_is in
     let work = at_work limits hub ends order w number e shows.each there open_end e_is in
-    let is = work.is in
     let a = work.at in
     let s = work.stands in
-    let c = a.connection in
     let why : StopsCarrying hub (suc i) s.session s.front (state_of e.client).out (failures link) (failures link') cause =
     at_open hub (suc i) (λ t front. StopsCarrying hub (suc i) t front (state_of e.client).out (failures link) (failures link') cause) s.session s.front
-    (subst (λ n. WhereOpen hub n (λ t front. StopsCarrying hub n t front (state_of e.client).out (failures link) (failures link') cause)) (sym is) (refused
+    (subst (λ n. WhereOpen hub n (λ t front. StopsCarrying hub n t front (state_of e.client).out (failures link) (failures link') cause)) (sym work.is) (refused
     its.honest))
     s.there s.is_open s.taking in
     elim why as (λ _. StopsBy failures links (set links i link') cause) [
       | inl memory ↦ inl memory
       | inr (inl risen) ↦ inr (failed_at failures links i link link' its.within link_is risen.0, risen.1)
-      | inr (inr closed) ↦ absurd (never_closed answered limits hub ends order w shows.each (suc i) e c (seat_at hub (suc i)) a.its s closed)
+      | inr (inr closed) ↦ absurd (never_closed answered limits hub ends order w shows.each (suc i) e a.connection (seat_at hub (suc i)) a.its s closed)
     ]
 
 pub moves_to_client : {L : Type 0} (is_honest : L → Type 0) → ReadingsGoOn → WhatIsReadIsShown → AChangeIsOfOneConnection → (hub hub' : HubState)
@@ -210,24 +199,22 @@ moves_to_client {L} is_honest go_on nothing_else change hub hub' ends links orde
     let i = number - 1 in
     let its = its_link is_honest ends links number link shows.honest as_many there link_is in
     let work = at_work limits hub ends order w number e shows.each there open_end e_is in
-    let is = work.is in
     let a = work.at in
     let s = work.stands in
-    let c = a.connection in
     let same : between ≡ with_client e client' = between_is ∙ get_or-set_same ends i (with_client e client') between a.within in
     let heard_on : HearsOn (state_of e.client) client' fresh heard (s.rest ++ take count s.session.out) =
     at_there hub (suc i) (λ t. WhereTaken e.client (λ front. HearsOn (state_of e.client) client' fresh heard (front ++ take count t.out))) s.session s.there
     (subst (λ n. IfSome (seat_at hub n) (λ t. WhereTaken e.client (λ front. HearsOn (state_of e.client) client' fresh heard (front ++ take count t.out))))
-    (sym is) (on its.honest)) s.rest s.reading in
+    (sym work.is) (on its.honest)) s.rest s.reading in
     let seated_so : hub' ≡ seated hub (suc i) (sent_seat count s.session) =
     at_there hub (suc i) (λ t. hub' ≡ seated hub (suc i) (sent_seat count t)) s.session s.there
-    (subst (λ n. IfSome (seat_at hub n) (λ t. hub' ≡ seated hub n (sent_seat count t))) (sym is) now) in
-    let done = shown_on go_on nothing_else change limits hub hub' ends order w shows.each i count e e' client' fresh heard c a.here a.its a.is_open a.within s
+    (subst (λ n. IfSome (seat_at hub n) (λ t. hub' ≡ seated hub n (sent_seat count t))) (sym work.is) now) in
+    let done = shown_on go_on nothing_else change limits hub hub' ends order w shows.each i count e e' client' fresh heard a.connection a.here a.its a.is_open a.within s
     no_reply
     no_push heard_on seated_so (subst (λ d. KeepsHeard d e' heard) same kept) in
     let ends_are : set ends i e' ≡ set (set ends i (with_client e client')) i e' = sym (set_twice ends i (with_client e client') e') in
     subst (λ n. Leads is_honest limits w (world_of hub' (set (set ends i (with_client e client')) i e') (set links i link') order stopped) (ToClient n count)
-    Done) is (
+    Done) work.is (
       after_event w (ToClient (suc i) count),
       done.0,
       record {
@@ -237,39 +224,38 @@ moves_to_client {L} is_honest go_on nothing_else change hub hub' ends links orde
     )
 
 pub stops_to_client : {L : Type 0} (is_honest : L → Type 0) (failures : L → ℕ) → ReadingsGoOn → NoClientMeetsAFault → AChangeIsOfOneConnection →
-    (hub hub' : HubState) (ends ends' : List End) (links : List L) (order order' : List ℕ) (stopped : Option Cause) (number : ℕ) (e : End)
+    (hub : HubState) (ends : List End) (links : List L) (order : List ℕ) (stopped : Option Cause) (number : ℕ) (e : End)
     (link link' : L) (fresh heard : Asked) (cause : Cause) → length links ≡ length ends → (1 ≤ number) × (number ≤ length ends) →
     IsOpenEnd ends (number - 1) → e ≡ get_or ends (number - 1) e → link ≡ get_or links (number - 1) link →
     (is_honest link → IfSome (seat_at hub number) (λ s. WhereTaken e.client (λ front.
     StopsShowing (state_of e.client) fresh heard front s.out (failures link) (failures link') cause))) →
     Fails is_honest failures (world_of hub ends links order stopped)
-    (world_of hub' ends' (set links (number - 1) link') order' stopped) cause
-stops_to_client {L} is_honest failures go_on no_fault change hub hub' ends ends' links order order' stopped number e link link' fresh heard cause as_many there
+    (world_of hub ends (set links (number - 1) link') order stopped) cause
+stops_to_client {L} is_honest failures go_on no_fault change hub ends links order stopped number e link link' fresh heard cause as_many there
     open_end
     e_is link_is refused limits w shows =
     let i = number - 1 in
     let its = its_link is_honest ends links number link shows.honest as_many there link_is in
     let work = at_work limits hub ends order w number e shows.each there open_end e_is in
-    let is = work.is in
     let a = work.at in
     let s = work.stands in
-    let c = a.connection in
     let why : StopsShowing (state_of e.client) fresh heard s.rest s.session.out (failures link) (failures link') cause =
     at_there hub (suc i) (λ t. WhereTaken e.client (λ front. StopsShowing (state_of e.client) fresh heard front t.out (failures link) (failures link') cause))
     s.session
     s.there (subst (λ n. IfSome (seat_at hub n) (λ t. WhereTaken e.client (λ front.
-    StopsShowing (state_of e.client) fresh heard front t.out (failures link) (failures link') cause))) (sym is) (refused its.honest)) s.rest s.reading in
+    StopsShowing (state_of e.client) fresh heard front t.out (failures link) (failures link') cause))) (sym work.is) (refused its.honest)) s.rest s.reading in
     elim why as (λ _. StopsBy failures links (set links i link') cause) [
       | inl memory ↦ inl memory
       | inr (inl risen) ↦ inr (failed_at failures links i link link' its.within link_is risen.0, risen.1)
-      | inr (inr met) ↦ absurd (never_refused go_on no_fault change limits hub ends order w shows.each i e c (seat_at hub (suc i)) fresh heard cause a.its
+      | inr (inr met) ↦ absurd (never_refused go_on no_fault change limits hub ends order w shows.each i e a.connection (seat_at hub (suc i)) fresh heard cause a.its
           a.is_open s met)
     ]
 
 -- a stop when out of memory
-pub stops_for_memory : {L : Type 0} (is_honest : L → Type 0) (failures : L → ℕ) (old new : WorldState L) (cause : Cause) → cause ≡ OutOfMemory →
-    Fails is_honest failures old new cause
-stops_for_memory {L} is_honest failures old new cause memory limits w shows = inl memory
+pub stops_for_memory : {L : Type 0} (is_honest : L → Type 0) (failures : L → ℕ) (old new : WorldState L) (result : Result Outcome Cause) →
+    IfErr result (λ cause. cause ≡ OutOfMemory) → IfErr result (Fails is_honest failures old new)
+stops_for_memory {L} is_honest failures old new (Ok outcome) memory = tt
+stops_for_memory {L} is_honest failures old new (Err cause) memory = λ limits w shows. inl memory
 
 pub pushes : {L : Type 0} (is_honest : L → Type 0) → WhatIsReadIsShown → WhatIsLeftMayGoOn → WhatHasComeWasSent → AChangeIsOfOneConnection →
     (hub hub' : HubState) (ends : List End) (links : List L) (order : List ℕ) (stopped : Option Cause) (number : ℕ) (items : List Value) →
@@ -283,19 +269,17 @@ pushes {L} is_honest nothing_else goes_on sent change hub hub' ends links order 
     let i = number - 1 in
     let x = (push_message (map datum_of items)).value in
     let (e, work) = some_at_work limits hub ends order w number shows.each there open_end in
-    let is = work.is in
     let a = work.at in
     let s = work.stands in
-    let c = a.connection in
     let seated_so : hub' ≡ seated hub (suc i) (pushed_seat x s.session) =
     at_there hub (suc i) (λ t. hub' ≡ seated hub (suc i) (pushed_seat x t)) s.session s.there
-    (subst (λ n. IfSome (seat_at hub n) (λ t. hub' ≡ seated hub n (pushed_seat x t))) (sym is) now) in
+    (subst (λ n. IfSome (seat_at hub n) (λ t. hub' ≡ seated hub n (pushed_seat x t))) (sym work.is) now) in
     let of_session : server.IsPushVerdict limits (Some s.session) x (Ok tt) =
-    subst (λ o. server.IsPushVerdict limits o x (Ok tt)) s.there (subst (λ n. server.IsPushVerdict limits (seat_at hub n) x (Ok tt)) (sym is)
+    subst (λ o. server.IsPushVerdict limits o x (Ok tt)) s.there (subst (λ n. server.IsPushVerdict limits (seat_at hub n) x (Ok tt)) (sym work.is)
     (subst (λ l. server.IsPushVerdict l (seat_at hub number) x (Ok tt)) shows.each.same_limits verdict)) in
-    let done = pushed nothing_else goes_on sent change limits hub hub' ends order w shows.each i items e c a.here a.its a.is_open a.within s of_session
+    let done = pushed nothing_else goes_on sent change limits hub hub' ends order w shows.each i items e a.connection a.here a.its a.is_open a.within s of_session
     is_value seated_so in
-    subst (λ n. Leads is_honest limits w (world_of hub' ends links order stopped) (Push n (map datum_of items)) Done) is (
+    subst (λ n. Leads is_honest limits w (world_of hub' ends links order stopped) (Push n (map datum_of items)) Done) work.is (
       after_event w (Push (suc i) (map datum_of items)),
       done.0,
       record {
@@ -380,15 +364,13 @@ pub refuses_push : {L : Type 0} (is_honest : L → Type 0) (hub hub' : HubState)
     (world_of hub' ends links order stopped) (Push number (map datum_of items)))
 refuses_push {L} is_honest hub hub' ends links order stopped number items error result is verdict same there open_end = ok_of result _ (λ outcome gives limits
     w shows.
-    let i = number - 1 in
     let x = (push_message (map datum_of items)).value in
     let (e, work) = some_at_work limits hub ends order w number shows.each there open_end in
-    let number_is = work.is in
     let a = work.at in
     let s = work.stands in
     let c = a.connection in
-    let its : connection_at w.connections number ≡ Some c = ap (connection_at w.connections) (sym number_is) ∙ a.its in
-    let refused = session_refuses limits hub ends order w number x error shows.each s.session (ap (seat_at hub) (sym number_is) ∙ s.there) verdict in
+    let its : connection_at w.connections number ≡ Some c = ap (connection_at w.connections) (sym work.is) ∙ a.its in
+    let refused = session_refuses limits hub ends order w number x error shows.each s.session (ap (seat_at hub) (sym work.is) ∙ s.there) verdict in
     let reasons = subst (λ r. IfOk r (λ o. (cause : Cause) × (o ≡ Refused cause) × RefusesPush limits c.version x cause)) (sym is ∙ gives)
     (push_refused limits s.session c.version x error s.version refused) in
     let (cause, outcome_is, refusal) = reasons in
@@ -410,10 +392,8 @@ pub stops_push : {L : Type 0} (is_honest : L → Type 0) (failures : L → ℕ) 
     (Fails is_honest failures (world_of hub ends links order stopped) new)
 stops_push {L} is_honest failures hub ends links order stopped new number items error result is verdict there open_end = err_of result _ (λ cause gives limits
     w shows.
-    let i = number - 1 in
     let x = (push_message (map datum_of items)).value in
     let (e, work) = some_at_work limits hub ends order w number shows.each there open_end in
-    let number_is = work.is in
     let s = work.stands in
-    let refused = session_refuses limits hub ends order w number x error shows.each s.session (ap (seat_at hub) (sym number_is) ∙ s.there) verdict in
+    let refused = session_refuses limits hub ends order w number x error shows.each s.session (ap (seat_at hub) (sym work.is) ∙ s.there) verdict in
     inl (subst (λ r. IfErr r (λ z. z ≡ OutOfMemory)) (sym is ∙ gives) (push_stopped limits s.session x error s.is_open refused)))

@@ -1,12 +1,12 @@
 -- What a world shows of its parts.
-use Rattle.std.proofs.Common.{◌≡◌, ◌⊎◌, inl, inr, ℕ, zero, suc, ◌-◌, ◌<◌, ◌≤◌, true, false, None, Some, Option, IfSome, List, [], ◌∷◌, length, slice_get, slice_index_or, refl, sym, ap, subst, ◌∙◌, arith}
+use Rattle.std.proofs.Common.{◌≡◌, ◌⊎◌, inl, inr, ℕ, zero, suc, ◌-◌, ◌<◌, ◌≤◌, true, None, Some, Option, IfSome, List, [], ◌∷◌, length, slice_get, slice_index_or, refl, sym, ap, subst, ◌∙◌, arith}
 use Rattle.resp_value.specs.Bounds.{Bounds}
 use Rattle.resp_value.specs.declared.cause.Cause.{Cause}
 use Rattle.resp_session.specs.Connections.{Connection}
 use Rattle.resp_session.specs.Runs.{is_gone}
 use Rattle.resp_session.specs.Worlds.{World, WorldEvent, client_of, connection_at}
 use Rattle.resp_server.specs.Hubs.{seat_at}
-use Rattle.resp_wire.specs.Happening.{Happens, IsOpenEnd}
+use Rattle.resp_wire.specs.Happening.{Happens}
 use Rattle.resp_wire.specs.Worlds.{Shows, ShowsClient, StopsBy, WorldState}
 use Rattle.resp_wire.specs.declared.end.End.{End}
 use Rattle.resp_wire.specs.declared.event.Outcome.TheVariants as outcome
@@ -75,13 +75,6 @@ of_dropped {L} is_honest s inside event number e same its_number within at_insid
     gone_by (connection_at w.connections number) (λ c its.
     sym (client_shows is_honest s limits w shown number e within.0 (end_there s.ends number e within is) c its).dropped ∙ dropped) in
     (w, (ap (λ n. is_gone (connection_at w.connections n)) (sym its_number) ∙ at_number, refl), shown)
-
--- a client that was not dropped is open
-pub open_end : {L : Type 0} (s inside : WorldState L) (number : ℕ) (e : End) → s ≡ inside → (1 ≤ number) × (number ≤ length s.ends) →
-    e ≡ slice_index_or inside.ends (number - 1) e → e.is_dropped ≡ false → IsOpenEnd s.ends (number - 1)
-open_end {L} s inside number e same within at_inside is_open =
-    let is : e ≡ slice_index_or s.ends (number - 1) e = at_inside ∙ ap (λ (z : WorldState L). slice_index_or z.ends (number - 1) e) (sym same) in
-    subst (λ o. IfSome o (λ (x : End). x.is_dropped ≡ false)) (sym (end_there s.ends number e within is)) is_open
 
 -- why a world stops tells of its links alone
 pub stops_inside : {L : Type 0} (failures : L → ℕ) (old s inside : WorldState L) (cause : Cause) → s ≡ inside →

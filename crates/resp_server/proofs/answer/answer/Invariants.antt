@@ -1,8 +1,6 @@
-use Rattle.std.proofs.Common.{◌≡◌, ◌++◌, ◌+◌, ◌-◌, ◌≤◌, ℕ, List, false, length, take}
-use Rattle.resp_session.specs.Answers.{server_rules}
-use Rattle.resp_session.specs.Fitting.{FitsStore}
-use Rattle.resp_server.specs.Answering.{IsAnswered}
-use Rattle.resp_server.specs.Reading.{HasReadFront, ReadsBy}
+use Rattle.std.proofs.Common.{◌≡◌, ◌++◌, ◌+◌, ◌-◌, ◌≤◌, ℕ, List, length, take}
+use Rattle.resp_server.specs.Answering.{IsAnswered, IsReading}
+use Rattle.resp_server.specs.Reading.{HasReadFront}
 use Rattle.resp_server.proofs.answer.answer.Given as goal
 
 abbrev pub invariant-loop-used : goal.invariant-loop-used
@@ -11,10 +9,7 @@ invariant-loop-used g l = record {
       IsAnswered l.fn.shared.limits l.fn.shared.store l.shared.store l.fn.session l.session (front ++ take l.used l.piece) l.commands;
   same_limits : l.shared.limits ≡ l.fn.shared.limits;
   same_id : l.session.id ≡ l.fn.session.id;
-  is_open : l.session.closing ≡ false;
-  stored : FitsStore l.fn.shared.limits l.shared.store;
-  reading : ReadsBy (server_rules l.fn.shared.limits) l.session.decoder;
-  taking : (front : List ℕ) × HasReadFront l.session.decoder front;
+  ready : IsReading l.fn.shared.limits l.shared.store l.session;
   within : l.used ≤ length l.piece;
   few : l.commands ≤ l.used;
   bounded : length l.fn.session.out.items ≤ l.held + l.fn.shared.limits.total →

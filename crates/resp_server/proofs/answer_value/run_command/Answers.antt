@@ -1,4 +1,4 @@
-use Rattle.std.proofs.Common.{◌∷◌, length, ap, sym, subst, ◌∙◌, arith}
+use Rattle.std.proofs.Common.{◌∷◌, length, ap, sym, subst, arith}
 use Rattle.resp_session.specs.Fitting.{FitsEffect, FitsStore}
 use Rattle.resp_session.specs.Stores.{effect_of}
 use Rattle.resp_server.specs.Words.{words_left}
@@ -16,24 +16,21 @@ run-requires g c =
           (c.args.name.now ∷ words_left c.args.arguments) written c.are_in_range.ensures c.requires.stored c.args.session.now.small spelled);
     }
 
-pub returns-clause-stored : goal.returns-clause-stored
-returns-clause-stored g c =
-    let (written, spelled) = c.requires.spelled in
-    let fits = c.effects_fit.ensures c.args.shared.now.limits c.args.shared.now.store c.args.session.now.version c.args.session.now.id
-    (c.args.name.now ∷ words_left c.args.arguments) written c.are_in_range.ensures c.requires.stored c.args.session.now.small spelled in
-    either_way c.run.result c.run.ensures.done c.run.ensures.unchanged
-    (λ done. subst (FitsStore c.args.shared.now.limits) (sym (done.store_of ∙
-    ap (λ asked. (effect_of c.args.shared.now.store c.args.session.now.version c.args.session.now.id asked).store) c.operation_of-operation.ensures)) fits.store)
-    (λ same. subst (FitsStore c.args.shared.now.limits) (sym same.same_store) c.requires.stored)
-
-pub returns-clause-short : goal.returns-clause-short
-returns-clause-short g c =
+pub returns-clause-within : goal.returns-clause-within
+returns-clause-within g c =
     let (written, spelled) = c.requires.spelled in
     let version = c.args.session.now.version in
-    let fits = subst (λ asked. FitsEffect c.args.shared.now.limits
-    (effect_of c.args.shared.now.store version c.args.session.now.id asked)) (sym c.operation_of-operation.ensures)
-    (c.effects_fit.ensures c.args.shared.now.limits c.args.shared.now.store version c.args.session.now.id
-    (c.args.name.now ∷ words_left c.args.arguments) written c.are_in_range.ensures c.requires.stored c.args.session.now.small spelled) in
-    either_way c.run.result c.run.ensures.done c.run.ensures.unchanged
-    (λ done. grown c.args.session.now.out.items _ c.run.new.session.out.items c.args.shared.now.limits.total done.replied fits.reply.within_total)
-    (λ same. let none = ap length same.same_out in omega (arith, none))
+    let limits = c.args.shared.now.limits in
+    let store = c.args.shared.now.store in
+    let fits = subst (λ asked. FitsEffect limits (effect_of store version c.args.session.now.id asked)) (sym c.operation_of-operation.ensures)
+    (c.effects_fit.ensures limits store version c.args.session.now.id (c.args.name.now ∷ words_left c.args.arguments) written c.are_in_range.ensures
+    c.requires.stored c.args.session.now.small spelled) in
+    let ran = c.run.ensures.runs in
+    record {
+      short = either_way c.run.result ran.done ran.unchanged
+          (λ done. grown c.args.session.now.out.items _ c.run.new.session.out.items limits.total done.replied fits.reply.within_total)
+          (λ same. let none = ap length same.same_out in omega (arith, none));
+      stored = either_way c.run.result ran.done ran.unchanged (λ done. subst (FitsStore limits) (sym done.store_of) fits.store)
+          (λ same. subst (FitsStore limits) (sym same.same_store) c.requires.stored);
+      same_limits = c.run.ensures.same_limits;
+    }

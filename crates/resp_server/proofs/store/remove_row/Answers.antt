@@ -1,11 +1,9 @@
-use Rattle.std.proofs.Common.{◌≡◌, Some, sym, refl, ◌∙◌, arith}
-use Rattle.std.specs.Cmp.Lexicographic.{bytes_decides}
+use Rattle.std.proofs.Common.{◌≡◌, Some, sym, ◌∙◌, arith}
 use Rattle.std.specs.List.{slice_get}
-use Rattle.std.specs.Str.{bytes_eq}
 use Rattle.std.proofs.lemmas.Option.{slice_get_within}
 use Rattle.resp_server.specs.declared.row.Row.{Row}
 use Rattle.resp_server.proofs.StoreEntries.{Bytes}
-use Rattle.resp_server.proofs.StorePlaces.{gone_entries, gone_last, gone_moved, key_at, was_last}
+use Rattle.resp_server.proofs.StorePlaces.{gone_last, gone_moved, was_last}
 use Rattle.resp_server.proofs.store.remove_row.Goals as goal
 
 pub index_mut-requires : goal.index_mut-requires
@@ -39,15 +37,8 @@ returns-in-Some-get_index g c =
     let gone : Bytes × Row = c.in-Some.removed in
     let moved : Bytes × Row = (c.in-Some-get_index.field-0-0.now, c.in-Some-get_index.moved.now) in
     let at : slice_get rows i ≡ Some gone = sym c.swap_remove_index.ensures.entry ∙ c.in-Some.is in
-    let left = gone_moved rows places h i gone at c.swap_remove_index.new.self.entries c.in-Some.ensures.entries c.swap_remove_index.ensures.unique moved
-    (sym c.in-Some-get_index.ensures.entry) in
-    record {
-      removed = λ key found.
-          let is = (bytes_decides key gone.0.items).0 (key_at (λ (k : Bytes). bytes_eq key k.items) rows i gone found at) in
-          (gone_entries rows places h i gone at _ _ left.slots key is).0;
-      count = (gone_entries rows places h i gone at _ _ left.slots gone.0.items refl).1;
-      in_place = left.in_place;
-    }
+    gone_moved rows places h i gone at c.swap_remove_index.new.self.entries c.in-Some.ensures.entries c.swap_remove_index.ensures.unique moved
+    (sym c.in-Some-get_index.ensures.entry)
 
 pub returns-in_default-get_index : goal.returns-in_default-get_index
 returns-in_default-get_index g c =
@@ -57,12 +48,5 @@ returns-in_default-get_index g c =
     let i = c.args.index in
     let gone : Bytes × Row = c.in-Some.removed in
     let at : slice_get rows i ≡ Some gone = sym c.swap_remove_index.ensures.entry ∙ c.in-Some.is in
-    let left = gone_last rows places h i gone at c.swap_remove_index.new.self.entries c.in-Some.ensures.entries c.swap_remove_index.ensures.unique
-    (sym c.in_default-get_index.ensures.entry) in
-    record {
-      removed = λ key found.
-          let is = (bytes_decides key gone.0.items).0 (key_at (λ (k : Bytes). bytes_eq key k.items) rows i gone found at) in
-          (gone_entries rows places h i gone at _ _ left.slots key is).0;
-      count = (gone_entries rows places h i gone at _ _ left.slots gone.0.items refl).1;
-      in_place = left.in_place;
-    }
+    gone_last rows places h i gone at c.swap_remove_index.new.self.entries c.in-Some.ensures.entries c.swap_remove_index.ensures.unique
+    (sym c.in_default-get_index.ensures.entry)

@@ -1,5 +1,5 @@
 use Rattle.std.specs.List.{concat}
-use Rattle.std.proofs.Common.{rules, refl, false, [], ◌≡◌, ◌-◌, ◌∷◌, ◌++◌, take, subst, sym, length}
+use Rattle.std.proofs.Common.{rules, refl, false, [], ◌≡◌, ◌∷◌, ◌++◌, take, subst, sym, length}
 use Rattle.resp_client.specs.Clients.{state_of}
 use Rattle.resp_wire.specs.Hearing.{HearsAll}
 use Rattle.resp_wire.specs.Stops.{StopsHearing, StopsListening, is_of_last_read}
@@ -75,24 +75,16 @@ returns-in-Err-Failed-clause-heard g c =
     )
 
 pub returns-in-Ok-eq0-clause-turns : goal.returns-in-Ok-eq0-clause-turns
-returns-in-Ok-eq0-clause-turns g c = spends_more (g.R.Source.calls c.args.reader.now) (g.R.Source.calls c.loop-reader.reader)
-    (g.R.Source.calls c.read_some.new.reader) c.args.turns.now c.loop-reader.turns c.read_some.new.turns c.loop-reader.invariant.spends
-    c.read_some.ensures.turns
+returns-in-Ok-eq0-clause-turns g c = spends_more _ _ _ _ _ _ c.loop-reader.invariant.spends c.read_some.ensures.turns
 
 pub returns-in-Err-Failed-clause-turns : goal.returns-in-Err-Failed-clause-turns
-returns-in-Err-Failed-clause-turns g c = spends_more (g.R.Source.calls c.args.reader.now) (g.R.Source.calls c.loop-reader.reader)
-    (g.R.Source.calls c.read_some.new.reader) c.args.turns.now c.loop-reader.turns c.read_some.new.turns c.loop-reader.invariant.spends
-    c.read_some.ensures.turns
+returns-in-Err-Failed-clause-turns g c = spends_more _ _ _ _ _ _ c.loop-reader.invariant.spends c.read_some.ensures.turns
 
 pub returns-in-Err-NoTurn-clause-turns : goal.returns-in-Err-NoTurn-clause-turns
-returns-in-Err-NoTurn-clause-turns g c = spends_more (g.R.Source.calls c.args.reader.now) (g.R.Source.calls c.loop-reader.reader)
-    (g.R.Source.calls c.read_some.new.reader) c.args.turns.now c.loop-reader.turns c.read_some.new.turns c.loop-reader.invariant.spends
-    c.read_some.ensures.turns
+returns-in-Err-NoTurn-clause-turns g c = spends_more _ _ _ _ _ _ c.loop-reader.invariant.spends c.read_some.ensures.turns
 
 pub returns-in-Err-clause-turns : goal.returns-in-Err-clause-turns
-returns-in-Err-clause-turns g c = spends_more (g.R.Source.calls c.args.reader.now) (g.R.Source.calls c.loop-reader.reader)
-    (g.R.Source.calls c.read_some.new.reader) c.args.turns.now c.loop-reader.turns c.read_some.new.turns c.loop-reader.invariant.spends
-    c.read_some.ensures.turns
+returns-in-Err-clause-turns g c = spends_more _ _ _ _ _ _ c.loop-reader.invariant.spends c.read_some.ensures.turns
 
 pub returns-in-Err-clause-heard : goal.returns-in-Err-clause-heard
 returns-in-Err-clause-heard g c =

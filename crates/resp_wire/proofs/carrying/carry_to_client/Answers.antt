@@ -37,10 +37,10 @@ show-requires-clause-waiting g c =
 pub returns-in-Err-clause-refusal : goal.returns-in-Err-clause-refusal
 returns-in-Err-clause-refusal g c honest =
     let i = c.loop-done.invariant in
+    let client = state_of c.args.client.now in
     let old = c.args.hub.now in
     let mid = c.loop-done.hub in
     let id = c.args.id in
-    let client = state_of c.args.client.now in
     let done = c.loop-done.done in
     if_there old id _ (λ s here front taken.
     stops_more c.readings_go_on.ensures c.hearing_goes_on.ensures client c.loop-done.client c.args.heard.now c.loop-done.heard c.show.new.heard old mid id s
@@ -70,8 +70,8 @@ loop-done-preserved g c =
           (subst (λ k. IfSome (seat_at mid c.args.id) (λ (t : Seat).
           Carries ToClient (take k t.out) (g.L.Link.traffic c.loop-done.link) (g.L.Link.traffic c.show.new.link))) full
           c.in_default-show.ensures.traffic);
-      honest = λ honest. c.in_default-show.ensures.honest (i.honest honest);
-      none_failed = c.in_default-show.ensures.none_failed ∙ i.none_failed;
+      honest = λ honest. c.in_default-show.ensures.link.honest (i.honest honest);
+      none_failed = c.in_default-show.ensures.link.failures ∙ i.none_failed;
       within = search rules;
     }
 

@@ -72,8 +72,8 @@ loop-done-preserved g c =
           order'' c.args.number done n (i.brought honest)
           (subst (λ z. WhereOpen mid c.args.id (λ t f. HasBrought mid new c.args.id t (f ++ z) order' order'' c.args.number)) piece
           (c.in_default-give.ensures.brought (i.honest honest)));
-      honest = λ honest. c.in_default-give.ensures.honest (i.honest honest);
-      none_failed = c.in_default-give.ensures.none_failed ∙ i.none_failed;
+      honest = λ honest. c.in_default-give.ensures.link.honest (i.honest honest);
+      none_failed = c.in_default-give.ensures.link.failures ∙ i.none_failed;
       sent = c.in_default-give.ensures.sent ∙ ap (λ k. without_front k (state_of c.loop-done.client)) full ∙ ap (without_front n) i.sent ∙
           sent_twice (state_of c.args.client.now) done n;
       traffic = carries_part ToServer (g.L.Link.traffic c.args.link.now) (g.L.Link.traffic c.loop-done.link) (g.L.Link.traffic c.give.new.link) out done n

@@ -16,15 +16,11 @@ returns-in_default-clause-closing g c =
     c.args.id None c.in_default.ensures.value)
 
 pub returns-in_default-clause-none : goal.returns-in_default-clause-none
-returns-in_default-clause-none g c refused =
-    let i = c.self.inside in
-    seat_is i.shared.limits i.sessions.entries i.shared.store i.last c.args.self.now c.self.view_is c.args.id None c.in_default.ensures.value
+returns-in_default-clause-none g c refused = seat_is _ _ _ _ c.args.self.now c.self.view_is c.args.id None c.in_default.ensures.value
 
 pub invariant_of-self-then-session : goal.invariant_of-self-then-session
-invariant_of-self-then-session g c =
-    let i = c.self.inside in
-    sound_with i.shared.limits i.sessions.entries i.shared.store i.last c.self.invariant _ c.args.id c.in-Some.session.now _ (c.get_mut.follows.holds _).0
-    c.in-Some.ensures.value (record { same_id = refl; same_decoder = refl; same_closing = refl })
+invariant_of-self-then-session g c = sound_with _ _ _ _ c.self.invariant _ c.args.id _ _ (c.get_mut.follows.holds _).0 c.in-Some.ensures.value
+    (record { same_id = refl; same_decoder = refl; same_closing = refl })
 
 pub returns-then-session-clause-answered : goal.returns-then-session-clause-answered
 returns-then-session-clause-answered g c =
@@ -44,19 +40,18 @@ returns-then-session-clause-closing g c =
 
 pub returns-then-session-clause-no_session : goal.returns-then-session-clause-no_session
 returns-then-session-clause-no_session g c none =
-    let i = c.self.inside in
-    absurd (seat_is_there i.shared.limits i.sessions.entries i.shared.store i.last c.args.self.now c.self.view_is c.args.id c.in-Some.session.now
-    c.in-Some.ensures.value none)
+    absurd (seat_is_there _ _ _ _ c.args.self.now c.self.view_is c.args.id _ c.in-Some.ensures.value none)
 
-pub answer-answered-requires-clause-reading : goal.answer-answered-requires-clause-reading
-answer-answered-requires-clause-reading g c =
+pub answer-answered-requires : goal.answer-answered-requires
+answer-answered-requires g c =
     let i = c.self.inside in
-    (sound_at i.shared.limits i.last i.sessions.entries c.args.id c.in-Some.session.now c.in-Some.ensures.value c.self.invariant.sound).reading
-
-pub answer-answered-requires-clause-taking : goal.answer-answered-requires-clause-taking
-answer-answered-requires-clause-taking g c =
-    let i = c.self.inside in
-    (sound_at i.shared.limits i.last i.sessions.entries c.args.id c.in-Some.session.now c.in-Some.ensures.value c.self.invariant.sound).taking c.if-session.false
+    let sound = sound_at i.shared.limits i.last i.sessions.entries c.args.id c.in-Some.session.now c.in-Some.ensures.value c.self.invariant.sound in
+    record {
+      is_open = c.if-session.false;
+      stored = c.self.invariant.stored;
+      reading = sound.reading;
+      taking = sound.taking c.if-session.false;
+    }
 
 pub invariant_of-self-in-Err : goal.invariant_of-self-in-Err
 invariant_of-self-in-Err g c =
@@ -79,16 +74,11 @@ returns-in-Err-clause-cut_short g c =
     (c.in-Err.ensures.cut_short front taken))
 
 pub returns-in-Err-clause-closing : goal.returns-in-Err-clause-closing
-returns-in-Err-clause-closing g c =
-    let i = c.self.inside in
-    not_closing i.shared.limits i.sessions.entries i.shared.store i.last c.args.self.now c.self.view_is c.args.id c.in-Some.session.now
-    c.in-Some.ensures.value c.if-session.false _
+returns-in-Err-clause-closing g c = not_closing _ _ _ _ c.args.self.now c.self.view_is c.args.id _ c.in-Some.ensures.value c.if-session.false _
 
 pub returns-in-Err-clause-no_session : goal.returns-in-Err-clause-no_session
 returns-in-Err-clause-no_session g c none =
-    let i = c.self.inside in
-    absurd (seat_is_there i.shared.limits i.sessions.entries i.shared.store i.last c.args.self.now c.self.view_is c.args.id c.in-Some.session.now
-    c.in-Some.ensures.value none)
+    absurd (seat_is_there _ _ _ _ c.args.self.now c.self.view_is c.args.id _ c.in-Some.ensures.value none)
 
 pub invariant_of-self-2 : goal.invariant_of-self-2
 invariant_of-self-2 g c =
@@ -113,16 +103,11 @@ returns-clause-answered g c =
     s.same_taken (c.in-Ok.ensures.answered front taken))
 
 pub returns-clause-closing : goal.returns-clause-closing
-returns-clause-closing g c =
-    let i = c.self.inside in
-    not_closing i.shared.limits i.sessions.entries i.shared.store i.last c.args.self.now c.self.view_is c.args.id c.in-Some.session.now
-    c.in-Some.ensures.value c.if-session.false _
+returns-clause-closing g c = not_closing _ _ _ _ c.args.self.now c.self.view_is c.args.id _ c.in-Some.ensures.value c.if-session.false _
 
 pub returns-clause-no_session : goal.returns-clause-no_session
 returns-clause-no_session g c none =
-    let i = c.self.inside in
-    absurd (seat_is_there i.shared.limits i.sessions.entries i.shared.store i.last c.args.self.now c.self.view_is c.args.id c.in-Some.session.now
-    c.in-Some.ensures.value none)
+    absurd (seat_is_there _ _ _ _ c.args.self.now c.self.view_is c.args.id _ c.in-Some.ensures.value none)
 
 pub returns-in_default-clause-idle : goal.returns-in_default-clause-idle
 returns-in_default-clause-idle g c =
@@ -159,17 +144,13 @@ returns-then-session-clause-bounded g c =
 
 pub returns-in-Err-clause-bounded : goal.returns-in-Err-clause-bounded
 returns-in-Err-clause-bounded g c =
-    let i = c.self.inside in
-    answer_is_bounded i.shared.limits i.sessions.entries i.shared.store i.last c.args.self.now c.self.view_is c.answer-answered.new.shared.limits
-    c.answer-answered.new.shared.store _ c.args.id c.in-Some.session.now c.answer-answered.new.session c.shrink.new.self
-    (c.get_mut.follows.holds _).0 c.in-Some.ensures.value c.args.held c.answer-answered.ensures.bounded c.shrink.ensures.same_out
+    answer_is_bounded _ _ _ _ c.args.self.now c.self.view_is c.answer-answered.new.shared.limits c.answer-answered.new.shared.store _ c.args.id _
+    c.answer-answered.new.session _ (c.get_mut.follows.holds _).0 c.in-Some.ensures.value c.args.held c.answer-answered.ensures.bounded c.shrink.ensures.same_out
 
 pub returns-clause-bounded : goal.returns-clause-bounded
 returns-clause-bounded g c =
-    let i = c.self.inside in
-    answer_is_bounded i.shared.limits i.sessions.entries i.shared.store i.last c.args.self.now c.self.view_is c.answer-answered.new.shared.limits
-    c.answer-answered.new.shared.store _ c.args.id c.in-Some.session.now c.answer-answered.new.session c.shrink.new.self
-    (c.get_mut.follows.holds _).0 c.in-Some.ensures.value c.args.held c.answer-answered.ensures.bounded c.shrink.ensures.same_out
+    answer_is_bounded _ _ _ _ c.args.self.now c.self.view_is c.answer-answered.new.shared.limits c.answer-answered.new.shared.store _ c.args.id _
+    c.answer-answered.new.session _ (c.get_mut.follows.holds _).0 c.in-Some.ensures.value c.args.held c.answer-answered.ensures.bounded c.shrink.ensures.same_out
 
 pub returns-clause-within : goal.returns-clause-within
 returns-clause-within g c =

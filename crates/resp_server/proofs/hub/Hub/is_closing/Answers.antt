@@ -6,9 +6,7 @@ use Rattle.resp_server.proofs.Seats.{seat_is, sound_at}
 use Rattle.resp_server.proofs.hub.Hub.is_closing.Goals as goal
 
 pub returns-in_default-clause-none : goal.returns-in_default-clause-none
-returns-in_default-clause-none g c =
-    let i = c.self.inside in
-    seat_is i.shared.limits i.sessions.entries i.shared.store i.last c.args.self.now c.self.view_is c.args.id None c.in_default.ensures.value
+returns-in_default-clause-none g c = seat_is _ _ _ _ c.args.self.now c.self.view_is c.args.id None c.in_default.ensures.value
 
 pub returns-in_default-clause-taking : goal.returns-in_default-clause-taking
 returns-in_default-clause-taking g c =

@@ -15,10 +15,8 @@ returns-in_default-clause-verdict g c =
     (seat_is i.shared.limits i.sessions.entries i.shared.store i.last c.args.self.now c.self.view_is c.args.id None c.in_default.ensures.value)
 
 pub invariant_of-self-in-Err : goal.invariant_of-self-in-Err
-invariant_of-self-in-Err g c =
-    let i = c.self.inside in
-    sound_with i.shared.limits i.sessions.entries i.shared.store i.last c.self.invariant _ c.args.id c.in-Some.session.now _ (c.get_mut.follows.holds _).0
-    c.in-Some.ensures.value c.queue_push.ensures.rest
+invariant_of-self-in-Err g c = sound_with _ _ _ _ c.self.invariant _ c.args.id _ _ (c.get_mut.follows.holds _).0 c.in-Some.ensures.value
+    c.queue_push.ensures.rest
 
 pub returns-in-Err-clause-unchanged : goal.returns-in-Err-clause-unchanged
 returns-in-Err-clause-unchanged g c =
@@ -38,10 +36,8 @@ returns-in-Err-clause-verdict g c =
     c.in-Some.ensures.value)) c.in-Err.ensures.verdict)
 
 pub invariant_of-self-2 : goal.invariant_of-self-2
-invariant_of-self-2 g c =
-    let i = c.self.inside in
-    sound_with i.shared.limits i.sessions.entries i.shared.store i.last c.self.invariant _ c.args.id c.in-Some.session.now _ (c.get_mut.follows.holds _).0
-    c.in-Some.ensures.value c.queue_push.ensures.rest
+invariant_of-self-2 g c = sound_with _ _ _ _ c.self.invariant _ c.args.id _ _ (c.get_mut.follows.holds _).0 c.in-Some.ensures.value
+    c.queue_push.ensures.rest
 
 pub returns-clause-queued : goal.returns-clause-queued
 returns-clause-queued g c =

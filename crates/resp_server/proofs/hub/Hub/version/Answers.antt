@@ -11,6 +11,4 @@ returns-in-Some-clause-version g c =
     (Some c.in-Some.session.now) c.in-Some.ensures.value)
 
 pub returns-in-None-clause-none : goal.returns-in-None-clause-none
-returns-in-None-clause-none g c =
-    let i = c.self.inside in
-    seat_is i.shared.limits i.sessions.entries i.shared.store i.last c.args.self.now c.self.view_is c.args.id None c.in-None.ensures.value
+returns-in-None-clause-none g c = seat_is _ _ _ _ c.args.self.now c.self.view_is c.args.id None c.in-None.ensures.value
