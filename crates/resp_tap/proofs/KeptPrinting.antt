@@ -1,8 +1,8 @@
 -- The words of a command are printed from what is kept of them.
-use Rattle.std.proofs.Common.{arith, ◌≡◌, ◌∙◌, ◌<◌, ◌≤◌, ◌+◌, ◌-◌, ℕ, suc, Bool, true, false, List, [], ◌∷◌, ◌++◌, Option, ap, drop, get_or, length, map, max, min, nat_lt, refl, sym, take, take_all, take-take, length-take}
-use Rattle.std.specs.Prelude.{None, Some, if◌then◌else◌}
+use Rattle.std.proofs.Common.{arith, ◌≡◌, ◌∙◌, ◌<◌, ◌+◌, ◌-◌, ℕ, suc, Bool, true, false, List, [], ◌++◌, Option, ap, drop, get_or, length, max, refl, sym, take, take-take}
+use Rattle.std.specs.Prelude.{None, Some}
 use Rattle.std.proofs.lemmas.List.{drop_more, get_or-map, length-map, length-take-le}
-use Rattle.resp_print.specs.Shown.{is_cut, shown_part}
+use Rattle.resp_print.specs.Shown.{shown_part}
 use Rattle.resp_tap.specs.Parts.{AreKeptOf, IsEnough, length_within, word_lengths, word_within}
 use Rattle.resp_tap.specs.Secrets.{printed_words, redacted_after, secrets_after, secrets_of}
 use Rattle.resp_tap.specs.Texts.{IsPrintedAs}

@@ -16,11 +16,10 @@ use Rattle.resp_tap.specs.Filters.{Chooses, Suffices, has_no_name, keeps_name, l
 use Rattle.resp_tap.specs.Filters as filters
 use Rattle.resp_tap.specs.KeptLaws.{EnoughIsKept, KeptWordsTellTheSame, TellsTheCommand}
 use Rattle.resp_tap.specs.Keyed.{IsKeyed, IsUnkeyed, name_in}
-use Rattle.resp_tap.specs.Kinds.{are_unanswered, begins_with_name, command_kind, ends_pairing, has_word, hello_kind, kind_by_verb, unpairing_names, verb_named, version_worded}
+use Rattle.resp_tap.specs.Kinds.{are_unanswered, begins_with_name, command_kind, ends_pairing, has_word, hello_kind, kind_by_verb, unpairing_names, version_worded}
 use Rattle.resp_tap.specs.Parts.{IsEnough, kept_for, word_within, words_within}
 use Rattle.resp_tap.specs.Secrets.{secret_settings, secrets_after, secrets_of}
 use Rattle.resp_tap.specs.declared.filter.Filter.{Filter}
-use Rattle.resp_tap.specs.declared.kind.CommandKind.{CommandKind}
 use Rattle.resp_tap.specs.declared.kind.CommandKind.TheVariants.{Plain, Hello, Reset, Silent, Unpairing}
 use Rattle.resp_tap.specs.declared.secrets.Secrets.{Secrets}
 use Rattle.resp_tap.specs.declared.secrets.Secrets.TheVariants.{Absent, From, OfHello, OfMigrate, OfSettings}

@@ -1,8 +1,7 @@
-use Rattle.std.proofs.Common.{rules, arith, ◌≡◌, ℕ, ◌+◌, ◌-◌, ◌<◌, ◌||◌, Bool, true, false, List, [], ◌∷◌, ◌++◌, Option, Result, drop, get_or, length, nat_lt, max, refl, ap, subst, sym, take, ◌∙◌, length-append}
+use Rattle.std.proofs.Common.{rules, arith, ◌≡◌, ℕ, ◌+◌, ◌-◌, ◌<◌, ◌||◌, Bool, true, false, List, [], ◌∷◌, ◌++◌, Option, drop, get_or, length, nat_lt, max, refl, ap, subst, sym, take, ◌∙◌, length-append}
 use Rattle.std.proofs.lemmas.List.{at_drop_more, take_more}
 use Rattle.resp_tap.specs.Secrets.{AreLeft, are_followed_secretly, is_secret_after, printed_words, redacted_after, secrets_after, shown_word}
-use Rattle.resp_print.specs.Written.{WritesText}
-use Rattle.resp_tap.specs.Texts.{word_text, words_line, words_text}
+use Rattle.resp_tap.specs.Texts.{word_text, words_text}
 use Rattle.resp_tap.specs.declared.secrets.Secrets.{Secrets}
 use Rattle.resp_tap.specs.declared.secrets.Secrets.TheVariants.{Absent}
 

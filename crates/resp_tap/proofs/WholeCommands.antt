@@ -1,5 +1,5 @@
 -- The kept part of a value is a command exactly if the value is one, and its words are the kept parts of the words.
-use Rattle.std.proofs.Common.{◌≡◌, ◌≢◌, ◌∙◌, ◌⊎◌, ℕ, ◌+◌, ◌^◌, ◌<◌, ◌≤◌, Bool, false, List, [], ◌∷◌, ◌++◌, length, map, Option, refl, sym, ap, subst, arith}
+use Rattle.std.proofs.Common.{◌≡◌, ◌≢◌, ◌∙◌, ◌⊎◌, ℕ, ◌+◌, ◌^◌, ◌<◌, ◌≤◌, false, List, [], ◌∷◌, ◌++◌, length, map, Option, refl, sym, ap, subst, arith}
 use Rattle.std.specs.Prelude.{None, Some, option_map}
 use Rattle.resp_cut.specs.Cuts.{cut, cut_each, kept_part, lengths_of_each, longer}
 use Rattle.resp_value.specs.Data.{Datum, Data, Array, Set, Map, Attr, Push, scalar, aggregate, none, more}

@@ -5,7 +5,7 @@ use Rattle.resp_print.specs.Printed.{Prints}
 use Rattle.resp_print.specs.declared.print_error.PrintError.{PrintError}
 use Rattle.resp_tap.specs.Counting.{CountsSeen}
 use Rattle.resp_tap.specs.Filters.{keeps_client}
-use Rattle.resp_tap.specs.Lined.{SeesLined}
+use Rattle.resp_tap.specs.Connections.{SeesNext}
 use Rattle.resp_tap.specs.Texts.{levels_of, refused_text}
 use Rattle.resp_tap.specs.Times.{stamp_of}
 use Rattle.resp_tap.specs.Watches.{first_error}
@@ -24,7 +24,7 @@ counted_text f printing now what = if keeps_client f printing.client
 -- The first result in a piece: it is reported as without counting, and that of a line too. It is counted.
 pub record SeesCounted (f : Filter) (client : ℕ) (side : Side) (now : Moment) (old new : CountedTap) (piece : List ℕ)
     (used : ℕ) (what : Seen) (is_line : Bool) (rows rows' : List Row) : Type 0 where
-  pub seen : SeesLined (Some now) side old.connection.lines new.connection.lines old.connection.timed new.connection.timed piece used what is_line
+  pub seen : SeesNext (Some now) side old.connection new.connection piece used what is_line
   pub counts : CountsSeen f client side now old new used what rows rows'
 
 -- an error is printed, as far as writes succeed

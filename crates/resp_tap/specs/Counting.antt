@@ -7,7 +7,6 @@ use Rattle.resp_counts.specs.declared.row.Call.{Call}
 use Rattle.resp_counts.specs.declared.row.Row.{Row}
 use Rattle.resp_value.specs.Values.{datum_of}
 use Rattle.resp_session.specs.Reading.{is_refusal}
-use Rattle.resp_tap.specs.ClientNames.{named_after, naming_of}
 use Rattle.resp_tap.specs.Filters.{DropsWords, KeepsWords, keeps_answer, keeps_client}
 use Rattle.resp_tap.specs.Lines.{asked_at}
 use Rattle.resp_tap.specs.Taken.{KeepsTaken, left_of, taken_of}
@@ -111,4 +110,3 @@ pub record CountsSeen (f : Filter) (client : ℕ) (side : Side) (now : Moment) (
   pub same_taken : KeepsTaken side old.taken new.taken
   pub counts : CountsAfter f client what heard (waits_in old.connection.timed) (waits_in new.connection.timed)
       (asked_at (tap_state old.connection.timed.tap).line.due) old.asked.items new.asked.items rows rows'
-  pub name : naming_of new.connection.name ≡ named_after what (naming_of old.connection.name)

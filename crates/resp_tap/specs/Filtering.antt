@@ -10,9 +10,8 @@ use Rattle.resp_tap.specs.SeenOf.{IsKeptIn, with_whole}
 use Rattle.resp_tap.specs.Taps.{tap_state}
 use Rattle.resp_tap.specs.Texts.{levels_of}
 use Rattle.resp_tap.specs.Times.{HasTimes, stamp_of, waits_in}
-use Rattle.resp_tap.specs.Lined.{SeesLined}
+use Rattle.resp_tap.specs.Connections.{SeesNext}
 use Rattle.resp_tap.specs.Watches.{first_error}
-use Rattle.resp_tap.specs.ClientNames.{named_after, naming_of}
 use Rattle.resp_tap.specs.declared.filter.Filter.{Filter}
 use Rattle.resp_tap.specs.declared.filtered.FilteredTap.{FilteredTap}
 use Rattle.resp_tap.specs.declared.moment.Moment.{Moment}
@@ -29,12 +28,11 @@ note_of t = slice_get t.notes.items (asked_at (tap_state t.connection.timed.tap)
 -- its words or is not. What is kept of the commands that wait follows the whole words.
 pub record SeesFiltered (filter : Filter) (printing : Printing) (side : Side) (now : Option Moment) (old new : FilteredTap)
     (piece : List ℕ) (used : ℕ) (what : Seen) (is_line is_chosen : Bool) : Type 0 where
-  pub seen : SeesLined now side old.connection.lines new.connection.lines old.connection.timed new.connection.timed piece used what is_line
+  pub seen : SeesNext now side old.connection new.connection piece used what is_line
   pub chosen : IsChosen filter (note_of old) what is_chosen
   pub notes : (whole : Datum) → IsKeptIn (tap_state old.connection.timed.tap).shown (tap_state old.connection.timed.tap).kept whole what →
       NotesAfter filter (options_of printing old.connection.timed.tap) now is_line is_chosen (with_whole whole what) (waits_in old.connection.timed)
       (waits_in new.connection.timed) old.notes.items new.notes.items
-  pub name : naming_of new.connection.name ≡ named_after what (naming_of old.connection.name)
 
 -- The text of the result is printed as far as the filter lets it through and writes succeed. A reply is judged by what is
 -- kept of its command, and by the time of its command.

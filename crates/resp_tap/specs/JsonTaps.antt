@@ -4,10 +4,9 @@ use Rattle.resp_value.specs.Data.{Datum}
 use Rattle.resp_print.specs.Printed.{Prints}
 use Rattle.resp_print.specs.declared.print_error.PrintError.{PrintError}
 use Rattle.resp_tap.specs.Called.{CalledAfter, IsChosenCalled, name_of_called}
-use Rattle.resp_tap.specs.ClientNames.{named_after, naming_of}
 use Rattle.resp_tap.specs.Filters.{keeps}
 use Rattle.resp_tap.specs.JsonLines.{seen_json}
-use Rattle.resp_tap.specs.Lined.{SeesLined}
+use Rattle.resp_tap.specs.Connections.{SeesNext}
 use Rattle.resp_tap.specs.Lines.{asked_at}
 use Rattle.resp_tap.specs.SeenOf.{IsKeptIn}
 use Rattle.resp_tap.specs.Taken.{KeepsTaken, left_of, taken_of}
@@ -35,13 +34,12 @@ kept_json f facts is_chosen name whole what =
 -- and of earlier ones that belong to it.
 pub record SeesJson (f : Filter) (side : Side) (now : Moment) (old new : JsonTap) (piece : List ℕ) (used : ℕ) (what : Seen)
     (is_line is_chosen : Bool) (size : ℕ) : Type 0 where
-  pub seen : SeesLined (Some now) side old.connection.lines new.connection.lines old.connection.timed new.connection.timed piece used what is_line
+  pub seen : SeesNext (Some now) side old.connection new.connection piece used what is_line
   pub bytes : size ≡ min (taken_of side old.taken + used) 18446744073709551615
   pub left : taken_of side new.taken ≡ left_of what size
   pub same_taken : KeepsTaken side old.taken new.taken
   pub chosen : IsChosenCalled f (called_of old) what is_chosen
   pub calls : CalledAfter is_chosen what (waits_in old.connection.timed) (waits_in new.connection.timed) old.calls.items new.calls.items
-  pub name : naming_of new.connection.name ≡ named_after what (naming_of old.connection.name)
 
 -- The line of the result is printed if the filter lets it through, as far as writes succeed. A reply has the name and the
 -- delay of its command.

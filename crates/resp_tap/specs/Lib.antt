@@ -21,6 +21,7 @@ pub mod Screens
 pub mod Watches
 pub mod Ends
 pub mod Lined
+pub mod Connections
 -- Which words of a command are keys, and which commands are let through.
 pub mod Keyed
 pub mod Filters

@@ -1,18 +1,20 @@
 //! The tap of a connection whose client may send commands as lines, and may name the connection.
 
-ghost use Rattle.std.specs.Prelude.{◌≡◌, ◌<◌, ◌≤◌, [], length, true};
-ghost use Rattle.resp_tap.specs.ClientNames.{named_after, naming_of};
+ghost use Rattle.std.specs.Prelude.{◌≡◌, ◌<◌, ◌≤◌, length};
+ghost use Rattle.resp_tap.specs.Connections.{IsNewConnection, SeesNext};
 ghost use Rattle.resp_tap.specs.Ends.{CutsOff};
-ghost use Rattle.resp_tap.specs.Lined.{SeesLined};
+ghost use Rattle.resp_tap.specs.Parts.{IsEnough};
 ghost use Rattle.resp_tap.specs.Watches.{KeepsOther};
 
 use crate::client_name::ClientName;
 use crate::end::Cut;
 use crate::lines::{Lined, Lines};
 use crate::moment::Moment;
+use crate::shown_part::ShownPart;
 use crate::tap::Tap;
 use crate::timed::TimedTap;
 use crate::watch::{Side, step};
+use resp_value::limits::Limits;
 use std::alloc::Global;
 
 /// The tap of a connection whose client may send commands as lines, and may name the connection.
@@ -25,16 +27,20 @@ pub struct ConnectionTap {
 }
 
 impl ConnectionTap {
-    /// Returns the tap of a new connection whose commands and replies this tap reads. A line of the
-    /// client is a command too. It allocates nothing.
-    pub(crate) fn new(alloc: Global, timed: TimedTap) -> ConnectionTap
-        ensures same_tap { result.timed ≡ timed }
-        ensures reads_lines { result.lines.are_read ≡ true }
-        ensures nothing_held { result.lines.held.items ≡ [] }
-        ensures no_name { (naming_of result.name).name ≡ [] }
+    /// Returns the tap of a new connection, which is read within these limits. It keeps one byte more
+    /// than `shown` of each text of the server, and one byte more than `kept` of each word of the
+    /// client. A line of the client is a command too. It allocates nothing.
+    pub(crate) fn keeping(
+        alloc: Global,
+        limits: &Limits,
+        shown: ShownPart,
+        kept: ShownPart,
+    ) -> ConnectionTap
+        requires { IsEnough shown.most kept.most }
+        ensures { IsNewConnection limits.now shown.most kept.most result }
     {
         ConnectionTap {
-            timed,
+            timed: TimedTap::keeping(alloc, limits, shown, kept),
             lines: Lines::new(alloc, true),
             name: ClientName::new(),
         }
@@ -65,10 +71,8 @@ impl ConnectionTap {
     /// Reads bytes that one side sent, until there is a result or the piece ends, as
     /// [`step`](crate::watch::step) does. A line of the client is a command too, if lines are read.
     pub(crate) fn step(&mut self, side: Side, piece: &[u8], now: Option<Moment>) -> Lined
-        ensures sees { SeesLined now side self.old.lines self.new.lines self.old.timed
-            self.new.timed piece.now result.step.used result.step.seen result.is_line }
-        ensures names { naming_of self.new.name ≡
-            named_after result.step.seen (naming_of self.old.name) }
+        ensures sees { SeesNext now side self.old self.new piece.now result.step.used
+            result.step.seen result.is_line }
         ensures other_side { KeepsOther side self.old.timed.tap self.new.timed.tap }
         ensures within_piece { result.step.used ≤ length piece.now }
         ensures uses_bytes { 0 < length piece.now → 0 < result.step.used }

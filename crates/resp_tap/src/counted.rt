@@ -2,18 +2,15 @@
 
 ghost use Rattle.std.specs.Prelude.{◌≡◌, ◌<◌, ◌≤◌, Bool, List, [], Some, length, drop, slice_get, true};
 ghost use Rattle.resp_print.specs.Printed.{Prints};
-ghost use Rattle.resp_tap.specs.ClientNames.{naming_of};
+ghost use Rattle.resp_tap.specs.Connections.{IsNewConnection, SeesNext};
 ghost use Rattle.resp_tap.specs.CountedTaps.{CountsAll, PrintsCounted, SeesCounted, counted_text};
 ghost use Rattle.resp_tap.specs.Filters.{kept_by};
 ghost use Rattle.resp_tap.specs.Counting.{AnswersCall, AsksCall, CountsAfter, CountsSeen, IsCounted, IsPlaceFor, ReleasesCall, is_error};
 ghost use Rattle.resp_counts.specs.Names.{table_name};
 ghost use Rattle.resp_counts.specs.Rows.{MayAddRow};
-ghost use Rattle.resp_tap.specs.Taps.{new_tap, tap_state};
 ghost use Rattle.resp_tap.specs.Texts.{levels_of};
 ghost use Rattle.resp_tap.specs.Times.{waits_in};
-ghost use Rattle.resp_tap.specs.Lined.{SeesLined};
 ghost use Rattle.resp_tap.specs.Watches.{KeepsOther};
-ghost use Rattle.resp_tap.specs.Watching.{HasTakenRequest, HasTakenValue};
 ghost use Rattle.resp_tap.specs.declared.seen.Seen.{Seen};
 
 use crate::connection::ConnectionTap;
@@ -24,7 +21,6 @@ use crate::print::{Printing, printed, write_refused};
 use crate::seen::{Seen, Step};
 use crate::shown_part::ShownPart;
 use crate::taken::{NONE_TAKEN, Taken};
-use crate::timed::TimedTap;
 use crate::waiting::drop_first;
 use crate::watch::{Side, Watched, first_error, stamp_of, waited_of};
 use resp_counts::{Call, Counts, name_of};
@@ -106,19 +102,14 @@ impl CountedTap {
     /// are kept, and otherwise at most 65 bytes of each, or one more than its longest name has. A line
     /// of the client is a command too. It allocates nothing.
     pub fn new(alloc: Global, limits: &Limits, filter: &Filter) -> CountedTap
-        ensures nothing_passed { tap_state result.connection.timed.tap ≡
-            new_tap limits.now (Some 12) (kept_by filter.now (Some 12)) }
-        ensures nothing_requested { HasTakenRequest result.connection.timed.tap [] }
-        ensures nothing_answered { HasTakenValue result.connection.timed.tap [] }
-        ensures reads_lines { result.connection.lines.are_read ≡ true }
-        ensures nothing_held { result.connection.lines.held.items ≡ [] }
+        ensures new_connection { IsNewConnection limits.now (Some 12)
+            (kept_by filter.now (Some 12)) result.connection }
         ensures nothing_asked { result.asked.items ≡ [] }
-        ensures no_name { (naming_of result.connection.name).name ≡ [] }
     {
         let shown = ShownPart::first(0);
-        let timed = TimedTap::keeping(alloc, limits, shown, filter.kept_part(shown));
+        let kept = filter.kept_part(shown);
         CountedTap {
-            connection: ConnectionTap::new(alloc, timed),
+            connection: ConnectionTap::keeping(alloc, limits, shown, kept),
             asked: VecDeque::new(alloc),
             taken: NONE_TAKEN,
         }
@@ -243,8 +234,8 @@ pub fn count_some(
     piece: &[u8],
     now: Moment,
 ) -> Step
-    ensures sees { (is_line : Bool) × SeesLined (Some now) side tap.old.connection.lines tap.new.connection.lines
-        tap.old.connection.timed tap.new.connection.timed piece.now result.used result.seen is_line }
+    ensures sees { (is_line : Bool) × SeesNext (Some now) side tap.old.connection
+        tap.new.connection piece.now result.used result.seen is_line }
     ensures counts { CountsSeen filter.now client side now tap.old tap.new result.used result.seen
         counts.old.rows.items counts.new.rows.items }
     ensures other_side { KeepsOther side tap.old.connection.timed.tap tap.new.connection.timed.tap }

@@ -1,16 +1,14 @@
 //! A tap whose traffic is printed through a filter.
 
 ghost use Rattle.std.specs.Prelude.{◌≡◌, ◌<◌, ◌≤◌, ◌-◌, ℕ, Bool, List, [], length, true};
-ghost use Rattle.resp_tap.specs.ClientNames.{naming_of};
+ghost use Rattle.resp_tap.specs.Connections.{IsNewConnection};
 ghost use Rattle.resp_tap.specs.Filtering.{FiltersAll, PrintsFiltered, SeesFiltered};
 ghost use Rattle.resp_tap.specs.Filters.{kept_by};
 ghost use Rattle.resp_tap.specs.Noted.{IsAdded, NotesAfter, NotesBy};
 ghost use Rattle.resp_tap.specs.Parts.{AreKeptOf};
 ghost use Rattle.resp_tap.specs.SeenOf.{IsKeptIn, with_whole};
-ghost use Rattle.resp_tap.specs.Taps.{new_tap, tap_state};
 ghost use Rattle.resp_tap.specs.Times.{waits_in};
 ghost use Rattle.resp_tap.specs.Watches.{KeepsOther};
-ghost use Rattle.resp_tap.specs.Watching.{HasTakenRequest, HasTakenValue};
 ghost use Rattle.resp_tap.specs.declared.seen.Seen.{Seen};
 ghost use Rattle.resp_value.specs.Data.{Datum};
 
@@ -21,7 +19,6 @@ use crate::note::{Note, is_chosen, note_of, write_filtered};
 use crate::print::{Printing, TextOptions};
 use crate::seen::Seen;
 use crate::shown_part::ShownPart;
-use crate::timed::TimedTap;
 use crate::waiting::drop_first;
 use crate::watch::{Side, Watched, first_error, stamp_of};
 use resp_print::print_error::PrintError;
@@ -56,19 +53,14 @@ impl FilteredTap {
     /// longest name of the filter has, and at least 65. A line of the client is a command too. The
     /// call allocates nothing.
     pub fn new(alloc: Global, limits: &Limits, shown: ShownPart, filter: &Filter) -> FilteredTap
-        ensures nothing_passed { tap_state result.connection.timed.tap ≡
-            new_tap limits.now shown.most (kept_by filter.now shown.most) }
-        ensures nothing_requested { HasTakenRequest result.connection.timed.tap [] }
-        ensures nothing_answered { HasTakenValue result.connection.timed.tap [] }
-        ensures reads_lines { result.connection.lines.are_read ≡ true }
-        ensures nothing_held { result.connection.lines.held.items ≡ [] }
+        ensures new_connection { IsNewConnection limits.now shown.most
+            (kept_by filter.now shown.most) result.connection }
         ensures nothing_kept { result.notes.items ≡ [] }
-        ensures no_name { (naming_of result.connection.name).name ≡ [] }
     {
-        let timed = TimedTap::keeping(alloc, limits, shown, filter.kept_part(shown));
+        let kept = filter.kept_part(shown);
         FilteredTap {
             alloc,
-            connection: ConnectionTap::new(alloc, timed),
+            connection: ConnectionTap::keeping(alloc, limits, shown, kept),
             notes: VecDeque::new(alloc),
         }
     }

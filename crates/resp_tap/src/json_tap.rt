@@ -2,16 +2,14 @@
 
 ghost use Rattle.std.specs.Prelude.{◌≡◌, ◌<◌, ◌≤◌, ℕ, Bool, List, [], Option, Some, length, true};
 ghost use Rattle.resp_print.specs.Printed.{Prints};
+ghost use Rattle.resp_tap.specs.Connections.{IsNewConnection};
 ghost use Rattle.resp_tap.specs.Called.{CalledAfter, IsKept};
-ghost use Rattle.resp_tap.specs.ClientNames.{naming_of};
 ghost use Rattle.resp_tap.specs.Filters.{kept_by};
 ghost use Rattle.resp_tap.specs.JsonTaps.{PrintsAll, PrintsJson, SeesJson, kept_json};
 ghost use Rattle.resp_value.specs.Data.{Datum};
 ghost use Rattle.resp_tap.specs.SeenOf.{IsKeptIn};
-ghost use Rattle.resp_tap.specs.Taps.{new_tap, tap_state};
 ghost use Rattle.resp_tap.specs.Times.{waits_in};
 ghost use Rattle.resp_tap.specs.Watches.{KeepsOther};
-ghost use Rattle.resp_tap.specs.Watching.{HasTakenRequest, HasTakenValue};
 ghost use Rattle.resp_tap.specs.declared.seen.Seen.{Seen};
 
 use crate::called::{Called, command_name, is_chosen_called, name_of_called};
@@ -23,7 +21,6 @@ use crate::print::printed;
 use crate::seen::Seen;
 use crate::shown_part::ShownPart;
 use crate::taken::{NONE_TAKEN, Taken};
-use crate::timed::TimedTap;
 use crate::waiting::drop_first;
 use crate::watch::{Side, Watched, first_error, waited_of};
 use resp_print::print_error::PrintError;
@@ -55,20 +52,15 @@ impl JsonTap {
     /// client are kept, and otherwise at most 1,025 bytes of each, or one more than its longest name
     /// has. A line of the client is a command too. It allocates nothing.
     pub fn new(alloc: Global, limits: &Limits, filter: &Filter) -> JsonTap
-        ensures nothing_passed { tap_state result.connection.timed.tap ≡
-            new_tap limits.now (Some 1024) (kept_by filter.now (Some 1024)) }
-        ensures nothing_requested { HasTakenRequest result.connection.timed.tap [] }
-        ensures nothing_answered { HasTakenValue result.connection.timed.tap [] }
-        ensures reads_lines { result.connection.lines.are_read ≡ true }
-        ensures nothing_held { result.connection.lines.held.items ≡ [] }
+        ensures new_connection { IsNewConnection limits.now (Some 1024)
+            (kept_by filter.now (Some 1024)) result.connection }
         ensures nothing_kept { result.calls.items ≡ [] }
         ensures no_bytes { (result.taken.sent ≡ 0) × (result.taken.received ≡ 0) }
-        ensures no_name { (naming_of result.connection.name).name ≡ [] }
     {
         let shown = ShownPart::first(SHOWN);
-        let timed = TimedTap::keeping(alloc, limits, shown, filter.kept_part(shown));
+        let kept = filter.kept_part(shown);
         JsonTap {
-            connection: ConnectionTap::new(alloc, timed),
+            connection: ConnectionTap::keeping(alloc, limits, shown, kept),
             calls: VecDeque::new(alloc),
             taken: NONE_TAKEN,
         }

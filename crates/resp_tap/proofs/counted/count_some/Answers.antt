@@ -1,7 +1,6 @@
 use Rattle.std.proofs.Common.{◌∙◌, ℕ, Some, ap, sym, subst}
-use Rattle.resp_tap.specs.ClientNames.{naming_of}
 use Rattle.resp_tap.specs.Counting.{CountsAfter}
-use Rattle.resp_tap.specs.Lined.{SeesLined}
+use Rattle.resp_tap.specs.Connections.{SeesNext}
 use Rattle.resp_tap.specs.Lines.{asked_at}
 use Rattle.resp_tap.specs.Taken.{KeepsTaken, taken_of}
 use Rattle.resp_tap.specs.Taps.{tap_state}
@@ -41,7 +40,6 @@ returns-clause-counts c =
           (subst (λ (n : ℕ). CountsAfter f client what heard n (waits_in stepped.timed) c.asked_at-at.result old.asked.items new.asked.items rows
           rows') c.waiting-before.ensures
           c.follow.ensures.counts));
-      name = ap (λ (t : ConnectionTap). naming_of t.name) c.follow.ensures.same ∙ c.step.ensures.names;
     }
 
 pub returns-clause-sees : goal.returns-clause-sees
@@ -50,7 +48,6 @@ returns-clause-sees c =
     let step = c.step.result.step in
     let is_line = c.step.result.is_line in (
       is_line,
-      subst (λ (t : ConnectionTap). SeesLined (Some c.args.now) c.args.side old.connection.lines t.lines old.connection.timed t.timed
-          c.args.piece.now step.used step.seen is_line)
+      subst (λ (t : ConnectionTap). SeesNext (Some c.args.now) c.args.side old.connection t c.args.piece.now step.used step.seen is_line)
           (sym c.follow.ensures.same) c.step.ensures.sees,
     )

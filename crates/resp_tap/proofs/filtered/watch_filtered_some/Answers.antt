@@ -2,7 +2,6 @@ use Rattle.std.proofs.Common.{◌≡◌, ◌∙◌, Option, ap, sym, subst}
 use Rattle.std.specs.Prelude.{option_map, slice_get}
 use Rattle.resp_value.specs.Data.{Datum}
 use Rattle.resp_print.specs.Printed.{Prints}
-use Rattle.resp_tap.specs.ClientNames.{naming_of}
 use Rattle.resp_tap.specs.Filtering.{note_of}
 use Rattle.resp_tap.specs.Noted.{IsChosen, NotesAfter, filtered_text}
 use Rattle.resp_tap.specs.Options.{options_of}
@@ -10,7 +9,7 @@ use Rattle.resp_tap.specs.SeenOf.{IsKeptIn, with_whole}
 use Rattle.resp_tap.specs.declared.print.TextOptions.{TextOptions}
 use Rattle.resp_tap.specs.Texts.{levels_of}
 use Rattle.resp_tap.specs.Times.{stamp_of, waits_in}
-use Rattle.resp_tap.specs.Lined.{SeesLined}
+use Rattle.resp_tap.specs.Connections.{SeesNext}
 use Rattle.resp_tap.specs.declared.connection.ConnectionTap.{ConnectionTap}
 use Rattle.resp_tap.specs.declared.note.Note.{Note}
 use Rattle.resp_tap.specs.declared.stamp.Stamp.{Stamp}
@@ -33,8 +32,8 @@ returns-clause-watches g c =
       is_line,
       is_chosen,
       record {
-        seen = subst (λ (t : ConnectionTap). SeesLined c.args.now c.args.side old.connection.lines t.lines old.connection.timed t.timed c.args.piece.now
-            c.step-lined.result.step.used what is_line) same c.step-lined.ensures.sees;
+        seen = subst (λ (t : ConnectionTap). SeesNext c.args.now c.args.side old.connection t c.args.piece.now c.step-lined.result.step.used what is_line) same
+            c.step-lined.ensures.sees;
         chosen = subst (λ (n : Option Note). IsChosen f n what is_chosen) note c.is_chosen-is_chosen.ensures;
         notes = subst (λ (t : ConnectionTap). (whole : Datum) → IsKeptIn p.shown.most p.kept.most whole what →
             NotesAfter f p c.args.now is_line is_chosen (with_whole whole what) (waits_in old.connection.timed) (waits_in t.timed) old.notes.items
@@ -45,7 +44,6 @@ returns-clause-watches g c =
             (subst (λ (o : TextOptions). (whole : Datum) → IsKeptIn o.shown.most o.kept.most whole what →
             NotesAfter f o c.args.now is_line is_chosen (with_whole whole what) c.waiting-before.result (waits_in c.step-lined.new.self.timed)
             old.notes.items new.notes.items) c.options-options.ensures c.follow.ensures.notes));
-        name = ap (λ (t : ConnectionTap). naming_of t.name) c.follow.ensures.same ∙ c.step-lined.ensures.names;
       },
       record {
         asked = c.asked-asked.result;

@@ -2,9 +2,8 @@ use Rattle.std.proofs.Common.{◌≡◌, ◌∙◌, ℕ, List, Option, ap, sym, 
 use Rattle.std.specs.Prelude.{Some, option_map, slice_get}
 use Rattle.resp_print.specs.Printed.{Prints}
 use Rattle.resp_tap.specs.Called.{CalledAfter, IsChosenCalled, name_of_called}
-use Rattle.resp_tap.specs.ClientNames.{naming_of}
 use Rattle.resp_tap.specs.JsonTaps.{called_of, kept_json}
-use Rattle.resp_tap.specs.Lined.{SeesLined}
+use Rattle.resp_tap.specs.Connections.{SeesNext}
 use Rattle.resp_tap.specs.Taken.{KeepsTaken, taken_of}
 use Rattle.resp_tap.specs.Taps.{tap_state}
 use Rattle.resp_tap.specs.Times.{waits_in}
@@ -41,9 +40,8 @@ returns-clause-watches g c =
       is_chosen,
       size,
       record {
-        seen = subst (λ (t : ConnectionTap). SeesLined (Some now) side old.connection.lines t.lines old.connection.timed t.timed c.args.piece.now
-            used what is_line)
-            (sym c.follow.ensures.same) c.step-lined.ensures.sees;
+        seen = subst (λ (t : ConnectionTap). SeesNext (Some now) side old.connection t c.args.piece.now used what is_line) (sym c.follow.ensures.same)
+            c.step-lined.ensures.sees;
         bytes = c.take-size.ensures.bytes;
         left = ap (taken_of side) c.follow.ensures.same_taken ∙ c.take-size.ensures.left;
         same_taken = subst (KeepsTaken side old.taken) (sym c.follow.ensures.same_taken) c.take-size.ensures.same_taken;
@@ -52,7 +50,6 @@ returns-clause-watches g c =
             (sym c.follow.ensures.same)
             (subst (λ (n : ℕ). CalledAfter is_chosen what n (waits_in stepped.timed) old.calls.items new.calls.items) c.waiting-before.ensures
             c.follow.ensures.calls);
-        name = ap (λ (t : ConnectionTap). naming_of t.name) c.follow.ensures.same ∙ c.step-lined.ensures.names;
       },
       record {
         asked = c.asked-asked.result;

@@ -1,5 +1,4 @@
-use Rattle.std.proofs.Common.{rules, ◌∙◌, ap, [], sym}
-use Rattle.resp_tap.specs.Secrets.{redacted_after}
+use Rattle.std.proofs.Common.{rules}
 use Rattle.resp_tap.proofs.KeptPrinting.{hidden_secrets, shown_secrets}
 use Rattle.resp_tap.proofs.print.secrets_for.Goals as goal
 

@@ -1,6 +1,6 @@
-use Rattle.std.proofs.Common.{rules, arith, ◌≡◌, ◌<◌, ◌+◌, ℕ, List, [], drop, get_or, length, refl, take}
+use Rattle.std.proofs.Common.{rules, arith, ◌<◌, ◌+◌, [], drop, get_or, length, refl, take}
 use Rattle.resp_print.proofs.Printing.{printed_as, printed_more, write_failed}
-use Rattle.resp_tap.specs.Parts.{AreKeptOf, word_lengths}
+use Rattle.resp_tap.specs.Parts.{word_lengths}
 use Rattle.resp_tap.specs.Secrets.{redacted_after, shown_word}
 use Rattle.resp_tap.specs.Texts.{word_text, words_text}
 use Rattle.resp_tap.proofs.SecretWords.{left_at_next, next_shown}

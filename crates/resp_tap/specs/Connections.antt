@@ -1,0 +1,26 @@
+-- The tap of a connection: how it begins, and the results that it reports.
+use Rattle.std.specs.Prelude.{◌≡◌, ℕ, Bool, true, List, [], Option}
+use Rattle.resp_value.specs.Bounds.{Bounds}
+use Rattle.resp_tap.specs.ClientNames.{named_after, naming_of}
+use Rattle.resp_tap.specs.Lined.{SeesLined}
+use Rattle.resp_tap.specs.Taps.{new_tap, tap_state}
+use Rattle.resp_tap.specs.Watching.{HasTakenRequest, HasTakenValue}
+use Rattle.resp_tap.specs.declared.connection.ConnectionTap.{ConnectionTap}
+use Rattle.resp_tap.specs.declared.moment.Moment.{Moment}
+use Rattle.resp_tap.specs.declared.seen.Seen.{Seen}
+use Rattle.resp_tap.specs.declared.watch.Side.{Side}
+
+-- No byte of the connection was read. The lines of its client are commands, and it has no name.
+pub record IsNewConnection (limits : Bounds) (shown kept : Option ℕ) (c : ConnectionTap) : Type 0 where
+  pub nothing_passed : tap_state c.timed.tap ≡ new_tap limits shown kept
+  pub nothing_requested : HasTakenRequest c.timed.tap []
+  pub nothing_answered : HasTakenValue c.timed.tap []
+  pub reads_lines : c.lines.are_read ≡ true
+  pub nothing_held : c.lines.held.items ≡ []
+  pub no_name : (naming_of c.name).name ≡ []
+
+-- The first result in a piece, and whether it is that of a line. By it the connection may get a name.
+pub record SeesNext (now : Option Moment) (side : Side) (old new : ConnectionTap) (piece : List ℕ) (used : ℕ) (what : Seen)
+    (is_line : Bool) : Type 0 where
+  pub seen : SeesLined now side old.lines new.lines old.timed new.timed piece used what is_line
+  pub name : naming_of new.name ≡ named_after what (naming_of old.name)
