@@ -1,6 +1,6 @@
 //! Aggregates: they open after their heads, and streamed aggregates close with a line of their own.
 
-ghost use Rattle.std.specs.Prelude.{◌≡◌, ◌≤◌, ◌<◌, ◌+◌, ◌*◌, ◌^◌, ◌++◌, ◌∷◌, [], length, drop, Some, slice_index};
+ghost use Rattle.std.specs.Prelude.{◌≡◌, ◌≤◌, ◌<◌, ◌+◌, ◌*◌, ◌^◌, ◌++◌, ◌∷◌, [], length, Some, slice_index};
 
 use crate::frame::{Frame, Shape};
 use crate::machine::{EventTag, Machine, State, Taken};
@@ -8,7 +8,7 @@ use resp_value::cause::Cause;
 use resp_value::kind::OpenKind;
 
 impl Machine {
-    ghost use Rattle.resp_scan.specs.Machine.Fields.{place_of, out_of};
+    ghost use Rattle.resp_scan.specs.Machine.Fields.{place_of, out_of, Reads};
     ghost use Rattle.resp_scan.specs.Machine.Scan.{scan, Gave};
     ghost use Rattle.resp_scan.specs.Machine.Heads.{after_open};
     ghost use Rattle.resp_scan.specs.Machine.Sound.{IsSound};
@@ -49,8 +49,7 @@ impl Machine {
         requires within { i ≤ length piece.now }
         requires level { length self.old.frames.items < 128 }
         requires frames_need { self.old.frames_need < 2 ^ 62 }
-        ensures { out_of result self.new ≡
-            scan i (at (place_of self.old) (AtOpenCr kind)) (drop i piece.now) }
+        ensures { Reads self.old self.new (AtOpenCr kind) piece.now i result }
     {
         if i == piece.len() {
             self.kind = kind;
@@ -68,8 +67,7 @@ impl Machine {
         requires within { i ≤ length piece.now }
         requires level { length self.old.frames.items < 128 }
         requires frames_need { self.old.frames_need < 2 ^ 62 }
-        ensures { out_of result self.new ≡
-            scan i (at (place_of self.old) (AtOpenLf kind)) (drop i piece.now) }
+        ensures { Reads self.old self.new (AtOpenLf kind) piece.now i result }
     {
         self.kind = kind;
         if i == piece.len() {
@@ -125,8 +123,7 @@ impl Machine {
     #[inline]
     pub fn close_cr(&mut self, piece: &[u8], i: usize) -> Taken
         requires { i ≤ length piece.now }
-        ensures { out_of result self.new ≡
-            scan i (at (place_of self.old) AtCloseCr) (drop i piece.now) }
+        ensures { Reads self.old self.new AtCloseCr piece.now i result }
     {
         if i == piece.len() {
             return self.rest(State::CloseCr, piece);
@@ -141,8 +138,7 @@ impl Machine {
     #[inline]
     pub fn close_lf(&mut self, piece: &[u8], i: usize) -> Taken
         requires { i ≤ length piece.now }
-        ensures { out_of result self.new ≡
-            scan i (at (place_of self.old) AtCloseLf) (drop i piece.now) }
+        ensures { Reads self.old self.new AtCloseLf piece.now i result }
     {
         if i == piece.len() {
             return self.rest(State::CloseLf, piece);

@@ -1,13 +1,13 @@
 //! Big numbers: any number of digits. Leading zeros are skipped.
 
 ghost use Rattle.resp_scan.specs.Machine.Runs.{digit_run};
-ghost use Rattle.std.specs.Prelude.{◌≡◌, ◌≤◌, ◌<◌, ◌+◌, ◌-◌, ◌^◌, length, drop};
+ghost use Rattle.std.specs.Prelude.{◌≡◌, ◌≤◌, ◌<◌, ◌+◌, ◌-◌, ◌^◌, length};
 
 use crate::machine::{EventTag, Machine, State, Taken};
 use resp_value::cause::Cause;
 
 impl Machine {
-    ghost use Rattle.resp_scan.specs.Machine.Fields.{place_of, out_of};
+    ghost use Rattle.resp_scan.specs.Machine.Fields.{place_of, out_of, Reads};
     ghost use Rattle.resp_scan.specs.Machine.Scan.{scan, Gave};
     ghost use Rattle.resp_scan.specs.Machine.Tokens.{at, Text, AtBigSign, AtBigFirst, InBigZeros, AtBigZeroLf, AtBigDigit, InBig};
     ghost use Rattle.resp_scan.specs.declared.event.TextKind.TheVariants as text;
@@ -16,8 +16,7 @@ impl Machine {
     #[inline]
     pub fn big_sign(&mut self, piece: &[u8], i: usize) -> Taken
         requires { i ≤ length piece.now }
-        ensures { out_of result self.new ≡
-            scan i (at (place_of self.old) AtBigSign) (drop i piece.now) }
+        ensures { Reads self.old self.new AtBigSign piece.now i result }
     {
         if i == piece.len() {
             return self.rest(State::BigSign, piece);
@@ -39,8 +38,7 @@ impl Machine {
     #[inline]
     pub fn big_first(&mut self, piece: &[u8], i: usize, negative: bool) -> Taken
         requires { i ≤ length piece.now }
-        ensures { out_of result self.new ≡
-            scan i (at (place_of self.old) (AtBigFirst negative)) (drop i piece.now) }
+        ensures { Reads self.old self.new (AtBigFirst negative) piece.now i result }
     {
         if i == piece.len() {
             self.big_negative = negative;
@@ -60,8 +58,7 @@ impl Machine {
     #[inline]
     pub fn big_zeros(&mut self, piece: &[u8], from: usize, negative: bool) -> Taken
         requires { from ≤ length piece.now }
-        ensures { out_of result self.new ≡
-            scan from (at (place_of self.old) (InBigZeros negative)) (drop from piece.now) }
+        ensures { Reads self.old self.new (InBigZeros negative) piece.now from result }
     {
         for i in from..piece.len() {
             let byte = piece[i];
@@ -101,8 +98,7 @@ impl Machine {
     #[inline]
     pub fn big_zero_lf(&mut self, piece: &[u8], i: usize) -> Taken
         requires { i ≤ length piece.now }
-        ensures { out_of result self.new ≡
-            scan i (at (place_of self.old) AtBigZeroLf) (drop i piece.now) }
+        ensures { Reads self.old self.new AtBigZeroLf piece.now i result }
     {
         if i == piece.len() {
             return self.rest(State::BigZeroLf, piece);

@@ -1,12 +1,12 @@
 //! Streamed strings: chunks of counted content, ended by an empty chunk.
 
-ghost use Rattle.std.specs.Prelude.{◌≡◌, ◌≤◌, ◌<◌, ◌-◌, ◌^◌, length, drop};
+ghost use Rattle.std.specs.Prelude.{◌≡◌, ◌≤◌, ◌<◌, ◌-◌, length, drop};
 
 use crate::machine::{EventTag, Head, Machine, State, Taken};
 use resp_value::cause::Cause;
 
 impl Machine {
-    ghost use Rattle.resp_scan.specs.Machine.Fields.{place_of, out_of};
+    ghost use Rattle.resp_scan.specs.Machine.Fields.{place_of, out_of, Reads};
     ghost use Rattle.resp_scan.specs.Machine.Scan.{scan, Gave};
     ghost use Rattle.resp_scan.specs.Machine.Tokens.{at, at_boundary, TextEnd, AtStreamCr, AtStreamLf, AtChunk, InChunk, AtChunkCr, AtChunkLf};
     ghost use Rattle.resp_scan.specs.Machine.Heads.{chunk_at};
@@ -15,8 +15,7 @@ impl Machine {
     #[inline]
     pub fn stream_cr(&mut self, piece: &[u8], i: usize) -> Taken
         requires { i ≤ length piece.now }
-        ensures { out_of result self.new ≡
-            scan i (at (place_of self.old) AtStreamCr) (drop i piece.now) }
+        ensures { Reads self.old self.new AtStreamCr piece.now i result }
     {
         if i == piece.len() {
             return self.rest(State::StreamCr, piece);
@@ -32,8 +31,7 @@ impl Machine {
     #[inline]
     pub fn stream_lf(&mut self, piece: &[u8], i: usize) -> Taken
         requires { i ≤ length piece.now }
-        ensures { out_of result self.new ≡
-            scan i (at (place_of self.old) AtStreamLf) (drop i piece.now) }
+        ensures { Reads self.old self.new AtStreamLf piece.now i result }
     {
         if i == piece.len() {
             return self.rest(State::StreamLf, piece);
@@ -51,8 +49,7 @@ impl Machine {
     #[inline]
     pub fn chunk(&mut self, piece: &[u8], i: usize) -> Taken
         requires { i ≤ length piece.now }
-        ensures { out_of result self.new ≡
-            scan i (at (place_of self.old) (AtChunk self.old.room)) (drop i piece.now) }
+        ensures { Reads self.old self.new (AtChunk self.old.room) piece.now i result }
     {
         if i == piece.len() {
             return self.rest(State::Chunk, piece);
@@ -87,9 +84,8 @@ impl Machine {
     pub fn chunk_content(&mut self, piece: &[u8], i: usize) -> Taken
         requires within { i ≤ length piece.now }
         requires some { 0 < self.old.count }
-        ensures { out_of result self.new ≡
-            scan i (at (place_of self.old) (InChunk self.old.room self.old.count))
-            (drop i piece.now) }
+        ensures { Reads self.old self.new (InChunk self.old.room self.old.count)
+            piece.now i result }
     {
         if i == piece.len() {
             return self.rest(State::ChunkContent, piece);
@@ -133,8 +129,7 @@ impl Machine {
     #[inline]
     pub fn chunk_lf(&mut self, piece: &[u8], i: usize) -> Taken
         requires { i ≤ length piece.now }
-        ensures { out_of result self.new ≡
-            scan i (at (place_of self.old) (AtChunkLf self.old.room)) (drop i piece.now) }
+        ensures { Reads self.old self.new (AtChunkLf self.old.room) piece.now i result }
     {
         if i == piece.len() {
             return self.rest(State::ChunkLf, piece);

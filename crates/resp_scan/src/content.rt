@@ -1,12 +1,12 @@
 //! Counted content, which ends after a given number of bytes, and the format of a verbatim string.
 
-ghost use Rattle.std.specs.Prelude.{◌≡◌, ◌≤◌, ◌<◌, ◌^◌, ◌∷◌, [], length, drop};
+ghost use Rattle.std.specs.Prelude.{◌≡◌, ◌≤◌, ◌<◌, length};
 
 use crate::machine::{EventTag, Machine, State, Taken};
 use resp_value::cause::Cause;
 
 impl Machine {
-    ghost use Rattle.resp_scan.specs.Machine.Fields.{place_of, out_of};
+    ghost use Rattle.resp_scan.specs.Machine.Fields.{place_of, out_of, Reads};
     ghost use Rattle.resp_scan.specs.Machine.Scan.{scan};
     ghost use Rattle.resp_scan.specs.Machine.Tokens.{at, InContent, AtContentCr, AtContentLf, AtFormat, AtFormatSecond, AtFormatThird, AtFormatColon};
     ghost use Rattle.resp_scan.specs.Machine.Heads.{content_at};
@@ -59,8 +59,7 @@ impl Machine {
     #[inline]
     pub fn content_lf(&mut self, piece: &[u8], i: usize) -> Taken
         requires { i ≤ length piece.now }
-        ensures { out_of result self.new ≡
-            scan i (at (place_of self.old) AtContentLf) (drop i piece.now) }
+        ensures { Reads self.old self.new AtContentLf piece.now i result }
     {
         if i == piece.len() {
             return self.rest(State::ContentLf, piece);
@@ -77,8 +76,7 @@ impl Machine {
     pub fn format_first(&mut self, piece: &[u8], i: usize, count: u64) -> Taken
         requires within { i ≤ length piece.now }
         requires front { 4 ≤ count }
-        ensures { out_of result self.new ≡
-            scan i (at (place_of self.old) (AtFormat count)) (drop i piece.now) }
+        ensures { Reads self.old self.new (AtFormat count) piece.now i result }
     {
         self.count = count;
         if i == piece.len() {
@@ -92,9 +90,7 @@ impl Machine {
     pub fn format_second(&mut self, piece: &[u8], i: usize, first: u8) -> Taken
         requires within { i ≤ length piece.now }
         requires front { 4 ≤ self.old.count }
-        ensures { out_of result self.new ≡
-            scan i (at (place_of self.old) (AtFormatSecond first self.old.count))
-            (drop i piece.now) }
+        ensures { Reads self.old self.new (AtFormatSecond first self.old.count) piece.now i result }
     {
         if i == piece.len() {
             self.format = [first, 0, 0];
@@ -108,9 +104,8 @@ impl Machine {
     pub fn format_third(&mut self, piece: &[u8], i: usize, first: u8, second: u8) -> Taken
         requires within { i ≤ length piece.now }
         requires front { 4 ≤ self.old.count }
-        ensures { out_of result self.new ≡
-            scan i (at (place_of self.old) (AtFormatThird first second self.old.count))
-            (drop i piece.now) }
+        ensures { Reads self.old self.new (AtFormatThird first second self.old.count)
+            piece.now i result }
     {
         if i == piece.len() {
             self.format = [first, second, 0];
@@ -125,9 +120,7 @@ impl Machine {
     pub fn format_colon(&mut self, piece: &[u8], i: usize, format: [u8; 3]) -> Taken
         requires within { i ≤ length piece.now }
         requires front { 4 ≤ self.old.count }
-        ensures { out_of result self.new ≡
-            scan i (at (place_of self.old) (AtFormatColon format self.old.count))
-            (drop i piece.now) }
+        ensures { Reads self.old self.new (AtFormatColon format self.old.count) piece.now i result }
     {
         self.format = format;
         if i == piece.len() {

@@ -2,7 +2,7 @@
 
 ghost use Rattle.resp_scan.specs.Machine.Heads.{head_needed, streamed_kind, may_end};
 ghost use Rattle.resp_scan.specs.Machine.Moves.{is_digit};
-ghost use Rattle.std.specs.Prelude.{◌≡◌, ◌≢◌, ℕ, ◌≤◌, ◌<◌, ◌+◌, ◌^◌, length, drop, IfNone, true, slice_index};
+ghost use Rattle.std.specs.Prelude.{◌≡◌, ◌≤◌, ◌<◌, ◌+◌, ◌^◌, length, IfNone, true, slice_index};
 
 use crate::machine::{EventTag, Head, Machine, State, Taken};
 use crate::needed::needed_after;
@@ -15,9 +15,8 @@ use resp_value::version::Version;
 const MOST_JUDGED: u64 = 1 << 30;
 
 impl Machine {
-    ghost use Rattle.resp_scan.specs.Machine.Fields.{place_of, out_of};
-    ghost use Rattle.resp_scan.specs.Machine.Scan.{scan};
-    ghost use Rattle.resp_scan.specs.Machine.Tokens.{at, AtBulkHead, AtArrayHead, AtHead, InHead, AtHeadLf};
+    ghost use Rattle.resp_scan.specs.Machine.Fields.{place_of, Reads};
+    ghost use Rattle.resp_scan.specs.Machine.Tokens.{AtBulkHead, AtArrayHead, AtHead, InHead, AtHeadLf};
     ghost use Rattle.resp_scan.specs.Machine.Heads.{over, string_cause, aggregate_cause, HasFrame};
     ghost use Rattle.resp_scan.specs.Machine.Moves.{full_cause};
     ghost use Rattle.resp_scan.specs.Machine.Sound.{IsWithinRoom};
@@ -26,8 +25,7 @@ impl Machine {
     #[inline(always)]
     pub fn bulk_head(&mut self, piece: &[u8], i: usize) -> Taken
         requires { i ≤ length piece.now }
-        ensures { out_of result self.new ≡
-            scan i (at (place_of self.old) AtBulkHead) (drop i piece.now) }
+        ensures { Reads self.old self.new AtBulkHead piece.now i result }
     {
         if i == piece.len() {
             return self.rest(State::BulkHead, piece);
@@ -50,8 +48,7 @@ impl Machine {
     #[inline(never)]
     pub fn array_head(&mut self, piece: &[u8], i: usize) -> Taken
         requires { i ≤ length piece.now }
-        ensures { out_of result self.new ≡
-            scan i (at (place_of self.old) AtArrayHead) (drop i piece.now) }
+        ensures { Reads self.old self.new AtArrayHead piece.now i result }
     {
         if i == piece.len() {
             return self.rest(State::ArrayHead, piece);
@@ -142,8 +139,7 @@ impl Machine {
     pub fn head_first(&mut self, piece: &[u8], i: usize, head: Head) -> Taken
         requires within { i ≤ length piece.now }
         requires level { HasFrame (place_of self.old) head }
-        ensures { out_of result self.new ≡
-            scan i (at (place_of self.old) (AtHead head)) (drop i piece.now) }
+        ensures { Reads self.old self.new (AtHead head) piece.now i result }
     {
         if i == piece.len() {
             self.head = head;
@@ -172,8 +168,7 @@ impl Machine {
         requires within { i < length piece.now }
         requires digit { is_digit (slice_index piece.now i) ≡ true }
         requires level { HasFrame (place_of self.old) head }
-        ensures { out_of result self.new ≡
-            scan i (at (place_of self.old) (AtHead head)) (drop i piece.now) }
+        ensures { Reads self.old self.new (AtHead head) piece.now i result }
     {
         let mut number = piece[i] as u64 - b'0' as u64;
         for j in i + 1..piece.len() {
@@ -201,8 +196,7 @@ impl Machine {
         requires within { i < length piece.now }
         requires digit { is_digit (slice_index piece.now i) ≡ true }
         requires level { HasFrame (place_of self.old) head }
-        ensures { out_of result self.new ≡
-            scan i (at (place_of self.old) (AtHead head)) (drop i piece.now) }
+        ensures { Reads self.old self.new (AtHead head) piece.now i result }
     {
         let number = (piece[i] - b'0') as u64;
         match self.over(i + 1, head, number) {
@@ -219,8 +213,7 @@ impl Machine {
         requires room { IsWithinRoom head first }
         requires level { HasFrame (place_of self.old) head }
         requires frames_need { self.old.frames_need + head_needed head first ≤ 2 ^ 41 }
-        ensures { out_of result self.new ≡
-            scan from (at (place_of self.old) (InHead head first)) (drop from piece.now) }
+        ensures { Reads self.old self.new (InHead head first) piece.now from result }
     {
         let mut number = first;
         for i in from..piece.len() {
@@ -282,8 +275,7 @@ impl Machine {
         requires ends { may_end head number ≡ true }
         requires level { HasFrame (place_of self.old) head }
         requires frames_need { self.old.frames_need + head_needed head number ≤ 2 ^ 41 }
-        ensures { out_of result self.new ≡
-            scan i (at (place_of self.old) (AtHeadLf head number)) (drop i piece.now) }
+        ensures { Reads self.old self.new (AtHeadLf head number) piece.now i result }
     {
         if i == piece.len() {
             self.head = head;

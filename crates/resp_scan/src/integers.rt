@@ -1,6 +1,6 @@
 //! Integers: a sign or no sign, and digits of a number of 64 bits.
 
-ghost use Rattle.std.specs.Prelude.{◌≡◌, ◌≤◌, ◌<◌, length, drop};
+ghost use Rattle.std.specs.Prelude.{◌≡◌, ◌≤◌, length};
 ghost use Rattle.resp_scan.specs.Machine.Magnitudes.{greatest_magnitude};
 ghost use Rattle.resp_scan.specs.Machine.Moves.{with_sign};
 
@@ -8,16 +8,14 @@ use crate::machine::{EventTag, Machine, State, Taken};
 use resp_value::cause::Cause;
 
 impl Machine {
-    ghost use Rattle.resp_scan.specs.Machine.Fields.{place_of, out_of};
-    ghost use Rattle.resp_scan.specs.Machine.Scan.{scan};
-    ghost use Rattle.resp_scan.specs.Machine.Tokens.{at, AtIntSign, AtIntFirst, InInt, AtIntLf};
+    ghost use Rattle.resp_scan.specs.Machine.Fields.{Reads};
+    ghost use Rattle.resp_scan.specs.Machine.Tokens.{AtIntSign, AtIntFirst, InInt, AtIntLf};
 
     /// Reads after `:`. A sign does not reduce the number of bytes that are needed.
     #[inline]
     pub fn int_sign(&mut self, piece: &[u8], i: usize) -> Taken
         requires { i ≤ length piece.now }
-        ensures { out_of result self.new ≡
-            scan i (at (place_of self.old) AtIntSign) (drop i piece.now) }
+        ensures { Reads self.old self.new AtIntSign piece.now i result }
     {
         if i == piece.len() {
             return self.rest(State::IntSign, piece);
@@ -36,8 +34,7 @@ impl Machine {
     #[inline(never)]
     pub fn int_signed(&mut self, piece: &[u8], i: usize, negative: bool) -> Taken
         requires { i ≤ length piece.now }
-        ensures { out_of result self.new ≡
-            scan i (at (place_of self.old) (AtIntFirst negative)) (drop i piece.now) }
+        ensures { Reads self.old self.new (AtIntFirst negative) piece.now i result }
     {
         self.int_first(piece, i, negative)
     }
@@ -46,8 +43,7 @@ impl Machine {
     #[inline(always)]
     pub fn int_first(&mut self, piece: &[u8], i: usize, negative: bool) -> Taken
         requires { i ≤ length piece.now }
-        ensures { out_of result self.new ≡
-            scan i (at (place_of self.old) (AtIntFirst negative)) (drop i piece.now) }
+        ensures { Reads self.old self.new (AtIntFirst negative) piece.now i result }
     {
         if i == piece.len() {
             self.negative = negative;
@@ -64,8 +60,7 @@ impl Machine {
     pub fn int_more(&mut self, piece: &[u8], from: usize, negative: bool, first: u64) -> Taken
         requires within { from ≤ length piece.now }
         requires fits { first ≤ greatest_magnitude negative }
-        ensures { out_of result self.new ≡
-            scan from (at (place_of self.old) (InInt negative first)) (drop from piece.now) }
+        ensures { Reads self.old self.new (InInt negative first) piece.now from result }
     {
         let mut magnitude = first;
         for i in from..piece.len() {
@@ -91,8 +86,7 @@ impl Machine {
     pub fn int_by_digits(&mut self, piece: &[u8], from: usize, negative: bool, first: u64) -> Taken
         requires within { from ≤ length piece.now }
         requires fits { first ≤ greatest_magnitude negative }
-        ensures { out_of result self.new ≡
-            scan from (at (place_of self.old) (InInt negative first)) (drop from piece.now) }
+        ensures { Reads self.old self.new (InInt negative first) piece.now from result }
     {
         let mut magnitude = first;
         let room = self.total_room();
@@ -126,8 +120,7 @@ impl Machine {
     pub fn int_lf(&mut self, piece: &[u8], i: usize, negative: bool, magnitude: u64) -> Taken
         requires within { i ≤ length piece.now }
         requires fits { magnitude ≤ greatest_magnitude negative }
-        ensures { out_of result self.new ≡
-            scan i (at (place_of self.old) (AtIntLf negative magnitude)) (drop i piece.now) }
+        ensures { Reads self.old self.new (AtIntLf negative magnitude) piece.now i result }
     {
         if i == piece.len() {
             self.negative = negative;

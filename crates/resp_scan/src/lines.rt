@@ -1,14 +1,14 @@
 //! Simple strings and simple errors: one line, whose end is found with vector instructions.
 
 ghost use Rattle.resp_scan.specs.Machine.Runs.{plain_run, run_to};
-ghost use Rattle.std.specs.Prelude.{◌≡◌, ◌≤◌, length, drop};
+ghost use Rattle.std.specs.Prelude.{◌≡◌, ◌≤◌, length};
 
 use crate::machine::{EventTag, Machine, State, Taken};
 use memchr::memchr;
 use resp_value::cause::Cause;
 
 impl Machine {
-    ghost use Rattle.resp_scan.specs.Machine.Fields.{place_of, out_of};
+    ghost use Rattle.resp_scan.specs.Machine.Fields.{place_of, out_of, Reads};
     ghost use Rattle.resp_scan.specs.Machine.Scan.{scan};
     ghost use Rattle.resp_scan.specs.Machine.Tokens.{at, InLine, AtLineLf};
 
@@ -44,8 +44,7 @@ impl Machine {
     #[inline]
     pub fn line_lf(&mut self, piece: &[u8], i: usize) -> Taken
         requires { i ≤ length piece.now }
-        ensures { out_of result self.new ≡
-            scan i (at (place_of self.old) AtLineLf) (drop i piece.now) }
+        ensures { Reads self.old self.new AtLineLf piece.now i result }
     {
         if i == piece.len() {
             return self.rest(State::LineLf, piece);

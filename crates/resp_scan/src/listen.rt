@@ -1,6 +1,6 @@
 //! The loop over a piece, which passes its events to a listener up to the end of a value.
 
-ghost use Rattle.std.specs.Prelude.{◌≡◌, ◌≤◌, ◌++◌, Err, length, IfErr, IfOk, false, take, true};
+ghost use Rattle.std.specs.Prelude.{◌≡◌, false, true};
 
 use crate::event::{Fault, ScanError, Scanned};
 use crate::listener::Listener;
@@ -33,15 +33,11 @@ pub struct Turned {
 }
 
 impl Machine {
-    ghost use Rattle.resp_scan.specs.Kinds.{rules_of};
     ghost use Rattle.resp_scan.specs.Machine.Fields.{place_of, out_by};
     ghost use Rattle.resp_scan.specs.Machine.Scan.{out_from};
     ghost use Rattle.resp_scan.specs.Machine.Sound.{IsSound};
     ghost use Rattle.resp_scan.specs.Machine.Tokens.{Dead};
-    ghost use Rattle.resp_scan.specs.Listening.{HearsPiece, HearsRefusal, HearsValue, IfRefused, IfStopped, IfUsedUp, IfWhole, StopsAfter, WhereHeard, fault_of};
-    ghost use Rattle.resp_scan.specs.Reading.{IsFaulted};
-    ghost use Rattle.resp_scan.specs.declared.event.Fault.{Fault};
-    ghost use Rattle.resp_scan.specs.Machine.Turns.{IsTurn};
+    ghost use Rattle.resp_scan.specs.Machine.Turns.{IsScanned, IsTurn};
 
     /// Passes the events of the piece to the listener, up to the end of a value.
     #[inline(always)]
@@ -51,27 +47,9 @@ impl Machine {
         listener: &mut L,
     ) -> Result<Scanned, ScanError>
         requires { IsSound (place_of self.old) }
-        ensures sound { IsSound (place_of self.new) }
-        ensures value_whole { WhereHeard (place_of self.old) (L.has_heard listener.old)
-            (λ since front. IfWhole result (λ used. HearsValue (rules_of (place_of self.old))
-            (place_of self.new) (L.has_heard listener.new since) (front ++ take used piece.now))) }
-        ensures used_up { WhereHeard (place_of self.old) (L.has_heard listener.old) (λ since front.
-            IfUsedUp result (HearsPiece (place_of self.new) (L.has_heard listener.new since)
-            (front ++ piece.now))) }
-        ensures refusal { WhereHeard (place_of self.old) (L.has_heard listener.old) (λ since front.
-            IfRefused result (HearsRefusal (rules_of (place_of self.old))
-            (L.has_heard listener.new since) front piece.now)) }
-        ensures stopped { WhereHeard (place_of self.old) (L.has_heard listener.old) (λ since front.
-            IfStopped result (StopsAfter (rules_of (place_of self.old))
-            (L.has_stopped listener.new since) front piece.now)) }
-        ensures within_piece { IfOk result (λ scanned. scanned.used ≤ length piece.now) }
-        ensures whole_piece { IfOk result (λ scanned.
-            scanned.is_whole ≡ false → scanned.used ≡ length piece.now) }
-        ensures same_rules { rules_of (place_of self.new) ≡ rules_of (place_of self.old) }
-        ensures fault_is_kept { IfErr result (λ stop.
-            IsFaulted (place_of self.new) (fault_of stop)) }
-        ensures fault_is_final { (fault : Fault) → IsFaulted (place_of self.old) fault →
-            (result ≡ Err (ScanError.Fault fault)) × (place_of self.new ≡ place_of self.old) }
+        ensures { IsScanned L.Origin (place_of self.old) (place_of self.new)
+            (L.has_heard listener.old) (L.has_heard listener.new) (L.has_stopped listener.new)
+            piece.now result }
     {
         let mut used = 0;
         loop {

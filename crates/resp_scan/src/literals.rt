@@ -1,21 +1,19 @@
 //! Nulls and booleans.
 
-ghost use Rattle.std.specs.Prelude.{◌≡◌, ◌≤◌, length, drop};
+ghost use Rattle.std.specs.Prelude.{◌≤◌, length};
 
 use crate::machine::{EventTag, Machine, State, Taken};
 use resp_value::cause::Cause;
 
 impl Machine {
-    ghost use Rattle.resp_scan.specs.Machine.Fields.{place_of, out_of};
-    ghost use Rattle.resp_scan.specs.Machine.Scan.{scan};
-    ghost use Rattle.resp_scan.specs.Machine.Tokens.{at, AtNullOne, AtNullCr, AtNullLf, AtBool, AtBoolCr, AtBoolLf};
+    ghost use Rattle.resp_scan.specs.Machine.Fields.{Reads};
+    ghost use Rattle.resp_scan.specs.Machine.Tokens.{AtNullOne, AtNullCr, AtNullLf, AtBool, AtBoolCr, AtBoolLf};
 
     /// Reads the `1` after `$-` or `*-`.
     #[inline]
     pub fn null_one(&mut self, piece: &[u8], i: usize) -> Taken
         requires { i ≤ length piece.now }
-        ensures { out_of result self.new ≡
-            scan i (at (place_of self.old) AtNullOne) (drop i piece.now) }
+        ensures { Reads self.old self.new AtNullOne piece.now i result }
     {
         if i == piece.len() {
             return self.rest(State::NullOne, piece);
@@ -30,8 +28,7 @@ impl Machine {
     #[inline]
     pub fn null_cr(&mut self, piece: &[u8], i: usize) -> Taken
         requires { i ≤ length piece.now }
-        ensures { out_of result self.new ≡
-            scan i (at (place_of self.old) AtNullCr) (drop i piece.now) }
+        ensures { Reads self.old self.new AtNullCr piece.now i result }
     {
         if i == piece.len() {
             return self.rest(State::NullCr, piece);
@@ -46,8 +43,7 @@ impl Machine {
     #[inline]
     pub fn null_lf(&mut self, piece: &[u8], i: usize) -> Taken
         requires { i ≤ length piece.now }
-        ensures { out_of result self.new ≡
-            scan i (at (place_of self.old) AtNullLf) (drop i piece.now) }
+        ensures { Reads self.old self.new AtNullLf piece.now i result }
     {
         if i == piece.len() {
             return self.rest(State::NullLf, piece);
@@ -62,8 +58,7 @@ impl Machine {
     #[inline]
     pub fn bool(&mut self, piece: &[u8], i: usize) -> Taken
         requires { i ≤ length piece.now }
-        ensures { out_of result self.new ≡
-            scan i (at (place_of self.old) AtBool) (drop i piece.now) }
+        ensures { Reads self.old self.new AtBool piece.now i result }
     {
         if i == piece.len() {
             return self.rest(State::Bool, piece);
@@ -79,8 +74,7 @@ impl Machine {
     #[inline]
     pub fn bool_cr(&mut self, piece: &[u8], i: usize, truth: bool) -> Taken
         requires { i ≤ length piece.now }
-        ensures { out_of result self.new ≡
-            scan i (at (place_of self.old) (AtBoolCr truth)) (drop i piece.now) }
+        ensures { Reads self.old self.new (AtBoolCr truth) piece.now i result }
     {
         if i == piece.len() {
             self.truth = truth;
@@ -96,8 +90,7 @@ impl Machine {
     #[inline]
     pub fn bool_lf(&mut self, piece: &[u8], i: usize, truth: bool) -> Taken
         requires { i ≤ length piece.now }
-        ensures { out_of result self.new ≡
-            scan i (at (place_of self.old) (AtBoolLf truth)) (drop i piece.now) }
+        ensures { Reads self.old self.new (AtBoolLf truth) piece.now i result }
     {
         if i == piece.len() {
             self.truth = truth;

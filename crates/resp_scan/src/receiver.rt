@@ -6,7 +6,7 @@ ghost use Rattle.resp_scan.specs.declared.event.Fault.{Fault};
 ghost use Rattle.resp_scan.specs.declared.event.Step.{Step};
 ghost use Rattle.resp_scan.specs.declared.event.TextKind.{TextKind};
 ghost use Rattle.resp_scan.specs.Listening.{Hears, IsTextOf, whole_text_events};
-ghost use Rattle.resp_scan.specs.Machine.Passing.{HearsStep, TurnsBy};
+ghost use Rattle.resp_scan.specs.Machine.Passing.{HearsStep, TurnsBy, gives};
 ghost use Rattle.resp_scan.specs.Machine.Slots.{FillsStep};
 ghost use Rattle.resp_scan.specs.Machine.Turns.{turn_of};
 
@@ -21,81 +21,72 @@ pub(crate) trait Receiver {
     /// The result of a turn.
     type Answer;
 
-    /// The receiver before a call and after it, the result of the step that it received, and the
-    /// result of the turn.
-    ghost takes: { Self → Self → Result Step Fault → Self.Answer → Type 0 };
+    /// The receiver before a call and after it, the result of the turn, and the result of the step
+    /// that it received.
+    ghost takes: { Self → Self → Self.Answer → Result Step Fault → Type 0 };
 
     /// The same for a text that used this number of bytes, of this kind and with these bytes,
     /// together with its end.
-    ghost takes_text: { Self → Self → ℕ → TextKind → List ℕ → Self.Answer → Type 0 };
+    ghost takes_text: { Self → Self → Self.Answer → ℕ → TextKind → List ℕ → Type 0 };
 
     /// Null.
     fn take_null(&mut self, used: usize) -> Self::Answer
-        ensures { takes self.old self.new
-            (Ok (record { used = used; event = Some event.Null })) result };
+        ensures { takes self.old self.new result (gives used event.Null) };
 
     /// A boolean.
     fn take_truth(&mut self, used: usize, truth: bool) -> Self::Answer
-        ensures { takes self.old self.new
-            (Ok (record { used = used; event = Some (event.Bool truth) })) result };
+        ensures { takes self.old self.new result (gives used (event.Bool truth)) };
 
     /// An integer.
     fn take_int(&mut self, used: usize, number: i64) -> Self::Answer
-        ensures { takes self.old self.new
-            (Ok (record { used = used; event = Some (event.Int number) })) result };
+        ensures { takes self.old self.new result (gives used (event.Int number)) };
 
     /// A text begins.
     fn take_text(&mut self, used: usize, kind: TextKind) -> Self::Answer
-        ensures { takes self.old self.new
-            (Ok (record { used = used; event = Some (event.Text kind) })) result };
+        ensures { takes self.old self.new result (gives used (event.Text kind)) };
 
     /// Some consecutive bytes of the text, at least one.
     fn take_part(&mut self, used: usize, bytes: &[u8]) -> Self::Answer
         requires { 0 < length bytes.now }
-        ensures { takes self.old self.new
-            (Ok (record { used = used; event = Some (event.Part bytes.entry) })) result };
+        ensures { takes self.old self.new result (gives used (event.Part bytes.entry)) };
 
     /// The text has ended.
     fn take_text_end(&mut self, used: usize) -> Self::Answer
-        ensures { takes self.old self.new
-            (Ok (record { used = used; event = Some event.TextEnd })) result };
+        ensures { takes self.old self.new result (gives used event.TextEnd) };
 
     /// An aggregate begins.
     fn take_open(&mut self, used: usize, kind: OpenKind, count: Option<u64>) -> Self::Answer
-        ensures { takes self.old self.new
-            (Ok (record { used = used; event = Some (event.Open kind count) })) result };
+        ensures { takes self.old self.new result (gives used (event.Open kind count)) };
 
     /// The innermost aggregate has ended.
     fn take_close(&mut self, used: usize) -> Self::Answer
-        ensures { takes self.old self.new
-            (Ok (record { used = used; event = Some event.Close })) result };
+        ensures { takes self.old self.new result (gives used event.Close) };
 
     /// The value has ended.
     fn take_done(&mut self, used: usize) -> Self::Answer
-        ensures { takes self.old self.new
-            (Ok (record { used = used; event = Some event.Done })) result };
+        ensures { takes self.old self.new result (gives used event.Done) };
 
     /// Receives the end of the piece, after the `used` bytes that were left of it.
     fn take_end(&mut self, used: usize) -> Self::Answer
-        ensures { takes self.old self.new (Ok (record { used = used; event = None })) result };
+        ensures { takes self.old self.new result (Ok (record { used = used; event = None })) };
 
     /// Receives a fault.
     fn take_fault(&mut self, fault: Fault) -> Self::Answer
-        ensures { takes self.old self.new (Err fault) result };
+        ensures { takes self.old self.new result (Err fault) };
 
     /// Receives a text that lies completely in the piece, for which `used` bytes were used.
     fn take_whole_text(&mut self, used: usize, kind: TextKind, bytes: &[u8]) -> Self::Answer
         requires { IsTextOf kind bytes.now }
-        ensures { takes_text self.old self.new used kind bytes.now result };
+        ensures { takes_text self.old self.new result used kind bytes.now };
 }
 
 impl<L: Listener> Receiver for L {
     type Answer = Turned;
 
-    ghost takes = { λ old new step turned. HearsStep (Hears (L.has_heard old) (L.has_heard new)
+    ghost takes = { λ old new turned step. HearsStep (Hears (L.has_heard old) (L.has_heard new)
         (L.has_stopped new)) (new ≡ old) step turned };
 
-    ghost takes_text = { λ old new used kind bytes turned. TurnsBy used turned
+    ghost takes_text = { λ old new turned used kind bytes. TurnsBy used turned
         (Hears (L.has_heard old) (L.has_heard new) (L.has_stopped new)
         (whole_text_events kind bytes)) };
 
@@ -169,10 +160,10 @@ pub(crate) struct Filling<'a, S> {
 impl<S: Slot> Receiver for Filling<'_, S> {
     type Answer = Result<Option<usize>, Fault>;
 
-    ghost takes = { λ old new step answer. (old.slot.ghost_name ≡ new.slot.ghost_name) ×
+    ghost takes = { λ old new answer step. (old.slot.ghost_name ≡ new.slot.ghost_name) ×
         FillsStep (S.shows new.slot.now) (new.slot.now ≡ old.slot.now) step answer };
 
-    ghost takes_text = { λ old new used kind bytes answer.
+    ghost takes_text = { λ old new answer used kind bytes.
         (old.slot.ghost_name ≡ new.slot.ghost_name) ×
         (answer ≡ Ok (Some used)) × S.shows_text new.slot.now kind bytes };
 

@@ -1,7 +1,7 @@
 //! The scanner, which reads values from pieces of any size and returns their events.
 
 ghost use Rattle.resp_value.specs.Bounds.{AreBounds};
-ghost use Rattle.std.specs.Prelude.{◌≡◌, ◌↔◌, ◌⊎◌, ◌≤◌, ◌<◌, ◌+◌, ◌++◌, ℕ, length, take, [], false, None, Some, Ok, Err, IsOk, OnOk, OnErr, IfOk, IfErr};
+ghost use Rattle.std.specs.Prelude.{◌≡◌, ◌↔◌, ◌⊎◌, ◌≤◌, ◌<◌, ◌+◌, ◌++◌, length, take, [], false, None, Some, Ok, Err, IsOk, OnOk, OnErr, IfOk, IfErr};
 ghost use Rattle.resp_value.specs.declared.cause.Cause.TheVariants as cause;
 
 use crate::event::{Busy, Event, Fault, ScanError, Scanned, Step};
@@ -50,7 +50,7 @@ impl Model for Scanner {
     ghost Value = { Place };
 
     ghost use Rattle.resp_scan.specs.Machine.Fields.{place_of};
-    ghost use Rattle.resp_scan.specs.Machine.Sound.{IsSound, token_needed};
+    ghost use Rattle.resp_scan.specs.Machine.Sound.{IsSound};
 
     ghost view = { λ s. place_of s.machine };
 

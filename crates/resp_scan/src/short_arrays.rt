@@ -12,14 +12,13 @@ use crate::short::{Short, short_number};
 use resp_value::kind::OpenKind;
 
 impl Machine {
-    ghost use Rattle.resp_scan.specs.Machine.Fields.{place_of, out_of};
+    ghost use Rattle.resp_scan.specs.Machine.Fields.{Reads};
 
     /// Reads after the `*` at the beginning of the piece, as [`Machine::array_head`].
     #[inline(never)]
     pub fn array_begins(&mut self, piece: &[u8]) -> Taken
         requires { 1 ≤ length piece.now }
-        ensures { out_of result self.new ≡
-            scan 1 (at (place_of self.old) AtArrayHead) (drop 1 piece.now) }
+        ensures { Reads self.old self.new AtArrayHead piece.now 1 result }
     {
         match short_head(piece) {
             Some(short) => {

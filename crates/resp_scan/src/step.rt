@@ -1,6 +1,6 @@
 //! A step: the token in which the piece begins, and its event.
 
-ghost use Rattle.std.specs.Prelude.{◌≡◌, ◌≤◌, ◌∷◌, ℕ, List, [], length, take, drop, true, IfOk, IfErr};
+ghost use Rattle.std.specs.Prelude.{◌≡◌, ◌≤◌, ◌∷◌, ℕ, List, [], length, take, drop, true};
 ghost use Rattle.resp_scan.specs.Machine.Moves.{is_digit};
 
 use crate::event::{Event, Fault, Step, TextKind};
@@ -13,8 +13,7 @@ use resp_value::cause::Cause;
 static DIGITS: [u8; 10] = *b"0123456789";
 
 impl Machine {
-    ghost use Rattle.resp_scan.specs.Parts.{IsOfPiece};
-    ghost use Rattle.resp_scan.specs.Machine.StepOutcomes.{out_of_step, after_step};
+    ghost use Rattle.resp_scan.specs.Machine.Passing.{StepAnswers};
     ghost use Rattle.resp_scan.specs.Machine.Fields.{place_of, out_of};
     ghost use Rattle.resp_scan.specs.Machine.Scan.{out_from};
     ghost use Rattle.resp_scan.specs.Machine.Sound.{IsSound};
@@ -114,11 +113,8 @@ impl Machine {
     #[inline(always)]
     fn answer<'a>(&mut self, piece: &'a [u8], got: Taken) -> Result<Step<'a>, Fault>
         requires { (s : Place) × IsSound s × (out_of got self.old ≡ out_from s piece.now) }
-        ensures heard { (s : Place) → IsSound s → out_of got self.old ≡ out_from s piece.now →
-            out_of_step s.taken result (place_of self.new) ≡ after_step (out_from s piece.now) }
-        ensures within { IfOk result (λ step. step.used ≤ length piece.now) }
-        ensures lent { IfOk result (λ step. IsOfPiece piece.now step) }
-        ensures counted { IfErr result (λ fault. fault.at ≡ self.new.taken) }
+        ensures { (s : Place) → IsSound s → out_of got self.old ≡ out_from s piece.now →
+            StepAnswers s self.new piece.now result }
     {
         let used = got.used;
         self.taken += used as u64;
@@ -156,14 +152,9 @@ impl Machine {
 
     /// Reads bytes of the piece up to an event or the end of the piece. A rejected byte is final.
     #[inline(always)]
-    #[tactic(auto, using(crate::proofs::Soundness::Places::hot_tokens))]
     pub fn step<'a>(&mut self, piece: &'a [u8]) -> Result<Step<'a>, Fault>
         requires { IsSound (place_of self.old) }
-        ensures heard { out_of_step (place_of self.old).taken result (place_of self.new) ≡
-            after_step (out_from (place_of self.old) piece.now) }
-        ensures within { IfOk result (λ step. step.used ≤ length piece.now) }
-        ensures lent { IfOk result (λ step. IsOfPiece piece.now step) }
-        ensures counted { IfErr result (λ fault. fault.at ≡ self.new.taken) }
+        ensures { StepAnswers (place_of self.old) self.new piece.now result }
     {
         match self.state {
             State::Start => {

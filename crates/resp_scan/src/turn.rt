@@ -41,10 +41,8 @@ impl Machine {
     #[inline(always)]
     pub fn advance<R: Receiver>(&mut self, rest: &[u8], receiver: &mut R) -> R::Answer
         requires { IsSound (place_of self.old) }
-        ensures { Passes
-            (λ step. R.takes receiver.old receiver.new step result)
-            (λ used kind bytes. R.takes_text receiver.old receiver.new used kind bytes result)
-            (place_of self.old) self.new rest.now }
+        ensures { Passes (R.takes receiver.old receiver.new result)
+            (R.takes_text receiver.old receiver.new result) (place_of self.old) self.new rest.now }
     {
         match self.stands() {
             Stands::Member => self.tell_value(rest, receiver),
@@ -95,10 +93,8 @@ impl Machine {
             (out_from s rest.now ≡ scan 0 (at (place_of self.old) AtStart) rest.now) }
         ensures { (s : Place) → IsSound s →
             out_from s rest.now ≡ scan 0 (at (place_of self.old) AtStart) rest.now →
-            Passes
-            (λ step. R.takes receiver.old receiver.new step result)
-            (λ used kind bytes. R.takes_text receiver.old receiver.new used kind bytes result)
-            s self.new rest.now }
+            Passes (R.takes receiver.old receiver.new result)
+            (R.takes_text receiver.old receiver.new result) s self.new rest.now }
     {
         if let Some(short) = self.short_text(rest) {
             let run = short.count as usize;
@@ -119,10 +115,8 @@ impl Machine {
     fn tell_begun<R: Receiver>(&mut self, rest: &[u8], taken: Taken, receiver: &mut R) -> R::Answer
         requires { (s : Place) × IsSound s × (out_of taken self.old ≡ out_from s rest.now) }
         ensures { (s : Place) → IsSound s → out_of taken self.old ≡ out_from s rest.now →
-            Passes
-            (λ step. R.takes receiver.old receiver.new step result)
-            (λ used kind bytes. R.takes_text receiver.old receiver.new used kind bytes result)
-            s self.new rest.now }
+            Passes (R.takes receiver.old receiver.new result)
+            (R.takes_text receiver.old receiver.new result) s self.new rest.now }
     {
         match line_kind(taken.tag) {
             Some(kind) => self.tell_line(rest, taken, kind, receiver),
@@ -159,10 +153,8 @@ impl Machine {
         requires whole { (s : Place) × IsSound s × (out_of taken self.old ≡ out_from s rest.now) }
         requires tag { IsLineTag taken.tag kind }
         ensures { (s : Place) → IsSound s → out_of taken self.old ≡ out_from s rest.now →
-            Passes
-            (λ step. R.takes receiver.old receiver.new step result)
-            (λ used kind bytes. R.takes_text receiver.old receiver.new used kind bytes result)
-            s self.new rest.now }
+            Passes (R.takes receiver.old receiver.new result)
+            (R.takes_text receiver.old receiver.new result) s self.new rest.now }
     {
         let after = beyond(rest, taken.used);
         match self.whole_line(after, taken.used) {
@@ -182,10 +174,8 @@ impl Machine {
         requires whole { (s : Place) × IsSound s × (out_of taken self.old ≡ out_from s rest.now) }
         requires tag { taken.tag ≡ EventTag.Bulk }
         ensures { (s : Place) → IsSound s → out_of taken self.old ≡ out_from s rest.now →
-            Passes
-            (λ step. R.takes receiver.old receiver.new step result)
-            (λ used kind bytes. R.takes_text receiver.old receiver.new used kind bytes result)
-            s self.new rest.now }
+            Passes (R.takes receiver.old receiver.new result)
+            (R.takes_text receiver.old receiver.new result) s self.new rest.now }
     {
         let after = beyond(rest, taken.used);
         match self.whole_content(after) {
@@ -208,8 +198,8 @@ impl Machine {
         requires within { head + run + 2 ≤ length rest.now }
         requires few { self.old.taken + head + run + 2 < 2 ^ 64 }
         requires is_text { IsTextOf kind (take run (drop head rest.now)) }
-        ensures told { R.takes_text receiver.old receiver.new (head + run + 2) kind
-            (take run (drop head rest.now)) result }
+        ensures told { R.takes_text receiver.old receiver.new result (head + run + 2) kind
+            (take run (drop head rest.now)) }
         ensures machine { self.new ≡ record self.old
             { taken = self.old.taken + (head + run + 2); state = State.Boundary } }
     {
@@ -274,10 +264,8 @@ impl Machine {
     fn tell<R: Receiver>(&mut self, rest: &[u8], taken: Taken, receiver: &mut R) -> R::Answer
         requires { (s : Place) × IsSound s × (out_of taken self.old ≡ out_from s rest.now) }
         ensures { (s : Place) → IsSound s → out_of taken self.old ≡ out_from s rest.now →
-            Passes
-            (λ step. R.takes receiver.old receiver.new step result)
-            (λ used kind bytes. R.takes_text receiver.old receiver.new used kind bytes result)
-            s self.new rest.now }
+            Passes (R.takes receiver.old receiver.new result)
+            (R.takes_text receiver.old receiver.new result) s self.new rest.now }
     {
         let used = taken.used;
         self.taken += used as u64;

@@ -32,7 +32,7 @@ use Rattle.resp_scan.specs.Machine.Owed.{events_owed}
 use Rattle.resp_scan.specs.Machine.End.{end_cause, end_cause_in}
 use Rattle.resp_scan.specs.Machine.Standing.{AwaitsMember, IsClosingIn, HasEnded, IsInside, StandsAfter, StandsAfterAt, waiting_levels}
 use Rattle.resp_scan.specs.Machine.Sound.{IsSound, needed, token_needed}
-use Rattle.resp_scan.specs.Reading.{BeginDue, HasRead, IsFaulted, IsSpelled, MayEnd}
+use Rattle.resp_scan.specs.Reading.{BeginDue, HasRead, IsSpelled, MayEnd}
 use Rattle.resp_scan.specs.Machine.Scan as scan
 use Rattle.resp_scan.specs.Machine.Scan.{Out, More, Gave, Part, Bad, out_from}
 use Rattle.resp_scan.specs.Machine.StepOutcomes.{out_of_step, out_of_event, out_of_part, after_step}
@@ -246,12 +246,6 @@ pub rules_stay : (result : Result Step Fault) (s t : Place) (p : List ℕ) → I
     rules_of t ≡ rules_of s
 rules_stay result s t p sound h = result_rules s.taken result (rules_of s) t
     (subst (AreRules (rules_of s)) (sym h) (kept_rules s (out_from s p) (is_advanced s p sound)))
-
--- an error is the fault of the place that the call leaves
-pub is_faulted : (result : Result Step Fault) (t : Place) → IfErr result (λ fault. (fault.at ≡ t.taken) × (t.token ≡ Dead fault.cause)) →
-    IfErr result (IsFaulted t)
-is_faulted (Ok step) t h = tt
-is_faulted (Err fault) t h = (h.1, sym h.0)
 
 -- The calls' results.
 

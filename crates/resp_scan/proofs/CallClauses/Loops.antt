@@ -1,25 +1,27 @@
 -- The loop over a piece: what its turns so far have read and told, and what the last one answers.
 use Prim.Native.Nat.{zero}
-use Rattle.std.specs.Prelude.{true, false, take, drop, cond, eqb}
+use Rattle.std.specs.Prelude.{true, false, take, drop, cond, eqb, Ok, Err}
 use Rattle.std.proofs.Common.{◌≡◌, ℕ, ◌+◌, ◌-◌, ◌*◌, ◌<◌, ◌≤◌, List, [], ◌∷◌, ◌++◌, length, refl, sym, ap, subst, ◌∙◌, arith, append_assoc, append-nil, length-append, suc}
 use Rattle.std.proofs.lemmas.List.{length-drop, take-append-drop}
 use Rattle.resp_value.specs.Rules.{WithinTotal}
 use Rattle.resp_value.specs.Spellings.{IsViable}
 use Rattle.resp_value.specs.declared.cause.Cause.{Cause}
+use Rattle.resp_value.specs.declared.cause.Cause.TheVariants as cause
+use Rattle.resp_scan.specs.declared.event.ScanError.TheVariants as stop
 use Rattle.resp_scan.specs.declared.event.Fault.{Fault}
 use Rattle.resp_scan.specs.declared.frame.Frame.{Frame}
 use Rattle.resp_scan.specs.declared.frame.Shape.{Shape}
 use Rattle.resp_scan.specs.declared.frame.Shape.TheVariants.{Left, Begun}
+use Rattle.resp_scan.specs.declared.listen.Turn.{Turn}
 use Rattle.resp_scan.specs.declared.listen.Turn.TheVariants as turn
 use Rattle.resp_scan.specs.declared.listen.Turned.{Turned}
 use Rattle.resp_fronts.specs.Events as e
 use Rattle.resp_scan.specs.Kinds.{IsRefusedFor, rules_of}
 use Rattle.resp_scan.specs.Reading.{AreDue, BeginDue, Events, HasNoSpelling, HasNoValue, HasRead, IsFaulted, IsRefused, IsValue}
-use Rattle.resp_scan.specs.Listening.{HearsPiece, HearsRefusal, HearsValue, StopsAfter}
-use Rattle.resp_scan.specs.Machine.Tokens.{Token, Place, AtBigDigit, AtEnd, AtTextEnd, Dead}
+use Rattle.resp_scan.specs.Machine.Tokens.{Token, Place, at, AtBigDigit, AtEnd, AtTextEnd, Dead}
 use Rattle.resp_scan.specs.Machine.Owed.{events_owed, events_owed_at, events_owed_at_end, events_owed_in}
 use Rattle.resp_scan.specs.Machine.Sound.{IsSound}
-use Rattle.resp_scan.specs.Machine.Turns.{GoesOn, IsTurn, OutcomeOfTurn}
+use Rattle.resp_scan.specs.Machine.Turns.{GoesOn, IsScanned, IsTurn, OutcomeOfTurn}
 use Rattle.resp_scan.proofs.CallClauses.Fronts.{front-append}
 use Rattle.resp_scan.proofs.CallClauses.WholeTexts.{taken_on}
 
@@ -54,19 +56,36 @@ bytes_on front piece used n = append_assoc front (take used piece) (take n (drop
 bytes_all : (front piece : List ℕ) (used : ℕ) → (front ++ take used piece) ++ drop used piece ≡ front ++ piece
 bytes_all front piece used = append_assoc front (take used piece) (drop used piece) ∙ ap (λ z. front ++ z) (take-append-drop used piece)
 
--- A turn more.
-pub runs_on : {O : Type 0} (s₀ s t : Place) (H₀ H H' M : O → Events → Type 0) (piece : List ℕ) (used : ℕ) (turned : Turned) → Runs O s₀ s H₀ H piece used →
-    IsTurn O s t H H' M (drop used piece) turned → turned.turn ≡ turn.On → Runs O s₀ t H₀ H' piece (used + turned.used)
-runs_on s₀ s t H₀ H H' M piece used turned r v on = record {
+-- One turn more.
+
+-- its outcome, for what the turns before it have read
+outcome_by : {O : Type 0} {s₀ s t : Place} {H₀ H H' M : O → Events → Type 0} {piece : List ℕ} {used : ℕ} {turned : Turned} (x : Turn) → turned.turn ≡ x →
+    (r : Runs O s₀ s H₀ H piece used) → IsTurn O s t H H' M (drop used piece) turned → (since : O) (front : List ℕ) (given : Events)
+    (w : HasRead s₀ front given) (had : H₀ since given) →
+    OutcomeOfTurn s t (H' since) (M since) (front ++ take used piece) (given ++ (r.reads since front given w had).told) (drop used piece) turned.used x
+outcome_by {s = s} {t = t} {H' = H'} {M = M} {piece = piece} {used = used} {turned = turned} x is r v since front given w had =
+    let a = r.reads since front given w had in
+    subst (OutcomeOfTurn s t (H' since) (M since) (front ++ take used piece) (given ++ a.told) (drop used piece) turned.used) is
+    (v.outcome since (front ++ take used piece) (given ++ a.told) a.reads a.heard)
+
+-- a fault that stands is answered again, and nothing else
+fault_again : {O : Type 0} {s₀ s t : Place} {H₀ H H' M : O → Events → Type 0} {piece : List ℕ} {used : ℕ} {turned : Turned} →
+    Runs O s₀ s H₀ H piece used → IsTurn O s t H H' M (drop used piece) turned → (fault : Fault) → IsFaulted s₀ fault → (turned.turn ≡ turn.Failed) × (t ≡ s₀)
+fault_again r v fault f =
+    let same = r.dead fault f in
+    let again = v.dead fault (subst (λ x. IsFaulted x fault) (sym same) f) in
+    (again.0, again.1 ∙ same)
+
+pub runs_on : {O : Type 0} {s₀ s t : Place} {H₀ H H' M : O → Events → Type 0} {piece : List ℕ} {used : ℕ} {turned : Turned} →
+    Runs O s₀ s H₀ H piece used → IsTurn O s t H H' M (drop used piece) turned → turned.turn ≡ turn.On → Runs O s₀ t H₀ H' piece (used + turned.used)
+runs_on {t = t} {H' = H'} {piece = piece} {used = used} {turned = turned} r v on = record {
   sound = v.sound;
   rules = v.rules ∙ r.rules;
   within = omega (arith, r.within, v.within, length-drop used piece);
-  dead = λ fault f. absurd (let z : turn.On ≡ turn.Failed = sym on ∙ (v.dead fault (subst (λ x. IsFaulted x fault) (sym (r.dead fault f)) f)).0 in cc);
+  dead = λ fault f. absurd (let z : turn.On ≡ turn.Failed = sym on ∙ (fault_again r v fault f).0 in cc);
   reads = λ since front given w had.
       let a = r.reads since front given w had in
-      let b : GoesOn t (H' since) (front ++ take used piece) (given ++ a.told) (drop used piece) turned.used =
-      subst (OutcomeOfTurn s t (H' since) (M since) (front ++ take used piece) (given ++ a.told) (drop used piece) turned.used) on
-      (v.outcome since (front ++ take used piece) (given ++ a.told) a.reads a.heard) in
+      let b = outcome_by turn.On on r v since front given w had in
       record {
         told = a.told ++ b.told;
         reads = subst (λ z. HasRead t z (given ++ (a.told ++ b.told))) (bytes_on front piece used turned.used)
@@ -95,9 +114,9 @@ owed_few t fs = omega arith
 abbrev pub work_left : Place → List ℕ → ℕ → ℕ
 work_left s piece used = (length piece - used) * 256 + length (events_owed s)
 
-pub less_work : {O : Type 0} (s t : Place) (H H' M : O → Events → Type 0) (piece : List ℕ) (used : ℕ) (turned : Turned) → used ≤ length piece →
+pub less_work : {O : Type 0} {s t : Place} {H H' M : O → Events → Type 0} (piece : List ℕ) (used : ℕ) {turned : Turned} → used ≤ length piece →
     IsTurn O s t H H' M (drop used piece) turned → turned.turn ≡ turn.On → work_left t piece (used + turned.used) < work_left s piece used
-less_work s t H H' M piece used turned within v on = by_used turned.used refl
+less_work {s = s} {t = t} piece used {turned = turned} within v on = by_used turned.used refl
   where
     few : length (events_owed t) ≤ 130
     few = omega (arith, owed_few t.token t.frames, v.sound.nested, v.sound.bounds.depth_in_range.1)
@@ -109,112 +128,144 @@ less_work s t H H' M piece used turned within v on = by_used turned.used refl
     by_used zero none = omega (arith, v.nearer on none, none)
     by_used (suc n) some = omega (arith, few, fits, some, within)
 
--- What the last turn answers.
+-- The last turn.
 
--- a value
-pub value_heard : {O : Type 0} (s₀ s t : Place) (H₀ H H' M : O → Events → Type 0) (piece : List ℕ) (used : ℕ) (turned : Turned) → Runs O s₀ s H₀ H piece used →
-    IsTurn O s t H H' M (drop used piece) turned → turned.turn ≡ turn.Done → (since : O) (front : List ℕ) (given : Events) → HasRead s₀ front given →
-    H₀ since given →
-    HearsValue (rules_of s₀) t (H' since) (front ++ take (used + turned.used) piece)
-value_heard s₀ s t H₀ H H' M piece used turned r v done since front given w had =
-    let a = r.reads since front given w had in
-    let b = subst (OutcomeOfTurn s t (H' since) (M since) (front ++ take used piece) (given ++ a.told) (drop used piece) turned.used) done
-    (v.outcome since (front ++ take used piece) (given ++ a.told) a.reads a.heard) in
-    record {
-      heard = given ++ a.told;
-      is_value = subst (λ n. IsValue (rules_of s₀) (front ++ take n piece) (given ++ a.told))
-          (let z : used ≡ used + turned.used = omega (arith, b.0.no_byte) in z)
-          (subst (λ x. IsValue x (front ++ take used piece) (given ++ a.told)) r.rules b.0.is_value);
-      has_heard = b.1;
-      reads = b.0.reads;
-    }
+-- a value has ended
+pub value_scanned : {O : Type 0} {s₀ s t : Place} {H₀ H H' M : O → Events → Type 0} {piece : List ℕ} {used : ℕ} {turned : Turned} {n : ℕ} →
+    n ≡ used + turned.used → Runs O s₀ s H₀ H piece used → IsTurn O s t H H' M (drop used piece) turned → turned.turn ≡ turn.Done →
+    IsScanned O s₀ t H₀ H' M piece (Ok (record { used = n; is_whole = true }))
+value_scanned {s₀ = s₀} {piece = piece} {used = used} {turned = turned} {n = n} is r v done = record {
+  sound = v.sound;
+  value_whole = λ since front given w had whole.
+      let a = r.reads since front given w had in
+      let b = outcome_by turn.Done done r v since front given w had in
+      record {
+        heard = given ++ a.told;
+        is_value = subst (λ k. IsValue (rules_of s₀) (front ++ take k piece) (given ++ a.told))
+            (let z : used ≡ n = omega (arith, b.0.no_byte, is) in z)
+            (subst (λ x. IsValue x (front ++ take used piece) (given ++ a.told)) r.rules b.0.is_value);
+        has_heard = b.1;
+        reads = b.0.reads;
+      };
+  used_up = λ since front given w had none. absurd (cc);
+  refusal = λ since front given w had. tt;
+  stopped = λ since front given w had. tt;
+  within_piece = omega (arith, is, r.within, v.within, length-drop used piece);
+  whole_piece = λ none. absurd (cc);
+  same_rules = v.rules ∙ r.rules;
+  fault_is_kept = tt;
+  fault_is_final = λ fault f. absurd (let z : turn.Done ≡ turn.Failed = sym done ∙ (fault_again r v fault f).0 in cc);
+}
 
--- the end of the piece
-pub piece_heard : {O : Type 0} (s₀ s t : Place) (H₀ H H' M : O → Events → Type 0) (piece : List ℕ) (used : ℕ) (turned : Turned) → Runs O s₀ s H₀ H piece used →
-    IsTurn O s t H H' M (drop used piece) turned → turned.turn ≡ turn.More → (since : O) (front : List ℕ) (given : Events) → HasRead s₀ front given →
-    H₀ since given →
-    HearsPiece t (H' since) (front ++ piece)
-piece_heard s₀ s t H₀ H H' M piece used turned r v more since front given w had =
-    let a = r.reads since front given w had in
-    let b = subst (OutcomeOfTurn s t (H' since) (M since) (front ++ take used piece) (given ++ a.told) (drop used piece) turned.used) more
-    (v.outcome since (front ++ take used piece) (given ++ a.told) a.reads a.heard) in
-    let all = bytes_all front piece used in
-    record {
-      heard = given ++ a.told;
-      viable = subst (IsViable (rules_of t) WithinTotal) all b.0.viable;
-      no_value = subst HasNoValue all b.0.no_value;
-      all_due = subst (λ z. AreDue z (given ++ a.told)) all b.0.all_due;
-      has_heard = b.1;
-      reads = subst (λ z. HasRead t z (given ++ a.told)) all b.0.reads;
-    }
-
--- a refused byte, by the cause that stands
-pub refusal_heard : {O : Type 0} (s₀ s t : Place) (H₀ H H' M : O → Events → Type 0) (piece : List ℕ) (used : ℕ) (turned : Turned) (c : Cause) →
-    Runs O s₀ s H₀ H piece used →
-    IsTurn O s t H H' M (drop used piece) turned → turned.turn ≡ turn.Failed → t.token ≡ Dead c → (since : O) (front : List ℕ) (given : Events) →
-    HasRead s₀ front given → H₀ since given → HearsRefusal (rules_of s₀) (H' since) front piece (record { cause = c; at = t.taken })
-refusal_heard s₀ s t H₀ H H' M piece used turned c r v failed dead since front given w had =
-    let a = r.reads since front given w had in
-    let b = subst (OutcomeOfTurn s t (H' since) (M since) (front ++ take used piece) (given ++ a.told) (drop used piece) turned.used) failed
-    (v.outcome since (front ++ take used piece) (given ++ a.told) a.reads a.heard) in
-    let f = b.0.refused in
-    let all = bytes_all front piece used in
-    let same_cause : b.0.fault.cause ≡ c = let z : Dead b.0.fault.cause ≡ Dead c = sym b.0.kept.0 ∙ dead in cc in
-    let same : b.0.fault ≡ record { cause = c; at = t.taken } = ap (λ x. record { cause = x; at = b.0.fault.at }) same_cause ∙
-    ap (λ n. record { cause = c; at = n }) (sym b.0.kept.1) in
-    record {
-      heard = given ++ a.told;
-      refused = subst (IsRefused (rules_of s₀) front (given ++ a.told) piece) same
-          (subst (λ x. IsRefused x front (given ++ a.told) piece b.0.fault) r.rules (record {
-            in_piece = omega (arith, f.in_piece, length-append front (take used piece));
-            before_end = omega (arith, f.before_end, ap length all);
-            viable = subst (λ z. IsViable (rules_of s) WithinTotal (take b.0.fault.at z)) all f.viable;
-            refused = subst (λ z. IsRefusedFor (rules_of s) (take (b.0.fault.at + 1) z) b.0.fault.cause) all f.refused;
-            all_due = subst (λ z. AreDue (take b.0.fault.at z) (given ++ a.told)) all f.all_due;
-            no_value = subst (HasNoSpelling (rules_of s)) all f.no_value;
-          }));
-      has_heard = b.1;
-    }
-
--- the listener's stop
-pub stop_heard : {O : Type 0} (s₀ s t : Place) (H₀ H H' M : O → Events → Type 0) (piece : List ℕ) (used : ℕ) (turned : Turned) → Runs O s₀ s H₀ H piece used →
-    IsTurn O s t H H' M (drop used piece) turned → turned.turn ≡ turn.Stopped → (since : O) (front : List ℕ) (given : Events) →
-    HasRead s₀ front given → H₀ since given →
-    StopsAfter (rules_of s₀) (M since) front piece t.taken
-stop_heard s₀ s t H₀ H H' M piece used turned r v stopped since front given w had =
-    let a = r.reads since front given w had in
-    let b = subst (OutcomeOfTurn s t (H' since) (M since) (front ++ take used piece) (given ++ a.told) (drop used piece) turned.used) stopped
-    (v.outcome since (front ++ take used piece) (given ++ a.told) a.reads a.heard) in
-    let n = used + turned.used in
-    let here = bytes_on front piece used turned.used in
-    let size : length (front ++ take n piece) ≡ t.taken = sym (ap length here) ∙ sym b.taken in
-    let parts : front ++ piece ≡ (front ++ take n piece) ++ drop n piece = sym (bytes_all front piece n) in
-    let cut : take t.taken (front ++ piece) ≡ (front ++ take used piece) ++ take turned.used (drop used piece) =
-    ap (take t.taken) parts ∙ front-append t.taken (front ++ take n piece) (drop n piece) size ∙ sym here in
-    record {
-      told = b.told;
-      has_stopped = b.has_stopped;
-      in_piece = omega (arith, size, length-append front (take n piece));
-      within = omega (arith, size, ap length parts, length-append (front ++ take n piece) (drop n piece));
-      viable = subst (IsViable (rules_of s₀) WithinTotal) (sym cut)
-          (subst (λ x. IsViable x WithinTotal ((front ++ take used piece) ++ take turned.used (drop used piece))) r.rules b.viable);
-      first_due = subst (λ z. BeginDue z b.told) (sym cut) b.first_due;
-      later = b.later;
-      all_due = subst (λ z. AreDue z (b.told ++ b.later)) (sym cut) b.all_due;
-      begins_one = b.begins_one;
-    }
-
--- A fault that stands is answered again, and nothing else.
-pub fault_again : {O : Type 0} (s₀ s t : Place) (H₀ H H' M : O → Events → Type 0) (piece : List ℕ) (used : ℕ) (turned : Turned) (fault : Fault) →
-    Runs O s₀ s H₀ H piece used →
-    IsTurn O s t H H' M (drop used piece) turned → IsFaulted s₀ fault → (turned.turn ≡ turn.Failed) × (t ≡ s₀)
-fault_again s₀ s t H₀ H H' M piece used turned fault r v f =
-    let same = r.dead fault f in
-    let again = v.dead fault (subst (λ x. IsFaulted x fault) (sym same) f) in
-    (again.0, again.1 ∙ same)
+-- the piece is used up
+pub piece_scanned : {O : Type 0} {s₀ s t : Place} {H₀ H H' M : O → Events → Type 0} {piece : List ℕ} {used : ℕ} {turned : Turned} {n : ℕ} →
+    n ≡ used + turned.used → Runs O s₀ s H₀ H piece used → IsTurn O s t H H' M (drop used piece) turned → turned.turn ≡ turn.More →
+    IsScanned O s₀ t H₀ H' M piece (Ok (record { used = n; is_whole = false }))
+piece_scanned {t = t} {piece = piece} {used = used} is r v more = record {
+  sound = v.sound;
+  value_whole = λ since front given w had whole. absurd (cc);
+  used_up = λ since front given w had none.
+      let a = r.reads since front given w had in
+      let b = outcome_by turn.More more r v since front given w had in
+      let all = bytes_all front piece used in
+      record {
+        heard = given ++ a.told;
+        viable = subst (IsViable (rules_of t) WithinTotal) all b.0.viable;
+        no_value = subst HasNoValue all b.0.no_value;
+        all_due = subst (λ z. AreDue z (given ++ a.told)) all b.0.all_due;
+        has_heard = b.1;
+        reads = subst (λ z. HasRead t z (given ++ a.told)) all b.0.reads;
+      };
+  refusal = λ since front given w had. tt;
+  stopped = λ since front given w had. tt;
+  within_piece = omega (arith, is, r.within, v.within, length-drop used piece);
+  whole_piece = λ none. omega (arith, is, v.whole_piece more, length-drop used piece, r.within);
+  same_rules = v.rules ∙ r.rules;
+  fault_is_kept = tt;
+  fault_is_final = λ fault f. absurd (let z : turn.More ≡ turn.Failed = sym more ∙ (fault_again r v fault f).0 in cc);
+}
 
 -- it is the cause that stands
-pub same_fault : (t : Place) (c : Cause) (fault : Fault) → t.token ≡ Dead c → IsFaulted t fault → record { cause = c; at = t.taken } ≡ fault
+same_fault : (t : Place) (c : Cause) (fault : Fault) → t.token ≡ Dead c → IsFaulted t fault → record { cause = c; at = t.taken } ≡ fault
 same_fault t c fault dead f =
     let same : c ≡ fault.cause = let z : Dead c ≡ Dead fault.cause = sym dead ∙ f.0 in cc in
     ap (λ x. record { cause = x; at = t.taken }) same ∙ ap (λ n. record { cause = fault.cause; at = n }) f.1
+
+-- a byte was rejected, for the cause that stands
+pub refusal_scanned : {O : Type 0} {s₀ s t : Place} {H₀ H H' M : O → Events → Type 0} {piece : List ℕ} {used : ℕ} {turned : Turned} {c : Cause} →
+    Runs O s₀ s H₀ H piece used → IsTurn O s t H H' M (drop used piece) turned → turned.turn ≡ turn.Failed → t.token ≡ Dead c →
+    IsScanned O s₀ t H₀ H' M piece (Err (stop.Fault (record { cause = c; at = t.taken })))
+refusal_scanned {s₀ = s₀} {s = s} {t = t} {piece = piece} {used = used} {c = c} r v failed dead = record {
+  sound = v.sound;
+  value_whole = λ since front given w had. tt;
+  used_up = λ since front given w had. tt;
+  refusal = λ since front given w had.
+      let a = r.reads since front given w had in
+      let b = outcome_by turn.Failed failed r v since front given w had in
+      let f = b.0.refused in
+      let all = bytes_all front piece used in
+      record {
+        heard = given ++ a.told;
+        refused = subst (IsRefused (rules_of s₀) front (given ++ a.told) piece) (sym (same_fault t c b.0.fault dead b.0.kept))
+            (subst (λ x. IsRefused x front (given ++ a.told) piece b.0.fault) r.rules (record {
+              in_piece = omega (arith, f.in_piece, length-append front (take used piece));
+              before_end = omega (arith, f.before_end, ap length all);
+              viable = subst (λ z. IsViable (rules_of s) WithinTotal (take b.0.fault.at z)) all f.viable;
+              refused = subst (λ z. IsRefusedFor (rules_of s) (take (b.0.fault.at + 1) z) b.0.fault.cause) all f.refused;
+              all_due = subst (λ z. AreDue (take b.0.fault.at z) (given ++ a.told)) all f.all_due;
+              no_value = subst (HasNoSpelling (rules_of s)) all f.no_value;
+            }));
+        has_heard = b.1;
+      };
+  stopped = λ since front given w had. tt;
+  within_piece = tt;
+  whole_piece = tt;
+  same_rules = v.rules ∙ r.rules;
+  fault_is_kept = (dead, refl);
+  fault_is_final = λ fault f.
+      let again = (fault_again r v fault f).1 in
+      (ap (λ x. Err (stop.Fault x)) (same_fault t c fault dead (subst (λ x. IsFaulted x fault) (sym again) f)), again);
+}
+
+-- the listener has stopped, and reading has stopped for good
+pub stop_scanned : {O : Type 0} {s₀ s t : Place} {H₀ H H' M : O → Events → Type 0} {piece : List ℕ} {used : ℕ} {turned : Turned} →
+    Runs O s₀ s H₀ H piece used → IsTurn O s t H H' M (drop used piece) turned → turned.turn ≡ turn.Stopped →
+    IsScanned O s₀ (at t (Dead cause.OutOfMemory)) H₀ H' M piece (Err (stop.Stopped t.taken))
+stop_scanned {s₀ = s₀} {t = t} {piece = piece} {used = used} {turned = turned} r v stopped = record {
+  sound = record {
+    bounds = v.sound.bounds;
+    nested = v.sound.nested;
+    counted = v.sound.counted;
+    frames_need = v.sound.frames_need;
+    total = omega (arith, v.sound.total);
+    token = tt;
+  };
+  value_whole = λ since front given w had. tt;
+  used_up = λ since front given w had. tt;
+  refusal = λ since front given w had. tt;
+  stopped = λ since front given w had.
+      let b = outcome_by turn.Stopped stopped r v since front given w had in
+      let n = used + turned.used in
+      let here = bytes_on front piece used turned.used in
+      let size : length (front ++ take n piece) ≡ t.taken = sym (ap length here) ∙ sym b.taken in
+      let parts : front ++ piece ≡ (front ++ take n piece) ++ drop n piece = sym (bytes_all front piece n) in
+      let cut : take t.taken (front ++ piece) ≡ (front ++ take used piece) ++ take turned.used (drop used piece) =
+      ap (take t.taken) parts ∙ front-append t.taken (front ++ take n piece) (drop n piece) size ∙ sym here in
+      record {
+        told = b.told;
+        has_stopped = b.has_stopped;
+        in_piece = omega (arith, size, length-append front (take n piece));
+        within = omega (arith, size, ap length parts, length-append (front ++ take n piece) (drop n piece));
+        viable = subst (IsViable (rules_of s₀) WithinTotal) (sym cut)
+            (subst (λ x. IsViable x WithinTotal ((front ++ take used piece) ++ take turned.used (drop used piece))) r.rules b.viable);
+        first_due = subst (λ z. BeginDue z b.told) (sym cut) b.first_due;
+        later = b.later;
+        all_due = subst (λ z. AreDue z (b.told ++ b.later)) (sym cut) b.all_due;
+        begins_one = b.begins_one;
+      };
+  within_piece = tt;
+  whole_piece = tt;
+  same_rules = v.rules ∙ r.rules;
+  fault_is_kept = (refl, refl);
+  fault_is_final = λ fault f. absurd (let z : turn.Stopped ≡ turn.Failed = sym stopped ∙ (fault_again r v fault f).0 in cc);
+}

@@ -3,7 +3,6 @@ use Rattle.std.specs.Prelude.{Bool, true, false, take, eqb, Option, None, Some, 
 use Rattle.std.proofs.Common.{◌≡◌, inl, inr, ℕ, ◌+◌, ◌-◌, ◌<◌, ◌≤◌, List, ◌++◌, length, refl, sym, ap, subst, ◌∙◌, arith}
 use Rattle.resp_value.specs.Bytes.{IsText}
 use Rattle.resp_value.specs.declared.cause.Cause.{Cause}
-use Rattle.resp_fronts.specs.Events as e
 use Rattle.resp_scan.specs.declared.event.Event.{Event}
 use Rattle.resp_scan.specs.declared.event.Event.TheVariants as event
 use Rattle.resp_scan.specs.declared.event.Fault.{Fault}
@@ -19,7 +18,7 @@ use Rattle.resp_scan.specs.Counts.{begin_count}
 use Rattle.resp_scan.specs.Listening.{Hears, IsTextOf, whole_text_events}
 use Rattle.resp_scan.specs.Machine.Fields.{out_by, out_of, place_of}
 use Rattle.resp_scan.specs.Machine.Owed.{events_owed}
-use Rattle.resp_scan.specs.Machine.Passing.{HearsEvent, HearsStep, Passes, StepAnswers, TellsText, TurnsBy}
+use Rattle.resp_scan.specs.Machine.Passing.{HearsEvent, HearsStep, Passes, StepAnswers, TellsText, TurnsBy, gives}
 use Rattle.resp_scan.specs.Machine.Scan.{Out, More, Gave, Part, Whole, Bad, out_from}
 use Rattle.resp_scan.specs.Machine.Sound.{IsSound}
 use Rattle.resp_scan.specs.Machine.StepOutcomes.{after_bytes, after_step, out_of_event, out_of_part}
@@ -29,10 +28,10 @@ use Rattle.resp_scan.specs.Parts.{IsPartOf}
 use Rattle.resp_scan.specs.Reading.{Events, HasRead, IsFaulted, OnOtherEvent, events_of}
 use Rattle.resp_scan.specs.Slots.{Steps}
 use Rattle.resp_scan.proofs.CallClauses.Begins.{content_begins, whole_text_begins}
-use Rattle.resp_scan.proofs.CallClauses.Calls.{is_faulted, rules_stay}
-use Rattle.resp_scan.proofs.CallClauses.Faults.{fault_stands}
+use Rattle.resp_scan.proofs.CallClauses.Calls.{rules_stay}
+use Rattle.resp_scan.proofs.CallClauses.Faults.{is_faulted}
 use Rattle.resp_scan.proofs.CallClauses.Nearer.{IsNearer, is_nearer}
-use Rattle.resp_scan.proofs.CallClauses.Steps.{if_done, if_in_time, if_no_event, if_other_event, if_refused, stepped_is}
+use Rattle.resp_scan.proofs.CallClauses.Steps.{clauses, stepped_is}
 use Rattle.resp_scan.proofs.CallClauses.Told.{done_heard, told}
 use Rattle.resp_scan.proofs.CallClauses.Turns.{from_dead, not_failed, not_more, turn_told}
 use Rattle.resp_scan.proofs.Soundness.Counted.{IsCounted, counted_out, place_counted, sound_heard}
@@ -73,19 +72,18 @@ fault_again (Err other) s m p fault h f =
 pub steps_are : (result : Result Step Fault) (s : Place) (m : Machine) (p : List ℕ) → IsText p → IsSound s → StepAnswers s m p result →
     Steps s (place_of m) p result
 steps_are result s m p text sound h =
-    let stands = fault_stands s.taken result s (place_of m) p sound h.heard h.counted in
     let is = λ (front : List ℕ) (es : Events) (w : HasRead s front es).
-    stepped_is result s (place_of m) front es p text sound h.heard h.lent stands w in
+    clauses result s (place_of m) front es p (stepped_is result s (place_of m) front es p text sound h.heard h.lent h.counted w) in
     record {
-      no_event = λ front es w. if_no_event result s (place_of m) front es p (is front es w);
-      value_whole = λ front es w. if_done result s (place_of m) front es p (is front es w);
-      another_event = λ front es w. if_other_event result s (place_of m) front es p (is front es w);
-      in_time = λ front es w. if_in_time result s (place_of m) front es p (is front es w);
-      refusal = λ front es w. if_refused result s (place_of m) front es p (is front es w);
+      no_event = λ front es w. (is front es w).0;
+      value_whole = λ front es w. (is front es w).1;
+      another_event = λ front es w. (is front es w).2;
+      in_time = λ front es w. (is front es w).3;
+      refusal = λ front es w. (is front es w).4;
       within_piece = h.within;
       part_of_piece = h.lent;
       same_rules = rules_stay result s (place_of m) p sound h.heard;
-      fault_is_kept = is_faulted result (place_of m) stands;
+      fault_is_kept = is_faulted result s (place_of m) p sound h.heard h.counted;
       fault_is_final = λ fault f. fault_again result s m p fault h f;
     }
 
@@ -93,12 +91,12 @@ pub sound_step : (result : Result Step Fault) (s : Place) (m : Machine) (p : Lis
 sound_step result s m p sound h =
     sound_heard s.taken result (place_of m) (subst IsCounted (sym h.heard) (counted_out s (out_from s p) (is_advanced s p sound)))
 
--- What a tag passes.
+-- What a tag answers.
 
 -- an event by its tag
-event_answers : (taken : Taken) (m : Machine) (s : Place) (p : List ℕ) (w : EventTag) (x : Event) → IsSound s → out_of taken m ≡ out_from s p → taken.tag ≡ w →
-    out_of_event taken.used (Some x) (after_bytes taken.used (place_of m)) ≡ after_step (out_by w taken.used m) → IsPartOf p taken.used (Some x) →
-    StepAnswers s (record m { taken = m.taken + taken.used }) p (Ok (record { used = taken.used; event = Some x }))
+pub event_answers : (taken : Taken) (m : Machine) (s : Place) (p : List ℕ) (w : EventTag) (x : Event) → IsSound s → out_of taken m ≡ out_from s p →
+    taken.tag ≡ w → out_of_event taken.used (Some x) (after_bytes taken.used (place_of m)) ≡ after_step (out_by w taken.used m) →
+    IsPartOf p taken.used (Some x) → StepAnswers s (record m { taken = m.taken + taken.used }) p (gives taken.used x)
 event_answers taken m s p w x sound out by_tag heard lent = record {
   heard = told taken m s p w (Some x) out by_tag heard;
   within = (used_within taken m s p sound out).0;
@@ -108,61 +106,47 @@ event_answers taken m s p w x sound out by_tag heard lent = record {
   caused = tt;
 }
 
-pub event_passes : (T : Result Step Fault → Type 0) (X : ℕ → TextKind → List ℕ → Type 0) (taken : Taken) (m : Machine) (s : Place) (p : List ℕ) (w : EventTag)
-    (x : Event) → T (Ok (record { used = taken.used; event = Some x })) → IsSound s → out_of taken m ≡ out_from s p → taken.tag ≡ w →
-    out_of_event taken.used (Some x) (after_bytes taken.used (place_of m)) ≡ after_step (out_by w taken.used m) → IsPartOf p taken.used (Some x) →
-    Passes T X s (record m { taken = m.taken + taken.used }) p
-event_passes T X taken m s p w x takes sound out by_tag heard lent = inl (record {
-  step = Ok (record { used = taken.used; event = Some x });
-  takes = takes;
-  answers = event_answers taken m s p w x sound out by_tag heard lent;
-})
-
 -- the end of a value
-pub done_passes : (T : Result Step Fault → Type 0) (X : ℕ → TextKind → List ℕ → Type 0) (taken : Taken) (m : Machine) (s : Place) (p : List ℕ) →
-    T (Ok (record { used = taken.used; event = Some event.Done })) → IsSound s → out_of taken m ≡ out_from s p → taken.tag ≡ tag.Done →
-    Passes T X s (record m { taken = m.taken + taken.used }) p
-done_passes T X taken m s p takes sound out by_tag =
-    event_passes T X taken m s p tag.Done event.Done takes sound out by_tag
+pub done_answers : (taken : Taken) (m : Machine) (s : Place) (p : List ℕ) → IsSound s → out_of taken m ≡ out_from s p → taken.tag ≡ tag.Done →
+    StepAnswers s (record m { taken = m.taken + taken.used }) p (gives taken.used event.Done)
+done_answers taken m s p sound out by_tag =
+    event_answers taken m s p tag.Done event.Done sound out by_tag
     (done_heard taken.used (place_of m) (done_none taken m s p sound out by_tag).1) tt
 
 -- the end of the piece
-pub more_passes : (T : Result Step Fault → Type 0) (X : ℕ → TextKind → List ℕ → Type 0) (taken : Taken) (m : Machine) (s : Place) (p : List ℕ) →
-    T (Ok (record { used = taken.used; event = None })) → IsSound s → out_of taken m ≡ out_from s p → taken.tag ≡ tag.More →
-    Passes T X s (record m { taken = m.taken + taken.used }) p
-more_passes T X taken m s p takes sound out by_tag = inl (record {
-  step = Ok (record { used = taken.used; event = None });
-  takes = takes;
-  answers = record {
-    heard = told taken m s p tag.More None out by_tag refl;
-    within = (used_within taken m s p sound out).0;
-    lent = tt;
-    whole_piece = λ none. subst (λ w. Takes (length p) (out_by w taken.used m)) by_tag (said_kept taken m s p sound out).1;
-    counted = tt;
-    caused = tt;
-  };
-})
+pub more_answers : (taken : Taken) (m : Machine) (s : Place) (p : List ℕ) → IsSound s → out_of taken m ≡ out_from s p → taken.tag ≡ tag.More →
+    StepAnswers s (record m { taken = m.taken + taken.used }) p (Ok (record { used = taken.used; event = None }))
+more_answers taken m s p sound out by_tag = record {
+  heard = told taken m s p tag.More None out by_tag refl;
+  within = (used_within taken m s p sound out).0;
+  lent = tt;
+  whole_piece = λ none. subst (λ w. Takes (length p) (out_by w taken.used m)) by_tag (said_kept taken m s p sound out).1;
+  counted = tt;
+  caused = tt;
+}
 
 -- a refused byte
-pub failed_passes : (T : Result Step Fault → Type 0) (X : ℕ → TextKind → List ℕ → Type 0) (taken : Taken) (m : Machine) (s : Place) (p : List ℕ) →
-    T (Err (record { cause = m.cause; at = m.taken + taken.used })) → IsSound s → out_of taken m ≡ out_from s p → taken.tag ≡ tag.Failed →
-    Passes T X s (record m { taken = m.taken + taken.used }) p
-failed_passes T X taken m s p takes sound out by_tag =
+pub failed_answers : (taken : Taken) (m : Machine) (s : Place) (p : List ℕ) → IsSound s → out_of taken m ≡ out_from s p → taken.tag ≡ tag.Failed →
+    StepAnswers s (record m { taken = m.taken + taken.used }) p (Err (record { cause = m.cause; at = m.taken + taken.used }))
+failed_answers taken m s p sound out by_tag =
     let f = failed_is taken m s p sound out by_tag in
     let size : (m.taken + taken.used) - s.taken ≡ taken.used = omega (arith, f.1) in
-    inl (record {
-      step = Err (record { cause = m.cause; at = m.taken + taken.used });
-      takes = takes;
-      answers = record {
-        heard = ap (λ t. Bad ((m.taken + taken.used) - s.taken) m.cause t) (place_counted m taken.used)
-            ∙ ap (λ n. Bad n m.cause (after_bytes taken.used (place_of m))) size ∙ ap after_step (sym f.0);
-        within = tt;
-        lent = tt;
-        whole_piece = tt;
-        counted = refl;
-        caused = refl;
-      };
-    })
+    record {
+      heard = ap (λ t. Bad ((m.taken + taken.used) - s.taken) m.cause t) (place_counted m taken.used)
+          ∙ ap (λ n. Bad n m.cause (after_bytes taken.used (place_of m))) size ∙ ap after_step (sym f.0);
+      within = tt;
+      lent = tt;
+      whole_piece = tt;
+      counted = refl;
+      caused = refl;
+    }
+
+-- What is passed.
+
+-- the result of a step
+pub step_passes : {T : Result Step Fault → Type 0} {X : ℕ → TextKind → List ℕ → Type 0} {s : Place} {m : Machine} {p : List ℕ} {result : Result Step Fault} →
+    StepAnswers s m p result → T result → Passes T X s m p
+step_passes {result = result} answers takes = inl (record { step = result; takes = takes; answers = answers })
 
 -- a text
 pub text_passes : (T : Result Step Fault → Type 0) (X : ℕ → TextKind → List ℕ → Type 0) (s : Place) (m : Machine) (p : List ℕ) (used : ℕ) (k : TextKind)
@@ -228,10 +212,10 @@ nearer_by s t n event.Done passed h none = absurd passed
 -- an event was passed
 event_turn : {O : Type 0} (s : Place) (m : Machine) (p : List ℕ) (HadHeard HasHeard HasStopped : O → Events → Type 0) (used : ℕ) (x : Event) (goes_on : Bool) →
     IsText p → IsSound s → IsOther x → Hears HadHeard HasHeard HasStopped (events_of x) goes_on →
-    StepAnswers s m p (Ok (record { used = used; event = Some x })) →
+    StepAnswers s m p (gives used x) →
     IsTurn O s (place_of m) HadHeard HasHeard HasStopped p (record { used = used; turn = turn_of goes_on })
 event_turn s m p HadHeard HasHeard HasStopped used x goes_on text sound passed hears answers =
-    let result : Result Step Fault = Ok (record { used = used; event = Some x }) in
+    let result : Result Step Fault = gives used x in
     let steps = steps_are result s m p text sound answers in
     let there = sound_step result s m p sound answers in
     record {
@@ -255,14 +239,14 @@ text_turn : {O : Type 0} (s : Place) (m : Machine) (p : List ℕ) (HadHeard HasH
     IsTurn O s (place_of m) HadHeard HasHeard HasStopped p (record { used = used; turn = turn_of goes_on })
 text_turn s m p HadHeard HasHeard HasStopped used k bytes goes_on hears tells = record {
   sound = tells.sound;
-  rules = tells.rules;
-  within = tells.of_piece.within;
+  rules = tells.steps.same_rules;
+  within = tells.steps.of_piece.within;
   whole_piece = λ more. absurd (not_more goes_on more);
-  dead = λ fault f. absurd (tells.no_fault fault f);
-  nearer = λ on none. absurd (omega (arith, tells.of_piece.has_end, none));
+  dead = λ fault f. absurd (tells.steps.no_fault fault f);
+  nearer = λ on none. absurd (omega (arith, tells.steps.of_piece.has_end, none));
   outcome = λ since front given w had.
-      turn_told s (place_of m) (HasHeard since) (HasStopped since) front given p used (whole_text_events k bytes) goes_on tells.sound tells.rules
-      (whole_text_begins k bytes) (tells.reads front given w) (hears since given had);
+      turn_told s (place_of m) (HasHeard since) (HasStopped since) front given p used (whole_text_events k bytes) goes_on tells.sound tells.steps.same_rules
+      (whole_text_begins k bytes) (tells.steps.reads front given w) (hears since given had);
 }
 
 -- What a listener was passed is a turn. After a refused byte the machine answers the refusal.
@@ -277,7 +261,7 @@ turn_is {O = O} s m p HadHeard HasHeard HasStopped IsLeft turned text sound same
     IsOne turned = IsTurn O s (place_of m) HadHeard HasHeard HasStopped p turned × (turned.turn ≡ turn.Failed → (place_of m).token ≡ Dead m.cause)
 
     other : (used : ℕ) (x : Event) → IsOther x → TurnsBy used turned (Hears HadHeard HasHeard HasStopped (events_of x)) →
-        StepAnswers s m p (Ok (record { used = used; event = Some x })) → IsOne turned
+        StepAnswers s m p (gives used x) → IsOne turned
     other used x is takes answers = subst IsOne (sym takes.1) (
       event_turn s m p HadHeard HasHeard HasStopped used x takes.0 text sound is takes.2 answers,
       λ failed. absurd (not_failed takes.0 failed),
@@ -301,7 +285,7 @@ turn_is {O = O} s m p HadHeard HasHeard HasStopped IsLeft turned text sound same
           λ failed. absurd (cc),
         )
     by_event used (Some event.Done) takes answers =
-        let result : Result Step Fault = Ok (record { used = used; event = Some event.Done }) in
+        let result : Result Step Fault = gives used event.Done in
         let steps = steps_are result s m p text sound answers in
         subst IsOne (sym takes.0) (
           record {
@@ -357,17 +341,17 @@ no_bytes : (m : Machine) → record m { taken = m.taken + 0 } ≡ m
 no_bytes m = ap (λ k. record m { taken = k }) (let z : m.taken + 0 ≡ m.taken = omega arith in z)
 
 -- a value has ended
-pub is_ended : {O : Type 0} (m : Machine) (s : Place) (p : List ℕ) (HasHeard HasStopped : O → Events → Type 0) → IsText p → IsSound s →
+pub is_ended : {O : Type 0} {s : Place} {p : List ℕ} {HasHeard HasStopped : O → Events → Type 0} (m : Machine) → IsText p → IsSound s →
     out_by tag.Done 0 m ≡ out_from s p → IsTurn O s (place_of m) HasHeard HasHeard HasStopped p (record { used = 0; turn = turn.Done })
-is_ended {O = O} m s p HasHeard HasStopped text sound out =
-    subst (λ n. IsTurn O s (place_of n) HasHeard HasHeard HasStopped p (record { used = 0; turn = turn.Done })) (no_bytes m)
-    (turn_is s (record m { taken = m.taken + 0 }) p HasHeard HasHeard HasStopped (Unit {0}) (record { used = 0; turn = turn.Done }) text sound
-    (λ left since given had. had) (done_passes _ _ (record { used = 0; tag = tag.Done }) m s p (refl, tt) sound out refl)).0
+is_ended {O = O} {s = s} {p = p} {HasHeard = H} {HasStopped = M} m text sound out =
+    subst (λ n. IsTurn O s (place_of n) H H M p (record { used = 0; turn = turn.Done })) (no_bytes m)
+    (turn_is s (record m { taken = m.taken + 0 }) p H H M (Unit {0}) (record { used = 0; turn = turn.Done }) text sound
+    (λ left since given had. had) (step_passes (done_answers (record { used = 0; tag = tag.Done }) m s p sound out refl) (refl, tt))).0
 
 -- the piece has ended
-pub is_used_up : {O : Type 0} (m : Machine) (s : Place) (p : List ℕ) (HasHeard HasStopped : O → Events → Type 0) → IsText p → IsSound s →
+pub is_used_up : {O : Type 0} {s : Place} {p : List ℕ} {HasHeard HasStopped : O → Events → Type 0} (m : Machine) → IsText p → IsSound s →
     out_by tag.More 0 m ≡ out_from s p → IsTurn O s (place_of m) HasHeard HasHeard HasStopped p (record { used = 0; turn = turn.More })
-is_used_up {O = O} m s p HasHeard HasStopped text sound out =
-    subst (λ n. IsTurn O s (place_of n) HasHeard HasHeard HasStopped p (record { used = 0; turn = turn.More })) (no_bytes m)
-    (turn_is s (record m { taken = m.taken + 0 }) p HasHeard HasHeard HasStopped (Unit {0}) (record { used = 0; turn = turn.More }) text sound
-    (λ left since given had. had) (more_passes _ _ (record { used = 0; tag = tag.More }) m s p (refl, tt) sound out refl)).0
+is_used_up {O = O} {s = s} {p = p} {HasHeard = H} {HasStopped = M} m text sound out =
+    subst (λ n. IsTurn O s (place_of n) H H M p (record { used = 0; turn = turn.More })) (no_bytes m)
+    (turn_is s (record m { taken = m.taken + 0 }) p H H M (Unit {0}) (record { used = 0; turn = turn.More }) text sound
+    (λ left since given had. had) (step_passes (more_answers (record { used = 0; tag = tag.More }) m s p sound out refl) (refl, tt))).0

@@ -8,11 +8,11 @@ use Rattle.resp_scan.specs.declared.event.Step.{Step}
 use Rattle.resp_scan.specs.declared.event.TextKind.{TextKind}
 use Rattle.resp_scan.specs.declared.machine.Machine.{Machine}
 use Rattle.resp_scan.specs.Machine.Fields.{place_of}
-use Rattle.resp_scan.specs.Machine.Passing.{Passes, StepAnswers, TellsText}
+use Rattle.resp_scan.specs.Machine.Passing.{Passes, StepAnswers}
 use Rattle.resp_scan.specs.Machine.Slots.{FillsEvent, FillsSlot, FillsStep}
 use Rattle.resp_scan.specs.Machine.Sound.{IsSound}
 use Rattle.resp_scan.specs.Machine.Tokens.{Place}
-use Rattle.resp_scan.specs.Slots.{IfNothingShown, IfNotShown, IfShown, ShowsEvent, ShowsText, Steps, StepsOverText}
+use Rattle.resp_scan.specs.Slots.{IfNothingShown, IfNotShown, IfShown, ShowsEvent, ShowsText, Steps}
 use Rattle.resp_scan.proofs.CallClauses.Passing.{sound_step, steps_are}
 
 -- The slot of the call shows what the slot of its turn shows.
@@ -47,17 +47,6 @@ sound_after E T IsLeft result s m p sound (inl h) = sound_step h.step s m p soun
 sound_after E T IsLeft result s m p sound (inr h) = h.tells.sound
 
 -- The clauses of the call.
-
--- a text told whole, in the words of callers
-steps_over_text : (s : Place) (m : Machine) (p : List ℕ) (used : ℕ) (k : TextKind) (bytes : List ℕ) → TellsText s (place_of m) p used k bytes →
-    StepsOverText s (place_of m) p used k bytes
-steps_over_text s m p used k bytes told = record {
-  of_piece = told.of_piece;
-  reads = told.reads;
-  in_time = told.in_time;
-  same_rules = told.rules;
-  no_fault = told.no_fault;
-}
 
 -- all of them
 pub record IsFilled (E : Event → Type 0) (T : TextKind → List ℕ → Type 0) (IsLeft : Type 0) (s t : Place) (p : List ℕ) (result : Result (Option ℕ) Fault) :
@@ -101,7 +90,7 @@ is_filled E T IsLeft result s m p text sound (inr h) = subst (IsFilled E T IsLef
     bytes = h.bytes;
     is_text = h.is_text;
     shows = h.takes.1;
-    steps = steps_over_text s m p h.used h.kind h.bytes h.tells;
+    steps = h.tells.steps;
   });
   used_up = tt;
   refused = tt;

@@ -14,7 +14,7 @@ use Rattle.resp_scan.specs.declared.event.Event.{Event}
 use Rattle.resp_scan.specs.declared.event.Event.TheVariants as event
 use Rattle.resp_scan.specs.declared.event.Step.{Step}
 use Rattle.resp_scan.specs.declared.event.Fault.{Fault}
-use Rattle.resp_scan.specs.Machine.Tokens.{Place, Dead}
+use Rattle.resp_scan.specs.Machine.Tokens.{Place}
 use Rattle.resp_scan.specs.Machine.Scan.{Out, More, Gave, Part, Whole, Bad, out_from}
 use Rattle.resp_scan.specs.Parts.{IsPartOf, IsOfPiece, IsRun}
 use Rattle.resp_scan.specs.Machine.StepOutcomes.{out_of_step, out_of_event, out_of_part, after_step}
@@ -166,64 +166,33 @@ Outcome s t front es p (Err fault) = IsRefused (rules_of s) front es p fault
 -- What a step answers.
 pub stepped_is : (result : Result Step Fault) (s t : Place) (front : List ℕ) (es : List e.Event) (p : List ℕ) → IsText p → IsSound s →
     out_of_step s.taken result t ≡ after_step (out_from s p) → IfOk result (λ step. IsOfPiece p step) →
-    IfErr result (λ fault. (fault.at ≡ t.taken) × (t.token ≡ Dead fault.cause)) → HasRead s front es →
-    Outcome s t front es p result
+    IfErr result (λ fault. fault.at ≡ t.taken) → HasRead s front es → Outcome s t front es p result
 stepped_is (Ok step) s t front es p text sound h part fault w =
     let fits : length front ≤ s.bounds.total = omega (arith, w.taken, sound.total) in
     heard_is s t front es p step.used step.event w.taken fits part
     (subst (Shown s front es p) (sym h) (shown s front es p (out_from s p) (is_advanced s p sound) (answered s front es p text sound w.taken w.stands)))
 stepped_is (Err x) s t front es p text sound h part fault w =
-    refused_is s t front es p x w.taken fault.0
+    refused_is s t front es p x w.taken fault
     (subst (Shown s front es p) (sym h) (shown s front es p (out_from s p) (is_advanced s p sound) (answered s front es p text sound w.taken w.stands)))
 
 -- The clauses.
 
--- no event
-pub if_no_event : (result : Result Step Fault) (s t : Place) (front : List ℕ) (es : List e.Event) (p : List ℕ) → Outcome s t front es p result →
-    IfNoEvent result (UsesUp t front es p)
-if_no_event (Err fault) s t front es p h = tt
-if_no_event (Ok step) s t front es p h = by_event step.event h
-  where
-    by_event : (x : Option Event) → OutcomeOf s t front es p step.used x → IfNone x (UsesUp t front es p step.used)
-    by_event None h = h
-    by_event (Some x) h = tt
+-- those of a step that refuses no byte
+abbrev EventClauses : Place → Place → List ℕ → List e.Event → List ℕ → ℕ → Option Event → Type 0
+EventClauses s t front es p n x = IfNone x (UsesUp t front es p n) × OnDone x (EndsValue (rules_of s) t front es n) ×
+    OnOtherEvent x (λ other. HasRead t (front ++ take n p) (es ++ events_of other)) × OnOtherEvent x (ComesInTime front es p n)
 
--- a value whole
-pub if_done : (result : Result Step Fault) (s t : Place) (front : List ℕ) (es : List e.Event) (p : List ℕ) → Outcome s t front es p result →
-    IfDone result (EndsValue (rules_of s) t front es)
-if_done (Err fault) s t front es p h = tt
-if_done (Ok step) s t front es p h = by_event step.event h
-  where
-    by_event : (x : Option Event) → OutcomeOf s t front es p step.used x → OnDone x (EndsValue (rules_of s) t front es step.used)
-    by_event None h = tt
-    by_event (Some event.Done) h = h
-    by_event (Some x) h = tt
+event_clauses : (s t : Place) (front : List ℕ) (es : List e.Event) (p : List ℕ) (n : ℕ) (x : Option Event) → OutcomeOf s t front es p n x →
+    EventClauses s t front es p n x
+event_clauses s t front es p n None h = (h, tt, tt, tt)
+event_clauses s t front es p n (Some event.Done) h = (tt, h, tt, tt)
+event_clauses s t front es p n (Some x) h = (tt, tt, h.0, h.1)
 
--- another event
-pub if_other_event : (result : Result Step Fault) (s t : Place) (front : List ℕ) (es : List e.Event) (p : List ℕ) → Outcome s t front es p result →
-    IfOtherEvent result (λ used x. HasRead t (front ++ take used p) (es ++ events_of x))
-if_other_event (Err fault) s t front es p h = tt
-if_other_event (Ok step) s t front es p h = by_event step.event h
-  where
-    by_event : (x : Option Event) → OutcomeOf s t front es p step.used x →
-        OnOtherEvent x (λ other. HasRead t (front ++ take step.used p) (es ++ events_of other))
-    by_event None h = tt
-    by_event (Some event.Done) h = tt
-    by_event (Some x) h = h.0
-
--- it comes in time
-pub if_in_time : (result : Result Step Fault) (s t : Place) (front : List ℕ) (es : List e.Event) (p : List ℕ) → Outcome s t front es p result →
-    IfOtherEvent result (ComesInTime front es p)
-if_in_time (Err fault) s t front es p h = tt
-if_in_time (Ok step) s t front es p h = by_event step.event h
-  where
-    by_event : (x : Option Event) → OutcomeOf s t front es p step.used x → OnOtherEvent x (ComesInTime front es p step.used)
-    by_event None h = tt
-    by_event (Some event.Done) h = tt
-    by_event (Some x) h = h.1
-
--- a refusal
-pub if_refused : (result : Result Step Fault) (s t : Place) (front : List ℕ) (es : List e.Event) (p : List ℕ) → Outcome s t front es p result →
+pub clauses : (result : Result Step Fault) (s t : Place) (front : List ℕ) (es : List e.Event) (p : List ℕ) → Outcome s t front es p result →
+    IfNoEvent result (UsesUp t front es p) × IfDone result (EndsValue (rules_of s) t front es) ×
+    IfOtherEvent result (λ used x. HasRead t (front ++ take used p) (es ++ events_of x)) × IfOtherEvent result (ComesInTime front es p) ×
     IfErr result (IsRefused (rules_of s) front es p)
-if_refused (Err fault) s t front es p h = h
-if_refused (Ok step) s t front es p h = tt
+clauses (Ok step) s t front es p h =
+    let c = event_clauses s t front es p step.used step.event h in
+    (c.0, c.1, c.2, c.3, tt)
+clauses (Err fault) s t front es p h = (tt, tt, tt, tt, h)

@@ -160,26 +160,28 @@ whole_text s m m' n run k t p text sound here ends runs ends_text rules there wi
     let head : n ≡ used - (run + 2) = omega arith in
     subst (λ x. TellsText s x p used k bytes) there (record {
       sound = sound_text_ends u t (drop n p) run sound_u ends runs ends_text;
-      rules = rules ∙ kept.0.rules;
-      no_fault = λ fault f. absurd (let z : Gave n (Text k) (place_of m) ≡ Bad 0 fault.cause s = here ∙ from_dead s p fault f in cc);
-      of_piece = record {
-        within = within;
-        has_end = omega (arith, count);
-        lent = ap (λ j. take run (drop j p)) head ∙ ap (λ j. take j (drop (used - (j + 2)) p)) (sym count);
+      steps = record {
+        same_rules = rules ∙ kept.0.rules;
+        no_fault = λ fault f. absurd (let z : Gave n (Text k) (place_of m) ≡ Bad 0 fault.cause s = here ∙ from_dead s p fault f in cc);
+        of_piece = record {
+          within = within;
+          has_end = omega (arith, count);
+          lent = ap (λ j. take run (drop j p)) head ∙ ap (λ j. take j (drop (used - (j + 2)) p)) (sym count);
+        };
+        reads = λ front given w.
+            let read = text_ends u t (front ++ take n p) (given ++ e.Text (text_kind_of k) ∷ []) (drop n p) run (text_after n p text) sound_u
+            (reads_more s front given p (Gave n (Text k) (place_of m)) text sound here w) ends runs ends_text in
+            let all : (front ++ take n p) ++ take (run + 2) (drop n p) ≡ front ++ take used p =
+            append_assoc front (take n p) (take (run + 2) (drop n p)) ∙
+            ap (λ z. front ++ z) (taken_on n (run + 2) p ∙ ap (λ j. take j p) (let z : n + (run + 2) ≡ used = omega arith in z)) in
+            subst (λ z. HasRead last z (given ++ whole_text_events k bytes)) all
+            (subst (HasRead last ((front ++ take n p) ++ take (run + 2) (drop n p)))
+            (append_assoc given (e.Text (text_kind_of k) ∷ []) (content_events bytes ++ e.TextEnd ∷ [])) read);
+        in_time = λ front given w some.
+            let before : n - 1 ≡ used - (length bytes + 3) = omega (arith, count) in
+            subst (λ j. AreDue (front ++ take j p) given) before
+            ((shows s front given p (Gave n (Text k) (place_of m)) text sound here w).3 (omega (arith, count, some)));
       };
-      reads = λ front given w.
-          let read = text_ends u t (front ++ take n p) (given ++ e.Text (text_kind_of k) ∷ []) (drop n p) run (text_after n p text) sound_u
-          (reads_more s front given p (Gave n (Text k) (place_of m)) text sound here w) ends runs ends_text in
-          let all : (front ++ take n p) ++ take (run + 2) (drop n p) ≡ front ++ take used p =
-          append_assoc front (take n p) (take (run + 2) (drop n p)) ∙
-          ap (λ z. front ++ z) (taken_on n (run + 2) p ∙ ap (λ j. take j p) (let z : n + (run + 2) ≡ used = omega arith in z)) in
-          subst (λ z. HasRead last z (given ++ whole_text_events k bytes)) all
-          (subst (HasRead last ((front ++ take n p) ++ take (run + 2) (drop n p)))
-          (append_assoc given (e.Text (text_kind_of k) ∷ []) (content_events bytes ++ e.TextEnd ∷ [])) read);
-      in_time = λ front given w some.
-          let before : n - 1 ≡ used - (length bytes + 3) = omega (arith, count) in
-          subst (λ j. AreDue (front ++ take j p) given) before
-          ((shows s front given p (Gave n (Text k) (place_of m)) text sound here w).3 (omega (arith, count, some)));
     })
 
 -- The tags.

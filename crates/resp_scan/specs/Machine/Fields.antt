@@ -1,5 +1,5 @@
 -- The meaning of the fields of a machine.
-use Rattle.std.specs.Prelude.{ℕ, ◌+◌, reverse, slice_index, Some, None}
+use Rattle.std.specs.Prelude.{◌≡◌, ℕ, ◌+◌, List, drop, reverse, slice_index, Some, None}
 use Rattle.resp_scan.specs.declared.machine.State.{State}
 use Rattle.resp_scan.specs.declared.machine.State.TheVariants as state
 use Rattle.resp_scan.specs.declared.machine.EventTag.{EventTag}
@@ -7,8 +7,8 @@ use Rattle.resp_scan.specs.declared.machine.EventTag.TheVariants as tag
 use Rattle.resp_scan.specs.declared.machine.Machine.{Machine}
 use Rattle.resp_scan.specs.declared.machine.Taken.{Taken}
 use Rattle.resp_scan.specs.declared.event.TextKind.TheVariants as text
-use Rattle.resp_scan.specs.Machine.Tokens.{Token, Place, token_at_boundary, Null, Truth, Int, Text, Digit, TextEnd, Open, Close, AtStart, InLine, AtLineLf, AtIntSign, AtIntFirst, InInt, AtIntLf, AtBigSign, AtBigFirst, InBigZeros, AtBigZeroLf, AtBigDigit, InBig, AtTextEnd, AtNullOne, AtNullCr, AtNullLf, AtBool, AtBoolCr, AtBoolLf, AtBulkHead, AtArrayHead, AtHead, InHead, AtHeadLf, AtFormat, AtFormatSecond, AtFormatThird, AtFormatColon, InContent, AtContentCr, AtContentLf, AtStreamCr, AtStreamLf, AtChunk, InChunk, AtChunkCr, AtChunkLf, AtOpenCr, AtOpenLf, AtCloseCr, AtCloseLf, Dead}
-use Rattle.resp_scan.specs.Machine.Scan.{Out, More, Gave, Part, Whole, Bad}
+use Rattle.resp_scan.specs.Machine.Tokens.{Token, Place, at, token_at_boundary, Null, Truth, Int, Text, Digit, TextEnd, Open, Close, AtStart, InLine, AtLineLf, AtIntSign, AtIntFirst, InInt, AtIntLf, AtBigSign, AtBigFirst, InBigZeros, AtBigZeroLf, AtBigDigit, InBig, AtTextEnd, AtNullOne, AtNullCr, AtNullLf, AtBool, AtBoolCr, AtBoolLf, AtBulkHead, AtArrayHead, AtHead, InHead, AtHeadLf, AtFormat, AtFormatSecond, AtFormatThird, AtFormatColon, InContent, AtContentCr, AtContentLf, AtStreamCr, AtStreamLf, AtChunk, InChunk, AtChunkCr, AtChunkLf, AtOpenCr, AtOpenLf, AtCloseCr, AtCloseLf, Dead}
+use Rattle.resp_scan.specs.Machine.Scan.{Out, More, Gave, Part, Whole, Bad, scan}
 
 -- the token of a state, with the fields that it uses
 abbrev pub token_at : State → Machine → Token
@@ -95,3 +95,7 @@ out_by tag.Done n m = Whole (record (place_of m) { taken = m.taken + n })
 -- the meaning of a result and of the machine after it
 abbrev pub out_of : Taken → Machine → Out
 out_of g m = out_by g.tag g.used m
+
+-- the machine has read the piece from this index on, at this token
+abbrev pub Reads : Machine → Machine → Token → List ℕ → ℕ → Taken → Type 0
+Reads old new token piece i result = out_of result new ≡ scan i (at (place_of old) token) (drop i piece)

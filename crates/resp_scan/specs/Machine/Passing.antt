@@ -1,5 +1,5 @@
 -- One turn of the machine: the result of a step, or a text, that was passed to a receiver.
-use Rattle.std.specs.Prelude.{◌≡◌, ◌⊎◌, ℕ, ◌≤◌, Bool, List, ◌++◌, length, take, Option, None, Some, Result, Ok, Err, IfOk, IfErr}
+use Rattle.std.specs.Prelude.{◌≡◌, ◌⊎◌, ℕ, ◌≤◌, Bool, List, length, Option, None, Some, Result, Ok, Err, IfOk, IfErr}
 use Rattle.resp_scan.specs.declared.event.Event.{Event}
 use Rattle.resp_scan.specs.declared.event.Event.TheVariants as event
 use Rattle.resp_scan.specs.declared.event.Fault.{Fault}
@@ -11,8 +11,7 @@ use Rattle.resp_scan.specs.declared.turn.Stands.{Stands}
 use Rattle.resp_scan.specs.declared.turn.Stands.TheVariants as stands
 use Rattle.resp_scan.specs.declared.listen.Turn.TheVariants.{More, Done, Failed}
 use Rattle.resp_scan.specs.declared.listen.Turned.{Turned}
-use Rattle.resp_scan.specs.Kinds.{rules_of}
-use Rattle.resp_scan.specs.Listening.{IsTextOf, whole_text_events}
+use Rattle.resp_scan.specs.Listening.{IsTextOf}
 use Rattle.resp_scan.specs.Machine.Fields.{out_by, place_of}
 use Rattle.resp_scan.specs.Machine.Scan.{out_from, scan}
 use Rattle.resp_scan.specs.Machine.Sound.{IsSound}
@@ -20,8 +19,12 @@ use Rattle.resp_scan.specs.Machine.StepOutcomes.{after_step, out_of_step}
 use Rattle.resp_scan.specs.Machine.Tokens.{AtStart, Place, at}
 use Rattle.resp_scan.specs.Machine.Turns.{turn_of}
 use Rattle.resp_scan.specs.Parts.{IsOfPiece}
-use Rattle.resp_scan.specs.Reading.{Events, HasRead, IsFaulted, events_of}
-use Rattle.resp_scan.specs.Slots.{IsTextOfPiece, TextComesInTime}
+use Rattle.resp_scan.specs.Reading.{Events, events_of}
+use Rattle.resp_scan.specs.Slots.{StepsOverText}
+
+-- the result of a step that gives this event
+abbrev pub gives : ℕ → Event → Result Step Fault
+gives used x = Ok (record { used = used; event = Some x })
 
 -- the result of a step, with the machine after it
 pub record StepAnswers (s : Place) (m : Machine) (piece : List ℕ) (result : Result Step Fault) : Type 0 where
@@ -32,15 +35,10 @@ pub record StepAnswers (s : Place) (m : Machine) (piece : List ℕ) (result : Re
   pub counted : IfErr result (λ fault. fault.at ≡ m.taken)
   pub caused : IfErr result (λ fault. fault.cause ≡ m.cause)
 
--- a text passed in one call leads from one place to another
+-- a text passed in one call leads from one place to a sound one
 pub record TellsText (s t : Place) (piece : List ℕ) (used : ℕ) (kind : TextKind) (bytes : List ℕ) : Type 0 where
   pub sound : IsSound t
-  pub rules : rules_of t ≡ rules_of s
-  pub no_fault : (fault : Fault) → IsFaulted s fault → ⊥
-  pub of_piece : IsTextOfPiece piece used bytes
-  pub reads : (front : List ℕ) (given : Events) → HasRead s front given →
-      HasRead t (front ++ take used piece) (given ++ whole_text_events kind bytes)
-  pub in_time : (front : List ℕ) (given : Events) → HasRead s front given → TextComesInTime front given piece used bytes
+  pub steps : StepsOverText s t piece used kind bytes
 
 -- the result of a step was passed
 pub record PassesStep (Takes : Result Step Fault → Type 0) (s : Place) (m : Machine) (piece : List ℕ) : Type 0 where

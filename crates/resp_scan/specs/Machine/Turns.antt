@@ -1,9 +1,12 @@
 -- The result of one turn of the loop, for every front that was read and all events that the listener has received.
 use Rattle.std.specs.Str.{byte}
-use Rattle.std.specs.Prelude.{◌≡◌, ◌⊎◌, ◌+◌, ◌-◌, ◌*◌, get_or, Bool, true, false, ℕ, ◌<◌, ◌≤◌, List, ◌++◌, length, take}
+use Rattle.std.specs.Prelude.{◌≡◌, ◌⊎◌, ◌+◌, ◌-◌, ◌*◌, get_or, Bool, true, false, ℕ, ◌<◌, ◌≤◌, List, ◌++◌, length, take, Result, Err, IfOk, IfErr}
 use Rattle.resp_value.specs.Rules.{Rules, WithinTotal}
 use Rattle.resp_value.specs.Spellings.{IsViable}
 use Rattle.resp_scan.specs.declared.event.Fault.{Fault}
+use Rattle.resp_scan.specs.declared.event.Scanned.{Scanned}
+use Rattle.resp_scan.specs.declared.event.ScanError as error
+use Rattle.resp_scan.specs.declared.event.ScanError.TheVariants as stop
 use Rattle.resp_scan.specs.declared.listen.Turn.{Turn}
 use Rattle.resp_scan.specs.declared.listen.Turned.{Turned}
 use Rattle.resp_scan.specs.declared.listen.Turn.TheVariants.{On, More, Done, Failed, Stopped}
@@ -15,6 +18,7 @@ use Rattle.resp_scan.specs.declared.event.TextKind.{TextKind}
 use Rattle.resp_scan.specs.declared.event.TextKind.TheVariants as text
 use Rattle.resp_scan.specs.Counts.{begin_count}
 use Rattle.resp_scan.specs.Kinds.{rules_of}
+use Rattle.resp_scan.specs.Listening.{HearsPiece, HearsRefusal, HearsValue, IfRefused, IfStopped, IfUsedUp, IfWhole, StopsAfter, WhereHeard, fault_of}
 use Rattle.resp_scan.specs.Machine.Tokens.{Place}
 use Rattle.resp_scan.specs.Machine.Owed.{events_owed}
 use Rattle.resp_scan.specs.Machine.Sound.{IsSound}
@@ -66,6 +70,23 @@ pub record IsTurn (O : Type 0) (s t : Place) (HadHeard HasHeard HasStopped : O �
   pub nearer : turned.turn ≡ On → turned.used ≡ 0 → length (events_owed t) < length (events_owed s)
   pub outcome : (since : O) (front : List ℕ) (given : Events) → HasRead s front given → HadHeard since given →
       OutcomeOfTurn s t (HasHeard since) (HasStopped since) front given piece turned.used turned.turn
+
+-- The result of the loop over a piece, in the words of the contract of a scan. The place that it leaves is sound.
+pub record IsScanned (O : Type 0) (s t : Place) (HadHeard HasHeard HasStopped : O → Events → Type 0) (piece : List ℕ)
+    (result : Result Scanned error.ScanError) : Type 0 where
+  pub sound : IsSound t
+  pub value_whole : WhereHeard s HadHeard (λ since front.
+      IfWhole result (λ used. HearsValue (rules_of s) t (HasHeard since) (front ++ take used piece)))
+  pub used_up : WhereHeard s HadHeard (λ since front. IfUsedUp result (HearsPiece t (HasHeard since) (front ++ piece)))
+  pub refusal : WhereHeard s HadHeard (λ since front.
+      IfRefused result (HearsRefusal (rules_of s) (HasHeard since) front piece))
+  pub stopped : WhereHeard s HadHeard (λ since front.
+      IfStopped result (StopsAfter (rules_of s) (HasStopped since) front piece))
+  pub within_piece : IfOk result (λ scanned. scanned.used ≤ length piece)
+  pub whole_piece : IfOk result (λ scanned. scanned.is_whole ≡ false → scanned.used ≡ length piece)
+  pub same_rules : rules_of t ≡ rules_of s
+  pub fault_is_kept : IfErr result (λ stop. IsFaulted t (fault_of stop))
+  pub fault_is_final : (fault : Fault) → IsFaulted s fault → (result ≡ Err (stop.Fault fault)) × (t ≡ s)
 
 -- the result of a listener's decision
 abbrev pub turn_of : Bool → Turn

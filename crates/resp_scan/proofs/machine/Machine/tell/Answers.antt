@@ -1,13 +1,10 @@
-use mir.Syntax.{w64}
-use mir.Val.{of_z, to_z}
-use Rattle.std.proofs.Common.{rules, ◌≡◌, refl, subst, ◌+◌, length, Some, None, ap, sym, ◌∙◌, arith}
-use Rattle.std.specs.Prelude.{Ok}
+use Rattle.std.proofs.Common.{rules, refl, ◌+◌, length, Some, None, ap, sym, ◌∙◌, arith}
 use Rattle.std.proofs.lemmas.List.{length-take-le}
 use Rattle.resp_scan.specs.declared.event.Event.TheVariants as event
 use Rattle.resp_scan.specs.declared.event.TextKind.TheVariants as text
 use Rattle.resp_scan.specs.declared.machine.EventTag.TheVariants as tag
 use Rattle.resp_scan.specs.Machine.StepOutcomes.{after_bytes}
-use Rattle.resp_scan.proofs.CallClauses.Passing.{done_passes, event_passes, failed_passes, more_passes}
+use Rattle.resp_scan.proofs.CallClauses.Passing.{done_answers, event_answers, failed_answers, more_answers, step_passes}
 use Rattle.resp_scan.proofs.CallClauses.Told.{digit_heard, digit_is, part_heard, run_is, run_length}
 use Rattle.resp_scan.proofs.Soundness.Pieces.{chunk_part_some, digit_owed, few_taken, part_some, taken_within, used_within}
 use Rattle.resp_scan.proofs.machine.Machine.tell.Goals as goal
@@ -47,87 +44,87 @@ take_part-requires-in-Digit g c = omega (arith, ap length c.digit_text.ensures)
 
 pub returns-in-More : goal.returns-in-More
 returns-in-More g c s sound out =
-    more_passes _ _ c.args.taken c.args.self.now s c.args.rest.now c.take_end.ensures sound out c.in-More.is
+    step_passes (more_answers c.args.taken c.args.self.now s c.args.rest.now sound out c.in-More.is) c.take_end.ensures
 
 pub returns-in-Failed : goal.returns-in-Failed
 returns-in-Failed g c s sound out =
-    failed_passes _ _ c.args.taken c.args.self.now s c.args.rest.now c.take_fault.ensures sound out c.in-Failed.is
+    step_passes (failed_answers c.args.taken c.args.self.now s c.args.rest.now sound out c.in-Failed.is)
+    c.take_fault.ensures
 
 pub returns-in-Done : goal.returns-in-Done
 returns-in-Done g c s sound out =
-    done_passes _ _ c.args.taken c.args.self.now s c.args.rest.now c.take_done.ensures sound out c.in-Done.is
+    step_passes (done_answers c.args.taken c.args.self.now s c.args.rest.now sound out c.in-Done.is) c.take_done.ensures
 
 pub returns-in-Null : goal.returns-in-Null
 returns-in-Null g c s sound out =
-    event_passes _ _ c.args.taken c.args.self.now s c.args.rest.now tag.Null event.Null
-    c.take_null.ensures sound out c.in-Null.is refl tt
+    step_passes (event_answers c.args.taken c.args.self.now s c.args.rest.now tag.Null event.Null sound out c.in-Null.is
+    refl tt) c.take_null.ensures
 
 pub returns-in-Bool : goal.returns-in-Bool
 returns-in-Bool g c s sound out =
-    event_passes _ _ c.args.taken c.args.self.now s c.args.rest.now tag.Bool (event.Bool c.args.self.now.truth)
-    c.take_truth.ensures sound out c.in-Bool.is refl tt
+    step_passes (event_answers c.args.taken c.args.self.now s c.args.rest.now tag.Bool
+    (event.Bool c.args.self.now.truth) sound out c.in-Bool.is refl tt) c.take_truth.ensures
 
 pub returns-in-Simple : goal.returns-in-Simple
 returns-in-Simple g c s sound out =
-    event_passes _ _ c.args.taken c.args.self.now s c.args.rest.now tag.Simple (event.Text text.Simple)
-    c.take_text.ensures sound out c.in-Simple.is refl tt
+    step_passes (event_answers c.args.taken c.args.self.now s c.args.rest.now tag.Simple (event.Text text.Simple) sound
+    out c.in-Simple.is refl tt) c.take_text.ensures
 
 pub returns-in-Error : goal.returns-in-Error
 returns-in-Error g c s sound out =
-    event_passes _ _ c.args.taken c.args.self.now s c.args.rest.now tag.Error (event.Text text.Error)
-    c.take_text-in-Error.ensures sound out c.in-Error.is refl tt
+    step_passes (event_answers c.args.taken c.args.self.now s c.args.rest.now tag.Error (event.Text text.Error) sound
+    out c.in-Error.is refl tt) c.take_text-in-Error.ensures
 
 pub returns-in-Double : goal.returns-in-Double
 returns-in-Double g c s sound out =
-    event_passes _ _ c.args.taken c.args.self.now s c.args.rest.now tag.Double (event.Text text.Double)
-    c.take_text-in-Double.ensures sound out c.in-Double.is refl tt
+    step_passes (event_answers c.args.taken c.args.self.now s c.args.rest.now tag.Double (event.Text text.Double) sound
+    out c.in-Double.is refl tt) c.take_text-in-Double.ensures
 
 pub returns-in-Bulk : goal.returns-in-Bulk
 returns-in-Bulk g c s sound out =
-    event_passes _ _ c.args.taken c.args.self.now s c.args.rest.now tag.Bulk (event.Text text.Bulk)
-    c.take_text-in-Bulk.ensures sound out c.in-Bulk.is refl tt
+    step_passes (event_answers c.args.taken c.args.self.now s c.args.rest.now tag.Bulk (event.Text text.Bulk) sound out
+    c.in-Bulk.is refl tt) c.take_text-in-Bulk.ensures
 
 pub returns-in-BulkError : goal.returns-in-BulkError
 returns-in-BulkError g c s sound out =
-    event_passes _ _ c.args.taken c.args.self.now s c.args.rest.now tag.BulkError (event.Text text.BulkError)
-    c.take_text-in-BulkError.ensures sound out c.in-BulkError.is refl tt
+    step_passes (event_answers c.args.taken c.args.self.now s c.args.rest.now tag.BulkError (event.Text text.BulkError)
+    sound out c.in-BulkError.is refl tt) c.take_text-in-BulkError.ensures
 
 pub returns-in-Verbatim : goal.returns-in-Verbatim
 returns-in-Verbatim g c s sound out =
-    event_passes _ _ c.args.taken c.args.self.now s c.args.rest.now tag.Verbatim (event.Text (text.Verbatim c.args.self.now.format))
-    c.take_text-in-Verbatim.ensures sound out c.in-Verbatim.is refl tt
+    step_passes (event_answers c.args.taken c.args.self.now s c.args.rest.now tag.Verbatim
+    (event.Text (text.Verbatim c.args.self.now.format)) sound out c.in-Verbatim.is refl tt)
+    c.take_text-in-Verbatim.ensures
 
 pub returns-in-Big : goal.returns-in-Big
 returns-in-Big g c s sound out =
-    event_passes _ _ c.args.taken c.args.self.now s c.args.rest.now tag.Big (event.Text (text.Big c.args.self.now.big_negative))
-    c.take_text-in-Big.ensures sound out c.in-Big.is refl tt
+    step_passes (event_answers c.args.taken c.args.self.now s c.args.rest.now tag.Big
+    (event.Text (text.Big c.args.self.now.big_negative)) sound out c.in-Big.is refl tt) c.take_text-in-Big.ensures
 
 pub returns-in-TextEnd : goal.returns-in-TextEnd
 returns-in-TextEnd g c s sound out =
-    event_passes _ _ c.args.taken c.args.self.now s c.args.rest.now tag.TextEnd event.TextEnd
-    c.take_text_end.ensures sound out c.in-TextEnd.is refl tt
+    step_passes (event_answers c.args.taken c.args.self.now s c.args.rest.now tag.TextEnd event.TextEnd sound out
+    c.in-TextEnd.is refl tt) c.take_text_end.ensures
 
 pub returns-in-Open : goal.returns-in-Open
 returns-in-Open g c s sound out =
-    event_passes _ _ c.args.taken c.args.self.now s c.args.rest.now tag.Open (event.Open c.args.self.now.kind (Some c.args.self.now.count))
-    c.take_open.ensures sound out c.in-Open.is refl tt
+    step_passes (event_answers c.args.taken c.args.self.now s c.args.rest.now tag.Open
+    (event.Open c.args.self.now.kind (Some c.args.self.now.count)) sound out c.in-Open.is refl tt) c.take_open.ensures
 
 pub returns-in-OpenStreamed : goal.returns-in-OpenStreamed
 returns-in-OpenStreamed g c s sound out =
-    event_passes _ _ c.args.taken c.args.self.now s c.args.rest.now tag.OpenStreamed (event.Open c.args.self.now.kind None)
-    c.take_open-in-OpenStreamed.ensures sound out c.in-OpenStreamed.is refl tt
+    step_passes (event_answers c.args.taken c.args.self.now s c.args.rest.now tag.OpenStreamed
+    (event.Open c.args.self.now.kind None) sound out c.in-OpenStreamed.is refl tt) c.take_open-in-OpenStreamed.ensures
 
 pub returns-in-Close : goal.returns-in-Close
 returns-in-Close g c s sound out =
-    event_passes _ _ c.args.taken c.args.self.now s c.args.rest.now tag.Close event.Close
-    c.take_close.ensures sound out c.in-Close.is refl tt
+    step_passes (event_answers c.args.taken c.args.self.now s c.args.rest.now tag.Close event.Close sound out
+    c.in-Close.is refl tt) c.take_close.ensures
 
 pub returns-in-Int : goal.returns-in-Int
 returns-in-Int g c s sound out =
-    let number : to_z w64 (of_z w64 c.args.self.now.value) ≡ c.args.self.now.value = search rules in
-    let takes = subst (λ z. g.R.Receiver.takes c.args.receiver.now c.take_int.new.self
-    (Ok (record { used = c.args.taken.used; event = Some (event.Int z) })) c.take_int.result) number c.take_int.ensures in
-    event_passes _ _ c.args.taken c.args.self.now s c.args.rest.now tag.Int (event.Int c.args.self.now.value) takes sound out c.in-Int.is refl tt
+    step_passes (event_answers c.args.taken c.args.self.now s c.args.rest.now tag.Int _ sound out c.in-Int.is
+    (search rules) tt) c.take_int.ensures
 
 pub returns-in-Part : goal.returns-in-Part
 returns-in-Part g c s sound out =
@@ -135,9 +132,9 @@ returns-in-Part g c s sound out =
     let p = c.args.rest.now in
     let some = part_some taken c.args.self.now s p sound out c.in-Part.is in
     let within = (used_within taken c.args.self.now s p sound out).0 in
-    event_passes _ _ taken c.args.self.now s p tag.Part _ c.take_part.ensures sound out c.in-Part.is
+    step_passes (event_answers taken c.args.self.now s p tag.Part _ sound out c.in-Part.is
     (part_heard taken.used 0 _ (after_bytes taken.used _) some (run_length taken.used 0 p some within))
-    (run_is taken.used 0 p _ some within refl)
+    (run_is taken.used 0 p _ some within refl)) c.take_part.ensures
 
 pub returns-in-ChunkPart : goal.returns-in-ChunkPart
 returns-in-ChunkPart g c s sound out =
@@ -147,10 +144,10 @@ returns-in-ChunkPart g c s sound out =
     let part = c.run-part.result.now in
     let some = chunk_part_some taken m s p sound out c.in-ChunkPart.is in
     let within = (used_within taken m s p sound out).0 in
-    event_passes _ _ taken m s p tag.ChunkPart _ c.take_part-in-ChunkPart.ensures sound out c.in-ChunkPart.is
+    step_passes (event_answers taken m s p tag.ChunkPart _ sound out c.in-ChunkPart.is
     (part_heard taken.used m.part_start part (after_bytes taken.used _) (omega (arith, some))
     (ap (λ v. length v + m.part_start) c.run-part.ensures ∙ run_length taken.used m.part_start p some within))
-    (run_is taken.used m.part_start p part some within c.run-part.ensures)
+    (run_is taken.used m.part_start p part some within c.run-part.ensures)) c.take_part-in-ChunkPart.ensures
 
 pub returns-in-Digit : goal.returns-in-Digit
 returns-in-Digit g c s sound out =
@@ -159,6 +156,6 @@ returns-in-Digit g c s sound out =
     let p = c.args.rest.now in
     let digit = c.digit_text.result.now in
     let none = (digit_owed taken m s p sound out c.in-Digit.is).0 in
-    event_passes _ _ taken m s p tag.Digit _ c.take_part-in-Digit.ensures sound out c.in-Digit.is
+    step_passes (event_answers taken m s p tag.Digit _ sound out c.in-Digit.is
     (digit_heard taken.used m.digit digit (after_bytes taken.used _) none c.digit_text.ensures)
-    (digit_is taken.used m.digit p digit none c.digit_text.ensures)
+    (digit_is taken.used m.digit p digit none c.digit_text.ensures)) c.take_part-in-Digit.ensures
