@@ -1,6 +1,6 @@
 -- What holds after each step of a walk that writes as it goes.
 use Rattle.std.proofs.Common.{◌≡◌, ℕ, ◌+◌, ◌-◌, ◌/◌, ◌<◌, ◌≤◌, Bool, true, false, List, [], ◌∷◌, ◌++◌, length, sym, ap, ◌∙◌, subst, arith, append_assoc, length-append, ℤ, pos, negsuc, nat_abs, add-one}
-use Rattle.std.specs.Bool.{OnTrue, OnFalse}
+use Rattle.std.specs.Bool.{OnTrue}
 use Rattle.bytes.specs.Filled.{Filled}
 use Rattle.resp_value.specs.Bytes.{crlf}
 use Rattle.resp_value.specs.Bounds.{Bounds}
@@ -9,7 +9,7 @@ use Rattle.resp_value.specs.Data.{Kind, Attr, Scalar, Int, longest, Datum, Data,
 use Rattle.resp_value.specs.Data as d
 use Rattle.resp_value.specs.Trees.{kind_byte, texts}
 use Rattle.resp_value.specs.Canonical.{IsScalarValue, IsWhole, IsKindBelow, IsInTwo, HasNoDouble, HasNoPush, HasTypes, canonical_text, canonical_trees, Fits}
-use Rattle.resp_value.specs.Rules.{Rules, rules_under}
+use Rattle.resp_value.specs.Rules.{Rules}
 use Rattle.resp_value.specs.Values.{extended}
 use Rattle.resp_value.specs.declared.version.Version.{Version}
 use Rattle.resp_value.specs.declared.version.Version.TheVariants.{Two, Three}

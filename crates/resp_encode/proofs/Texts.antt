@@ -1,19 +1,16 @@
 -- Canonical texts in parts, and one write after another.
-use Rattle.std.proofs.Common.{◌≡◌, ℕ, ◌+◌, ◌-◌, ◌<◌, ◌≤◌, ℤ, pos, negsuc, nat_abs, ◌<ℤ◌, ◌≤ℤ◌, List, [], ◌∷◌, ◌++◌, length, take, drop, set, refl, sym, ap, ◌∙◌, arith, add-one, append_assoc, append-nil, length-append, length-drop}
-use Rattle.std.proofs.lemmas.Int.{ints}
+use Rattle.std.proofs.Common.{◌≡◌, ℕ, ◌+◌, ◌-◌, ◌<◌, ◌≤◌, List, [], ◌∷◌, ◌++◌, length, take, drop, set, sym, ap, ◌∙◌, arith, append_assoc, append-nil, length-append, length-drop}
 use Rattle.std.proofs.lemmas.List.{drop-set, take_all}
 use Rattle.bytes.specs.Filled.{Filled}
 use Rattle.resp_value.specs.Bytes.{crlf}
 use Rattle.resp_value.specs.Numbers.{decimal}
-use Rattle.resp_value.specs.Data.{Kind, Datum, Data, scalar, aggregate, items_of, count}
-use Rattle.resp_value.specs.Data as d
+use Rattle.resp_value.specs.Data.{Kind, Datum, Data, aggregate, items_of, count}
 use Rattle.resp_value.specs.Trees.{kind_byte, texts}
 use Rattle.resp_value.specs.Canonical.{canonical_text, canonical_trees, IsValue, Fits}
 use Rattle.resp_value.specs.Rules.{Rules}
 use Rattle.resp_value.specs.Spellings.{IsSpelling}
 use Rattle.resp_value.proofs.SpellingLaws.{canonical_text_spells_what_fits}
 use Rattle.resp_value.specs.declared.version.Version.{Version}
-use Rattle.resp_value.specs.declared.version.Version.TheVariants.{Three}
 use Rattle.resp_encode.specs.Walks.Writings.{Fills}
 
 -- nothing was appended

@@ -16,65 +16,38 @@ use Rattle.resp_encode.proofs.attempt.+attempt.Goals as goal
 use Rattle.resp_encode.proofs.attempt.+attempt.Goals.{attempt_value-After-attempt_annotated}
 
 pub attempt_value-returns-in-Null-clause-attempt : goal.attempt_value-returns-in-Null-clause-attempt
-attempt_value-returns-in-Null-clause-attempt t c =
-    subst (λ x. Attempt c.args.version c.args.limits.now c.args.deeper x c.args.out.now c.attempt_null.new.out
-    c.attempt_null.result) (sym (ap datum_of c.in-Null.is)) (c.attempt_null.ensures c.args.deeper)
+attempt_value-returns-in-Null-clause-attempt t c = rw c.in-Null.is (c.attempt_null.ensures c.args.deeper)
 
 pub attempt_value-returns-in-Bool-clause-attempt : goal.attempt_value-returns-in-Bool-clause-attempt
-attempt_value-returns-in-Bool-clause-attempt t c =
-    subst (λ x. Attempt c.args.version c.args.limits.now c.args.deeper x c.args.out.now c.attempt_bool.new.out
-    c.attempt_bool.result) (sym (ap datum_of c.in-Bool.is)) (c.attempt_bool.ensures c.args.deeper)
+attempt_value-returns-in-Bool-clause-attempt t c = rw c.in-Bool.is (c.attempt_bool.ensures c.args.deeper)
 
 pub attempt_value-returns-in-Int-clause-attempt : goal.attempt_value-returns-in-Int-clause-attempt
-attempt_value-returns-in-Int-clause-attempt t c =
-    subst (λ x. Attempt c.args.version c.args.limits.now c.args.deeper x c.args.out.now c.attempt_int.new.out
-    c.attempt_int.result) (sym (ap datum_of c.in-Int.is))
-    (c.attempt_int.ensures c.args.version c.args.limits.now c.args.deeper)
+attempt_value-returns-in-Int-clause-attempt t c = rw c.in-Int.is (c.attempt_int.ensures c.args.version c.args.limits.now c.args.deeper)
 
 pub attempt_value-returns-in-Simple-clause-attempt : goal.attempt_value-returns-in-Simple-clause-attempt
-attempt_value-returns-in-Simple-clause-attempt t c =
-    subst (λ x. Attempt c.args.version c.args.limits.now c.args.deeper x c.args.out.now
-    c.attempt_simple.new.out c.attempt_simple.result) (sym (ap datum_of c.in-Simple.is))
-    (c.attempt_simple.ensures c.args.deeper)
+attempt_value-returns-in-Simple-clause-attempt t c = rw c.in-Simple.is (c.attempt_simple.ensures c.args.deeper)
 
 pub attempt_value-returns-in-Error-clause-attempt : goal.attempt_value-returns-in-Error-clause-attempt
-attempt_value-returns-in-Error-clause-attempt t c =
-    subst (λ x. Attempt c.args.version c.args.limits.now c.args.deeper x c.args.out.now c.attempt_error.new.out
-    c.attempt_error.result) (sym (ap datum_of c.in-Error.is)) (c.attempt_error.ensures c.args.deeper)
+attempt_value-returns-in-Error-clause-attempt t c = rw c.in-Error.is (c.attempt_error.ensures c.args.deeper)
 
 pub attempt_value-returns-in-Double-clause-attempt : goal.attempt_value-returns-in-Double-clause-attempt
-attempt_value-returns-in-Double-clause-attempt t c =
-    subst (λ x. Attempt c.args.version c.args.limits.now c.args.deeper x c.args.out.now c.attempt_double.new.out
-    c.attempt_double.result) (sym (ap datum_of c.in-Double.is))
-    (c.attempt_double.ensures c.args.deeper)
+attempt_value-returns-in-Double-clause-attempt t c = rw c.in-Double.is (c.attempt_double.ensures c.args.deeper)
 
 pub attempt_value-returns-in-Bulk-clause-attempt : goal.attempt_value-returns-in-Bulk-clause-attempt
-attempt_value-returns-in-Bulk-clause-attempt t c =
-    subst (λ x. Attempt c.args.version c.args.limits.now c.args.deeper x c.args.out.now c.attempt_bulk.new.out
-    c.attempt_bulk.result) (sym (ap datum_of c.in-Bulk.is)) (c.attempt_bulk.ensures c.args.version c.args.deeper)
+attempt_value-returns-in-Bulk-clause-attempt t c = rw c.in-Bulk.is (c.attempt_bulk.ensures c.args.version c.args.deeper)
 
 pub attempt_value-returns-in-BulkError-clause-attempt : goal.attempt_value-returns-in-BulkError-clause-attempt
-attempt_value-returns-in-BulkError-clause-attempt t c =
-    subst (λ x. Attempt c.args.version c.args.limits.now c.args.deeper x c.args.out.now
-    c.attempt_bulk_error.new.out c.attempt_bulk_error.result) (sym (ap datum_of c.in-BulkError.is))
-    (c.attempt_bulk_error.ensures c.args.deeper)
+attempt_value-returns-in-BulkError-clause-attempt t c = rw c.in-BulkError.is (c.attempt_bulk_error.ensures c.args.deeper)
 
 pub attempt_value-returns-in-Verbatim-clause-attempt : goal.attempt_value-returns-in-Verbatim-clause-attempt
-attempt_value-returns-in-Verbatim-clause-attempt t c =
-    subst (λ x. Attempt c.args.version c.args.limits.now c.args.deeper x c.args.out.now
-    c.attempt_verbatim.new.out c.attempt_verbatim.result) (sym (ap datum_of c.in-Verbatim.is))
-    (c.attempt_verbatim.ensures c.args.deeper)
+attempt_value-returns-in-Verbatim-clause-attempt t c = rw c.in-Verbatim.is (c.attempt_verbatim.ensures c.args.deeper)
 
 pub attempt_value-returns-in-Big-clause-attempt : goal.attempt_value-returns-in-Big-clause-attempt
-attempt_value-returns-in-Big-clause-attempt t c =
-    subst (λ x. Attempt c.args.version c.args.limits.now c.args.deeper x c.args.out.now c.attempt_big.new.out
-    c.attempt_big.result) (sym (ap datum_of c.in-Big.is)) (c.attempt_big.ensures c.args.deeper)
+attempt_value-returns-in-Big-clause-attempt t c = rw c.in-Big.is (c.attempt_big.ensures c.args.deeper)
 
 pub attempt_value-returns-in-Array-clause-attempt : goal.attempt_value-returns-in-Array-clause-attempt
 attempt_value-returns-in-Array-clause-attempt t c =
-    subst (λ x. Attempt c.args.version c.args.limits.now c.args.deeper x c.args.out.now c.attempt_group.new.out
-    c.attempt_group.result) (ap (λ xs. aggregate d.Array (data_of_list (map datum_of xs))) c.list.ensures ∙
-    sym (ap datum_of c.in-Array.is ∙ datum_of-Array c.in-Array.members)) c.attempt_group.ensures
+    rw (c.in-Array.is, datum_of-Array c.in-Array.members, ← c.list.ensures) c.attempt_group.ensures
 
 pub attempt_value-returns-in-Array-clause-no_push : goal.attempt_value-returns-in-Array-clause-no_push
 attempt_value-returns-in-Array-clause-no_push t c = subst (λ x. OnTrue c.attempt_group.result (HasNoPush x))
@@ -85,10 +58,7 @@ attempt_value-returns-in-Array-clause-no_push t c = subst (λ x. OnTrue c.attemp
 
 pub attempt_value-returns-in-Set-clause-attempt : goal.attempt_value-returns-in-Set-clause-attempt
 attempt_value-returns-in-Set-clause-attempt t c =
-    subst (λ x. Attempt c.args.version c.args.limits.now c.args.deeper x c.args.out.now
-    c.attempt_group-in-Set.new.out c.attempt_group-in-Set.result)
-    (ap (λ xs. aggregate d.Set (data_of_list (map datum_of xs))) c.list-in-Set.ensures ∙
-    sym (ap datum_of c.in-Set.is ∙ datum_of-Set c.in-Set.members)) c.attempt_group-in-Set.ensures
+    rw (c.in-Set.is, datum_of-Set c.in-Set.members, ← c.list-in-Set.ensures) c.attempt_group-in-Set.ensures
 
 pub attempt_value-returns-in-Set-clause-no_push : goal.attempt_value-returns-in-Set-clause-no_push
 attempt_value-returns-in-Set-clause-no_push t c = subst (λ x. OnTrue c.attempt_group-in-Set.result (HasNoPush x))
@@ -99,9 +69,7 @@ attempt_value-returns-in-Set-clause-no_push t c = subst (λ x. OnTrue c.attempt_
 
 pub attempt_value-returns-in-Map-clause-attempt : goal.attempt_value-returns-in-Map-clause-attempt
 attempt_value-returns-in-Map-clause-attempt t c =
-    subst (λ x. Attempt c.args.version c.args.limits.now c.args.deeper x c.args.out.now c.attempt_map.new.out
-    c.attempt_map.result) (map_data c.list-in-Map.ensures ∙ sym (ap datum_of c.in-Map.is ∙ datum_of-Map c.in-Map.pairs))
-    c.attempt_map.ensures
+    rw (c.in-Map.is, datum_of-Map c.in-Map.pairs, ← c.list-in-Map.ensures) c.attempt_map.ensures
 
 pub attempt_value-returns-in-Map-clause-no_push : goal.attempt_value-returns-in-Map-clause-no_push
 attempt_value-returns-in-Map-clause-no_push t c =

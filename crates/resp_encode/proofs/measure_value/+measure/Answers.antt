@@ -13,46 +13,34 @@ use Rattle.resp_encode.proofs.SoFar.{data-take_more, pairs-taken}
 use Rattle.resp_encode.proofs.measure_value.+measure.Goals as goal
 
 pub measure_value-returns-in-Bool-clause-found : goal.measure_value-returns-in-Bool-clause-found
-measure_value-returns-in-Bool-clause-found t c = subst (λ x. Describes c.args.version x c.measure_bool.result)
-    (sym (ap datum_of c.in-Bool.is))
-    (c.measure_bool.ensures c.args.version)
+measure_value-returns-in-Bool-clause-found t c = rw c.in-Bool.is (c.measure_bool.ensures c.args.version)
 
 pub measure_value-returns-in-Int-clause-found : goal.measure_value-returns-in-Int-clause-found
-measure_value-returns-in-Int-clause-found t c = subst (λ x. Describes c.args.version x c.measure_int.result)
-    (sym (ap datum_of c.in-Int.is))
-    (c.measure_int.ensures.found c.args.version)
+measure_value-returns-in-Int-clause-found t c = rw c.in-Int.is (c.measure_int.ensures.found c.args.version)
 
 pub measure_value-returns-in-Simple-clause-found : goal.measure_value-returns-in-Simple-clause-found
 measure_value-returns-in-Simple-clause-found t c =
-    subst (λ x. Describes c.args.version x c.measure_line.result) (ap (λ s. d.scalar (d.Simple s)) c.text.ensures.text ∙
-    sym (ap datum_of c.in-Simple.is)) (c.measure_line.ensures.simple c.args.version)
+    rw (c.in-Simple.is, ← c.text.ensures.text) (c.measure_line.ensures.simple c.args.version)
 
 pub measure_value-returns-in-Error-clause-found : goal.measure_value-returns-in-Error-clause-found
-measure_value-returns-in-Error-clause-found t c = subst (λ x. Describes c.args.version x c.measure_line-in-Error.result)
-    (ap (λ s. d.scalar (d.Error s)) c.text-in-Error.ensures.text ∙ sym (ap datum_of c.in-Error.is))
-    (c.measure_line-in-Error.ensures.error c.args.version)
+measure_value-returns-in-Error-clause-found t c =
+    rw (c.in-Error.is, ← c.text-in-Error.ensures.text) (c.measure_line-in-Error.ensures.error c.args.version)
 
 pub measure_value-returns-in-Double-clause-found : goal.measure_value-returns-in-Double-clause-found
-measure_value-returns-in-Double-clause-found t c = subst (λ x. Describes c.args.version x c.measure_double.result)
-    (ap (λ s. d.scalar (d.Double s)) c.text-in-Double.ensures.text ∙ sym (ap datum_of c.in-Double.is))
-    (c.measure_double.ensures.found c.args.version)
+measure_value-returns-in-Double-clause-found t c =
+    rw (c.in-Double.is, ← c.text-in-Double.ensures.text) (c.measure_double.ensures.found c.args.version)
 
 pub measure_value-returns-in-Bulk-clause-found : goal.measure_value-returns-in-Bulk-clause-found
-measure_value-returns-in-Bulk-clause-found t c = subst (λ x. Describes c.args.version x c.measure_bulk.result)
-    (ap (λ s. d.scalar (d.Bulk s)) c.list.ensures ∙
-    sym (ap datum_of c.in-Bulk.is)) (c.measure_bulk.ensures.found c.args.version)
+measure_value-returns-in-Bulk-clause-found t c =
+    rw (c.in-Bulk.is, ← c.list.ensures) (c.measure_bulk.ensures.found c.args.version)
 
 pub measure_value-returns-in-BulkError-clause-found : goal.measure_value-returns-in-BulkError-clause-found
 measure_value-returns-in-BulkError-clause-found t c =
-    subst (λ x. Describes c.args.version x c.measure_bulk_error.result)
-    (ap (λ s. d.scalar (d.BulkError s)) c.list-in-BulkError.ensures ∙ sym (ap datum_of c.in-BulkError.is))
-    (c.measure_bulk_error.ensures.found c.args.version)
+    rw (c.in-BulkError.is, ← c.list-in-BulkError.ensures) (c.measure_bulk_error.ensures.found c.args.version)
 
 pub measure_value-returns-in-Verbatim-clause-found : goal.measure_value-returns-in-Verbatim-clause-found
-measure_value-returns-in-Verbatim-clause-found t c = subst (λ x. Describes c.args.version x c.measure_verbatim.result)
-    (ap (λ s. d.scalar (d.Verbatim c.in-Verbatim.format s)) c.list-in-Verbatim.ensures ∙
-    sym (ap datum_of c.in-Verbatim.is))
-    (c.measure_verbatim.ensures.found c.args.version)
+measure_value-returns-in-Verbatim-clause-found t c =
+    rw (c.in-Verbatim.is, ← c.list-in-Verbatim.ensures) (c.measure_verbatim.ensures.found c.args.version)
 
 pub measure_value-returns-in-Big-clause-found : goal.measure_value-returns-in-Big-clause-found
 measure_value-returns-in-Big-clause-found t c = subst (λ x. Describes c.args.version x c.measure_big.result)
@@ -61,9 +49,8 @@ measure_value-returns-in-Big-clause-found t c = subst (λ x. Describes c.args.ve
     (c.measure_big.ensures c.args.version)
 
 pub measure_value-returns-in-Array-clause-found : goal.measure_value-returns-in-Array-clause-found
-measure_value-returns-in-Array-clause-found t c = subst (λ x. Describes c.args.version x c.measure_group.result)
-    (ap (λ xs. aggregate d.Array (data_of_list (map datum_of xs))) c.list-in-Array.ensures ∙
-    sym (ap datum_of c.in-Array.is ∙ datum_of-Array c.in-Array.members)) c.measure_group.ensures.found
+measure_value-returns-in-Array-clause-found t c =
+    rw (c.in-Array.is, datum_of-Array c.in-Array.members, ← c.list-in-Array.ensures) c.measure_group.ensures.found
 
 pub measure_value-returns-in-Array-clause-is_value : goal.measure_value-returns-in-Array-clause-is_value
 measure_value-returns-in-Array-clause-is_value t c =
@@ -71,10 +58,8 @@ measure_value-returns-in-Array-clause-is_value t c =
     sym (ap datum_of c.in-Array.is ∙ datum_of-Array c.in-Array.members)) (tt, c.measure_group.ensures.are_values)
 
 pub measure_value-returns-in-Set-clause-found : goal.measure_value-returns-in-Set-clause-found
-measure_value-returns-in-Set-clause-found t c = subst (λ x. Describes c.args.version x c.measure_group-in-Set.result)
-    (ap (λ xs. aggregate d.Set (data_of_list (map datum_of xs))) c.list-in-Set.ensures ∙
-    sym (ap datum_of c.in-Set.is ∙ datum_of-Set c.in-Set.members))
-    c.measure_group-in-Set.ensures.found
+measure_value-returns-in-Set-clause-found t c =
+    rw (c.in-Set.is, datum_of-Set c.in-Set.members, ← c.list-in-Set.ensures) c.measure_group-in-Set.ensures.found
 
 pub measure_value-returns-in-Set-clause-is_value : goal.measure_value-returns-in-Set-clause-is_value
 measure_value-returns-in-Set-clause-is_value t c =
@@ -82,10 +67,8 @@ measure_value-returns-in-Set-clause-is_value t c =
     sym (ap datum_of c.in-Set.is ∙ datum_of-Set c.in-Set.members)) (tt, c.measure_group-in-Set.ensures.are_values)
 
 pub measure_value-returns-in-Push-clause-found : goal.measure_value-returns-in-Push-clause-found
-measure_value-returns-in-Push-clause-found t c = subst (λ x. Describes c.args.version x c.measure_group-in-Push.result)
-    (ap (λ xs. aggregate d.Push (data_of_list (map datum_of xs))) c.list-in-Push.ensures ∙
-    sym (ap datum_of c.in-Push.is ∙ datum_of-Push c.in-Push.members))
-    c.measure_group-in-Push.ensures.found
+measure_value-returns-in-Push-clause-found t c =
+    rw (c.in-Push.is, datum_of-Push c.in-Push.members, ← c.list-in-Push.ensures) c.measure_group-in-Push.ensures.found
 
 pub measure_value-returns-in-Push-clause-is_value : goal.measure_value-returns-in-Push-clause-is_value
 measure_value-returns-in-Push-clause-is_value t c =
@@ -93,9 +76,8 @@ measure_value-returns-in-Push-clause-is_value t c =
     sym (ap datum_of c.in-Push.is ∙ datum_of-Push c.in-Push.members)) (tt, c.measure_group-in-Push.ensures.are_values)
 
 pub measure_value-returns-in-Map-clause-found : goal.measure_value-returns-in-Map-clause-found
-measure_value-returns-in-Map-clause-found t c = subst (λ x. Describes c.args.version x c.measure_map.result)
-    (map_data c.list-in-Map.ensures ∙
-    sym (ap datum_of c.in-Map.is ∙ datum_of-Map c.in-Map.pairs)) c.measure_map.ensures.found
+measure_value-returns-in-Map-clause-found t c =
+    rw (c.in-Map.is, datum_of-Map c.in-Map.pairs, ← c.list-in-Map.ensures) c.measure_map.ensures.found
 
 pub measure_value-returns-in-Map-clause-is_value : goal.measure_value-returns-in-Map-clause-is_value
 measure_value-returns-in-Map-clause-is_value t c =
