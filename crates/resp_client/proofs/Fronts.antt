@@ -189,7 +189,7 @@ takes_more limits w old new fault text e same asked none t = record {
 pub reads_on : (limits : Bounds) (w : Waiting) (old new : Decoder) (fault : Option Fault) (front piece : List ℕ) (used : ℕ) (fed : Option Value) →
     rules_of old.scanner ≡ reading_rules limits w → rules_of new.scanner ≡ rules_of old.scanner → (IsUnasked w (front ++ piece) → ⊥) → fault ≡ None →
     ((x : Value) → fed ≡ Some x → GivesValue (rules_of old.scanner) new (front ++ take used piece) x) →
-    (fed ≡ None → TakesPiece (rules_of old.scanner) new (front ++ piece) piece used) → TakesOrStands limits w new fault
+    (fed ≡ None → TakesPiece (rules_of old.scanner) (decode.HasTaken new) (front ++ piece) piece used) → TakesOrStands limits w new fault
 reads_on limits w old new fault front piece used (Some x) e same asked none whole up =
     inl ([], takes_nothing limits w new fault (whole x refl).takes (ap (λ (r : Rules). r.limits) (same ∙ e)) none)
 reads_on limits w old new fault front piece used None e same asked none whole up =

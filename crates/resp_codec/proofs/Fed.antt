@@ -6,7 +6,7 @@ use Rattle.resp_value.specs.Spellings.{IsViable}
 use Rattle.resp_value.specs.Values.{datum_of}
 use Rattle.resp_value.specs.declared.value.Value.{Value}
 use Rattle.resp_scan.specs.Reading.{HasNoValue}
-use Rattle.resp_decode.specs.Decoding.{GivesValue, TakesPiece, WhereTaken, rules_of}
+use Rattle.resp_decode.specs.Decoding.{GivesValue, HasTaken, TakesPiece, WhereTaken, rules_of}
 use Rattle.resp_decode.specs.declared.decoder.Decoder.{Decoder}
 use Rattle.resp_codec.specs.Frames.{ValueEnds, IsReading, TakesPart}
 use Rattle.resp_codec.specs.FrameLaws.{some_front, taken_is_reading}
@@ -33,7 +33,7 @@ value_ends d after buffer left used value reading given is = record {
 
 -- a buffer in which none has ended
 pub buffer_taken : (d after : Decoder) (buffer left : List ℕ) (used : ℕ) → IsReading d →
-    WhereTaken d (λ front. TakesPiece (rules_of d) after (front ++ buffer) buffer used) → used ≡ length buffer →
+    WhereTaken d (λ front. TakesPiece (rules_of d) (HasTaken after) (front ++ buffer) buffer used) → used ≡ length buffer →
     WhereTaken after (IsViable (rules_of after) WithinTotal) → left ≡ drop used buffer → TakesPart d buffer after left
 buffer_taken d after buffer left used reading given whole viable is =
     let none : left ≡ [] = is ∙ drop_all used buffer (omega (arith, whole)) in

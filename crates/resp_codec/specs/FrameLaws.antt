@@ -6,6 +6,7 @@ use Rattle.resp_value.specs.Trees.{Spells}
 use Rattle.resp_scan.specs.Machine.Standing.{StandsAfterAt}
 use Rattle.resp_scan.specs.declared.event.Fault.{Fault}
 use Rattle.resp_decode.specs.Decoding.{HasTaken, WhereTaken, rules_of}
+use Rattle.resp_decode.specs.Hearing.{HasHeard, HoldsNothing}
 use Rattle.resp_decode.specs.Standing.{TakesOrStands}
 use Rattle.resp_decode.specs.declared.decoder.Decoder.{Decoder}
 use Rattle.resp_codec.specs.Frames.{ValueEnds, IsBegun, IsReading, RefusesBuffer}
@@ -21,7 +22,7 @@ taken_is_reading d front w fault stands =
 pub some_front : (d : Decoder) → IsReading d → WhereTaken d (λ front. ⊥) → ⊥
 some_front d reading none = ∥∥₁_elim d.reading (λ a b. absurd a) of
   where
-    of : TakesOrStands d.scanner d.held → ⊥
+    of : TakesOrStands (HasHeard d.held) (HoldsNothing d.held) d.scanner → ⊥
     of (inl (front, w)) = none front w
     of (inr (fault, stands)) = reading fault stands
 

@@ -17,14 +17,14 @@ use Rattle.resp_value.proofs.ViabilityLaws.{fronts_of_viable_texts_are_viable}
 use Rattle.resp_fronts.specs.Events.{Timed, all_events, events_due}
 use Rattle.resp_scan.specs.Kinds.{rules_of}
 use Rattle.resp_scan.specs.Reading.{AreDue, BeginDue, Events, HasNoValue, HasRead, IsFaulted, IsRefused, MayEnd, WhereRead}
-use Rattle.resp_scan.specs.Listening.{HearsPiece, HearsRefusal, HearsValue, OnFault, OnStopped, StopsAfter, WhereHeard, fault_of}
+use Rattle.resp_scan.specs.Listening.{HearsPiece, HearsRefusal, HearsValue, OnFault, OnStopped, StopsAfter, fault_of}
 use Rattle.resp_scan.specs.Machine.Tokens.{Place}
 use Rattle.resp_scan.specs.declared.event.Fault.{Fault}
 use Rattle.resp_scan.specs.declared.event.ScanError.{ScanError}
 use Rattle.resp_scan.specs.declared.event.ScanError.TheVariants as stop
 use Rattle.resp_decode.specs.Brief.{AreBrief, BeginsBrief, WantMemory}
 use Rattle.resp_decode.specs.Builds.{Construction, nothing}
-use Rattle.resp_decode.specs.Decoding.{LacksMemory, RefusesByte}
+use Rattle.resp_decode.specs.Decoding.{LacksMemory, RefusesByte, TakesPiece}
 use Rattle.resp_decode.specs.Hearing.{HasHeard}
 use Rattle.resp_decode.specs.Holding.{construction_of}
 use Rattle.resp_decode.specs.Standing.{TakesFront, TakesOrStands}
@@ -55,56 +55,112 @@ given_at_start given due =
     let whole : Tree = leaf (null PlainNull) in
     sym (due (text whole) whole (record { is_tree = tt; spelled = refl })) ∙ due_at_start (all_events whole)
 
+-- Both decoders: what is held is the result of the events given, in the words of its listener.
+
 -- nothing is taken where the scanner has read nothing, and nothing is held
-pub takes_nothing : (s : Place) (held : Held) → HasRead s [] [] → construction_of held ≡ nothing → held.weight ≡ 0 → TakesFront s held []
-takes_nothing s held reads holds weighs = record {
+pub takes_nothing : (Has : Events → Type 0) (s : Place) → HasRead s [] [] → Has [] → TakesFront Has s []
+takes_nothing Has s reads heard = record {
   given = [];
   reads = reads;
-  heard = record { holds = holds; weighs = weighs };
+  heard = heard;
   all_due = none_due_at_start;
   no_value = no_value_at_start;
 }
 
 -- between values nothing is taken with another scanner that has read nothing
-takes_nothing_anew : (s s' : Place) (held : Held) (front : List ℕ) → TakesFront s held front → front ≡ [] → HasRead s' [] [] → TakesFront s' held []
-takes_nothing_anew s s' held front w none reads =
-    let given : w.given ≡ [] = given_at_start w.given (subst (λ z. AreDue z w.given) none w.all_due) in
-    let heard : HasHeard held [] = subst (HasHeard held) given w.heard in
-    takes_nothing s' held reads heard.holds heard.weighs
+takes_nothing_anew : (Has : Events → Type 0) (s s' : Place) (front : List ℕ) → TakesFront Has s front → front ≡ [] →
+    HasRead s' [] [] → TakesFront Has s' []
+takes_nothing_anew Has s s' front w none reads =
+    takes_nothing Has s' reads (subst Has (given_at_start w.given (subst (λ z. AreDue z w.given) none w.all_due))
+    w.heard)
 
 -- a change of version between values keeps it so
-pub takes_nothing_of_version : {A B : Type 0} (s s' : Place) (held : Held) (front : List ℕ) (result : Result A B) → TakesFront s held front →
-    (IsOk result → front ≡ []) → OnOk result (HasRead s' [] []) → OnOk result (TakesFront s' held [])
-takes_nothing_of_version s s' held front (Ok x) w between reads = takes_nothing_anew s s' held front w (between refl) reads
-takes_nothing_of_version s s' held front (Err x) w between reads = tt
+pub takes_nothing_of_version : {A B : Type 0} (Has : Events → Type 0) (s s' : Place) (front : List ℕ)
+    (result : Result A B) → TakesFront Has s front → (IsOk result → front ≡ []) → OnOk result (HasRead s' [] []) →
+    OnOk result (TakesFront Has s' [])
+takes_nothing_of_version Has s s' front (Ok x) w between reads =
+    takes_nothing_anew Has s s' front w (between refl) reads
+takes_nothing_of_version Has s s' front (Err x) w between reads = tt
 
 -- and it takes a front or stands at a fault as before
-pub reads_on_in_version : {A B : Type 0} (s s' : Place) (held : Held) (result : Result A B) → ∥ TakesOrStands s held ∥₁ →
-    WhereRead s (λ front given. IsOk result ↔ (front ≡ [])) → WhereRead s (λ front given. OnOk result (HasRead s' [] [])) →
-    OnErr result (s' ≡ s) → ((fault : Fault) → IsFaulted s fault → OnOk result ⊥) → ∥ TakesOrStands s' held ∥₁
-reads_on_in_version s s' held (Err x) reading between reads same never = subst (λ z. ∥ TakesOrStands z held ∥₁) (sym same) reading
-reads_on_in_version s s' held (Ok x) reading between reads same never = ∥∥₁_map reading after
+pub reads_on_in_version : {A B : Type 0} (Has : Events → Type 0) (Nothing : Type 0) (s s' : Place)
+    (result : Result A B) → ∥ TakesOrStands Has Nothing s ∥₁ → WhereRead s (λ front given. IsOk result ↔ (front ≡ [])) →
+    WhereRead s (λ front given. OnOk result (HasRead s' [] [])) → OnErr result (s' ≡ s) →
+    ((fault : Fault) → IsFaulted s fault → OnOk result ⊥) → ∥ TakesOrStands Has Nothing s' ∥₁
+reads_on_in_version Has Nothing s s' (Err x) reading between reads same never =
+    subst (λ z. ∥ TakesOrStands Has Nothing z ∥₁) (sym same) reading
+reads_on_in_version Has Nothing s s' (Ok x) reading between reads same never = ∥∥₁_map reading after
   where
-    after : TakesOrStands s held → TakesOrStands s' held
+    after : TakesOrStands Has Nothing s → TakesOrStands Has Nothing s'
     after (inl (front, w)) =
-        inl ([], takes_nothing_anew s s' held front w ((between front w.given w.reads).0 refl) (reads front w.given w.reads))
+        inl (
+          [],
+          takes_nothing_anew Has s s' front w ((between front w.given w.reads).0 refl)
+              (reads front w.given w.reads),
+        )
     after (inr (fault, stands)) = absurd (never fault stands.0)
 
 -- the input may end exactly between values
-pub ends_between_values : (s : Place) (held : Held) (front : List ℕ) (Ended : Type 0) → TakesFront s held front → Ended ↔ MayEnd (rules_of s) front →
-    Ended ↔ (front ≡ [])
-ends_between_values s held front Ended w may = (λ ended. only (may.0 ended), λ none. may.1 (inl none))
+pub ends_between_values : (Has : Events → Type 0) (s : Place) (front : List ℕ) (Ended : Type 0) →
+    TakesFront Has s front → Ended ↔ MayEnd (rules_of s) front → Ended ↔ (front ≡ [])
+ends_between_values Has s front Ended w may = (λ ended. only (may.0 ended), λ none. may.1 (inl none))
   where
     only : MayEnd (rules_of s) front → front ≡ []
     only (inl none) = none
     only (inr v) = absurd (w.no_value (length front) v.tree (subst (Spells v.tree) (sym (take_all (length front) front (omega arith))) v.spells))
+
+-- a piece that is used up is taken
+pub takes_on : {Has Heard : Events → Type 0} {s : Place} {written : List ℕ} → HearsPiece s Heard written →
+    ((es : Events) → Heard es → Has es) → TakesFront Has s written
+takes_on h holds = record {
+  given = h.heard;
+  reads = h.reads;
+  heard = holds h.heard h.has_heard;
+  all_due = h.all_due;
+  no_value = h.no_value;
+}
+
+pub takes_piece : {r : Rules} {Has Heard : Events → Type 0} {s : Place} {written piece : List ℕ} {used : ℕ} →
+    used ≡ length piece → rules_of s ≡ r → HearsPiece s Heard written → ((es : Events) → Heard es → Has es) →
+    TakesPiece r (TakesFront Has s) written piece used
+takes_piece {written = written} whole same h holds = record {
+  whole_piece = whole;
+  no_value = h.no_value;
+  viable = subst (λ r. IsViable r WithinTotal written) same h.viable;
+  takes = takes_on h holds;
+}
+
+-- A call that returns no fault, whatever was taken before.
+
+-- where no fault stands, this holds if it holds of every front
+of_front : {P : Type 0} (Has : Events → Type 0) (Nothing : Type 0) (s : Place) → TakesOrStands Has Nothing s →
+    ((fault : Fault) → IsFaulted s fault → ⊥) → ((front : List ℕ) → TakesFront Has s front → P) → P
+of_front Has Nothing s (inl (front, w)) never of = of front w
+of_front Has Nothing s (inr (fault, stands)) never of = absurd (never fault stands.0)
+
+-- whatever came of a piece, a front was taken then
+pub reads_on : {Has Has' : Events → Type 0} {Nothing Nothing' : Type 0} {s s' : Place} →
+    ∥ TakesOrStands Has Nothing s ∥₁ → ((fault : Fault) → IsFaulted s fault → ⊥) →
+    ((front : List ℕ) → TakesFront Has s front → (after : List ℕ) × TakesFront Has' s' after) →
+    ∥ TakesOrStands Has' Nothing' s' ∥₁
+reads_on {Has = Has} {Nothing = Nothing} {s = s} reading never of =
+    ∥∥₁_map reading (λ (before : TakesOrStands Has Nothing s). inl (of_front Has Nothing s before never of))
+
+-- a bound that holds of every front
+pub within : {Has : Events → Type 0} {Nothing : Type 0} {s : Place} (m n : ℕ) → ∥ TakesOrStands Has Nothing s ∥₁ →
+    ((fault : Fault) → IsFaulted s fault → ⊥) → ((front : List ℕ) → TakesFront Has s front → m ≤ n) → m ≤ n
+within {Has = Has} {Nothing = Nothing} {s = s} m n reading never of =
+    ∥∥₁_elim reading le_prop (λ (before : TakesOrStands Has Nothing s). of_front Has Nothing s before never of)
+
+-- The decoder of whole values.
 
 -- the weight kept is that of what is held, and at most the bytes taken
 pub record IsLight (held : Held) (front : List ℕ) : Type 0 where
   pub same : held.weight ≡ weight_of (construction_of held)
   pub light : held.weight ≤ length front
 
-pub is_light : (s : Place) (held : Held) (front : List ℕ) → TakesFront s held front → IsViable (rules_of s) WithinTotal front → IsLight held front
+pub is_light : (s : Place) (held : Held) (front : List ℕ) → TakesFront (HasHeard held) s front →
+    IsViable (rules_of s) WithinTotal front → IsLight held front
 is_light s held front w viable =
     let begin : BeginDue front w.given = λ rest whole spells. ([], w.all_due rest whole spells ∙ sym (append-nil w.given)) in
     let good = are_good (rules_of s) front w.given viable begin in
@@ -121,23 +177,24 @@ value_whole r s held written h =
     let b = value_is_built r written h.heard h.is_value in
     (b.tree, b.spelling, h.has_heard.holds ∙ b.is)
 
--- the text is a spelling of the value, and nothing is taken of the next
-pub record GivesWhole (r : Rules) (s : Place) (held : Held) (written : List ℕ) (x : Value) : Type 0 where
-  pub spelling : IsSpelling r (datum_of x) written
-  pub takes : TakesFront s held []
-
--- it is the one that is taken out, and then nothing is held
-pub gives_value : (r : Rules) (s : Place) (held left : Held) (written : List ℕ) (x : Value) → HearsValue r s (HasHeard held) written →
-    Some (datum_of x) ≡ (construction_of held).whole → construction_of left ≡ record (construction_of held) { whole = None } →
-    left.weight ≡ 0 → GivesWhole r s left written x
-gives_value r s held left written x h taken holds weighs =
+-- the text is a spelling of the value that is taken out
+pub spells_value : (r : Rules) (s : Place) (held : Held) (written : List ℕ) (x : Value) →
+    HearsValue r s (HasHeard held) written → Some (datum_of x) ≡ (construction_of held).whole →
+    IsSpelling r (datum_of x) written
+spells_value r s held written x h taken =
     let (tree, spelling, is) = value_whole r s held written h in
     let same : Some (datum_of x) ≡ Some (value tree) = taken ∙ ap (λ b. let c : Construction = b in c.whole) is in
     let same_value : value tree ≡ datum_of x = cc in
-    record {
-      spelling = subst (λ y. IsSpelling r y written) same_value spelling;
-      takes = takes_nothing s left h.reads (holds ∙ ap (λ b. let c : Construction = record b { whole = None } in c) is) weighs;
-    }
+    subst (λ y. IsSpelling r y written) same_value spelling
+
+-- when it is taken out, nothing is taken of the next
+pub takes_next : (r : Rules) (s : Place) (held left : Held) (written : List ℕ) →
+    HearsValue r s (HasHeard held) written → construction_of left ≡ record (construction_of held) { whole = None } →
+    left.weight ≡ 0 → TakesFront (HasHeard left) s []
+takes_next r s held left written h holds weighs =
+    let (tree, spelling, is) = value_whole r s held written h in
+    takes_nothing (HasHeard left) s h.reads
+    (record { holds = holds ∙ ap (λ b. let c : Construction = record b { whole = None } in c) is; weighs = weighs })
 
 -- so one is taken out
 pub holds_some_value : (r : Rules) (s : Place) (held : Held) (written : List ℕ) → HearsValue r s (HasHeard held) written →
@@ -146,52 +203,6 @@ holds_some_value r s held written h none =
     let (tree, spelling, is) = value_whole r s held written h in
     let wrong : None ≡ Some (value tree) = sym none ∙ ap (λ b. let c : Construction = b in c.whole) is in
     cc
-
--- whatever came of a piece, a front was taken then, or a fault stands
-pub reads_on_whole : (s s' : Place) (held held' left : Held) (r : Rules) (piece : List ℕ) (used : ℕ) → ∥ TakesOrStands s held ∥₁ →
-    ((fault : Fault) → IsFaulted s fault → ⊥) →
-    WhereHeard s (λ (since : Unit {0}). HasHeard held) (λ since front. HearsValue r s' (HasHeard held') (front ++ take used piece)) →
-    construction_of left ≡ record (construction_of held') { whole = None } → left.weight ≡ 0 → ∥ TakesOrStands s' left ∥₁
-reads_on_whole s s' held held' left r piece used reading never whole holds weighs = ∥∥₁_map reading after
-  where
-    after : TakesOrStands s held → TakesOrStands s' left
-    after (inl (front, w)) =
-        let h = whole tt front w.given w.reads w.heard in
-        let (tree, spelling, is) = value_whole r s' held' (front ++ take used piece) h in
-        inl ([], takes_nothing s' left h.reads (holds ∙ ap (λ b. let c : Construction = record b { whole = None } in c) is) weighs)
-    after (inr (fault, stands)) = absurd (never fault stands.0)
-
--- where a value was whole one is held, whatever was taken before
-pub whole_is_held : (s s' : Place) (held held' : Held) (r : Rules) (piece : List ℕ) (used : ℕ) → ∥ TakesOrStands s held ∥₁ →
-    ((fault : Fault) → IsFaulted s fault → ⊥) →
-    WhereHeard s (λ (since : Unit {0}). HasHeard held) (λ since front. HearsValue r s' (HasHeard held') (front ++ take used piece)) →
-    (construction_of held').whole ≡ None → length piece ≤ used
-whole_is_held s s' held held' r piece used reading never heard none = ∥∥₁_elim reading le_prop of
-  where
-    of : TakesOrStands s held → length piece ≤ used
-    of (inl (front, w)) = absurd (holds_some_value r s' held' (front ++ take used piece) (heard tt front w.given w.reads w.heard) none)
-    of (inr (fault, stands)) = absurd (never fault stands.0)
-
-pub reads_on_inside : (s s' : Place) (held held' : Held) (piece : List ℕ) → ∥ TakesOrStands s held ∥₁ →
-    ((fault : Fault) → IsFaulted s fault → ⊥) →
-    WhereHeard s (λ (since : Unit {0}). HasHeard held) (λ since front. HearsPiece s' (HasHeard held') (front ++ piece)) →
-    ∥ TakesOrStands s' held' ∥₁
-reads_on_inside s s' held held' piece reading never heard = ∥∥₁_map reading after
-  where
-    after : TakesOrStands s held → TakesOrStands s' held'
-    after (inl (front, w)) =
-        let h = heard tt front w.given w.reads w.heard in
-        inl (front ++ piece, record { given = h.heard; reads = h.reads; heard = h.has_heard; all_due = h.all_due; no_value = h.no_value })
-    after (inr (fault, stands)) = absurd (never fault stands.0)
-
--- of a piece with a byte some is used, whatever was taken
-pub some_used : (s : Place) (held : Held) (piece : List ℕ) (used : ℕ) → ∥ TakesOrStands s held ∥₁ → ((fault : Fault) → IsFaulted s fault → ⊥) →
-    WhereHeard s (λ (since : Unit {0}). HasHeard held) (λ since front. HasNoValue front → 0 < length piece → 0 < used) → 0 < length piece → 0 < used
-some_used s held piece used reading never uses some = ∥∥₁_elim reading le_prop of
-  where
-    of : TakesOrStands s held → 0 < used
-    of (inl (front, w)) = uses tt front w.given w.reads w.heard w.no_value some
-    of (inr (fault, stands)) = absurd (never fault stands.0)
 
 -- the first events due of a text that begins an integer, a truth value or a null want no memory
 brief_given : (r : Rules) (written : List ℕ) (n : ℕ) (es : Events) → BeginsBrief written → IsViable r WithinTotal (take n written) →

@@ -9,7 +9,7 @@ use Rattle.resp_value.specs.Trees.{Tree, Trees, leaf, node, none, more, Leaf, li
 use Rattle.resp_value.specs.TreeValues.{value, values, leaf_value}
 use Rattle.resp_fronts.specs.Events.{Event, Timed, TextKind, bytes_from, text_events, last_of, big_events, chunk_events, leaf_events, events, events_each, open_event, close_event, without_places}
 use Rattle.resp_fronts.specs.Events as e
-use Rattle.resp_decode.specs.Builds.{Group, Construction, with_value, with_value_in, scalar_of, with_event, with_events}
+use Rattle.resp_decode.specs.Builds.{Construction, with_value, scalar_of, with_event, with_events}
 
 -- events side by side
 pub without_places-append : (xs ys : List Timed) → without_places (xs ++ ys) ≡ without_places xs ++ without_places ys

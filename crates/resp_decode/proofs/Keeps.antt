@@ -10,7 +10,7 @@ use Rattle.resp_scan.specs.Kinds.{content_events, text_kind_of}
 use Rattle.resp_scan.specs.Listening.{Hears, IsTextOf, MayBeGiven, whole_text_events}
 use Rattle.resp_scan.specs.Reading.{Events}
 use Rattle.resp_scan.specs.declared.event.TextKind.{TextKind as ReadKind}
-use Rattle.resp_decode.specs.Brief.{AreBrief, WantMemory}
+use Rattle.resp_decode.specs.Brief.{WantMemory}
 use Rattle.resp_decode.specs.Builds.{Construction, Group, Text, built_from, nothing, text_value, with_bytes, with_event, with_events, with_text_ended, with_value}
 use Rattle.resp_decode.specs.CutBuilds.{cut_construction, cut_group, cut_text, cut_whole, kept_content, lengths_of, may_cut}
 use Rattle.resp_decode.specs.Fits.{IsContentOf, IsInText, MayAllCome, MayBegin, MayCome, MayEndText, events_weight}
@@ -24,7 +24,7 @@ use Rattle.resp_decode.proofs.Counted.{events_weigh}
 use Rattle.resp_decode.proofs.Folds.{with_events-append}
 use Rattle.resp_decode.proofs.HeldLemmas.{content_held}
 use Rattle.resp_decode.proofs.Keeping.{IsNoByte, IsNoText, all_may_come, content_is_in_text, content_is_kept, content_may_come, event_kept, kept_is_lighter, kept_more, may_come_kept, next_kept, no_byte, put_is_cut, put_leaves_text, put_lengths, same_lengths, same_text, text_is_content, text_is_cut, text_lengths, text_may_be_cut}
-use Rattle.resp_decode.proofs.Taking.{room_for, whole_text_builds}
+use Rattle.resp_decode.proofs.Taking.{brief_last, room_for, whole_text_builds}
 use Rattle.resp_decode.proofs.Values.{are_good, brief_first, brief_groups}
 
 -- events that are passed on in place of others: they may come after what is kept, and build what is kept of what the
@@ -86,10 +86,6 @@ kept_hears_or_stops old new more true same keeps stops shown given h may = (
 )
 kept_hears_or_stops old new more false same keeps stops shown given h may =
     record { told = more; later = []; parts = sym (append-nil more); has_stopped = stops given h.1 refl }
-
-brief_last : (es later : Events) → AreBrief (es ++ later) → AreBrief later
-brief_last [] later h = h
-brief_last (x ∷ es) later h = brief_last es later h.1
 
 -- a call over events of a text or an aggregate hears them, and may stop
 pub kept_hears : (old new : Kept) (more : Events) (goes_on : Bool) → new.shown ≡ old.shown → KeepsMore old new more goes_on → WantMemory more →

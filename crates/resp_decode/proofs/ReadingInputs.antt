@@ -98,7 +98,7 @@ refuses_input r bytes d values rest refusal w number refused = record {
 }
 
 -- an input that ends inside a value
-pub ends_inside : (r : Rules) (d : Decoder) (rest : List ℕ) (used : ℕ) (fault : Fault) → TakesPiece r d rest rest used → 0 < length rest →
+pub ends_inside : (r : Rules) (d : Decoder) (rest : List ℕ) (used : ℕ) (fault : Fault) → TakesPiece r (HasTaken d) rest rest used → 0 < length rest →
     fault.cause ≡ cause.Truncated → fault.at ≡ length rest → RefusesRest r rest fault
 ends_inside r d rest used fault w full names place = inr (inl (record { names = names; place = place; begun = full; viable = w.viable; no_value = w.no_value }))
 

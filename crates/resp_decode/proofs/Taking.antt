@@ -83,7 +83,8 @@ hears_or_stops old new more true takes stops since given h may =
 hears_or_stops old new more false takes stops since given h may =
     record { told = more; later = []; parts = sym (append-nil more); has_stopped = stops given h refl }
 
-brief_last : (es later : Events) → AreBrief (es ++ later) → AreBrief later
+-- the last of brief events are brief
+pub brief_last : (es later : Events) → AreBrief (es ++ later) → AreBrief later
 brief_last [] later h = h
 brief_last (x ∷ es) later h = brief_last es later h.1
 

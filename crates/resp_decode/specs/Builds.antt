@@ -89,6 +89,3 @@ built_from es = with_events es nothing
 abbrev pub with_bytes : Option Text → List ℕ → Option Text
 with_bytes None s = None
 with_bytes (Some t) s = Some (record t { content = t.content ++ s })
-
-abbrev pub with_content : List ℕ → Construction → Construction
-with_content s b = record b { text = with_bytes b.text s }

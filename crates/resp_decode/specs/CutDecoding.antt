@@ -1,16 +1,17 @@
 -- The contracts of a decoder that keeps the first bytes of each text, in terms of texts and values.
-use Rattle.std.specs.Prelude.{◌≡◌, ℕ, List, [], length, None, Some, Result, IfOk}
+use Rattle.std.specs.Prelude.{◌≡◌, ℕ, List, [], None, Some, Result, IfOk}
 use Rattle.resp_value.specs.Data.{Datum}
-use Rattle.resp_value.specs.Rules.{Rules, WithinTotal}
-use Rattle.resp_value.specs.Spellings.{IsSpelling, IsViable}
-use Rattle.resp_scan.specs.Reading.{AreDue, Events, HasNoValue}
+use Rattle.resp_value.specs.Rules.{Rules}
+use Rattle.resp_value.specs.Spellings.{IsSpelling}
+use Rattle.resp_scan.specs.Reading.{AreDue, Events}
 use Rattle.resp_scan.specs.Kinds as kinds
 use Rattle.resp_scan.specs.declared.event.Fault.{Fault}
 use Rattle.resp_cut.specs.Cuts.{IsCutOf}
 use Rattle.resp_cut.specs.declared.cut_value.CutValue.{CutValue}
 use Rattle.resp_decode.specs.Builds.{built_from}
 use Rattle.resp_decode.specs.CutBuilds.{cut_construction}
-use Rattle.resp_decode.specs.Keeping.{KeepsFront, StandsAtFault}
+use Rattle.resp_decode.specs.Keeping.{HasKept, KeepsNothing}
+use Rattle.resp_decode.specs.Standing.{StandsAtFault, TakesFront}
 use Rattle.resp_decode.specs.Weights.{weight_of}
 use Rattle.resp_decode.specs.declared.cut_decoder.CutDecoder.{CutDecoder}
 use Rattle.resp_decode.specs.declared.fed.CutFed.{CutFed}
@@ -26,7 +27,7 @@ shown_of d = d.kept.shown
 -- The bytes that a decoder has read of a value are this front. The definition is opaque to callers: `new` establishes
 -- this relation, and `feed` keeps it until a fault.
 abbrev pub HasTaken : CutDecoder → List ℕ → Type 0
-HasTaken d front = KeepsFront d.scanner d.kept front
+HasTaken d front = TakesFront (HasKept d.kept d.kept.shown) d.scanner front
 
 -- this holds of every front that the decoder has read
 abbrev pub WhereTaken : CutDecoder → (List ℕ → Type 0) → Type 0
@@ -34,7 +35,7 @@ WhereTaken d P = (front : List ℕ) → HasTaken d front → P front
 
 -- every call returns this fault, and nothing is held
 abbrev pub HasFault : CutDecoder → Fault → Type 0
-HasFault d fault = StandsAtFault d.scanner d.kept fault
+HasFault d fault = StandsAtFault (KeepsNothing d.kept) d.scanner fault
 
 -- the weight of the partial value that the events of this front build, with the first bytes of each text
 abbrev pub WeighsWhatIsKept : ℕ → ℕ → List ℕ → Type 0
@@ -56,11 +57,3 @@ pub record GivesCut (r : Rules) (shown : ℕ) (d : CutDecoder) (written : List �
   pub spelling : IsSpelling r whole written
   pub is_cut : IsCutOf shown whole kept
   pub takes : HasTaken d []
-
--- the piece is used up: the text does not begin with a spelling in any version or under any limits, it is viable within
--- the rules, and it was read
-pub record TakesPiece (r : Rules) (d : CutDecoder) (written piece : List ℕ) (used : ℕ) : Type 0 where
-  pub whole_piece : used ≡ length piece
-  pub no_value : HasNoValue written
-  pub viable : IsViable r WithinTotal written
-  pub takes : HasTaken d written

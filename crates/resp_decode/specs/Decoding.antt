@@ -11,6 +11,7 @@ use Rattle.resp_scan.specs.Kinds as kinds
 use Rattle.resp_scan.specs.declared.event.Fault.{Fault}
 use Rattle.resp_decode.specs.Brief.{BeginsBrief, BringMemoryWants}
 use Rattle.resp_decode.specs.Builds.{built_from}
+use Rattle.resp_decode.specs.Hearing.{HasHeard, HoldsNothing}
 use Rattle.resp_decode.specs.Standing.{StandsAtFault, TakesFront}
 use Rattle.resp_decode.specs.Weights.{weight_of}
 use Rattle.resp_decode.specs.declared.decoder.Decoder.{Decoder}
@@ -23,7 +24,7 @@ rules_of d = kinds.rules_of d.scanner
 -- The bytes that a decoder has read of a value are this front. The definition is opaque to callers: `new` establishes
 -- this relation, and `feed` keeps it until a fault.
 abbrev pub HasTaken : Decoder → List ℕ → Type 0
-HasTaken d front = TakesFront d.scanner d.held front
+HasTaken d front = TakesFront (HasHeard d.held) d.scanner front
 
 -- this holds of every front that the decoder has read
 abbrev pub WhereTaken : Decoder → (List ℕ → Type 0) → Type 0
@@ -31,7 +32,7 @@ WhereTaken d P = (front : List ℕ) → HasTaken d front → P front
 
 -- every call returns this fault, and nothing is held
 abbrev pub HasFault : Decoder → Fault → Type 0
-HasFault d fault = StandsAtFault d.scanner d.held fault
+HasFault d fault = StandsAtFault (HoldsNothing d.held) d.scanner fault
 
 -- the weight of the partial value that the events of this front build
 abbrev pub WeighsWhatIsDue : ℕ → List ℕ → Type 0
@@ -52,11 +53,11 @@ pub record GivesValue (r : Rules) (d : Decoder) (written : List ℕ) (value : Va
 
 -- the piece is used up: the text does not begin with a spelling in any version or under any limits, it is viable within
 -- the rules, and it was read
-pub record TakesPiece (r : Rules) (d : Decoder) (written piece : List ℕ) (used : ℕ) : Type 0 where
+pub record TakesPiece (r : Rules) (Takes : List ℕ → Type 0) (written piece : List ℕ) (used : ℕ) : Type 0 where
   pub whole_piece : used ≡ length piece
   pub no_value : HasNoValue written
   pub viable : IsViable r WithinTotal written
-  pub takes : HasTaken d written
+  pub takes : Takes written
 
 -- a byte of the piece is rejected: there the text stops being viable, because of the rule of the fault's cause, and the
 -- text does not begin with a spelling within the rules

@@ -11,6 +11,10 @@ pub record HasHeard (held : Held) (es : Events) : Type 0 where
   pub holds : construction_of held ≡ built_from es
   pub weighs : held.weight ≡ events_weight es nothing
 
+-- nothing is held
+abbrev pub HoldsNothing : Held → Type 0
+HoldsNothing held = (held.weight ≡ 0) × (construction_of held ≡ nothing)
+
 -- more events are applied, which may come next, and for whose weight there is room
 pub record TakesIn (old new : Held) (more : Events) : Type 0 where
   pub holds : construction_of new ≡ with_events more (construction_of old)

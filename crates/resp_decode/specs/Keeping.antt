@@ -1,8 +1,6 @@
--- The states of a decoder that keeps the first bytes of each text.
-use Rattle.std.specs.Prelude.{◌≡◌, ◌⊎◌, ℕ, if◌then◌else◌, Option, None, Some, List, [], length}
-use Rattle.resp_scan.specs.Machine.Tokens.{Place}
-use Rattle.resp_scan.specs.Reading.{AreDue, Events, HasNoValue, HasRead, IsFaulted}
-use Rattle.resp_scan.specs.declared.event.Fault.{Fault}
+-- What a decoder holds that keeps the first bytes of each text.
+use Rattle.std.specs.Prelude.{◌≡◌, ℕ, if◌then◌else◌, Option, None, Some, [], length}
+use Rattle.resp_scan.specs.Reading.{Events}
 use Rattle.resp_decode.specs.Builds.{Construction, Text, built_from, nothing}
 use Rattle.resp_decode.specs.CutBuilds.{cut_construction, lengths_of, may_cut}
 use Rattle.resp_decode.specs.Holding.{construction_of}
@@ -31,21 +29,3 @@ pub record KeepsNothing (kept : Kept) : Type 0 where
   pub holds : construction_of kept.held ≡ nothing
   pub weighs : kept.held.weight ≡ 0
   pub lengths : kept.lengths.items ≡ []
-
--- the scanner has read the bytes of this front, no value has ended in them, and the state keeps the first bytes of the
--- texts of their events
-pub record KeepsFront (scanner : Place) (kept : Kept) (front : List ℕ) : Type 0 where
-  pub given : Events
-  pub reads : HasRead scanner front given
-  pub keeps : KeepsOf kept (built_from given)
-  pub all_due : AreDue front given
-  pub no_value : HasNoValue front
-
--- the scanner returns this fault from now on, and nothing is held
-abbrev pub StandsAtFault : Place → Kept → Fault → Type 0
-StandsAtFault scanner kept fault = IsFaulted scanner fault × KeepsNothing kept
-
--- some front was read, or there is a fault
-abbrev pub KeepsOrStands : Place → Kept → Type 0
-KeepsOrStands scanner kept =
-    ((front : List ℕ) × KeepsFront scanner kept front) ⊎ ((fault : Fault) × StandsAtFault scanner kept fault)

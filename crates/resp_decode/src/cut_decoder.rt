@@ -1,7 +1,8 @@
 //! The decoder that keeps the first bytes of each text.
 
 ghost use Rattle.std.specs.Prelude.{◌≡◌, ◌⊎◌, ◌↔◌, ◌≤◌, ◌<◌, ◌++◌, ℕ, length, take, [], None, Err, IsOk, OnOk, OnErr, IfOk, IfErr};
-ghost use Rattle.resp_decode.specs.Keeping.{KeepsOrStands};
+ghost use Rattle.resp_decode.specs.Keeping.{HasKept, KeepsNothing};
+ghost use Rattle.resp_decode.specs.Standing.{TakesOrStands};
 ghost use Rattle.resp_value.specs.declared.cause.Cause.TheVariants as cause;
 
 use crate::decoder::fault_of;
@@ -29,12 +30,12 @@ pub struct CutDecoder {
     scanner: Scanner,
     kept: Kept,
     /// The bytes read are a prefix of a value, or there was a fault.
-    pub ghost reading: { ∥ KeepsOrStands scanner kept ∥₁ },
+    pub ghost reading: { ∥ TakesOrStands (HasKept kept kept.shown) (KeepsNothing kept) scanner ∥₁ },
 }
 
 impl CutDecoder {
-    ghost use Rattle.resp_decode.specs.CutDecoding.{GivesCut, HasFault, HasTaken, IfNoValue, IfValue, TakesPiece, WeighsWhatIsKept, WhereTaken, rules_of, shown_of};
-    ghost use Rattle.resp_decode.specs.Decoding.{LacksMemory, RefusesByte};
+    ghost use Rattle.resp_decode.specs.CutDecoding.{GivesCut, HasFault, HasTaken, IfNoValue, IfValue, WeighsWhatIsKept, WhereTaken, rules_of, shown_of};
+    ghost use Rattle.resp_decode.specs.Decoding.{LacksMemory, RefusesByte, TakesPiece};
     ghost use Rattle.resp_scan.specs.declared.event.Fault.{Fault};
     ghost use Rattle.resp_value.specs.Bounds.{AreBounds};
     ghost use Rattle.resp_value.specs.Rules.{WithinTotal, rules_under};
@@ -86,7 +87,7 @@ impl CutDecoder {
 
         // No value has ended in the piece, and the whole piece was read.
         ensures used_up { WhereTaken self.old (λ front. IfNoValue result
-            (TakesPiece (rules_of self.old) self.new (front ++ piece.now) piece.now)) }
+            (TakesPiece (rules_of self.old) (HasTaken self.new) (front ++ piece.now) piece.now)) }
 
         // A fault: the byte is the first that cannot follow the bytes before it and the fault has
         // its cause, or an allocation failed.

@@ -1,6 +1,7 @@
 //! The decoder, which reads values from pieces of any size.
 
 ghost use Rattle.std.specs.Prelude.{◌≡◌, ◌⊎◌, ◌↔◌, ◌≤◌, ◌<◌, ◌++◌, ℕ, length, take, [], None, Err, IsOk, OnOk, OnErr, IfOk, IfErr};
+ghost use Rattle.resp_decode.specs.Hearing.{HasHeard, HoldsNothing};
 ghost use Rattle.resp_decode.specs.Standing.{TakesOrStands};
 ghost use Rattle.resp_scan.specs.Listening.{fault_of};
 ghost use Rattle.resp_value.specs.declared.cause.Cause.TheVariants as cause;
@@ -21,7 +22,7 @@ pub struct Decoder {
     scanner: Scanner,
     held: Held,
     /// The bytes read are a prefix of a value, or there was a fault.
-    pub ghost reading: { ∥ TakesOrStands scanner held ∥₁ },
+    pub ghost reading: { ∥ TakesOrStands (HasHeard held) (HoldsNothing held) scanner ∥₁ },
 }
 
 impl Decoder {
@@ -99,7 +100,7 @@ impl Decoder {
 
         // No value has ended in the piece, and the whole piece was read.
         ensures used_up { WhereTaken self.old (λ front. IfNoValue result
-            (TakesPiece (rules_of self.old) self.new (front ++ piece.now) piece.now)) }
+            (TakesPiece (rules_of self.old) (HasTaken self.new) (front ++ piece.now) piece.now)) }
 
         // A fault: the byte is the first that cannot follow the bytes before it and the fault has
         // its cause, or an allocation failed.

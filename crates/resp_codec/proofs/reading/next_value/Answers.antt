@@ -1,6 +1,6 @@
 use Rattle.std.proofs.Common.{◌≡◌, ◌⊎◌, ◌++◌, length, take, sym, ap, subst, ◌∙◌}
 use Rattle.std.proofs.lemmas.List.{append-nil}
-use Rattle.resp_decode.specs.Decoding.{GivesValue, LacksMemory, RefusesByte, TakesPiece, WhereTaken, rules_of}
+use Rattle.resp_decode.specs.Decoding.{GivesValue, HasTaken, LacksMemory, RefusesByte, TakesPiece, WhereTaken, rules_of}
 use Rattle.resp_codec.proofs.Fed.{buffer_taken, if_none, if_some, value_ends}
 use Rattle.resp_codec.proofs.reading.next_value.Goals as goal
 
@@ -40,6 +40,6 @@ returns-clause-none c =
     if_none fed.value _ (λ is.
     buffer_taken d c.feed.new.self c.args.src.now.items c.advance.new.self.items fed.used
     (λ fault stands. let wrong = c.in-Ok.ensures.fault_is_final fault stands in cc)
-    (λ front taken. subst (λ z. TakesPiece (rules_of d) c.feed.new.self (front ++ z) z fed.used) c.as_slice.ensures
+    (λ front taken. subst (λ z. TakesPiece (rules_of d) (HasTaken c.feed.new.self) (front ++ z) z fed.used) c.as_slice.ensures
     (c.in-Ok.ensures.used_up front taken is))
     (c.in-Ok.ensures.whole_piece is ∙ ap length c.as_slice.ensures) c.taken-taken.ensures.viable c.advance.ensures.items)

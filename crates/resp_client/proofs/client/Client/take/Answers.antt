@@ -110,4 +110,4 @@ invariant_of-self-in_default-fed-clause-reading c =
     let b = c.in_default.ensures.begun front h in
     ∣ reads_on now.limits (state_of now).waiting now.decoder new now.fault front piece fed.used fed.value b.read_by c.feed-fed.ensures.same_rules b.asked b.no_fault
     (subst (λ z. IfValue z (λ used x. GivesValue r new (front ++ take used piece) x)) c.in_default-fed.is (c.feed-fed.ensures.value_whole front b.taken))
-    (subst (λ z. IfNoValue z (TakesPiece r new (front ++ piece) piece)) c.in_default-fed.is (c.feed-fed.ensures.used_up front b.taken)) ∣₁)
+    (subst (λ z. IfNoValue z (TakesPiece r (decode.HasTaken new) (front ++ piece) piece)) c.in_default-fed.is (c.feed-fed.ensures.used_up front b.taken)) ∣₁)

@@ -1,11 +1,9 @@
-use Rattle.std.proofs.Common.{arith, rules, true, false, ◌≡◌, ◌⊎◌, ◌++◌, take, subst, sym, ap, ◌∙◌}
-use Rattle.resp_value.specs.Rules.{WithinTotal}
-use Rattle.resp_value.specs.Spellings.{IsViable}
+use Rattle.std.proofs.Common.{arith, rules, true, false, ◌≡◌, ◌⊎◌, ◌≤◌, [], ◌++◌, length, take, subst, sym, ap, ◌∙◌}
 use Rattle.resp_scan.specs.Kinds.{rules_of}
 use Rattle.resp_decode.specs.Decoding.{LacksMemory, RefusesByte}
 use Rattle.resp_decode.specs.Hearing.{HasHeard}
 use Rattle.resp_decode.specs.Holding.{maybe_datum}
-use Rattle.resp_decode.proofs.Feeding.{gives_value, holds_some_value, reads_on_inside, reads_on_whole, refuses_or_lacks, some_used, whole_is_held}
+use Rattle.resp_decode.proofs.Feeding.{holds_some_value, reads_on, refuses_or_lacks, spells_value, takes_next, takes_on, takes_piece, within}
 use Rattle.resp_decode.proofs.decoder.Decoder.feed.Goals as goal
 
 pub returns-in-Err-clause-refusal : goal.returns-in-Err-clause-refusal
@@ -19,13 +17,8 @@ returns-in-Err-clause-refusal c = λ front w.
 pub returns-then-not-scanned-clause-used_up : goal.returns-then-not-scanned-clause-used_up
 returns-then-not-scanned-clause-used_up c = λ front w none.
     let part : c.in-Ok.scanned.is_whole ≡ false = search rules in
-    let heard = c.in-Ok.ensures.used_up tt front w.given w.reads w.heard part in
-    record {
-      whole_piece = c.in-Ok.ensures.whole_piece part;
-      no_value = heard.no_value;
-      viable = subst (λ r. IsViable r WithinTotal (front ++ c.args.piece.now)) c.in-Ok.ensures.same_rules heard.viable;
-      takes = record { given = heard.heard; reads = heard.reads; heard = heard.has_heard; all_due = heard.all_due; no_value = heard.no_value };
-    }
+    takes_piece (c.in-Ok.ensures.whole_piece part) c.in-Ok.ensures.same_rules
+    (c.in-Ok.ensures.used_up tt front w.given w.reads w.heard part) (λ es heard. heard)
 
 pub returns-clause-value_whole : goal.returns-clause-value_whole
 returns-clause-value_whole c = λ front w x is.
@@ -33,9 +26,12 @@ returns-clause-value_whole c = λ front w x is.
     let written = front ++ take c.in-Ok.scanned.used c.args.piece.now in
     let whole : c.in-Ok.scanned.is_whole ≡ true = search rules in
     let heard = c.in-Ok.ensures.value_whole tt front w.given w.reads w.heard whole in
-    let given = gives_value r c.scan.new.self c.scan.new.listener c.take_whole-value.new.self written x heard
-    (ap maybe_datum (sym is) ∙ c.take_whole-value.ensures.taken) c.take_whole-value.ensures.holds c.take_whole-value.ensures.weighs in
-    record { spelling = given.spelling; takes = given.takes }
+    record {
+      spelling = spells_value r c.scan.new.self c.scan.new.listener written x heard
+          (ap maybe_datum (sym is) ∙ c.take_whole-value.ensures.taken);
+      takes = takes_next r c.scan.new.self c.scan.new.listener c.take_whole-value.new.self written heard
+          c.take_whole-value.ensures.holds c.take_whole-value.ensures.weighs;
+    }
 
 pub returns-clause-used_up : goal.returns-clause-used_up
 returns-clause-used_up c = λ front w none.
@@ -46,39 +42,55 @@ returns-clause-used_up c = λ front w none.
     absurd (holds_some_value r c.scan.new.self c.scan.new.listener written heard (sym c.take_whole-value.ensures.taken ∙ ap maybe_datum none))
 
 pub returns-then-not-scanned-clause-uses_bytes : goal.returns-then-not-scanned-clause-uses_bytes
-returns-then-not-scanned-clause-uses_bytes c = some_used c.args.self.now.scanner c.args.self.now.held c.args.piece.now c.in-Ok.scanned.used
-    c.args.self.now.reading (λ fault stands. let wrong = (c.scan.ensures.fault_is_final fault stands).0 in search rules) c.in-Ok.ensures.uses_bytes
+returns-then-not-scanned-clause-uses_bytes c = λ some.
+    within 1 c.in-Ok.scanned.used c.args.self.now.reading
+    (λ fault stands. let wrong = (c.scan.ensures.fault_is_final fault stands).0 in search rules)
+    (λ front w. c.in-Ok.ensures.uses_bytes tt front w.given w.reads w.heard w.no_value some)
 
 pub returns-clause-uses_bytes : goal.returns-clause-uses_bytes
-returns-clause-uses_bytes c = some_used c.args.self.now.scanner c.args.self.now.held c.args.piece.now c.in-Ok.scanned.used
-    c.args.self.now.reading (λ fault stands. let wrong = (c.scan.ensures.fault_is_final fault stands).0 in search rules) c.in-Ok.ensures.uses_bytes
+returns-clause-uses_bytes c = λ some.
+    within 1 c.in-Ok.scanned.used c.args.self.now.reading
+    (λ fault stands. let wrong = (c.scan.ensures.fault_is_final fault stands).0 in search rules)
+    (λ front w. c.in-Ok.ensures.uses_bytes tt front w.given w.reads w.heard w.no_value some)
 
 pub returns-clause-whole_piece : goal.returns-clause-whole_piece
 returns-clause-whole_piece c = λ none.
+    let r = rules_of c.args.self.now.scanner in
+    let piece = c.args.piece.now in
+    let used = c.in-Ok.scanned.used in
     let whole : c.in-Ok.scanned.is_whole ≡ true = search rules in
-    let most = whole_is_held c.args.self.now.scanner c.scan.new.self c.args.self.now.held c.scan.new.listener (rules_of c.args.self.now.scanner)
-    c.args.piece.now c.in-Ok.scanned.used c.args.self.now.reading
+    let most : length piece ≤ used = within (length piece) used c.args.self.now.reading
     (λ fault stands. let wrong = (c.scan.ensures.fault_is_final fault stands).0 in search rules)
-    (λ since front given reads heard. c.in-Ok.ensures.value_whole since front given reads heard whole)
-    (sym c.take_whole-value.ensures.taken ∙ ap maybe_datum none) in
+    (λ front w. absurd (holds_some_value r c.scan.new.self c.scan.new.listener (front ++ take used piece)
+    (c.in-Ok.ensures.value_whole tt front w.given w.reads w.heard whole)
+    (sym c.take_whole-value.ensures.taken ∙ ap maybe_datum none))) in
     let least = c.in-Ok.ensures.within_piece in omega (arith, most, least)
 
 pub invariant_of-self-then-not-scanned : goal.invariant_of-self-then-not-scanned
 invariant_of-self-then-not-scanned c =
     let inside : c.in-Ok.scanned.is_whole ≡ false = search rules in
     record {
-      reading = reads_on_inside c.args.self.now.scanner c.scan.new.self c.args.self.now.held c.scan.new.listener c.args.piece.now c.args.self.now.reading
+      reading = reads_on c.args.self.now.reading
           (λ fault stands. let wrong = (c.scan.ensures.fault_is_final fault stands).0 in search rules)
-          (λ since front given reads heard. c.in-Ok.ensures.used_up since front given reads heard inside);
+          (λ front w. (
+            front ++ c.args.piece.now,
+            takes_on (c.in-Ok.ensures.used_up tt front w.given w.reads w.heard
+                inside) (λ es heard. heard),
+          ));
     }
 
 pub invariant_of-self-2 : goal.invariant_of-self-2
 invariant_of-self-2 c =
     let whole : c.in-Ok.scanned.is_whole ≡ true = search rules in
     record {
-      reading = reads_on_whole c.args.self.now.scanner c.scan.new.self c.args.self.now.held c.scan.new.listener c.take_whole-value.new.self
-          (rules_of c.args.self.now.scanner) c.args.piece.now c.in-Ok.scanned.used c.args.self.now.reading
+      reading = reads_on c.args.self.now.reading
           (λ fault stands. let wrong = (c.scan.ensures.fault_is_final fault stands).0 in search rules)
-          (λ since front given reads heard. c.in-Ok.ensures.value_whole since front given reads heard whole)
-          c.take_whole-value.ensures.holds c.take_whole-value.ensures.weighs;
+          (λ front w. (
+            [],
+            takes_next (rules_of c.args.self.now.scanner) c.scan.new.self c.scan.new.listener
+                c.take_whole-value.new.self
+                (front ++ take c.in-Ok.scanned.used c.args.piece.now)
+                (c.in-Ok.ensures.value_whole tt front w.given w.reads w.heard whole)
+                c.take_whole-value.ensures.holds c.take_whole-value.ensures.weighs,
+          ));
     }

@@ -1,15 +1,19 @@
+use Rattle.resp_decode.specs.Hearing.{HasHeard, HoldsNothing}
 use Rattle.resp_decode.proofs.Feeding.{reads_on_in_version, takes_nothing_of_version}
 use Rattle.resp_decode.proofs.decoder.Decoder.set_version.Goals as goal
 
 pub returns-clause-nothing_taken : goal.returns-clause-nothing_taken
 returns-clause-nothing_taken c = λ front w.
-    takes_nothing_of_version c.args.self.now.scanner c.set_version.new.self c.args.self.now.held front c.set_version.result w
+    takes_nothing_of_version (HasHeard c.args.self.now.held) c.args.self.now.scanner c.set_version.new.self front
+    c.set_version.result w
     (c.set_version.ensures.only_between_values front w.given w.reads).0 (c.set_version.ensures.nothing_read front w.given w.reads)
 
 pub invariant_of-self : goal.invariant_of-self
 invariant_of-self c =
     let set = c.set_version.ensures in
     record {
-      reading = reads_on_in_version c.args.self.now.scanner c.set_version.new.self c.args.self.now.held c.set_version.result c.args.self.now.reading
-          set.only_between_values set.nothing_read set.unchanged_where_busy set.never_after_a_fault;
+      reading = reads_on_in_version (HasHeard c.args.self.now.held) (HoldsNothing c.args.self.now.held)
+          c.args.self.now.scanner c.set_version.new.self
+          c.set_version.result c.args.self.now.reading set.only_between_values set.nothing_read set.unchanged_where_busy
+          set.never_after_a_fault;
     }
