@@ -18,20 +18,20 @@ use Rattle.resp_server.proofs.Seats.{is_id, put_there, state_of, seats-lookup, s
 use Rattle.resp_server.proofs.Turns.{waits_on}
 
 -- what holds of the session that was found, and of the hub as its fields are
-at_found : (limits : Bounds) (es : List (ℕ × Session)) (store : Store) (last : ℕ) (hub : HubState) → state_of limits es store last ≡ hub → (id : ℕ)
-    (old : Session) → Some old ≡ lookup (is_id id) es → (P : HubState → Seat → Type 0) → P (state_of limits es store last) (seat_of old) →
+at_found : {hub : HubState} (limits : Bounds) (es : List (ℕ × Session)) (store : Store) (last : ℕ) → state_of limits es store last ≡ hub →
+    {old : Session} (id : ℕ) → Some old ≡ lookup (is_id id) es → (P : HubState → Seat → Type 0) → P (state_of limits es store last) (seat_of old) →
     IfSome (seat_at hub id) (P hub)
-at_found limits es store last hub view id old found P p =
+at_found limits es store last view {old} id found P p =
     let there : seat_at (state_of limits es store last) id ≡ Some (seat_of old) = sym (seats-lookup es id) ∙ ap (option_map seat_of) (sym found) in
     subst (λ h. IfSome (seat_at h id) (P h)) view (subst (λ o. IfSome o (P (state_of limits es store last))) (sym there) p)
 
-pub hub_answered : (limits : Bounds) (es : List (ℕ × Session)) (store : Store) (last : ℕ) (hub : HubState) → state_of limits es store last ≡ hub →
-    (limits' : Bounds) → limits' ≡ limits → (ns : List (ℕ × Session)) (store' : Store) (id : ℕ) (old new : Session) → ns ≡ set_value (is_id id) es new →
-    Some old ≡ lookup (is_id id) es → (piece : List ℕ) (k : ℕ) →
-    old.id ≡ id → ((front : List ℕ) → HasReadFront old.decoder front → IsAnswered limits store store' old new (front ++ piece) k) →
+pub hub_answered : {limits : Bounds} {hub : HubState} (es : List (ℕ × Session)) (store : Store) (last : ℕ) → state_of limits es store last ≡ hub →
+    {limits' : Bounds} → limits' ≡ limits → {ns : List (ℕ × Session)} {id : ℕ} {old : Session} (store' : Store) (new : Session) →
+    ns ≡ set_value (is_id id) es new → Some old ≡ lookup (is_id id) es → (piece : List ℕ) (k : ℕ) → old.id ≡ id →
+    ((front : List ℕ) → HasReadFront old.decoder front → IsAnswered limits store store' old new (front ++ piece) k) →
     WhereOpen hub id (λ s front. HasAnswered hub (state_of limits' ns store' last) id s (front ++ piece) k)
-hub_answered limits es store last hub view limits' same_limits ns store' id old new written found piece k same answered =
-    at_found limits es store last hub view id old found (λ h s. s.closing ≡ false → (front : List ℕ) → HasReadFront s.decoder front →
+hub_answered {limits} es store last view {limits'} same_limits {ns} {id} {old} store' new written found piece k same answered =
+    at_found limits es store last view id found (λ h s. s.closing ≡ false → (front : List ℕ) → HasReadFront s.decoder front →
     HasAnswered h (state_of limits' ns store' last) id s (front ++ piece) k) (λ is_open front taken.
     let a = answered front taken in
     let seat : seat_of new ≡ record { version = new.version; out = old.out.items ++ a.reply; closing = new.closing; decoder = new.decoder } =
@@ -51,13 +51,12 @@ hub_answered limits es store last hub view limits' same_limits ns store' id old 
       taking = a.taking;
     })
 
-pub hub_cut_short : (limits : Bounds) (es : List (ℕ × Session)) (store : Store) (last : ℕ) (hub : HubState) → state_of limits es store last ≡ hub →
-    (limits' : Bounds) → limits' ≡ limits → (ns : List (ℕ × Session)) (store' : Store) (id : ℕ) (old new : Session) → ns ≡ set_value (is_id id) es new →
-    Some old ≡ lookup (is_id id) es → (piece : List ℕ) (k : ℕ) →
-    old.id ≡ id → ((front : List ℕ) → HasReadFront old.decoder front → IsCutShort limits store store' old new front piece k) →
-    WhereOpen hub id (λ s front. HasCutShort hub (state_of limits' ns store' last) id s front piece k)
-hub_cut_short limits es store last hub view limits' same_limits ns store' id old new written found piece k same cut =
-    at_found limits es store last hub view id old found (λ h s. s.closing ≡ false → (front : List ℕ) → HasReadFront s.decoder front →
+pub hub_cut_short : {limits : Bounds} {hub : HubState} (es : List (ℕ × Session)) (store : Store) (last : ℕ) → state_of limits es store last ≡ hub →
+    {limits' : Bounds} → limits' ≡ limits → {ns : List (ℕ × Session)} {id : ℕ} {old : Session} (store' : Store) (new : Session) → ns ≡ set_value (is_id id) es
+    new → Some old ≡ lookup (is_id id) es → (piece : List ℕ) (k : ℕ) → old.id ≡ id → ((front : List ℕ) → HasReadFront old.decoder front →
+    IsCutShort limits store store' old new front piece k) → WhereOpen hub id (λ s front. HasCutShort hub (state_of limits' ns store' last) id s front piece k)
+hub_cut_short {limits} es store last view {limits'} same_limits {ns} {id} {old} store' new written found piece k same cut =
+    at_found limits es store last view id found (λ h s. s.closing ≡ false → (front : List ℕ) → HasReadFront s.decoder front →
     HasCutShort h (state_of limits' ns store' last) id s front piece k) (λ is_open front taken.
     let a = cut front taken in
     let seat : seat_of new ≡ record { version = new.version; out = old.out.items ++ a.reply; closing = true; decoder = new.decoder } =
@@ -78,46 +77,44 @@ hub_cut_short limits es store last hub view limits' same_limits ns store' id old
     })
 
 -- the hub stays sound after what was answered
-pub answered_sound : (limits : Bounds) (es : List (ℕ × Session)) (store : Store) (last : ℕ) → HubIsSound limits es store last →
-    (limits' : Bounds) → limits' ≡ limits → (ns : List (ℕ × Session)) (store' : Store) (id : ℕ) (old new : Session) → ns ≡ set_value (is_id id) es new →
+pub answered_sound : {limits : Bounds} {es : List (ℕ × Session)} {store : Store} {last : ℕ} → HubIsSound limits es store last → {limits' : Bounds} →
+    limits' ≡ limits → {ns : List (ℕ × Session)} {store' : Store} {old : Session} (id : ℕ) (new : Session) → ns ≡ set_value (is_id id) es new →
     Some old ≡ lookup (is_id id) es → FitsStore limits store' → new.id ≡ old.id → ReadsBy (server_rules limits) new.decoder →
-    (new.closing ≡ false → (front : List ℕ) × HasReadFront new.decoder front) → HoldsNoIdleDecoder new.closing new.decoder →
-    HubIsSound limits' ns store' last
-answered_sound limits es store last h limits' same_limits ns store' id old new written found stored same reading taking idle =
+    (new.closing ≡ false → (front : List ℕ) × HasReadFront new.decoder front) → HoldsNoIdleDecoder new.closing new.decoder → HubIsSound limits' ns store' last
+answered_sound {limits} {es} {last} h same_limits {ns} {store'} id new written found stored same reading taking idle =
     subst (λ l. HubIsSound l ns store' last) (sym same_limits) (record {
       stored = stored;
       few = h.few;
-      sound = subst (AreSound limits last) (sym written) (sound_set limits last es id old new found
+      sound = subst (AreSound limits last) (sym written) (sound_set limits last es id new found
           (λ other s. record { same_id = same ∙ s.same_id; given = s.given; reading = reading; taking = taking; idle = idle }) h.sound);
     })
 
 -- a session that was found is closing, or isn't, as its seat is
-pub not_closing : (limits : Bounds) (es : List (ℕ × Session)) (store : Store) (last : ℕ) (hub : HubState) → state_of limits es store last ≡ hub → (id : ℕ)
-    (old : Session) → Some old ≡ lookup (is_id id) es → old.closing ≡ false → (Q : Type 0) →
-    IfSome (seat_at hub id) (λ s. s.closing ≡ true → Q)
-not_closing limits es store last hub view id old found is_open Q =
-    at_found limits es store last hub view id old found (λ h s. s.closing ≡ true → Q) (λ closes. absurd (false≢true (sym is_open ∙ closes)))
+pub not_closing : {hub : HubState} (limits : Bounds) (es : List (ℕ × Session)) (store : Store) (last : ℕ) → state_of limits es store last ≡ hub →
+    {old : Session} (id : ℕ) → Some old ≡ lookup (is_id id) es → old.closing ≡ false → (Q : Type 0) → IfSome (seat_at hub id) (λ s. s.closing ≡ true → Q)
+not_closing limits es store last view id found is_open Q =
+    at_found limits es store last view id found (λ h s. s.closing ≡ true → Q) (λ closes. absurd (false≢true (sym is_open ∙ closes)))
 
-pub if_closing : (limits : Bounds) (es : List (ℕ × Session)) (store : Store) (last : ℕ) (hub : HubState) → state_of limits es store last ≡ hub → (id : ℕ)
-    (old : Session) → Some old ≡ lookup (is_id id) es → (Q : Type 0) → Q → IfSome (seat_at hub id) (λ s. s.closing ≡ true → Q)
-if_closing limits es store last hub view id old found Q q = at_found limits es store last hub view id old found (λ h s. s.closing ≡ true → Q) (λ closes. q)
+pub if_closing : {hub : HubState} (limits : Bounds) (es : List (ℕ × Session)) (store : Store) (last : ℕ) → state_of limits es store last ≡ hub →
+    {old : Session} (id : ℕ) → Some old ≡ lookup (is_id id) es → (Q : Type 0) → Q → IfSome (seat_at hub id) (λ s. s.closing ≡ true → Q)
+if_closing limits es store last view id found Q q = at_found limits es store last view id found (λ h s. s.closing ≡ true → Q) (λ closes. q)
 
 -- an open session is not there where it is closing
-pub not_open : (limits : Bounds) (es : List (ℕ × Session)) (store : Store) (last : ℕ) (hub : HubState) → state_of limits es store last ≡ hub → (id : ℕ)
-    (old : Session) → Some old ≡ lookup (is_id id) es → old.closing ≡ true → (P : Seat → List ℕ → Type 0) → WhereOpen hub id P
-not_open limits es store last hub view id old found closes P =
-    at_found limits es store last hub view id old found (λ h s. s.closing ≡ false → (front : List ℕ) → HasReadFront s.decoder front → P s front)
+pub not_open : {hub : HubState} (limits : Bounds) (es : List (ℕ × Session)) (store : Store) (last : ℕ) → state_of limits es store last ≡ hub →
+    {old : Session} (id : ℕ) → Some old ≡ lookup (is_id id) es → old.closing ≡ true → (P : Seat → List ℕ → Type 0) → WhereOpen hub id P
+not_open limits es store last view id found closes P =
+    at_found limits es store last view id found (λ h s. s.closing ≡ false → (front : List ℕ) → HasReadFront s.decoder front → P s front)
     (λ is_open. absurd (false≢true (sym is_open ∙ closes)))
 
 -- nothing is said of a session that isn't there
-pub if_none : (o : Option Seat) (P : Seat → Type 0) → o ≡ None → IfSome o P
-if_none o P none = subst (λ x. IfSome x P) (sym none) tt
+pub if_none : {o : Option Seat} (P : Seat → Type 0) → o ≡ None → IfSome o P
+if_none P none = subst (λ x. IfSome x P) (sym none) tt
 
 -- a session whose front is waited on has answered it
-waits_in : (limits : Bounds) (es : List (ℕ × Session)) (store : Store) (last : ℕ) (id : ℕ) (old : Session) → Some old ≡ lookup (is_id id) es →
-    (front : List ℕ) → HasReadFront old.decoder front → old.closing ≡ false → BeginsNoValue (server_rules limits) front → IsViable (server_rules limits) WithinTotal front →
-    HasAnswered (state_of limits es store last) (state_of limits es store last) id (seat_of old) front 0
-waits_in limits es store last id old found front taken is_open none viable =
+waits_in : {id : ℕ} {old : Session} (limits : Bounds) (es : List (ℕ × Session)) (store : Store) (last : ℕ) → Some old ≡ lookup (is_id id) es →
+    {front : List ℕ} → HasReadFront old.decoder front → old.closing ≡ false → BeginsNoValue (server_rules limits) front →
+    IsViable (server_rules limits) WithinTotal front → HasAnswered (state_of limits es store last) (state_of limits es store last) id (seat_of old) front 0
+waits_in {id} {old} limits es store last found {front} taken is_open none viable =
     let there : lookup (λ other. id == other) (seats_of es) ≡ Some (seat_of old) = sym (seats-lookup es id) ∙ ap (option_map seat_of) (sym found) in
     let seat : seat_of old ≡ record { version = old.version; out = old.out.items ++ []; closing = false; decoder = old.decoder } =
     ap (λ items. record { version = old.version; out = items; closing = old.closing; decoder = old.decoder }) (sym (append-nil old.out.items)) ∙
@@ -129,26 +126,25 @@ waits_in limits es store last id old found front taken is_open none viable =
       closing = false;
       decoder = old.decoder;
       rest = front;
-      answers = waits_on limits id (state_with store old.version [] false 0) (state_with store old.version [] false 0) front refl refl none viable;
+      answers = waits_on refl refl none viable;
       state = ap (λ seats. record { limits = limits; sessions = seats; store = store; last = last })
           (sym (with_same (seats_of es) id (seat_of old) there) ∙ ap (with_seat (seats_of es) id) seat);
       taking = λ open_now. taken;
     }
 
-pub hub_waits : (limits : Bounds) (es : List (ℕ × Session)) (store : Store) (last : ℕ) (hub : HubState) → state_of limits es store last ≡ hub → (id : ℕ)
-    (old : Session) → Some old ≡ lookup (is_id id) es →
-    ((front : List ℕ) → HasReadFront old.decoder front → BeginsNoValue (server_rules limits) front) →
-    ((front : List ℕ) → HasReadFront old.decoder front → IsViable (server_rules limits) WithinTotal front) →
+pub hub_waits : {hub : HubState} (limits : Bounds) (es : List (ℕ × Session)) (store : Store) (last : ℕ) → state_of limits es store last ≡ hub →
+    {old : Session} (id : ℕ) → Some old ≡ lookup (is_id id) es → ((front : List ℕ) → HasReadFront old.decoder front →
+    BeginsNoValue (server_rules limits) front) → ((front : List ℕ) → HasReadFront old.decoder front → IsViable (server_rules limits) WithinTotal front) →
     WhereOpen hub id (λ s front. HasAnswered hub hub id s front 0)
-hub_waits limits es store last hub view id old found none viable =
-    at_found limits es store last hub view id old found (λ h s. s.closing ≡ false → (front : List ℕ) → HasReadFront s.decoder front →
-    HasAnswered h h id s front 0) (λ is_open front taken. waits_in limits es store last id old found front taken is_open
-    (none front taken) (viable front taken))
+hub_waits limits es store last view id found none viable =
+    at_found limits es store last view id found (λ h s. s.closing ≡ false → (front : List ℕ) → HasReadFront s.decoder front →
+    HasAnswered h h id s front 0) (λ is_open front taken. waits_in limits es store last found taken is_open (none front taken)
+    (viable front taken))
 
 -- what holds of the session that was found holds of its seat
-pub found_seat : (limits : Bounds) (es : List (ℕ × Session)) (store : Store) (last : ℕ) (hub : HubState) → state_of limits es store last ≡ hub → (id : ℕ)
-    (old : Session) → Some old ≡ lookup (is_id id) es → (P : Seat → Type 0) → P (seat_of old) → IfSome (seat_at hub id) P
-found_seat limits es store last hub view id old found P p = at_found limits es store last hub view id old found (λ h s. P s) p
+pub found_seat : {hub : HubState} (limits : Bounds) (es : List (ℕ × Session)) (store : Store) (last : ℕ) → state_of limits es store last ≡ hub →
+    {old : Session} (id : ℕ) → Some old ≡ lookup (is_id id) es → (P : Seat → Type 0) → P (seat_of old) → IfSome (seat_at hub id) P
+found_seat limits es store last view id found P p = at_found limits es store last view id found (λ h s. P s) p
 
 if_either : (P : Seat → Type 0) (b : Bool) (seat : Seat) (rest : Option Seat) → P seat → IfSome rest P → IfSome (cond b (Some seat) rest) P
 if_either P true seat rest here later = here
@@ -162,9 +158,9 @@ idle_seat limits last (e ∷ es) id sound =
     (idle_seat limits last es id sound.1)
 
 -- each session of a sound hub has a decoder only inside a value
-pub holds_no_idle : (limits : Bounds) (es : List (ℕ × Session)) (store : Store) (last id : ℕ) → HubIsSound limits es store last →
+pub holds_no_idle : {limits : Bounds} {es : List (ℕ × Session)} {store : Store} {last : ℕ} (id : ℕ) → HubIsSound limits es store last →
     IfSome (seat_at (state_of limits es store last) id) (λ s. HoldsNoIdleDecoder s.closing s.decoder)
-holds_no_idle limits es store last id sound = idle_seat limits last es id sound.sound
+holds_no_idle {limits} {es} {last} id sound = idle_seat limits last es id sound.sound
 
 -- all of a piece is used if more can wait than memory has
 pub used_up : (before after : ℕ) (closing : Bool) (size used : ℕ) → TakesWithin (2 ^ 64 - 1) before after closing size used → used ≡ size

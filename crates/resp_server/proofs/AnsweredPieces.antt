@@ -20,27 +20,24 @@ some_used zero before after held first over few = let same = first refl in absur
 some_used (suc used) before after held first over few = omega arith
 
 -- before a piece nothing is answered
-pub none_answered : (limits : Bounds) (store : Store) (session : Session) (front : List ℕ) →
-    HasReadFront session.decoder front → BeginsNoValue (server_rules limits) front → IsViable (server_rules limits) WithinTotal front →
-    session.closing ≡ false →
+pub none_answered : {limits : Bounds} {store : Store} {session : Session} {front : List ℕ} → HasReadFront session.decoder front →
+    BeginsNoValue (server_rules limits) front → IsViable (server_rules limits) WithinTotal front → session.closing ≡ false →
     IsAnswered limits store store session session (front ++ []) 0
-none_answered limits store session front taken none viable is_open = record {
+none_answered {limits} {store} {session} {front} taken none viable is_open = record {
   reply = [];
   rest = front;
   replied = sym (append-nil session.out.items);
-  answers = subst (λ t. Answers limits session.id (state_with store session.version [] false 0) t (state_with store session.version [] session.closing 0) front)
-      (sym (append-nil front))
-      (waits_on limits session.id (state_with store session.version [] false 0) (state_with store session.version [] session.closing 0) front refl
-      (ap (λ b. state_with store session.version [] b 0) is_open) none viable);
+  answers = subst (λ t. Answers limits session.id (state_with store session.version [] false 0) t (state_with store session.version [] session.closing 0)
+      front) (sym (append-nil front)) (waits_on refl (ap (λ b. state_with store session.version [] b 0) is_open) none viable);
   taking = λ open_now. taken;
 }
 
 -- a turn more
-pub turn_answered : AnswersGoOn → (limits : Bounds) (store store' store'' : Store) (before middle after : Session) (front piece : List ℕ)
-    (n used k commands : ℕ) → middle.id ≡ before.id → middle.closing ≡ false → (a : IsAnswered limits store store' before middle (front ++ take n piece) k) →
+pub turn_answered : AnswersGoOn → {limits : Bounds} {store store' store'' : Store} {before middle after : Session} {used commands : ℕ} (front piece : List ℕ)
+    (n k : ℕ) → middle.id ≡ before.id → middle.closing ≡ false → (a : IsAnswered limits store store' before middle (front ++ take n piece) k) →
     AnswersBytes limits store' store'' middle after a.rest (take (length piece - n) (drop n piece)) used commands →
     IsAnswered limits store store'' before after (front ++ take (n + used) piece) (k + commands)
-turn_answered go_on limits store store' store'' before middle after front piece n used k commands same is_open a turn =
+turn_answered go_on {limits} {store} {store'} {store''} {before} {middle} {after} {used} {commands} front piece n k same is_open a turn =
     let t : AnswersBytes limits store' store'' middle after a.rest (drop n piece) used commands =
     subst (λ p. AnswersBytes limits store' store'' middle after a.rest p used commands) (take_rest piece n) turn in
     let start = state_with store before.version [] false 0 in
@@ -62,10 +59,10 @@ turn_answered go_on limits store store' store'' before middle after front piece 
     }
 
 -- a closing session answers nothing of what is left
-pub closed_answered : AnswersEnd → (limits : Bounds) (store store' : Store) (before after : Session) (front piece : List ℕ) (n k : ℕ) →
+pub closed_answered : AnswersEnd → {limits : Bounds} {store store' : Store} {before after : Session} {k : ℕ} (front piece : List ℕ) (n : ℕ) →
     after.closing ≡ true → IsAnswered limits store store' before after (front ++ take n piece) k →
     IsAnswered limits store store' before after (front ++ piece) k
-closed_answered ends limits store store' before after front piece n k closes a =
+closed_answered ends {limits} {store} {store'} {before} {after} {k} front piece n closes a =
     let start = state_with store before.version [] false 0 in
     let last = state_with store' after.version a.reply after.closing k in
     let all = ends limits before.id start last (front ++ take n piece) (drop n piece) a.rest a.answers closes in
@@ -80,11 +77,11 @@ closed_answered ends limits store store' before after front piece n k closes a =
     }
 
 -- when out of memory, what was answered before stands
-pub cut_short : (limits : Bounds) (store store' store'' : Store) (before middle after last : Session) (front piece : List ℕ) (n k : ℕ) →
+pub cut_short : {limits : Bounds} {store store' store'' : Store} {before middle after last : Session} {front piece : List ℕ} {k : ℕ} (n : ℕ) →
     middle.closing ≡ false → IsAnswered limits store store' before middle (front ++ take n piece) k → IsAsBefore store' store'' middle after →
     last.version ≡ after.version → last.out.items ≡ after.out.items → last.closing ≡ true → n < length piece →
     IsCutShort limits store store'' before last front piece k
-cut_short limits store store' store'' before middle after last front piece n k is_open a same version out closes left =
+cut_short {limits} {store} {store'} {before} {middle} {last} {front} {piece} {k} n is_open a same version out closes left =
     let start = state_with store before.version [] false 0 in
     let text = front ++ take n piece in
     record {
@@ -104,11 +101,10 @@ cut_short limits store store' store'' before middle after last front piece n k i
     }
 
 -- an answer stays one where the session then reads with something else that has taken the same
-pub answered_shrunk : (limits : Bounds) (store store' : Store) (before middle after : Session) (text : List ℕ) (k : ℕ) →
-    after.version ≡ middle.version → after.out.items ≡ middle.out.items → after.closing ≡ middle.closing →
-    (middle.closing ≡ false → (front : List ℕ) → HasReadFront middle.decoder front → HasReadFront after.decoder front) →
-    IsAnswered limits store store' before middle text k → IsAnswered limits store store' before after text k
-answered_shrunk limits store store' before middle after text k version out closing taken a =
+pub answered_shrunk : {limits : Bounds} {store store' : Store} {before middle after : Session} {text : List ℕ} {k : ℕ} → after.version ≡ middle.version →
+    after.out.items ≡ middle.out.items → after.closing ≡ middle.closing → (middle.closing ≡ false → (front : List ℕ) → HasReadFront middle.decoder front →
+    HasReadFront after.decoder front) → IsAnswered limits store store' before middle text k → IsAnswered limits store store' before after text k
+answered_shrunk {limits} {store} {store'} {before} {middle} {after} {text} {k} version out closing taken a =
     let start = state_with store before.version [] false 0 in
     record {
       reply = a.reply;
@@ -120,10 +116,10 @@ answered_shrunk limits store store' before middle after text k version out closi
     }
 
 -- nor does it cease to be cut short
-pub cut_short_shrunk : (limits : Bounds) (store store' : Store) (before middle after : Session) (front piece : List ℕ) (k : ℕ) →
+pub cut_short_shrunk : {limits : Bounds} {store store' : Store} {before middle after : Session} {front piece : List ℕ} {k : ℕ} →
     after.version ≡ middle.version → after.out.items ≡ middle.out.items → after.closing ≡ middle.closing →
     IsCutShort limits store store' before middle front piece k → IsCutShort limits store store' before after front piece k
-cut_short_shrunk limits store store' before middle after front piece k version out closing a = record {
+cut_short_shrunk {limits} {store} {store'} {before} {front} {k} version out closing a = record {
   first = a.first;
   reply = a.reply;
   rest = a.rest;

@@ -26,8 +26,8 @@ pub record IsClosingUp (rows : Rows) (places : List (Option ℕ)) (filled place 
   pub full : (s : ℕ) → s < filled → (i : ℕ) × (slice_get places s ≡ Some (Some i))
   pub shows : somes (take filled (slots_of rows places)) ++ somes (drop place (slots_of rows places)) ≡ entries
 
-pub begins : (rows : Rows) (places : List (Option ℕ)) → AreInPlace rows places → IsClosingUp rows places 0 0 (entries_in rows places)
-begins rows places h = record {
+pub begins : {rows : Rows} {places : List (Option ℕ)} → AreInPlace rows places → IsClosingUp rows places 0 0 (entries_in rows places)
+begins h = record {
   distinct = h.distinct;
   not_past = omega arith;
   there = λ i row at. (h.there i row at, inr (omega arith));
@@ -55,9 +55,9 @@ take_within (y ∷ xs) zero s x at = absurd (cc)
 take_within (y ∷ xs) (suc n) zero x at = omega arith
 take_within (y ∷ xs) (suc n) (suc s) x at = let rest = take_within xs n s x at in omega (arith, rest)
 
-pub ends_in_place : (rows : Rows) (places : List (Option ℕ)) (filled place : ℕ) (entries : Store) → IsClosingUp rows places filled place entries →
+pub ends_in_place : {rows : Rows} {places : List (Option ℕ)} {filled place : ℕ} {entries : Store} → IsClosingUp rows places filled place entries →
     length places ≤ place → AreInPlace rows (take filled places)
-ends_in_place rows places filled place entries h past = record {
+ends_in_place {places} {filled} {place} h past = record {
   distinct = h.distinct;
   there = λ i row at.
       let (found, region) = h.there i row at in
@@ -74,26 +74,26 @@ slots_length : (rows : Rows) (places : List (Option ℕ)) → length (slots_of r
 slots_length rows [] = refl
 slots_length rows (p ∷ places) = let rest = slots_length rows places in omega (arith, rest)
 
-pub ends_as : (rows : Rows) (places : List (Option ℕ)) (filled place : ℕ) (entries : Store) → IsClosingUp rows places filled place entries →
+pub ends_as : {rows : Rows} {places : List (Option ℕ)} {filled place : ℕ} {entries : Store} → IsClosingUp rows places filled place entries →
     length places ≤ place → entries_in rows (take filled places) ≡ entries
-ends_as rows places filled place entries h past =
+ends_as {rows} {places} {filled} {place} h past =
     let size = slots_length rows places in
     ap somes (map_take (entry_at rows) places filled) ∙ sym (append-nil (somes (take filled (slots_of rows places)))) ∙
     ap (λ rest. somes (take filled (slots_of rows places)) ++ somes rest) (sym (drop_past (slots_of rows places) place (omega (arith, past, size)))) ∙ h.shows
 
 -- the slots from a place on
-from_here : (slots : Slots) (place : ℕ) (o : Option (List ℕ × List ℕ)) → slice_get slots place ≡ Some o →
+from_here : {o : Option (List ℕ × List ℕ)} (slots : Slots) (place : ℕ) → slice_get slots place ≡ Some o →
     somes (drop place slots) ≡ and_some o (somes (drop (place + 1) slots))
-from_here slots place o at =
+from_here {o} slots place at =
     let within = slice_get_within slots place o at in
     let next : suc place ≡ place + 1 = omega arith in
     let rest : drop (suc place) slots ≡ drop (place + 1) slots = ap (λ n. drop n slots) next in
     ap somes (drop-cons slots place o within) ∙ ap (λ xs. and_some (get_or slots place o) (somes xs)) rest ∙
     ap (λ x. and_some x (somes (drop (place + 1) slots))) (get_or_from_slice_get slots place o o at)
 
-pub passes_empty : (rows : Rows) (places : List (Option ℕ)) (filled place : ℕ) (entries : Store) → IsClosingUp rows places filled place entries →
+pub passes_empty : {rows : Rows} {places : List (Option ℕ)} {filled place : ℕ} {entries : Store} → IsClosingUp rows places filled place entries →
     slice_get places place ≡ Some None → IsClosingUp rows places filled (place + 1) entries
-passes_empty rows places filled place entries h empty = record {
+passes_empty {rows} {places} {filled} {place} h empty = record {
   distinct = h.distinct;
   not_past = let b = h.not_past in omega (arith, b);
   there = λ i row at.
@@ -112,8 +112,7 @@ passes_empty rows places filled place entries h empty = record {
   ]) at;
   full = h.full;
   shows = ap (λ rest. somes (take filled (slots_of rows places)) ++ rest)
-      (sym (from_here (slots_of rows places) place None (slot_of rows places place None empty))) ∙
-      h.shows;
+      (sym (from_here (slots_of rows places) place (slot_of rows places place None empty))) ∙ h.shows;
 }
 
 take_same : {X : Type 0} (xs ys : List X) (n : ℕ) → ((k : ℕ) → k < n → slice_get xs k ≡ slice_get ys k) → take n xs ≡ take n ys
@@ -162,11 +161,11 @@ module _ (rows : Rows) (places : List (Option ℕ)) (filled place : ℕ) (entrie
       sym (ap (λ (f : Bytes × Row). f.1.place) same) ∙ placed
 
   filled_now : slice_get places' filled ≡ Some (Some i)
-  filled_now = get_set_same places filled (Some i) (get_or places filled None) some_there
+  filled_now = get_set_same places filled (get_or places filled None) some_there
 
   -- a place of another row in either region
-  other_row : (s j : ℕ) (row : Bytes × Row) → slice_get rows j ≡ Some row → row.1.place ≡ s → (s ≡ place → ⊥) → j ≡ i → ⊥
-  other_row s j row found placed apart same =
+  other_row : {s : ℕ} {row : Bytes × Row} (j : ℕ) → slice_get rows j ≡ Some row → row.1.place ≡ s → (s ≡ place → ⊥) → j ≡ i → ⊥
+  other_row {row} j found placed apart same =
       let e : Some row ≡ Some (key, old) = sym found ∙ ap (slice_get rows) same ∙ row_at in
       let is : row ≡ (key, old) = cc in
       apart (sym placed ∙ ap (λ (f : Bytes × Row). f.1.place) is ∙ old_place)
@@ -187,7 +186,7 @@ module _ (rows : Rows) (places : List (Option ℕ)) (filled place : ℕ) (entrie
         | inl near ↦ inl near
         | inr far ↦ inr (omega (arith, far))
       ]) found in
-      value_other rows i j new (other_row s j row its placed elsewhere))
+      value_other rows i j new (other_row j its placed elsewhere))
 
   pub goes_down : IsClosingUp rows' places' (filled + 1) (place + 1) entries
   goes_down = record {
@@ -233,14 +232,13 @@ module _ (rows : Rows) (places : List (Option ℕ)) (filled place : ℕ) (entrie
             | inl near ↦ omega (arith, near, same, b)
             | inr far ↦ omega (arith, far, same)
           ] in
-          (row, value_other rows i j new (other_row s j row its placed elsewhere) ∙ its, placed)
+          (row, value_other rows i j new (other_row j its placed elsewhere) ∙ its, placed)
     ];
     full = λ s near. elim (cases_eq s filled) [
       | inl here ↦ (i, ap (slice_get places') here ∙ filled_now)
       | inr apart ↦ let (j, found) = h.full s (omega (arith, near, apart)) in (j, get_set_other places filled s (Some i) apart ∙ found)
     ];
     shows =
-        let b = h.not_past in
         let e : List ℕ × List ℕ = (key.items, old.value) in
         let slots = slots_of rows places in
         let slots' = slots_of rows' places' in
@@ -250,18 +248,17 @@ module _ (rows : Rows) (places : List (Option ℕ)) (filled place : ℕ) (entrie
         ap (λ x. take filled slots' ++ x ∷ []) (get_or_from_slice_get slots' filled (Some e) None here) ∙
         ap (λ xs. xs ++ Some e ∷ []) (take_same slots' slots filled (λ k within. slot_stays k (inl within))) in
         let back : drop (place + 1) slots' ≡ drop (place + 1) slots = drop_same slots' slots (place + 1) (λ k past. slot_stays k (inr past)) in
-        ap (λ xs. somes xs ++ somes (drop (place + 1) slots')) front ∙
-        ap (λ xs. somes (take filled slots ++ Some e ∷ []) ++ somes xs) back ∙
-        somes_append (take filled slots) e (somes (drop (place + 1) slots)) ∙
-        ap (λ rest. somes (take filled slots) ++ rest) (sym (from_here slots place (Some e) (slot_is rows places place i (key, old) at row_at))) ∙ h.shows;
+        ap (λ xs. somes xs ++ somes (drop (place + 1) slots')) front ∙ ap (λ xs. somes (take filled slots ++ Some e ∷ []) ++ somes xs) back ∙
+        somes_append (take filled slots) e (somes (drop (place + 1) slots)) ∙ ap (λ rest. somes (take filled slots) ++ rest)
+        (sym (from_here slots place (slot_is rows places place i (key, old) at row_at))) ∙ h.shows;
   }
 
 -- one more place, with its row
-pub goes_on : (rows : Rows) (places : List (Option ℕ)) (filled place : ℕ) (entries : Store) → IsClosingUp rows places filled place entries → (i : ℕ) →
+pub goes_on : {rows : Rows} {places : List (Option ℕ)} {filled place : ℕ} {entries : Store} → IsClosingUp rows places filled place entries → {i : ℕ} →
     slice_get places place ≡ Some (Some i) → (rows' : Rows) (places' : List (Option ℕ)) (filled' : ℕ) →
     ((key : Bytes) (row : Row) → slice_get rows i ≡ Some (key, row) → rows' ≡ set_value_at rows i (record row { place = filled })) →
     places' ≡ set places filled (Some i) → filled' ≡ filled + 1 → IsClosingUp rows' places' filled' (place + 1) entries
-goes_on rows places filled place entries h i at rows' places' filled' moved written counted =
+goes_on {rows} {places} {filled} {place} {entries} h {i} at rows' places' filled' moved written counted =
     let (row, found, placed) = h.alone place i (inr (omega arith)) at in
     let new : Row = record row.1 { place = filled } in
     subst (λ r. IsClosingUp r places' filled' (place + 1) entries) (sym (moved row.0 row.1 found))
@@ -270,13 +267,13 @@ goes_on rows places filled place entries h i at rows' places' filled' moved writ
     (goes_down rows places filled place entries h i at row.0 row.1 new found refl refl)))
 
 -- one more place, which is empty
-pub goes_past : (rows : Rows) (places : List (Option ℕ)) (filled place : ℕ) (entries : Store) → IsClosingUp rows places filled place entries →
-    slice_get places place ≡ Some None → (rows' : Rows) (places' : List (Option ℕ)) (filled' : ℕ) → rows' ≡ rows → places' ≡ places → filled' ≡ filled →
+pub goes_past : {rows : Rows} {places : List (Option ℕ)} {filled place : ℕ} {entries : Store} → IsClosingUp rows places filled place entries →
+    slice_get places place ≡ Some None → {rows' : Rows} {places' : List (Option ℕ)} {filled' : ℕ} → rows' ≡ rows → places' ≡ places → filled' ≡ filled →
     IsClosingUp rows' places' filled' (place + 1) entries
-goes_past rows places filled place entries h empty rows' places' filled' same same' counted =
+goes_past {rows} {places} {place} {entries} h empty {places'} {filled'} same same' counted =
     subst (λ r. IsClosingUp r places' filled' (place + 1) entries) (sym same)
     (subst (λ p. IsClosingUp rows p filled' (place + 1) entries) (sym same')
-    (subst (λ n. IsClosingUp rows places n (place + 1) entries) (sym counted) (passes_empty rows places filled place entries h empty)))
+    (subst (λ n. IsClosingUp rows places n (place + 1) entries) (sym counted) (passes_empty h empty)))
 
 -- ---- how many places are left
 
@@ -291,13 +288,13 @@ one_fewer [] j x at = absurd (cc)
 one_fewer (y ∷ xs) zero x at = omega arith
 one_fewer (y ∷ xs) (suc j) x at = let rest = one_fewer xs j x at in omega (arith, rest)
 
-still_there : (xs : List ℕ) (j k x y : ℕ) → slice_get xs j ≡ Some x → slice_get xs k ≡ Some y → (y ≡ x → ⊥) →
+still_there : {y : ℕ} (xs : List ℕ) (j k x : ℕ) → slice_get xs j ≡ Some x → slice_get xs k ≡ Some y → (y ≡ x → ⊥) →
     (l : ℕ) × (slice_get (without xs j) l ≡ Some y)
-still_there [] j k x y at found apart = absurd (cc)
-still_there (z ∷ xs) zero zero x y at found apart = let e : Some y ≡ Some x = sym found ∙ at in let same : y ≡ x = cc in absurd (apart same)
-still_there (z ∷ xs) zero (suc k) x y at found apart = (k, found)
-still_there (z ∷ xs) (suc j) zero x y at found apart = (zero, found)
-still_there (z ∷ xs) (suc j) (suc k) x y at found apart = let (l, later) = still_there xs j k x y at found apart in (suc l, later)
+still_there [] j k x at found apart = absurd (cc)
+still_there {y} (z ∷ xs) zero zero x at found apart = let e : Some y ≡ Some x = sym found ∙ at in let same : y ≡ x = cc in absurd (apart same)
+still_there (z ∷ xs) zero (suc k) x at found apart = (k, found)
+still_there (z ∷ xs) (suc j) zero x at found apart = (zero, found)
+still_there (z ∷ xs) (suc j) (suc k) x at found apart = let (l, later) = still_there xs j k x at found apart in (suc l, later)
 
 -- a list that has every number below n has at least n numbers
 as_many : (n : ℕ) (xs : List ℕ) → ((x : ℕ) → x < n → (k : ℕ) × (slice_get xs k ≡ Some x)) → n ≤ length xs
@@ -306,12 +303,12 @@ as_many (suc n) xs each =
     let (j, at) = each n (omega arith) in
     let fewer = one_fewer xs j n at in
     let rest = as_many n (without xs j) (λ x less. let (k, found) = each x (omega (arith, less)) in
-    still_there xs j k n x at found (λ same. omega (arith, less, same))) in
+    still_there xs j k n at found (λ same. omega (arith, less, same))) in
     omega (arith, rest, fewer)
 
-pub ends_with_few : (rows : Rows) (places : List (Option ℕ)) (filled place : ℕ) (entries : Store) → IsClosingUp rows places filled place entries →
+pub ends_with_few : {rows : Rows} {places : List (Option ℕ)} {filled place : ℕ} {entries : Store} → IsClosingUp rows places filled place entries →
     length (take filled places) ≤ 2 * length rows + 1
-ends_with_few rows places filled place entries h =
+ends_with_few {rows} {places} {filled} {place} h =
     let place_of : Bytes × Row → ℕ = λ row. row.1.place in
     let enough = as_many filled (map place_of rows) (λ s near. let (i, found) = h.full s near in
     let (row, its, placed) = h.alone s i (inl near) found in

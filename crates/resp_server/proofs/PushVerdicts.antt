@@ -17,8 +17,8 @@ only_none limits push (OverLimits limit) h = absurd h
 only_none limits push OutOfMemory h = absurd h
 
 -- where there is no session, that is the only reason
-pub no_session : (limits : Bounds) (seat : Option Seat) (push : Datum) → seat ≡ None → IsPushVerdict limits seat push (Err NoSession)
-no_session limits seat push none = record {
+pub no_session : {limits : Bounds} {seat : Option Seat} {push : Datum} → seat ≡ None → IsPushVerdict limits seat push (Err NoSession)
+no_session {limits} {push} none = record {
   taken = tt;
   first = none;
   every = λ error other h. only_none limits push error (subst (λ o. HubRefusesPush limits o push error) none h);

@@ -10,9 +10,9 @@ use Rattle.resp_decode.specs.declared.fed.Fed.{Fed}
 use Rattle.resp_server.specs.Reading.{ReadsValue}
 
 -- a value that the decoder gives by these rules is read
-pub value_read : (rules r : Rules) (decoder : Decoder) (result : Result Fed Fault) (text : ℕ → List ℕ) → r ≡ rules →
+pub value_read : {rules r : Rules} (decoder : Decoder) (result : Result Fed Fault) (text : ℕ → List ℕ) → r ≡ rules →
     IfValue result (λ used. GivesValue r decoder (text used)) → IfValue result (λ used. ReadsValue rules (Some decoder) (text used))
-value_read rules r decoder (Ok fed) text same given = λ value is.
+value_read decoder (Ok fed) text same given = λ value is.
     let g = given value is in
     record { spelling = subst (λ s. IsSpelling s (datum_of value) (text fed.used)) same g.spelling; takes = g.takes }
-value_read rules r decoder (Err fault) text same given = tt
+value_read decoder (Err fault) text same given = tt

@@ -9,10 +9,10 @@ use Rattle.resp_server.specs.Entries.{somes}
 
 -- ---- lists by their indices
 
-pub get_set_same : {X : Type 0} (xs : List X) (i : ℕ) (x y : X) → slice_get xs i ≡ Some y → slice_get (set xs i x) i ≡ Some x
-get_set_same [] i x y h = absurd (cc)
-get_set_same (z ∷ zs) zero x y h = refl
-get_set_same (z ∷ zs) (suc i) x y h = get_set_same zs i x y h
+pub get_set_same : {X : Type 0} {x : X} (xs : List X) (i : ℕ) (y : X) → slice_get xs i ≡ Some y → slice_get (set xs i x) i ≡ Some x
+get_set_same [] i y h = absurd (cc)
+get_set_same (z ∷ zs) zero y h = refl
+get_set_same (z ∷ zs) (suc i) y h = get_set_same zs i y h
 
 pub get_set_other : {X : Type 0} (xs : List X) (i j : ℕ) (x : X) → (j ≡ i → ⊥) → slice_get (set xs i x) j ≡ slice_get xs j
 get_set_other [] i j x apart = refl
@@ -28,14 +28,14 @@ get_take (x ∷ xs) zero j within = absurd (omega (arith, within))
 get_take (x ∷ xs) (suc n) zero within = refl
 get_take (x ∷ xs) (suc n) (suc j) within = get_take xs n j (omega (arith, within))
 
-none_some : {X : Type 0} (x : X) → None ≡ Some x → ⊥
-none_some x e = absurd (cc)
+none_some : {X : Type 0} {x : X} → None ≡ Some x → ⊥
+none_some e = absurd (cc)
 
 -- lists with the same item at each index are the same
 pub same_slots : {X : Type 0} (xs ys : List X) → ((k : ℕ) → slice_get xs k ≡ slice_get ys k) → xs ≡ ys
 same_slots [] [] h = refl
-same_slots [] (y ∷ ys) h = absurd (none_some y (h 0))
-same_slots (x ∷ xs) [] h = absurd (none_some x (sym (h 0)))
+same_slots [] (y ∷ ys) h = absurd (none_some (h 0))
+same_slots (x ∷ xs) [] h = absurd (none_some (sym (h 0)))
 same_slots (x ∷ xs) (y ∷ ys) h =
     let first : Some x ≡ Some y = h 0 in
     let same : x ≡ y = cc in
@@ -90,18 +90,18 @@ lookup_absent key (Some e ∷ slots) absent =
     lookup_absent key slots (absent_tail key (Some e) slots absent)
 
 -- and of one that a slot has
-pub lookup_only : (key value : List ℕ) (r : ℕ) (slots : Slots) → IsOnly key r slots → slice_get slots r ≡ Some (Some (key, value)) →
+pub lookup_only : {value : List ℕ} (key : List ℕ) (r : ℕ) (slots : Slots) → IsOnly key r slots → slice_get slots r ≡ Some (Some (key, value)) →
     lookup (bytes_eq key) (somes slots) ≡ Some value
-lookup_only key value r [] only at = absurd (cc)
-lookup_only key value zero (None ∷ slots) only at = absurd (cc)
-lookup_only key value zero (Some e ∷ slots) only at =
+lookup_only key r [] only at = absurd (cc)
+lookup_only key zero (None ∷ slots) only at = absurd (cc)
+lookup_only {value} key zero (Some e ∷ slots) only at =
     let same : e ≡ (key, value) = cc in
     ap (λ (f : List ℕ × List ℕ). cond (bytes_eq key f.0) (Some f.1) (lookup (bytes_eq key) (somes slots))) same ∙
     ap (λ b. cond b (Some value) (lookup (bytes_eq key) (somes slots))) (same_keys key)
-lookup_only key value (suc r) (None ∷ slots) only at = lookup_only key value r slots (only_tail key r None slots only) at
-lookup_only key value (suc r) (Some e ∷ slots) only at =
+lookup_only key (suc r) (None ∷ slots) only at = lookup_only key r slots (only_tail key r None slots only) at
+lookup_only key (suc r) (Some e ∷ slots) only at =
     ap (λ b. cond b (Some e.1) (lookup (bytes_eq key) (somes slots))) (apart_keys key e.0 (apart_only key r e slots only)) ∙
-    lookup_only key value r slots (only_tail key r (Some e) slots only) at
+    lookup_only key r slots (only_tail key r (Some e) slots only) at
 
 -- the value of a key that a slot has
 pub with_only : (key old value : List ℕ) (r : ℕ) (slots : Slots) → IsOnly key r slots → slice_get slots r ≡ Some (Some (key, old)) →

@@ -7,11 +7,11 @@ use Rattle.resp_session.specs.Stores.{Store, store_without}
 abbrev pub Bytes : Type 0
 Bytes = Vec ℕ Global
 
-stays_by : (a b : Bool) (e : List ℕ × List ℕ) (es rest : Store) (q : List ℕ × List ℕ → Bool) → q e ≡ not b → es ≡ filter q rest →
+stays_by : {es : Store} (a b : Bool) (e : List ℕ × List ℕ) (rest : Store) (q : List ℕ × List ℕ → Bool) → q e ≡ not b → es ≡ filter q rest →
     cond (not (a || b)) (e ∷ es) es ≡ filter q (cond (not a) (e ∷ rest) rest)
-stays_by true b e es rest q is h = h
-stays_by false true e es rest q is h = h ∙ sym (ap (λ c. cond c (e ∷ filter q rest) (filter q rest)) is)
-stays_by false false e es rest q is h = ap (λ l. e ∷ l) h ∙ sym (ap (λ c. cond c (e ∷ filter q rest) (filter q rest)) is)
+stays_by true b e rest q is h = h
+stays_by false true e rest q is h = h ∙ sym (ap (λ c. cond c (e ∷ filter q rest) (filter q rest)) is)
+stays_by false false e rest q is h = ap (λ l. e ∷ l) h ∙ sym (ap (λ c. cond c (e ∷ filter q rest) (filter q rest)) is)
 
 or_false : (a : Bool) → (a || false) ≡ a
 or_false true = refl
@@ -24,7 +24,7 @@ without_first [] key keys = refl
 without_first (e ∷ es) key keys =
     let others = λ (f : List ℕ × List ℕ). not (list_any (bytes_eq f.0) keys) in
     let left = store_without es (key ∷ []) in
-    stays_by (bytes_eq e.0 key) (list_any (bytes_eq e.0) keys) e (store_without es (key ∷ keys)) left others refl (without_first es key keys) ∙
+    stays_by (bytes_eq e.0 key) (list_any (bytes_eq e.0) keys) e left others refl (without_first es key keys) ∙
     sym (ap (λ b. filter others (cond (not b) (e ∷ left) left)) (or_false (bytes_eq e.0 key)))
 
 -- without any key named, all entries stay

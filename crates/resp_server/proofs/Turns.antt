@@ -43,37 +43,36 @@ nothing_begins full r x [] beyond s e = full r x s
 nothing_begins full r x (b ∷ bs) beyond s e = absurd (cc)
 
 -- what is waited on
-pub waits_on : (limits : Bounds) (id : ℕ) (s t : SessionState) (text : List ℕ) → s.closing ≡ false → t ≡ s → BeginsNoValue (server_rules limits) text →
+pub waits_on : {limits : Bounds} {id : ℕ} {s t : SessionState} {text : List ℕ} → s.closing ≡ false → t ≡ s → BeginsNoValue (server_rules limits) text →
     IsViable (server_rules limits) WithinTotal text → Answers limits id s text t text
-waits_on limits id s t text is_open same none viable = no_value_answered limits id s t text
-    (inl (record { is_open = is_open; no_more = none; viable = viable; same = same }))
+waits_on {limits} {id} {s} {t} {text} is_open same none viable = no_value_answered limits id s t text (inl
+    (record { is_open = is_open; no_more = none; viable = viable; same = same }))
 
-ends_of : NoSpellingIsEmpty → TheEmptyTextIsViable → (limits : Bounds) → AreBounds limits → (s t : SessionState) (closing : Bool) → s ≡ t →
+ends_of : NoSpellingIsEmpty → TheEmptyTextIsViable → {limits : Bounds} → AreBounds limits → {s t : SessionState} (closing : Bool) → s ≡ t →
     t.closing ≡ closing → Ends (server_rules limits) [] s t
-ends_of full empty limits bounds s t false same is = inl (record {
+ends_of full empty {limits} bounds false same is = inl (record {
   is_open = ap (λ (z : SessionState). z.closing) same ∙ is;
   no_more = nothing_begins full (server_rules limits);
   viable = empty (server_rules limits) bounds WithinTotal;
   same = sym same;
 })
-ends_of full empty limits bounds s t true same is = inr (inr (record { closed = ap (λ (z : SessionState). z.closing) same ∙ is; same = sym same }))
+ends_of full empty bounds true same is = inr (inr (record { closed = ap (λ (z : SessionState). z.closing) same ∙ is; same = sym same }))
 
 -- a value that was answered
-pub value_answers : NoSpellingIsEmpty → TheEmptyTextIsViable → (limits : Bounds) → AreBounds limits → (id : ℕ) (s t : SessionState) (x : Datum)
-    (written : List ℕ) → IsSpelling (server_rules limits) x written → after_value id s x ≡ t → Answers limits id s written t []
-value_answers full empty limits bounds id s t x written spelled same = record {
+pub value_answers : NoSpellingIsEmpty → TheEmptyTextIsViable → {limits : Bounds} → AreBounds limits → {id : ℕ} {s t : SessionState} {x : Datum}
+    {written : List ℕ} → IsSpelling (server_rules limits) x written → after_value id s x ≡ t → Answers limits id s written t []
+value_answers full empty bounds {t} {x} {written} spelled same = record {
   values = x ∷ [];
   front = written;
   spelled = (written, [], spelled, refl, sym (append-nil written));
   whole = sym (append-nil written);
-  ends = ends_of full empty limits bounds (after_value id s x) t t.closing same refl;
+  ends = ends_of full empty bounds t.closing same refl;
 }
 
 -- a byte that was refused
-pub fault_answers : (limits : Bounds) (id : ℕ) (s : SessionState) (front piece : List ℕ) (fault : Fault) → s.closing ≡ false →
-    (r : RefusesByte (server_rules limits) front piece fault) → Answers limits id s (front ++ piece)
-    (after_error (name_of fault.cause) fault.at s) (front ++ piece)
-fault_answers limits id s front piece fault is_open r =
+pub fault_answers : {limits : Bounds} {id : ℕ} {s : SessionState} (front piece : List ℕ) (fault : Fault) → s.closing ≡ false → (r : RefusesByte
+    (server_rules limits) front piece fault) → Answers limits id s (front ++ piece) (after_error (name_of fault.cause) fault.at s) (front ++ piece)
+fault_answers {limits} {id} {s} front piece fault is_open r =
     no_value_answered limits id s (after_error (name_of fault.cause) fault.at s) (front ++ piece) (inr (inl (record {
       is_open = is_open;
       no_more = no_spelling_begins (server_rules limits) (front ++ piece) r.no_value;
@@ -97,8 +96,8 @@ short_name WithinItems = omega arith
 short_name WithinTotal = omega arith
 
 -- what is viable is no longer than the limit of total
-viable_is_short : (r : Rules) (front : List ℕ) → IsViable r WithinTotal front → length front ≤ r.limits.total
-viable_is_short r front v =
+viable_is_short : {r : Rules} {front : List ℕ} → IsViable r WithinTotal front → length front ≤ r.limits.total
+viable_is_short {front} v =
     let total = v.keeps WithinTotal (omega arith) in
     let written = ap length v.spells.spelled in
     let whole = length-append front v.rest in
@@ -113,12 +112,12 @@ last_byte at (b ∷ c ∷ bs) e =
     (b ∷ before, byte, ap (λ l. b ∷ l) whole, omega (arith, size, e))
 
 -- a refused byte has a short name, and stands within the limit of total
-refused_is_named : (limits : Bounds) → AreBounds limits → (front piece : List ℕ) (fault : Fault) → RefusesByte (server_rules limits) front piece fault →
+refused_is_named : {limits : Bounds} → AreBounds limits → {front piece : List ℕ} {fault : Fault} → RefusesByte (server_rules limits) front piece fault →
     IsNamedFault fault
-refused_is_named limits bounds front piece fault r =
+refused_is_named bounds {front} {fault} r =
     let g = r.fault_of in
     let (before, byte, whole, size) = last_byte fault.at g.front g.place in
-    let near = viable_is_short (server_rules limits) before (g.first before byte [] whole) in
+    let near = viable_is_short (g.first before byte [] whole) in
     let most = bounds.total_in_range.1 in
     record {
       short = subst (λ cause. length (name_of cause) ≤ 16) (sym r.names) (short_name r.rule);
@@ -126,15 +125,15 @@ refused_is_named limits bounds front piece fault r =
     }
 
 -- a fault that isn't OutOfMemory has a short name, and stands within the limit of total
-pub fault_is_named : (limits : Bounds) → AreBounds limits → (front piece : List ℕ) (fault : Fault) →
-    RefusesReading (server_rules limits) front piece fault → (fault.cause ≡ OutOfMemory → ⊥) → IsNamedFault fault
-fault_is_named limits bounds front piece fault (inl refused) other = refused_is_named limits bounds front piece fault refused
-fault_is_named limits bounds front piece fault (inr lacks) other = absurd (other lacks)
+pub fault_is_named : {limits : Bounds} → AreBounds limits → {fault : Fault} (front piece : List ℕ) → RefusesReading (server_rules limits) front piece fault →
+    (fault.cause ≡ OutOfMemory → ⊥) → IsNamedFault fault
+fault_is_named bounds front piece (inl refused) other = refused_is_named bounds refused
+fault_is_named bounds front piece (inr lacks) other = absurd (other lacks)
 
-pub refused_by : (limits : Bounds) (front piece : List ℕ) (fault : Fault) →
-    RefusesReading (server_rules limits) front piece fault → (fault.cause ≡ OutOfMemory → ⊥) → RefusesByte (server_rules limits) front piece fault
-refused_by limits front piece fault (inl refused) other = refused
-refused_by limits front piece fault (inr lacks) other = absurd (other lacks)
+pub refused_by : {front piece : List ℕ} {fault : Fault} (limits : Bounds) → RefusesReading (server_rules limits) front piece fault →
+    (fault.cause ≡ OutOfMemory → ⊥) → RefusesByte (server_rules limits) front piece fault
+refused_by limits (inl refused) other = refused
+refused_by limits (inr lacks) other = absurd (other lacks)
 
 -- no value has ended in what was taken
 pub none_taken : NoSpellingIsEmpty → (r : Rules) (reading : Reading) (front : List ℕ) → HasReadFront reading front → BeginsNoValue r front
@@ -142,25 +141,22 @@ none_taken full r None front taken = subst (BeginsNoValue r) (sym taken) (nothin
 none_taken full r (Some decoder) front taken = no_value_begins r front taken.no_value
 
 -- no value ends before a byte more has come
-pub some_used : (front piece : List ℕ) (r : Rules) (x : Datum) (used : ℕ) → BeginsNoValue r front →
-    IsSpelling r x (front ++ take used piece) → 0 < used
-some_used front piece r x zero none s = absurd (none x (front ++ []) [] s (sym (append-nil (front ++ []) ∙ append-nil front)))
-some_used front piece r x (suc n) none s = omega arith
+pub some_used : {r : Rules} {x : Datum} (front piece : List ℕ) (used : ℕ) → BeginsNoValue r front → IsSpelling r x (front ++ take used piece) → 0 < used
+some_used {x} front piece zero none s = absurd (none x (front ++ []) [] s (sym (append-nil (front ++ []) ∙ append-nil front)))
+some_used front piece (suc n) none s = omega arith
 
 -- a state after which nothing was run
-state_same : (store : Store) (version version' : Version) (text : List ℕ) (closing closing' : Bool) (count : ℕ) → version' ≡ version → closing' ≡ closing →
+state_same : {version version' : Version} {closing closing' : Bool} (store : Store) (text : List ℕ) (count : ℕ) → version' ≡ version → closing' ≡ closing →
     state_with store version text closing count ≡ state_with store version' text closing' (count + 0)
-state_same store version version' text closing closing' count v b =
+state_same {version'} {closing} {closing'} store text count v b =
     ap (λ w. state_with store w text closing count) (sym v) ∙ ap (λ c. state_with store version' text c count) (sym b) ∙
     (let e : count ≡ count + 0 = omega arith in ap (λ n. state_with store version' text closing' n) e)
 
 -- the turn of a byte that was refused
-pub refused_turn : (limits : Bounds) (store : Store) (before after : Session) (front piece : List ℕ) (fault : Fault) →
-    RefusesByte (server_rules limits) front piece fault → after.version ≡ before.version → after.closing ≡ true →
-    after.out.items ≡ before.out.items ++ canonical_text before.version
-    (error (fault_text (name_of fault.cause) fault.at)) →
-    AnswersBytes limits store store before after front piece (length piece) 0
-refused_turn limits store before after front piece fault refused version closes line =
+pub refused_turn : {limits : Bounds} {store : Store} {before after : Session} {front piece : List ℕ} {fault : Fault} → RefusesByte (server_rules limits) front
+    piece fault → after.version ≡ before.version → after.closing ≡ true → after.out.items ≡ before.out.items ++ canonical_text before.version
+    (error (fault_text (name_of fault.cause) fault.at)) → AnswersBytes limits store store before after front piece (length piece) 0
+refused_turn {limits} {store} {before} {after} {front} {piece} {fault} refused version closes line =
     let reply = canonical_text before.version (error (fault_text (name_of fault.cause) fault.at)) in
     let whole : front ++ take (length piece) piece ≡ front ++ piece = ap (λ p. front ++ p) (take_all (length piece) piece (omega arith)) in
     record {
@@ -170,18 +166,17 @@ refused_turn limits store before after front piece fault refused version closes 
       answers = λ text count. subst (λ t. Answers limits before.id (state_with store before.version text false count) t
           (state_with store after.version (text ++ reply) after.closing (count + 0)) (front ++ piece)) (sym whole)
           (subst (λ s. Answers limits before.id (state_with store before.version text false count) (front ++ piece) s (front ++ piece))
-          (state_same store before.version after.version (text ++ reply) true after.closing count version closes)
-          (fault_answers limits before.id (state_with store before.version text false count) front piece fault refl refused));
+          (state_same store (text ++ reply) count version closes) (fault_answers front piece fault refl refused));
       taking = λ is_open. absurd (false≢true (sym is_open ∙ closes));
       within = omega arith;
       onward = λ is_open full. absurd (false≢true (sym is_open ∙ closes));
     }
 
 -- the turn of a piece in which no value ended
-pub waiting_turn : (limits : Bounds) (store : Store) (before after : Session) (front piece : List ℕ) (used : ℕ) →
+pub waiting_turn : {limits : Bounds} {store : Store} {before after : Session} {front piece : List ℕ} {used : ℕ} →
     ReadsOn (server_rules limits) after.decoder (front ++ piece) piece used → after.version ≡ before.version → after.closing ≡ false →
     after.out.items ≡ before.out.items → AnswersBytes limits store store before after front piece used 0
-waiting_turn limits store before after front piece used taken version is_open out =
+waiting_turn {limits} {store} {before} {after} {front} {piece} {used} taken version is_open out =
     let is = taken.whole_piece in
     let whole : front ++ take used piece ≡ front ++ piece = ap (λ p. front ++ p) (take_all used piece (omega (arith, is))) in
     record {
@@ -190,47 +185,42 @@ waiting_turn limits store before after front piece used taken version is_open ou
       replied = out ∙ sym (append-nil before.out.items);
       answers = λ text count. subst (λ t. Answers limits before.id (state_with store before.version text false count) t
           (state_with store after.version (text ++ []) after.closing (count + 0)) (front ++ piece)) (sym whole)
-          (waits_on limits before.id (state_with store before.version text false count) (state_with store after.version (text ++ []) after.closing (count + 0))
-          (front ++ piece) refl
-          (sym (ap (λ t. state_with store before.version t false count) (sym (append-nil text)) ∙
-          state_same store before.version after.version (text ++ []) false after.closing count version is_open))
-          (no_value_begins (server_rules limits) (front ++ piece) taken.no_value) taken.viable);
+          (waits_on refl (sym (ap (λ t. state_with store before.version t false count) (sym (append-nil text)) ∙
+          state_same store (text ++ []) count version is_open)) (no_value_begins (server_rules limits) (front ++ piece)
+          taken.no_value) taken.viable);
       taking = λ open_now. taken.takes;
       within = omega (arith, is);
       onward = λ open_now full. omega (arith, is, full);
     }
 
 -- the turn of a value that is spelled by what was taken and the bytes used
-pub spelled_turn : NoSpellingIsEmpty → TheEmptyTextIsViable → (limits : Bounds) → AreBounds limits → (store store' : Store)
-    (before after : Session) (front piece : List ℕ) (x : Datum) (used commands : ℕ) → BeginsNoValue (server_rules limits) front →
+pub spelled_turn : NoSpellingIsEmpty → TheEmptyTextIsViable → {limits : Bounds} → AreBounds limits →
+    {store store' : Store} {before after : Session} {front piece : List ℕ} {x : Datum} {used commands : ℕ} → BeginsNoValue (server_rules limits) front →
     IsSpelling (server_rules limits) x (front ++ take used piece) → used ≤ length piece → HasReadFront after.decoder [] →
     IsAnswerTo x store store' before after commands → AnswersBytes limits store store' before after front piece used commands
-spelled_turn full empty limits bounds store store' before after front piece x used commands none spelled within takes answered = record {
+spelled_turn full empty bounds {front} {piece} {used} none spelled within takes answered = record {
   reply = answered.reply;
   rest = [];
   replied = answered.replied;
-  answers = λ text count. value_answers full empty limits bounds before.id (state_with store before.version text false count)
-      (state_with store' after.version (text ++ answered.reply) after.closing (count + commands)) x (front ++ take used piece) spelled
-      (answered.state text count);
+  answers = λ text count. value_answers full empty bounds spelled (answered.state text count);
   taking = λ open_now. takes;
   within = within;
-  onward = λ open_now some. some_used front piece (server_rules limits) x used none spelled;
+  onward = λ open_now some. some_used front piece used none spelled;
 }
 
 -- the turn of a value that was read
-pub value_turn : NoSpellingIsEmpty → TheEmptyTextIsViable → (limits : Bounds) → AreBounds limits → (store store' : Store)
-    (before after : Session) (front piece : List ℕ) (reading : Reading) (value : Value) (used commands : ℕ) →
-    BeginsNoValue (server_rules limits) front → ReadsValue (server_rules limits) reading (front ++ take used piece) value → used ≤ length piece → after.decoder ≡ reading →
-    IsAnswerTo (datum_of value) store store' before after commands → AnswersBytes limits store store' before after front piece used commands
-value_turn full empty limits bounds store store' before after front piece reading value used commands none given within kept answered =
-    spelled_turn full empty limits bounds store store' before after front piece (datum_of value) used commands none given.spelling within
-    (subst (λ d. HasReadFront d []) (sym kept) given.takes) answered
+pub value_turn : NoSpellingIsEmpty → TheEmptyTextIsViable → {limits : Bounds} → AreBounds limits → {store store' : Store} {before after : Session}
+    {front piece : List ℕ} {reading : Reading} {value : Value} {used commands : ℕ} → BeginsNoValue (server_rules limits) front → ReadsValue
+    (server_rules limits) reading (front ++ take used piece) value → used ≤ length piece → after.decoder ≡ reading → IsAnswerTo (datum_of value) store store'
+    before after commands → AnswersBytes limits store store' before after front piece used commands
+value_turn full empty bounds none given within kept answered =
+    spelled_turn full empty bounds none given.spelling within (subst (λ d. HasReadFront d []) (sym kept) given.takes)
+    answered
 
 -- it makes no difference to an answer with what the session reads
-pub same_answer : (x : Datum) (store store' : Store) (before middle after : Session) (commands : ℕ) →
-    IsAnswerTo x store store' middle after commands → middle.id ≡ before.id → middle.version ≡ before.version →
-    middle.out.items ≡ before.out.items → IsAnswerTo x store store' before after commands
-same_answer x store store' before middle after commands answered same version out = record {
+pub same_answer : {x : Datum} {store store' : Store} {before middle after : Session} {commands : ℕ} → IsAnswerTo x store store' middle after commands →
+    middle.id ≡ before.id → middle.version ≡ before.version → middle.out.items ≡ before.out.items → IsAnswerTo x store store' before after commands
+same_answer {x} {store} {store'} {before} {middle} {after} {commands} answered same version out = record {
   reply = answered.reply;
   replied = answered.replied ∙ ap (λ l. l ++ answered.reply) out;
   state = λ text count. subst (λ id. after_value id (state_with store before.version text false count) x ≡

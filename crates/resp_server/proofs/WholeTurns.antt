@@ -17,25 +17,23 @@ use Rattle.resp_server.proofs.Turns.{none_taken, spelled_turn}
 use Rattle.resp_server.proofs.ValueAnswers.{command_answer}
 
 -- the bytes that are used are the spelling
-used_is : (piece written rest : List ℕ) → piece ≡ written ++ rest →
-    (take (length piece - length rest) piece ≡ written) × (length piece - length rest ≤ length piece)
-used_is piece written rest whole =
+used_is : {piece written : List ℕ} (rest : List ℕ) → piece ≡ written ++ rest → (take (length piece - length rest) piece ≡ written) ×
+    (length piece - length rest ≤ length piece)
+used_is {piece} {written} rest whole =
     let size : length piece ≡ length written + length rest = ap length whole ∙ length-append written rest in
     let used : length piece - length rest ≡ length written = omega (arith, size) in (
       ap (λ n. take n piece) used ∙ ap (take (length written)) whole ∙ take_at written rest (length written) refl,
       omega arith,
     )
 
-pub whole_turn : NoSpellingIsEmpty → TheEmptyTextIsViable → ACommandIsItsWords → (limits : Bounds) → AreBounds limits → (store store' : Store)
-    (before after : Session) (piece name : List ℕ) (arguments : List (List ℕ)) (rest : List ℕ) → HasReadFront before.decoder [] →
-    before.closing ≡ false → BeginsWith limits piece (command_of (name ∷ arguments)) rest →
-    HasEffect store' before after (effect_of store before.version before.id (operation_of name arguments)) → HasSameRest before after →
-    AnswersBytes limits store store' before after [] piece (length piece - length rest) 1
-whole_turn full empty words_law limits bounds store store' before after piece name arguments rest between is_open begins effect same =
+pub whole_turn : NoSpellingIsEmpty → TheEmptyTextIsViable → ACommandIsItsWords → {limits : Bounds} → AreBounds limits → {store store' : Store}
+    {before after : Session} {piece rest : List ℕ} (name : List ℕ) (arguments : List (List ℕ)) → HasReadFront before.decoder [] → before.closing ≡ false →
+    BeginsWith limits piece (command_of (name ∷ arguments)) rest → HasEffect store' before after (effect_of store before.version before.id
+    (operation_of name arguments)) → HasSameRest before after → AnswersBytes limits store store' before after [] piece (length piece - length rest) 1
+whole_turn full empty words_law {limits} bounds {before} {rest} name arguments between is_open begins effect same =
     let x = command_of (name ∷ arguments) in
-    let (bytes, within) = used_is piece begins.written rest begins.whole in
-    spelled_turn full empty limits bounds store store' before after [] piece x (length piece - length rest) 1
-    (none_taken full (server_rules limits) before.decoder [] between)
+    let (bytes, within) = used_is rest begins.whole in
+    spelled_turn full empty bounds (none_taken full (server_rules limits) before.decoder [] between)
     (subst (IsSpelling (server_rules limits) x) (sym bytes) begins.spelled) within
     (subst (λ d. HasReadFront d []) (sym same.same_decoder) between)
-    (command_answer x name arguments store store' before after (sym ((words_law x name arguments).1 refl)) is_open effect same)
+    (command_answer name arguments (sym ((words_law x name arguments).1 refl)) is_open effect same)

@@ -11,8 +11,8 @@ use Rattle.resp_server.proofs.answer.answer.Goals as goal
 
 pub loop-used-init : goal.loop-used-init
 loop-used-init g c = record {
-  answered = λ front taken. none_answered c.args.shared.now.limits c.args.shared.now.store c.args.session.now front taken
-      (c.taken-taken.ensures.no_value front taken) (c.taken-taken.ensures.viable front taken) c.requires.is_open;
+  answered = λ front taken. none_answered taken (c.taken-taken.ensures.no_value front taken)
+      (c.taken-taken.ensures.viable front taken) c.requires.is_open;
   same_limits = refl;
   same_id = refl;
   ready = c.requires;
@@ -41,8 +41,7 @@ pub returns-in-Err-clause-cut_short : goal.returns-in-Err-clause-cut_short
 returns-in-Err-clause-cut_short g c front taken =
     let i = c.loop-used.invariant in
     let after : Session = c.take_turn.new.session in
-    cut_short c.args.shared.now.limits c.args.shared.now.store c.loop-used.shared.store c.take_turn.new.shared.store c.args.session.now c.loop-used.session
-    after _ front c.args.piece.now c.loop-used.used c.loop-used.commands i.ready.is_open (i.answered front taken) c.in-Err.ensures.unchanged refl refl refl
+    cut_short c.loop-used.used i.ready.is_open (i.answered front taken) c.in-Err.ensures.unchanged refl refl refl
     (omega arith)
 
 pub returns-then-session-clause-answered : goal.returns-then-session-clause-answered
@@ -55,11 +54,8 @@ returns-then-session-clause-answered g c front taken =
     let all = length c.args.piece.now in
     subst (λ t. IsAnswered c.args.shared.now.limits c.args.shared.now.store c.take_turn.new.shared.store c.args.session.now c.take_turn.new.session
     (front ++ t) (c.loop-used.commands + c.in-Ok.turn.commands)) (sym (take_all all c.args.piece.now (omega arith)))
-    (closed_answered c.answers_end.ensures c.args.shared.now.limits c.args.shared.now.store c.take_turn.new.shared.store c.args.session.now
-    c.take_turn.new.session front c.args.piece.now (c.loop-used.used + c.in-Ok.turn.used) (c.loop-used.commands + c.in-Ok.turn.commands) c.if-session.true
-    (turn_answered c.answers_go_on.ensures c.args.shared.now.limits c.args.shared.now.store c.loop-used.shared.store c.take_turn.new.shared.store
-    c.args.session.now c.loop-used.session c.take_turn.new.session front c.args.piece.now c.loop-used.used c.in-Ok.turn.used c.loop-used.commands
-    c.in-Ok.turn.commands i.same_id i.ready.is_open before turn))
+    (closed_answered c.answers_end.ensures front c.args.piece.now (c.loop-used.used + c.in-Ok.turn.used) c.if-session.true
+    (turn_answered c.answers_go_on.ensures front c.args.piece.now c.loop-used.used c.loop-used.commands i.same_id i.ready.is_open before turn))
 
 pub loop-used-preserved : goal.loop-used-preserved
 loop-used-preserved g c =
@@ -83,9 +79,8 @@ loop-used-preserved g c =
           let turn = subst (λ limits. AnswersBytes limits c.loop-used.shared.store c.take_turn.new.shared.store c.loop-used.session
           c.take_turn.new.session a.rest (take (length c.args.piece.now - c.loop-used.used) (drop c.loop-used.used c.args.piece.now)) c.in-Ok.turn.used
           c.in-Ok.turn.commands) i.same_limits (c.in-Ok.ensures.answered a.rest (a.taking i.ready.is_open)) in
-          turn_answered c.answers_go_on.ensures c.args.shared.now.limits c.args.shared.now.store c.loop-used.shared.store c.take_turn.new.shared.store
-          c.args.session.now c.loop-used.session c.take_turn.new.session front c.args.piece.now c.loop-used.used c.in-Ok.turn.used c.loop-used.commands
-          c.in-Ok.turn.commands i.same_id i.ready.is_open a turn;
+          turn_answered c.answers_go_on.ensures front c.args.piece.now c.loop-used.used c.loop-used.commands i.same_id
+          i.ready.is_open a turn;
       same_limits = c.in-Ok.ensures.within.same_limits ∙ i.same_limits;
       same_id = c.in-Ok.ensures.same_id ∙ i.same_id;
       ready = record {

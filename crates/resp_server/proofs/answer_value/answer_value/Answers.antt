@@ -1,6 +1,5 @@
 use Rattle.std.proofs.Common.{◌∷◌, drop, refl, subst, sym, ap, ◌∙◌}
 use Rattle.resp_value.specs.Spellings.{IsSpelling}
-use Rattle.resp_value.specs.Values.{datum_of}
 use Rattle.resp_value.specs.Words.{command_of}
 use Rattle.resp_session.specs.Answers.{server_rules}
 use Rattle.resp_server.proofs.ValueAnswers.{no_command_answer, words_value}
@@ -11,12 +10,11 @@ run_command-requires-clause-spelled g c =
     let (written, spelled) = c.requires.spelled in (
       written,
       subst (λ x. IsSpelling (server_rules c.args.shared.now.limits) x written)
-          (words_value c.a_command_is_its_words.ensures (datum_of c.args.value) c.in-Command.words c.in-Command.ensures.has_name
+          (words_value c.a_command_is_its_words.ensures c.in-Command.words c.in-Command.ensures.has_name
           c.in-Command.ensures.meaning ∙ ap (λ name. command_of (name ∷ drop 1 c.in-Command.words)) (sym c.word.ensures))
           spelled,
     )
 
 pub returns-in_ok-fault-in-NoCommand-clause-answered : goal.returns-in_ok-fault-in-NoCommand-clause-answered
 returns-in_ok-fault-in-NoCommand-clause-answered g c =
-    no_command_answer (datum_of c.args.value) c.args.shared.now.store c.args.session.now _ c.in-NoCommand.ensures.meaning refl refl
-    c.in_ok-fault-in-NoCommand.ensures.appended
+    no_command_answer c.in-NoCommand.ensures.meaning refl refl c.in_ok-fault-in-NoCommand.ensures.appended

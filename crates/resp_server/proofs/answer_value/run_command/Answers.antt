@@ -27,9 +27,8 @@ returns-clause-within g c =
     c.requires.stored c.args.session.now.small spelled) in
     let ran = c.run.ensures.runs in
     record {
-      short = either_way c.run.result ran.done ran.unchanged
-          (λ done. grown c.args.session.now.out.items _ c.run.new.session.out.items limits.total done.replied fits.reply.within_total)
-          (λ same. let none = ap length same.same_out in omega (arith, none));
+      short = either_way c.run.result ran.done ran.unchanged (λ done. grown c.args.session.now.out.items _ limits.total
+          done.replied fits.reply.within_total) (λ same. let none = ap length same.same_out in omega (arith, none));
       stored = either_way c.run.result ran.done ran.unchanged (λ done. subst (FitsStore limits) (sym done.store_of) fits.store)
           (λ same. subst (FitsStore limits) (sym same.same_store) c.requires.stored);
       same_limits = c.run.ensures.same_limits;

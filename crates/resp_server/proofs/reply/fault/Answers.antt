@@ -17,6 +17,6 @@ pub returns-clause-short : goal.returns-clause-short
 returns-clause-short c =
     let name = c.args.name.now in
     let before = ap length c.in_ok-reserve.ensures.items in
-    let one = grown _ (codes "-ERR Protocol error: ") _ 21 c.extend_reserved.ensures.items (omega arith) in
-    let two = grown _ name _ (length name) c.extend_reserved-2.ensures.items (omega arith) in
+    let one = grown _ (codes "-ERR Protocol error: ") 21 c.extend_reserved.ensures.items (omega arith) in
+    let two = grown _ name (length name) c.extend_reserved-2.ensures.items (omega arith) in
     omega (arith, before, one, two, c.append_number.ensures.short)

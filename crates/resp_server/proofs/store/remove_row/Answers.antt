@@ -31,22 +31,20 @@ index_mut-requires-in-Some-get_index g c =
 pub returns-in-Some-get_index : goal.returns-in-Some-get_index
 returns-in-Some-get_index g c =
     let rows = c.args.rows.now.entries in
-    let places = c.args.places.now.items in
     let h = c.requires.before in
     let i = c.args.index in
     let gone : Bytes × Row = c.in-Some.removed in
     let moved : Bytes × Row = (c.in-Some-get_index.field-0-0.now, c.in-Some-get_index.moved.now) in
     let at : slice_get rows i ≡ Some gone = sym c.swap_remove_index.ensures.entry ∙ c.in-Some.is in
-    gone_moved rows places h i gone at c.swap_remove_index.new.self.entries c.in-Some.ensures.entries c.swap_remove_index.ensures.unique moved
+    gone_moved h gone at c.swap_remove_index.new.self.entries c.in-Some.ensures.entries c.swap_remove_index.ensures.unique moved
     (sym c.in-Some-get_index.ensures.entry)
 
 pub returns-in_default-get_index : goal.returns-in_default-get_index
 returns-in_default-get_index g c =
     let rows = c.args.rows.now.entries in
-    let places = c.args.places.now.items in
     let h = c.requires.before in
     let i = c.args.index in
     let gone : Bytes × Row = c.in-Some.removed in
     let at : slice_get rows i ≡ Some gone = sym c.swap_remove_index.ensures.entry ∙ c.in-Some.is in
-    gone_last rows places h i gone at c.swap_remove_index.new.self.entries c.in-Some.ensures.entries c.swap_remove_index.ensures.unique
+    gone_last h gone at c.swap_remove_index.new.self.entries c.in-Some.ensures.entries c.swap_remove_index.ensures.unique
     (sym c.in_default-get_index.ensures.entry)

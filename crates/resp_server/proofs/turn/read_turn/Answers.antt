@@ -10,16 +10,14 @@ use Rattle.resp_server.proofs.turn.read_turn.Goals as goal
 pub refuse-requires : goal.refuse-requires
 refuse-requires g c =
     let (front, taken) = c.requires.taking in
-    fault_is_named c.args.shared.now.limits c.are_in_range.ensures front c.args.piece.now c.in-Err.fault
-    (c.in-Err.ensures.refusal front taken)
+    fault_is_named c.are_in_range.ensures front c.args.piece.now (c.in-Err.ensures.refusal front taken)
 
 pub returns-in-Err : goal.returns-in-Err
 returns-in-Err g c = record {
   answered = λ front taken.
       let done = c.in_ok-refuse-in-Err.ensures.refused in
-      refused_turn c.args.shared.now.limits c.args.shared.now.store c.args.session.now c.refuse.new.session front c.args.piece.now c.in-Err.fault
-      (refused_by c.args.shared.now.limits front c.args.piece.now c.in-Err.fault
-      (c.in-Err.ensures.refusal front taken) done.caused) c.in_ok-refuse-in-Err.ensures.same_version done.closes done.line;
+      refused_turn (refused_by c.args.shared.now.limits (c.in-Err.ensures.refusal front taken) done.caused)
+      c.in_ok-refuse-in-Err.ensures.same_version done.closes done.line;
   unchanged = tt;
   within = search rules;
   same_id = search rules;
@@ -29,8 +27,8 @@ returns-in-Err g c = record {
 
 pub returns-in_default : goal.returns-in_default
 returns-in_default g c = record {
-  answered = λ front taken. waiting_turn c.args.shared.now.limits c.args.shared.now.store c.args.session.now _ front c.args.piece.now
-      c.in-Ok.fed.used (c.in-Ok.ensures.used_up front taken c.in_default.is) refl c.requires.is_open refl;
+  answered = λ front taken. waiting_turn (c.in-Ok.ensures.used_up front taken c.in_default.is) refl c.requires.is_open
+      refl;
   unchanged = tt;
   within = search rules;
   same_id = search rules;
@@ -55,10 +53,8 @@ returns g c = record {
       let before : Session = c.args.session.now in
       let store' = c.answer_value.new.shared.store in
       let answered = subst (λ v. IsAnswerTo (datum_of v) c.args.shared.now.store store' before c.answer_value.new.session c.in_ok-commands.commands)
-      c.in-Some.value-is (same_answer _ c.args.shared.now.store store' before _ c.answer_value.new.session c.in_ok-commands.commands
-      c.in_ok-commands.ensures.answered refl refl refl) in
-      value_turn c.no_spelling_is_empty.ensures c.the_empty_text_is_viable.ensures c.args.shared.now.limits c.are_in_range.ensures c.args.shared.now.store
-      store' before c.answer_value.new.session front c.args.piece.now c.feed.new.self c.in-Some.value c.in-Ok.fed.used c.in_ok-commands.commands
+      c.in-Some.value-is (same_answer c.in_ok-commands.ensures.answered refl refl refl) in
+      value_turn c.no_spelling_is_empty.ensures c.the_empty_text_is_viable.ensures c.are_in_range.ensures
       (none_taken c.no_spelling_is_empty.ensures (server_rules c.args.shared.now.limits) c.args.session.now.decoder front taken) given
       c.in-Ok.ensures.within_piece c.answer_value.ensures.same_decoder answered;
   unchanged = tt;

@@ -10,11 +10,10 @@ returns-in-Some g c =
     let between = subst (HasReadFront c.args.session.now.decoder) (c.if-is_between.ensures.nothing_taken refl front taken) taken in
     record {
       answered = λ front taken. subst (λ front. AnswersBytes c.args.shared.now.limits c.args.shared.now.store c.run_command.new.shared.store
-          c.args.session.now c.run_command.new.session front c.args.piece.now (length c.args.piece.now - length c.in-Some.command.rest.now) 1) (sym (c.if-is_between.ensures.nothing_taken refl front taken))
-          (whole_turn c.no_spelling_is_empty.ensures c.the_empty_text_is_viable.ensures c.a_command_is_its_words.ensures c.args.shared.now.limits
-          c.are_in_range.ensures c.args.shared.now.store c.run_command.new.shared.store c.args.session.now c.run_command.new.session c.args.piece.now
-          c.in-Some.command.name.now c.in-Some.command.arguments c.in-Some.command.rest.now between c.requires.is_open c.in-Some.ensures.begins
-          c.in_ok-run_command.ensures.runs.done c.run_command.ensures.runs.rest);
+          c.args.session.now c.run_command.new.session front c.args.piece.now (length c.args.piece.now - length c.in-Some.command.rest.now) 1)
+          (sym (c.if-is_between.ensures.nothing_taken refl front taken)) (whole_turn c.no_spelling_is_empty.ensures c.the_empty_text_is_viable.ensures
+          c.a_command_is_its_words.ensures c.are_in_range.ensures c.in-Some.command.name.now c.in-Some.command.arguments between c.requires.is_open
+          c.in-Some.ensures.begins c.in_ok-run_command.ensures.runs.done c.run_command.ensures.runs.rest);
       unchanged = tt;
       within = search rules;
       same_id = search rules;

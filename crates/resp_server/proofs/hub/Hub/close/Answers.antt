@@ -1,10 +1,10 @@
-use Rattle.std.proofs.Common.{None, refl, subst, sym, ap, ◌∙◌}
+use Rattle.std.proofs.Common.{refl, subst, sym, ap, ◌∙◌}
 use Rattle.resp_server.specs.Hubs.{HubState, AreSound, seats_of, without_seat}
 use Rattle.resp_server.proofs.Seats.{seat_is, seat_is_there, seats-remove, sound_remove}
 use Rattle.resp_server.proofs.hub.Hub.close.Goals as goal
 
 pub returns-in_default-clause-none : goal.returns-in_default-clause-none
-returns-in_default-clause-none g c = seat_is _ _ _ _ c.args.self.now c.self.view_is c.args.id None c.in_default.ensures.value
+returns-in_default-clause-none g c = seat_is _ _ _ _ c.args.self.now c.self.view_is c.args.id c.in_default.ensures.value
 
 pub invariant_of-self-2 : goal.invariant_of-self-2
 invariant_of-self-2 g c =
@@ -24,9 +24,9 @@ returns-clause-closed g c =
     ap (λ (hub : HubState). record hub { sessions = without_seat hub.sessions c.args.id }) c.self.view_is
 
 pub returns-clause-some : goal.returns-clause-some
-returns-clause-some g c = seat_is_there _ _ _ _ c.args.self.now c.self.view_is c.args.id _ c.in-Some.ensures.value
+returns-clause-some g c = seat_is_there _ _ _ _ c.self.view_is c.args.id c.in-Some.ensures.value
 
 pub returns-clause-gone : goal.returns-clause-gone
 returns-clause-gone g c =
     let i = c.self.inside in
-    seat_is i.shared.limits c.remove.new.self.entries i.shared.store i.last _ refl c.args.id None (sym c.in-Some.ensures.updates.1)
+    seat_is i.shared.limits c.remove.new.self.entries i.shared.store i.last _ refl c.args.id (sym c.in-Some.ensures.updates.1)

@@ -1,47 +1,39 @@
-use Rattle.std.proofs.Common.{None, Some, ap}
+use Rattle.std.proofs.Common.{ap}
 use Rattle.std.specs.Option.{option_map}
-use Rattle.resp_server.specs.Hubs.{Seat, seat_at}
+use Rattle.resp_server.specs.Hubs.{Seat}
 use Rattle.resp_server.proofs.AnsweredHubs.{found_seat, hub_waits, if_none}
 use Rattle.resp_server.proofs.Seats.{seat_is, sound_at}
 use Rattle.resp_server.proofs.hub.Hub.is_closing.Goals as goal
 
 pub returns-in_default-clause-none : goal.returns-in_default-clause-none
-returns-in_default-clause-none g c = seat_is _ _ _ _ c.args.self.now c.self.view_is c.args.id None c.in_default.ensures.value
+returns-in_default-clause-none g c = seat_is _ _ _ _ c.args.self.now c.self.view_is c.args.id c.in_default.ensures.value
 
 pub returns-in_default-clause-taking : goal.returns-in_default-clause-taking
 returns-in_default-clause-taking g c =
-    let i = c.self.inside in
-    if_none (seat_at c.args.self.now c.args.id) _
-    (seat_is i.shared.limits i.sessions.entries i.shared.store i.last c.args.self.now c.self.view_is c.args.id None c.in_default.ensures.value)
+    if_none _ (seat_is _ _ _ _ c.args.self.now c.self.view_is c.args.id c.in_default.ensures.value)
 
 pub returns-in_default-clause-waiting : goal.returns-in_default-clause-waiting
 returns-in_default-clause-waiting g c =
-    let i = c.self.inside in
-    if_none (seat_at c.args.self.now c.args.id) _
-    (seat_is i.shared.limits i.sessions.entries i.shared.store i.last c.args.self.now c.self.view_is c.args.id None c.in_default.ensures.value)
+    if_none _ (seat_is _ _ _ _ c.args.self.now c.self.view_is c.args.id c.in_default.ensures.value)
 
 pub returns-clause-closing : goal.returns-clause-closing
 returns-clause-closing g c =
-    let i = c.self.inside in
-    ap (option_map (λ (s : Seat). s.closing)) (seat_is i.shared.limits i.sessions.entries i.shared.store i.last c.args.self.now c.self.view_is c.args.id
-    (Some c.in-Some.session.now) c.in-Some.ensures.value)
+    ap (option_map (λ (s : Seat). s.closing)) (seat_is _ _ _ _ c.args.self.now c.self.view_is c.args.id
+    c.in-Some.ensures.value)
 
 pub returns-clause-taking : goal.returns-clause-taking
 returns-clause-taking g c =
     let i = c.self.inside in
-    let session = c.in-Some.session.now in
-    found_seat i.shared.limits i.sessions.entries i.shared.store i.last c.args.self.now c.self.view_is c.args.id session c.in-Some.ensures.value _
-    (sound_at i.shared.limits i.last i.sessions.entries c.args.id session c.in-Some.ensures.value c.self.invariant.sound).taking
+    found_seat _ _ _ _ c.self.view_is c.args.id c.in-Some.ensures.value _
+    (sound_at i.sessions.entries c.in-Some.ensures.value c.self.invariant.sound).taking
 
 pub returns-clause-waiting : goal.returns-clause-waiting
 returns-clause-waiting g c =
-    let i = c.self.inside in
-    let session = c.in-Some.session.now in
-    hub_waits i.shared.limits i.sessions.entries i.shared.store i.last c.args.self.now c.self.view_is c.args.id session c.in-Some.ensures.value
-    c.taken-taken.ensures.no_value c.taken-taken.ensures.viable
+    hub_waits _ _ _ _ c.self.view_is c.args.id c.in-Some.ensures.value c.taken-taken.ensures.no_value
+    c.taken-taken.ensures.viable
 
 pub taken-taken-requires : goal.taken-taken-requires
 taken-taken-requires g c =
     let i = c.self.inside in record {
-      reading = (sound_at i.shared.limits i.last i.sessions.entries c.args.id c.in-Some.session.now c.in-Some.ensures.value c.self.invariant.sound).reading;
+      reading = (sound_at i.sessions.entries c.in-Some.ensures.value c.self.invariant.sound).reading;
     }

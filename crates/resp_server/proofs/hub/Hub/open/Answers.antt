@@ -15,9 +15,9 @@ invariant_of-self-2 g c =
     record {
       stored = h.stored;
       few = omega (arith, c.if-self-ge9223372036854775807.false);
-      sound = subst (AreSound i.shared.limits (i.last + 1))
-          (sym (c.in_default.ensures.entries ∙ insert_last i.shared.limits i.last i.sessions.entries session h.sound))
-          (sound_append i.shared.limits i.last i.sessions.entries session h.sound (record {
+      sound = subst (AreSound i.shared.limits (i.last + 1)) (sym
+          (c.in_default.ensures.entries ∙ insert_last i.shared.limits i.last i.sessions.entries session h.sound))
+          (sound_append i.last i.sessions.entries h.sound (record {
             same_id = c.new-session.ensures.id;
             given = omega arith;
             reading = c.new-session.ensures.reading (rules_under Two i.shared.limits);
@@ -42,7 +42,7 @@ returns-clause-opened g c =
       nothing_taken = subst (λ d. HasReadFront d []) (sym c.new-session.ensures.no_decoder) refl;
       fresh = ap (λ (hub : HubState). seat_at hub (i.last + 1)) (sym c.self.view_is) ∙ none;
       there = ap (λ sessions. lookup (λ other. i.last + 1 == other) sessions) entries ∙
-          found_last (i.last + 1) opened (seats_of i.sessions.entries) none;
+          found_last (i.last + 1) (seats_of i.sessions.entries) none;
       state = ap (λ sessions. record { limits = i.shared.limits; sessions = sessions; store = i.shared.store; last = i.last + 1 }) entries ∙
           ap (λ (hub : HubState). record hub {
             sessions = hub.sessions ++ (i.last + 1, opened) ∷ [];

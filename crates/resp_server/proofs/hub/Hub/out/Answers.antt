@@ -1,4 +1,4 @@
-use Rattle.std.proofs.Common.{None, Some, ap, sym, ◌∙◌}
+use Rattle.std.proofs.Common.{Some, ap, sym, ◌∙◌}
 use Rattle.std.specs.Option.{option_map}
 use Rattle.resp_server.specs.Hubs.{Seat}
 use Rattle.resp_server.proofs.Seats.{seat_is}
@@ -6,9 +6,8 @@ use Rattle.resp_server.proofs.hub.Hub.out.Goals as goal
 
 pub returns-in-Some-clause-waiting : goal.returns-in-Some-clause-waiting
 returns-in-Some-clause-waiting g c =
-    let i = c.self.inside in
-    ap (option_map (λ (s : Seat). s.out)) (seat_is i.shared.limits i.sessions.entries i.shared.store i.last c.args.self.now c.self.view_is c.args.id
-    (Some c.in-Some.session.now) c.in-Some.ensures.value) ∙ ap Some (sym c.as_slice.ensures)
+    ap (option_map (λ (s : Seat). s.out)) (seat_is _ _ _ _ c.args.self.now c.self.view_is c.args.id
+    c.in-Some.ensures.value) ∙ ap Some (sym c.as_slice.ensures)
 
 pub returns-in-None-clause-none : goal.returns-in-None-clause-none
-returns-in-None-clause-none g c = seat_is _ _ _ _ c.args.self.now c.self.view_is c.args.id None c.in-None.ensures.value
+returns-in-None-clause-none g c = seat_is _ _ _ _ c.args.self.now c.self.view_is c.args.id c.in-None.ensures.value

@@ -1,4 +1,4 @@
-use Rattle.std.proofs.Common.{None, Some, Ok, Err, subst, sym, ap, ◌++◌}
+use Rattle.std.proofs.Common.{Ok, Err, subst, sym, ap, ◌++◌}
 use Rattle.resp_value.specs.Canonical.{canonical_text}
 use Rattle.resp_value.specs.declared.version.Version.TheVariants.{Three}
 use Rattle.resp_encode.specs.Pushes.{push_of}
@@ -10,51 +10,43 @@ use Rattle.resp_server.proofs.hub.Hub.push.Goals as goal
 
 pub returns-in_default-clause-verdict : goal.returns-in_default-clause-verdict
 returns-in_default-clause-verdict g c =
-    let i = c.self.inside in
-    no_session c.args.self.now.limits (seat_at c.args.self.now c.args.id) (push_of c.args.items.now)
-    (seat_is i.shared.limits i.sessions.entries i.shared.store i.last c.args.self.now c.self.view_is c.args.id None c.in_default.ensures.value)
+    no_session (seat_is _ _ _ _ c.args.self.now c.self.view_is c.args.id c.in_default.ensures.value)
 
 pub invariant_of-self-in-Err : goal.invariant_of-self-in-Err
-invariant_of-self-in-Err g c = sound_with _ _ _ _ c.self.invariant _ c.args.id _ _ (c.get_mut.follows.holds _).0 c.in-Some.ensures.value
+invariant_of-self-in-Err g c = sound_with c.self.invariant c.args.id (c.get_mut.follows.holds _).0 c.in-Some.ensures.value
     c.queue_push.ensures.rest
 
 pub returns-in-Err-clause-unchanged : goal.returns-in-Err-clause-unchanged
 returns-in-Err-clause-unchanged g c =
-    let i = c.self.inside in
-    same_state i.shared.limits i.sessions.entries i.shared.store i.last c.args.self.now c.self.view_is _ c.args.id c.in-Some.session.now _
-    (c.get_mut.follows.holds _).0 c.in-Some.ensures.value
-    (same_seat c.queue_push.new.session c.in-Some.session.now c.in-Some.session.now.out.items c.queue_push.ensures.same_version c.in-Err.ensures.unchanged
-    c.queue_push.ensures.rest.same_closing c.queue_push.ensures.rest.same_decoder)
+    same_state _ _ _ _ c.self.view_is c.args.id _ (c.get_mut.follows.holds _).0 c.in-Some.ensures.value
+    (same_seat c.queue_push.new.session c.in-Some.session.now c.queue_push.ensures.same_version
+    c.in-Err.ensures.unchanged c.queue_push.ensures.rest.same_closing c.queue_push.ensures.rest.same_decoder)
 
 pub returns-in-Err-clause-verdict : goal.returns-in-Err-clause-verdict
 returns-in-Err-clause-verdict g c =
     let i = c.self.inside in
     subst (λ limits. IsPushVerdict limits (seat_at c.args.self.now c.args.id) (push_of c.args.items.now) (Err c.in-Err.error))
-    (ap (λ (hub : HubState). hub.limits) c.self.view_is)
-    (subst (λ seat. IsPushVerdict i.shared.limits seat (push_of c.args.items.now) (Err c.in-Err.error))
-    (sym (seat_is i.shared.limits i.sessions.entries i.shared.store i.last c.args.self.now c.self.view_is c.args.id (Some c.in-Some.session.now)
-    c.in-Some.ensures.value)) c.in-Err.ensures.verdict)
+    (ap (λ (hub : HubState). hub.limits) c.self.view_is) (subst (λ seat. IsPushVerdict i.shared.limits seat
+    (push_of c.args.items.now) (Err c.in-Err.error)) (sym (seat_is i.shared.limits i.sessions.entries i.shared.store i.last
+    c.args.self.now c.self.view_is c.args.id c.in-Some.ensures.value)) c.in-Err.ensures.verdict)
 
 pub invariant_of-self-2 : goal.invariant_of-self-2
-invariant_of-self-2 g c = sound_with _ _ _ _ c.self.invariant _ c.args.id _ _ (c.get_mut.follows.holds _).0 c.in-Some.ensures.value
+invariant_of-self-2 g c = sound_with c.self.invariant c.args.id (c.get_mut.follows.holds _).0 c.in-Some.ensures.value
     c.queue_push.ensures.rest
 
 pub returns-clause-queued : goal.returns-clause-queued
 returns-clause-queued g c =
-    let i = c.self.inside in
     let push = canonical_text Three (push_of c.args.items.now) in
-    seated_is i.shared.limits i.sessions.entries i.shared.store i.last c.args.self.now c.self.view_is _ c.args.id c.in-Some.session.now _
-    (c.get_mut.follows.holds _).0 c.in-Some.ensures.value
-    (λ (s : Seat). record s { out = s.out ++ push })
-    (same_seat c.queue_push.new.session c.in-Some.session.now (c.in-Some.session.now.out.items ++ push) c.queue_push.ensures.same_version
-    c.in_default-queue_push.ensures.queued
-    c.queue_push.ensures.rest.same_closing c.queue_push.ensures.rest.same_decoder)
+    seated_is _ _ _ _ c.self.view_is c.args.id _ (c.get_mut.follows.holds _).0 c.in-Some.ensures.value
+    (λ (s : Seat). record s { out = s.out ++ push }) (same_seat c.queue_push.new.session c.in-Some.session.now
+    c.queue_push.ensures.same_version c.in_default-queue_push.ensures.queued c.queue_push.ensures.rest.same_closing
+    c.queue_push.ensures.rest.same_decoder)
 
 pub returns-clause-verdict : goal.returns-clause-verdict
 returns-clause-verdict g c =
     let i = c.self.inside in
     subst (λ limits. IsPushVerdict limits (seat_at c.args.self.now c.args.id) (push_of c.args.items.now) (Ok tt))
-    (ap (λ (hub : HubState). hub.limits) c.self.view_is)
-    (subst (λ seat. IsPushVerdict i.shared.limits seat (push_of c.args.items.now) (Ok tt))
-    (sym (seat_is i.shared.limits i.sessions.entries i.shared.store i.last c.args.self.now c.self.view_is c.args.id (Some c.in-Some.session.now)
-    c.in-Some.ensures.value)) c.in_default-queue_push.ensures.verdict)
+    (ap (λ (hub : HubState). hub.limits) c.self.view_is) (subst
+    (λ seat. IsPushVerdict i.shared.limits seat (push_of c.args.items.now) (Ok tt))
+    (sym (seat_is _ _ _ _ c.args.self.now c.self.view_is c.args.id c.in-Some.ensures.value))
+    c.in_default-queue_push.ensures.verdict)

@@ -16,5 +16,5 @@ returns-clause-value_whole c front taken =
     (c.in-Ok.ensures.same_taken front (subst (λ (r : Reading). HasReadFront r front) same taken)) in
     let reads : decoding.rules_of decoder ≡ server_rules c.args.limits.now =
     subst (λ (d : Decoder). decoding.rules_of d ≡ server_rules c.args.limits.now) (sym c.deref_mut.ensures.value) c.in-Ok.ensures.reading in
-    value_read (server_rules c.args.limits.now) (decoding.rules_of decoder) c.feed-fed.new.self c.feed-fed.result
-    (λ used. front ++ take used c.args.piece.now) reads (c.feed-fed.ensures.value_whole front here)
+    value_read c.feed-fed.new.self c.feed-fed.result (λ used. front ++ take used c.args.piece.now) reads
+    (c.feed-fed.ensures.value_whole front here)

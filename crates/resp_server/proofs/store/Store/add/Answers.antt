@@ -22,9 +22,9 @@ stands_last : {S : Type 0} (rows : IndexMap Bytes Row S) (places : List (Option 
     (places' : List (Option ℕ)) → places' ≡ places ++ Some n ∷ [] →
     HoldsRows rows' places' × (entries_in rows' places' ≡ store_with (entries_in rows.entries places) key.items row.value)
 stands_last {S} rows places h key row placed absent rows' is distinct n size places' is' =
-    let none : lookup (λ (k : Bytes). bytes_eq key.items k.items) rows.entries ≡ None = no_row rows.entries places h.in_place key.items absent in
+    let none : lookup (λ (k : Bytes). bytes_eq key.items k.items) rows.entries ≡ None = no_row h.in_place key.items absent in
     let last : rows' ≡ rows.entries ++ (key, row) ∷ [] = is ∙ insert_entry-new same_bytes rows key row none in
-    let (in_place, entries) = added rows.entries places h.in_place key row placed none rows' last distinct n size places' is' in
+    let (in_place, entries) = added h.in_place key row placed none last distinct size is' in
     let one_row = ap length last ∙ length-append rows.entries ((key, row) ∷ []) in
     let one_place = ap length is' ∙ length-append places (Some n ∷ []) in
     let few = h.few in

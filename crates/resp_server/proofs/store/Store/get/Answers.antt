@@ -5,12 +5,10 @@ use Rattle.resp_server.proofs.store.Store.get.Goals as goal
 
 pub returns-in-Some : goal.returns-in-Some
 returns-in-Some g c =
-    let i = c.self.inside in
-    looked_up i.rows.entries i.places.items c.self.invariant.in_place c.args.key.now c.in-Some.row.now c.in-Some.ensures.value ∙
+    looked_up c.self.invariant.in_place c.args.key.now c.in-Some.ensures.value ∙
     ap (λ es. value_at es c.args.key.now) c.self.view_is
 
 pub returns-in-None : goal.returns-in-None
 returns-in-None g c =
-    let i = c.self.inside in
-    sym (no_value i.rows.entries i.places.items c.self.invariant.in_place c.args.key.now (sym c.in-None.ensures.value)) ∙
+    sym (no_value c.self.invariant.in_place c.args.key.now (sym c.in-None.ensures.value)) ∙
     ap (λ es. value_at es c.args.key.now) c.self.view_is

@@ -9,7 +9,7 @@ pub returns-in_default-clause-removed : goal.returns-in_default-clause-removed
 returns-in_default-clause-removed g c =
     let i = c.self.inside in
     let key = c.args.key.now in
-    sym c.self.view_is ∙ none_gone i.rows.entries i.places.items c.self.invariant.in_place key
+    sym c.self.view_is ∙ none_gone c.self.invariant.in_place key
     (not_found (λ (k : Bytes). bytes_eq key k.items) i.rows.entries c.in_default.ensures.found) ∙
     ap (λ es. store_without es (key ∷ [])) c.self.view_is
 
