@@ -3,7 +3,8 @@ use Rattle.std.proofs.Common.{◌≡◌, ℕ, List, [], ◌++◌, take, Option, 
 use Rattle.std.specs.Prelude.{MatchOption}
 use Rattle.resp_cut.specs.declared.cut_value.CutValue.{CutValue}
 use Rattle.resp_value.specs.Rules.{Rules}
-use Rattle.resp_decode.specs.CutDecoding.{GivesCut, HasTaken, TakesPiece}
+use Rattle.resp_decode.specs.CutDecoding.{GivesCut, HasTaken}
+use Rattle.resp_decode.specs.Decoding.{TakesPiece}
 use Rattle.resp_decode.specs.declared.cut_decoder.CutDecoder.{CutDecoder}
 
 -- the bytes that were read of a value, if there may be no decoder
@@ -13,7 +14,7 @@ HasFront decoder front = MatchOption decoder (front ≡ []) (λ decoder. HasTake
 -- after a piece without an error
 pub front_after : (r : Rules) (shown : ℕ) (new : Box CutDecoder Global) (kept : Option (Box CutDecoder Global)) (front piece : List ℕ) (used : ℕ) (fed : Option CutValue) →
     ((x : CutValue) → fed ≡ Some x → GivesCut r shown new.value (front ++ take used piece) x) →
-    (fed ≡ None → TakesPiece r new.value (front ++ piece) piece used) → (HasTaken new.value [] → HasFront kept []) →
+    (fed ≡ None → TakesPiece r (HasTaken new.value) (front ++ piece) piece used) → (HasTaken new.value [] → HasFront kept []) →
     (fed ≡ None → kept ≡ Some new) → (front : List ℕ) × HasFront kept front
 front_after r shown new kept front piece used (Some x) whole up between inside = ([], between (whole x refl).takes)
 front_after r shown new kept front piece used None whole up between inside =

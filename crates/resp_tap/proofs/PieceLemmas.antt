@@ -1,10 +1,12 @@
 -- A piece that is read result by result.
-use Rattle.std.proofs.Common.{◌≡◌, ℕ, List, [], ◌∷◌, length, Result, Ok, Err, refl}
+use Rattle.std.proofs.Common.{◌≡◌, ◌∙◌, ℕ, List, [], ◌∷◌, drop, length, Option, Result, Ok, Err, ap, refl, subst, sym}
 use Rattle.resp_print.specs.declared.print_error.PrintError.{PrintError}
-use Rattle.resp_tap.specs.Watches.{KeepsOther, first_error}
+use Rattle.resp_tap.specs.Watches.{KeepsOther, StepOn, WatchesAll, first_error}
+use Rattle.resp_tap.specs.declared.seen.Seen.{Seen}
 use Rattle.resp_tap.specs.declared.tap.Tap.{Tap}
 use Rattle.resp_tap.specs.declared.watch.Side.{Side}
 use Rattle.resp_tap.specs.declared.watch.Side.TheVariants.{Client, Server}
+use Rattle.resp_tap.specs.declared.watch.Watched.{Watched}
 
 -- a list without a length is empty
 pub no_bytes : (bytes : List ℕ) → length bytes ≡ 0 → bytes ≡ []
@@ -24,3 +26,49 @@ no_error_after (Err error) = refl
 pub error_of_three : (a b c : Result (Unit {0}) PrintError) → first_error a (first_error b c) ≡ first_error (first_error a b) c
 error_of_three (Ok done) b c = refl
 error_of_three (Err error) b c = refl
+
+-- what is read of the rest, after what was read before it, is read of the piece
+abbrev pub HasWatched : {S : Type 0} → StepOn S → S → S → List ℕ → List ℕ → Option (List ℕ) → Option (List ℕ) →
+    ℕ → ℕ → Result (Unit {0}) PrintError → Type 0
+HasWatched {S} Step first now piece rest before so_far failures failed printed =
+    (more : List Seen) (new : S) (after : Option (List ℕ)) (failures' : ℕ) (later : Result (Unit {0}) PrintError) →
+    WatchesAll Step more now new rest so_far after failed failures' later → (all : List Seen) ×
+    WatchesAll Step all first new piece before after failures failures' (first_error printed later)
+
+-- one step more
+pub watched_more : {S : Type 0} (Step : StepOn S) (first now next : S) (piece rest left : List ℕ)
+    (watched : Watched) (what : Seen) (before so_far written : Option (List ℕ)) (failures failed failed' : ℕ)
+    (printed printed' : Result (Unit {0}) PrintError) →
+    HasWatched Step first now piece rest before so_far failures failed printed →
+    Step now next rest watched what so_far written failed failed' →
+    left ≡ drop watched.used rest → printed' ≡ first_error printed watched.printed →
+    HasWatched Step first next piece left before written failures failed' printed'
+watched_more Step first now next piece rest left watched what before so_far written failures failed failed'
+    printed printed' has step is_left is_printed =
+    λ more new after failures' later beyond.
+    let all = has (what ∷ more) new after failures' (first_error watched.printed later) (
+      next,
+      watched,
+      written,
+      failed',
+      later,
+      step,
+      refl,
+      subst (λ rest. WatchesAll Step more next new rest written after failed' failures' later) is_left beyond,
+    ) in (
+      all.0,
+      subst (WatchesAll Step all.0 first new piece before after failures failures')
+          (error_of_three printed watched.printed later ∙ ap (λ told. first_error told later) (sym is_printed))
+          all.1,
+    )
+
+-- the whole piece
+pub watched_all : {S : Type 0} (Step : StepOn S) (first now : S) (piece rest : List ℕ)
+    (before so_far : Option (List ℕ)) (failures failed : ℕ) (printed : Result (Unit {0}) PrintError) →
+    HasWatched Step first now piece rest before so_far failures failed printed → length rest ≡ 0 →
+    (all : List Seen) × WatchesAll Step all first now piece before so_far failures failed printed
+watched_all Step first now piece rest before so_far failures failed printed has none =
+    let all = has [] now so_far failed (Ok tt) (no_bytes rest none, refl, refl, refl, refl) in (
+      all.0,
+      subst (WatchesAll Step all.0 first now piece before so_far failures failed) (no_error_after printed) all.1,
+    )

@@ -26,7 +26,7 @@ use Rattle.resp_tap.specs.Lines.{LineState, ReadsLine, asking, due_of, is_listen
 use Rattle.resp_tap.specs.Streams.{Arrival, Arrive, IsNoError, IsRest, NoError, Part, TellsTheConnection, WordsPart, by_side, client_bytes, command_in, command_part, commands_of, each, numbered_commands, part_of, push_in, reply_in, reply_part, server_bytes, told, words_of}
 use Rattle.resp_tap.specs.Parts.{AreKeptOf, IsKeptOf, word_lengths, words_within}
 use Rattle.resp_tap.specs.Taps.{TapState, at_front, new_tap, tap_state, with_command, with_value}
-use Rattle.resp_tap.specs.Watches.{KeepsOther, SeesFirst, WatchesAll}
+use Rattle.resp_tap.specs.Watches.{KeepsOther, SeesFirst, Watches, WatchesAll}
 use Rattle.resp_tap.specs.Watching.{HasTakenRequest, HasTakenValue, HearsValue, SeesRequest, SeesValue, request_rules}
 use Rattle.resp_tap.specs.declared.kind.CommandKind.{CommandKind}
 use Rattle.resp_tap.specs.declared.line.Due.{Due}
@@ -583,14 +583,16 @@ all_told x side piece what = told_more x side piece (each command_in what) (each
 
 piece_tells : VersionThreeSpellsWhatTwoDoes → (side : Side) (limits : Bounds) (most held : Option ℕ) (printing : Printing) (now : Option Moment) (what : List Seen) (x : Told) (old new : TimedTap)
     (piece : List ℕ) (before after : Option (List ℕ)) (failures failures' : ℕ) (result : Result (Unit {0}) PrintError) (other : List ℕ) →
-    Tells side limits most held x old.tap other → WatchesAll printing side now what old new piece before after failures failures' result →
+    Tells side limits most held x old.tap other →
+    WatchesAll (Watches printing side now) what old new piece before after failures failures' result →
     AllByRecursion IsNoError what → Tells side limits most held (all_told x side piece what) new.tap other
 piece_tells laws side limits most held printing now [] x old new piece before after failures failures' result other h watches fine =
     let (none, same, _, _, _) = watches in
     subst (λ z. Tells side limits most held (told_more x side z [] [] []) new.tap other) (sym none)
     (subst (λ z. Tells side limits most held z new.tap other) (sym (told_none x side)) (subst (λ (t : TimedTap). Tells side limits most held x t.tap other) (sym same) h))
 piece_tells laws side limits most held printing now (first ∷ what) x old new piece before after failures failures' result other h watches fine =
-    let (next, used, written, failed, printed, later, sees, prints, is, more) = watches in
+    let (next, watched, written, failed, later, (sees, prints), is, more) = watches in
+    let used = watched.used in
     let now_told = told_more x side (take used piece) (command_in first) (reply_in first) (push_in first) in
     let step = result_tells laws side limits most held x now old next piece used first other h sees fine.0 in
     subst (λ z. Tells side limits most held z new.tap other)
@@ -609,7 +611,8 @@ record TellsBoth (limits : Bounds) (most held : Option ℕ) (x : Told) (t : Tap)
 
 arrival_tells : VersionThreeSpellsWhatTwoDoes → (side : Side) (limits : Bounds) (most held : Option ℕ) (printing : Printing) (now : Option Moment) (what : List Seen) (x : Told) (old new : TimedTap)
     (piece : List ℕ) (before after : Option (List ℕ)) (failures failures' : ℕ) (result : Result (Unit {0}) PrintError) → TellsBoth limits most held x old.tap →
-    WatchesAll printing side now what old new piece before after failures failures' result → KeepsOther side old.tap new.tap →
+    WatchesAll (Watches printing side now) what old new piece before after failures failures' result →
+    KeepsOther side old.tap new.tap →
     AllByRecursion IsNoError what → TellsBoth limits most held (all_told x side piece what) new.tap
 arrival_tells laws Client limits most held printing now what x old new piece before after failures failures' result h watches keeps fine =
     let m = piece_tells laws Client limits most held printing now what x old new piece before after failures failures' result h.rest

@@ -1,7 +1,8 @@
 -- What is kept of a command that waits, while JSON is printed.
-use Rattle.std.specs.Prelude.{◌≡◌, ◌⊎◌, ℕ, ◌-◌, Bool, true, List, [], ◌∷◌, ◌++◌, drop, map, take, nat_lt, Option, None, Some}
+use Rattle.std.specs.Prelude.{◌≡◌, ℕ, ◌-◌, Bool, List, [], map, take, nat_lt, Option, None, Some}
 use Rattle.std.specs.Char.{to_ascii_uppercase}
 use Rattle.resp_tap.specs.Filters.{Chooses, keeps_all}
+use Rattle.resp_tap.specs.Keeping.{IsAdded, KeptBy}
 use Rattle.resp_tap.specs.Keyed.{name_in}
 use Rattle.resp_tap.specs.declared.called.Called.{Called}
 use Rattle.resp_tap.specs.declared.filter.Filter.{Filter}
@@ -32,17 +33,12 @@ abbrev pub IsChosenCalled : Filter → Option Called → Seen → Bool → Type 
 IsChosenCalled f kept (seen.Command number words lengths) is_chosen = Chooses f words is_chosen
 IsChosenCalled f kept what is_chosen = is_chosen ≡ chosen_called f kept
 
--- the next command that waits was added with its name; or memory for it was out, or nothing is kept of a command before it
-abbrev pub IsKept : Bool → List (List ℕ) → List Called → List Called → Type 0
-IsKept is_chosen words old new = (new ≡ old) ⊎
-    ((called : Called) × (called.name.items ≡ command_name words) × (called.is_chosen ≡ is_chosen) × (new ≡ old ++ called ∷ []))
-
--- after a result, by which one more command waits or this many wait no more
-abbrev pub CalledBy : Bool → Bool → Seen → ℕ → List Called → List Called → Type 0
-CalledBy true is_chosen (seen.Command number words lengths) gone old new = IsKept is_chosen words old new
-CalledBy more is_chosen what gone old new = new ≡ drop gone old
+-- this is kept of a command with these words, which is let through by them or is not
+abbrev pub IsCalled : Bool → List (List ℕ) → Called → Type 0
+IsCalled is_chosen words called = (called.name.items ≡ command_name words) × (called.is_chosen ≡ is_chosen)
 
 -- What is kept after a result, if this many commands waited before it and after it: that of a new command is added, and
 -- that of commands that wait no more is dropped.
 abbrev pub CalledAfter : Bool → Seen → ℕ → ℕ → List Called → List Called → Type 0
-CalledAfter is_chosen what before after old new = CalledBy (nat_lt before after) is_chosen what (before - after) old new
+CalledAfter is_chosen what before after old new =
+    KeptBy (nat_lt before after) (λ words. IsAdded (IsCalled is_chosen words)) what (before - after) old new

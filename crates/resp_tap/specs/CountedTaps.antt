@@ -1,5 +1,5 @@
 -- The results that a tap counts for the pieces of either side, and what is printed of them.
-use Rattle.std.specs.Prelude.{◌≡◌, ℕ, Bool, List, [], ◌∷◌, drop, Option, None, Some, Result, Ok, if◌then◌else◌}
+use Rattle.std.specs.Prelude.{ℕ, Bool, List, [], Option, None, Some, Result, if◌then◌else◌}
 use Rattle.resp_counts.specs.declared.row.Row.{Row}
 use Rattle.resp_print.specs.Printed.{Prints}
 use Rattle.resp_print.specs.declared.print_error.PrintError.{PrintError}
@@ -8,7 +8,7 @@ use Rattle.resp_tap.specs.Filters.{keeps_client}
 use Rattle.resp_tap.specs.Connections.{SeesNext}
 use Rattle.resp_tap.specs.Texts.{levels_of, refused_text}
 use Rattle.resp_tap.specs.Times.{stamp_of}
-use Rattle.resp_tap.specs.Watches.{first_error}
+use Rattle.resp_tap.specs.Watches.{StepOn}
 use Rattle.resp_tap.specs.declared.counted.CountedTap.{CountedTap}
 use Rattle.resp_tap.specs.declared.filter.Filter.{Filter}
 use Rattle.resp_tap.specs.declared.moment.Moment.{Moment}
@@ -33,16 +33,9 @@ abbrev pub PrintsCounted : Filter → Printing → Moment → Seen → Option (L
 PrintsCounted f printing now what before after failures failures' printed =
     Prints before after failures failures' printed (counted_text f printing now what) (levels_of what)
 
--- These are all results in a piece, in order. Each result is counted, and an error is printed, before the next one is read.
--- The first error of printing is told.
-abbrev pub CountsAll : Filter → Printing → Side → Moment → List Seen → CountedTap → CountedTap → List ℕ → List Row →
-    List Row → Option (List ℕ) → Option (List ℕ) → ℕ → ℕ → Result (Unit {0}) PrintError → Type 0
-CountsAll f printing side now [] old new piece rows rows' before after failures failures' told =
-    (piece ≡ []) × (new ≡ old) × (rows' ≡ rows) × (after ≡ before) × (failures' ≡ failures) × (told ≡ Ok tt)
-CountsAll f printing side now (what ∷ more) old new piece rows rows' before after failures failures' told =
-    (next : CountedTap) × (used : ℕ) × (is_line : Bool) × (counted : List Row) × (written : Option (List ℕ)) × (failed : ℕ) ×
-    (printed : Result (Unit {0}) PrintError) × (later : Result (Unit {0}) PrintError) ×
-    SeesCounted f printing.client side now old next piece used what is_line rows counted ×
-    PrintsCounted f printing now what before written failures failed printed ×
-    (told ≡ first_error printed later) ×
-    CountsAll f printing side now more next new (drop used piece) counted rows' written after failed failures' later
+-- the first result in a piece is read and counted in these rows, and printed if it is an error
+abbrev pub WatchesCounted : Filter → Printing → Side → Moment → StepOn (CountedTap × List Row)
+WatchesCounted f printing side now (old, rows) (new, rows') piece watched what before after failures failures' =
+    (is_line : Bool) ×
+    SeesCounted f printing.client side now old new piece watched.used what is_line rows rows' ×
+    PrintsCounted f printing now what before after failures failures' watched.printed

@@ -2,6 +2,7 @@
 use Rattle.std.specs.Prelude.{◌≡◌, ◌<◌, ◌+◌, true, false, ℕ, List, [], ◌∷◌, ◌++◌, length, Option, None, Some, codes, decimal}
 use Rattle.resp_tap.specs.Stamps.{ending_text}
 use Rattle.resp_tap.specs.Taps.{tap_state}
+use Rattle.resp_tap.specs.Texts.{numbered_end}
 use Rattle.resp_tap.specs.Watching.{WhereAnswered, WhereRequested, place_of_value}
 use Rattle.resp_tap.specs.declared.end.Cut.{Cut}
 use Rattle.resp_tap.specs.declared.seen.Place.{Place}
@@ -45,13 +46,9 @@ part_words (place.Command number) = codes " in command " ++ decimal number ++ co
 part_words (place.Reply number) = codes " in reply " ++ decimal number ++ codes ", after "
 part_words place.Value = codes " in a value, after "
 
--- a number of bytes and the end of the line
-abbrev pub bytes_end : ℕ → Option Stamp → List ℕ
-bytes_end bytes stamp = (codes "" ++ decimal bytes ++ codes " bytes") ++ ending_text stamp
-
 -- the end of a line about an incomplete command, reply or value
 abbrev pub cut_end : Cut → Option Stamp → List ℕ
-cut_end cut stamp = part_words cut.place ++ bytes_end cut.bytes stamp
+cut_end cut stamp = part_words cut.place ++ numbered_end cut.bytes (codes " bytes") stamp
 
 -- the number of a client, with the name of its connection if it has one
 abbrev pub client_words : ℕ → List ℕ → List ℕ

@@ -1,5 +1,5 @@
 -- The results that a filtered tap reports and prints for the pieces of either side.
-use Rattle.std.specs.Prelude.{◌≡◌, ℕ, Bool, List, [], ◌∷◌, drop, slice_get, Option, Result, Ok}
+use Rattle.std.specs.Prelude.{◌≡◌, ℕ, Bool, List, slice_get, Option, Result}
 use Rattle.resp_value.specs.Data.{Datum}
 use Rattle.resp_print.specs.Printed.{Prints}
 use Rattle.resp_print.specs.declared.print_error.PrintError.{PrintError}
@@ -11,7 +11,7 @@ use Rattle.resp_tap.specs.Taps.{tap_state}
 use Rattle.resp_tap.specs.Texts.{levels_of}
 use Rattle.resp_tap.specs.Times.{HasTimes, stamp_of, waits_in}
 use Rattle.resp_tap.specs.Connections.{SeesNext}
-use Rattle.resp_tap.specs.Watches.{first_error}
+use Rattle.resp_tap.specs.Watches.{StepOn}
 use Rattle.resp_tap.specs.declared.filter.Filter.{Filter}
 use Rattle.resp_tap.specs.declared.filtered.FilteredTap.{FilteredTap}
 use Rattle.resp_tap.specs.declared.moment.Moment.{Moment}
@@ -46,16 +46,9 @@ pub record PrintsFiltered (filter : Filter) (printing : Printing) (now : Option 
       Prints before after failures failures' printed (filtered_text filter (options_of printing old.connection.timed.tap) is_line is_chosen
       (note_of old) (stamp_of now asked what) whole what) (levels_of what)
 
--- These are all results in a piece, in order. Each result is printed before the next one is read. The first error of
--- printing is told.
-abbrev pub FiltersAll : Filter → Printing → Side → Option Moment → List Seen → FilteredTap → FilteredTap → List ℕ →
-    Option (List ℕ) → Option (List ℕ) → ℕ → ℕ → Result (Unit {0}) PrintError → Type 0
-FiltersAll filter printing side now [] old new piece before after failures failures' told =
-    (piece ≡ []) × (new ≡ old) × (after ≡ before) × (failures' ≡ failures) × (told ≡ Ok tt)
-FiltersAll filter printing side now (what ∷ more) old new piece before after failures failures' told =
-    (next : FilteredTap) × (used : ℕ) × (is_line : Bool) × (is_chosen : Bool) × (written : Option (List ℕ)) × (failed : ℕ) ×
-    (printed : Result (Unit {0}) PrintError) × (later : Result (Unit {0}) PrintError) ×
-    SeesFiltered filter printing side now old next piece used what is_line is_chosen ×
-    PrintsFiltered filter printing now old what is_line is_chosen before written failures failed printed ×
-    (told ≡ first_error printed later) ×
-    FiltersAll filter printing side now more next new (drop used piece) written after failed failures' later
+-- the first result in a piece is read, and printed if the filter lets it through
+abbrev pub WatchesFiltered : Filter → Printing → Side → Option Moment → StepOn FilteredTap
+WatchesFiltered filter printing side now old new piece watched what before after failures failures' =
+    (is_line : Bool) × (is_chosen : Bool) ×
+    SeesFiltered filter printing side now old new piece watched.used what is_line is_chosen ×
+    PrintsFiltered filter printing now old what is_line is_chosen before after failures failures' watched.printed

@@ -1,5 +1,5 @@
 -- The results that a tap reports and prints as JSON for the pieces of either side.
-use Rattle.std.specs.Prelude.{◌≡◌, ℕ, ◌+◌, Bool, List, [], ◌∷◌, drop, min, slice_get, Option, Some, Result, Ok, if◌then◌else◌}
+use Rattle.std.specs.Prelude.{◌≡◌, ℕ, ◌+◌, Bool, List, [], min, slice_get, Option, Some, Result, if◌then◌else◌}
 use Rattle.resp_value.specs.Data.{Datum}
 use Rattle.resp_print.specs.Printed.{Prints}
 use Rattle.resp_print.specs.declared.print_error.PrintError.{PrintError}
@@ -12,7 +12,7 @@ use Rattle.resp_tap.specs.SeenOf.{IsKeptIn}
 use Rattle.resp_tap.specs.Taken.{KeepsTaken, left_of, taken_of}
 use Rattle.resp_tap.specs.Taps.{tap_state}
 use Rattle.resp_tap.specs.Times.{HasTimes, waited_of, waits_in}
-use Rattle.resp_tap.specs.Watches.{first_error}
+use Rattle.resp_tap.specs.Watches.{StepOn}
 use Rattle.resp_tap.specs.declared.called.Called.{Called}
 use Rattle.resp_tap.specs.declared.filter.Filter.{Filter}
 use Rattle.resp_tap.specs.declared.json_line.Facts.{Facts}
@@ -60,16 +60,9 @@ pub record PrintsJson (f : Filter) (client : ℕ) (now : Moment) (old : JsonTap)
       Prints before after failures failures' printed
       (kept_json f facts is_chosen (name_of_called (called_of old)) whole what) 0
 
--- These are all results in a piece, in order. Each result is printed before the next one is read. The first error of
--- printing is told.
-abbrev pub PrintsAll : Filter → ℕ → Side → Moment → List Seen → JsonTap → JsonTap → List ℕ → Option (List ℕ) →
-    Option (List ℕ) → ℕ → ℕ → Result (Unit {0}) PrintError → Type 0
-PrintsAll f client side now [] old new piece before after failures failures' told =
-    (piece ≡ []) × (new ≡ old) × (after ≡ before) × (failures' ≡ failures) × (told ≡ Ok tt)
-PrintsAll f client side now (what ∷ more) old new piece before after failures failures' told =
-    (next : JsonTap) × (used : ℕ) × (is_line : Bool) × (is_chosen : Bool) × (size : ℕ) × (written : Option (List ℕ)) ×
-    (failed : ℕ) × (printed : Result (Unit {0}) PrintError) × (later : Result (Unit {0}) PrintError) ×
-    SeesJson f side now old next piece used what is_line is_chosen size ×
-    PrintsJson f client now old what is_line is_chosen size before written failures failed printed ×
-    (told ≡ first_error printed later) ×
-    PrintsAll f client side now more next new (drop used piece) written after failed failures' later
+-- the first result in a piece is read, and printed as JSON if the filter lets it through
+abbrev pub WatchesJson : Filter → ℕ → Side → Moment → StepOn JsonTap
+WatchesJson f client side now old new piece watched what before after failures failures' =
+    (is_line : Bool) × (is_chosen : Bool) × (size : ℕ) ×
+    SeesJson f side now old new piece watched.used what is_line is_chosen size ×
+    PrintsJson f client now old what is_line is_chosen size before after failures failures' watched.printed

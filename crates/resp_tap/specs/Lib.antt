@@ -23,6 +23,7 @@ pub mod Ends
 pub mod Lined
 pub mod Connections
 -- Which words of a command are keys, and which commands are let through.
+pub mod Keeping
 pub mod Keyed
 pub mod Filters
 pub mod Noted

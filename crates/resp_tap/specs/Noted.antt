@@ -1,9 +1,10 @@
 -- What is kept of the commands that wait while a filter is used, and what is printed through it.
-use Rattle.std.specs.Prelude.{◌≡◌, ℕ, ◌-◌, ◌≤◌, Bool, true, false, ◌&&◌, List, [], ◌∷◌, ◌++◌, length, drop, take, nat_lt, Option, None, Some, option_map, ◌⊎◌, if◌then◌else◌, codes}
+use Rattle.std.specs.Prelude.{◌≡◌, ℕ, ◌-◌, ◌≤◌, Bool, true, false, ◌&&◌, List, [], ◌++◌, length, take, nat_lt, Option, None, Some, option_map, if◌then◌else◌, codes}
 use Rattle.resp_value.specs.Data.{Datum}
 use Rattle.resp_tap.specs.Filters.{Chooses, is_by_reply, is_selective, keeps, keeps_all}
+use Rattle.resp_tap.specs.Keeping.{IsAdded, KeptBy}
 use Rattle.resp_tap.specs.Secrets.{printed_words}
-use Rattle.resp_tap.specs.Texts.{heading, numbered_line, seen_text, words_text}
+use Rattle.resp_tap.specs.Texts.{heading, seen_text, words_text}
 use Rattle.resp_tap.specs.declared.filter.Filter.{Filter}
 use Rattle.resp_tap.specs.declared.moment.Moment.{Moment}
 use Rattle.resp_tap.specs.declared.note.Note.{Note}
@@ -39,23 +40,17 @@ pub record IsNote (p : TextOptions) (now : Option Moment) (is_line is_chosen : B
   pub whole : note.is_whole ≡ true → length (shown_words p words) ≤ room
   pub part : note.is_whole ≡ false → room ≤ length (shown_words p words)
 
--- the next command that waits was added; or memory for it was out, or nothing is kept of a command before it
-abbrev pub IsAdded : Filter → TextOptions → Option Moment → Bool → Bool → List (List ℕ) → List Note → List Note → Type 0
-IsAdded f p now is_line is_chosen words old new = (new ≡ old) ⊎
-    ((note : Note) × IsNote p now is_line is_chosen words (room_for f is_chosen (length old)) note × (new ≡ old ++ note ∷ []))
-
--- after a result, by which one more command waits or this many wait no more
-abbrev pub NotesBy : Bool → Filter → TextOptions → Option Moment → Bool → Bool → Seen → ℕ → List Note → List Note → Type 0
-NotesBy true f p now is_line is_chosen (seen.Command number words lengths) gone old new =
-    IsAdded f p now is_line is_chosen words old new
-NotesBy more f p now is_line is_chosen what gone old new = new ≡ drop gone old
+-- the next command that waits was added, with as much of its words as there is room for
+abbrev pub IsNoted : Filter → TextOptions → Option Moment → Bool → Bool → List (List ℕ) → List Note → List Note → Type 0
+IsNoted f p now is_line is_chosen words old new =
+    IsAdded (IsNote p now is_line is_chosen words (room_for f is_chosen (length old))) old new
 
 -- What is kept after a result, if this many commands waited before it and after it: that of a new command is added, and
 -- that of commands that wait no more is dropped.
 abbrev pub NotesAfter : Filter → TextOptions → Option Moment → Bool → Bool → Seen → ℕ → ℕ → List Note → List Note →
     Type 0
 NotesAfter f p now is_line is_chosen what before after old new =
-    NotesBy (nat_lt before after && is_selective f) f p now is_line is_chosen what (before - after) old new
+    KeptBy (nat_lt before after && is_selective f) (IsNoted f p now is_line is_chosen) what (before - after) old new
 
 -- ---- what is printed
 
@@ -73,7 +68,7 @@ stamp_on (Some of_day) = Some (record { of_day = of_day; waited = None })
 
 -- the lines of a command that waited, by what is kept of it
 abbrev pub deferred_text : ℕ → ℕ → Option Note → List ℕ
-deferred_text client number None = numbered_line client (codes " command ") number None ++ kept_line false []
+deferred_text client number None = heading false client number None ++ kept_line false []
 deferred_text client number (Some note) =
     heading note.is_line client number (stamp_on note.of_day) ++ kept_line note.is_whole note.text.items
 

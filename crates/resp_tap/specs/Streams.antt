@@ -15,7 +15,7 @@ use Rattle.resp_tap.specs.Kinds.{command_kind}
 use Rattle.resp_tap.specs.Lines.{LineState, ReadsLine, asking, next_version, paired}
 use Rattle.resp_tap.specs.Parts.{cut_within, lengths_within, word_lengths, words_within}
 use Rattle.resp_tap.specs.Taps.{new_tap, tap_state}
-use Rattle.resp_tap.specs.Watches.{KeepsOther, WatchesAll}
+use Rattle.resp_tap.specs.Watches.{KeepsOther, Watches, WatchesAll}
 use Rattle.resp_tap.specs.Watching.{HasTakenRequest, HasTakenValue, request_rules}
 use Rattle.resp_tap.specs.declared.kind.CommandKind.{CommandKind}
 use Rattle.resp_tap.specs.declared.kind.CommandKind.TheVariants.{Plain, Hello, Reset}
@@ -42,7 +42,7 @@ pub record Arrives (old new : TimedTap) (a : Arrival) : Type 0 where
   pub failures : ℕ
   pub failures' : ℕ
   pub result : Result (Unit {0}) PrintError
-  pub watched : WatchesAll printing a.side now a.told old new a.piece before after failures failures' result
+  pub watched : WatchesAll (Watches printing a.side now) a.told old new a.piece before after failures failures' result
   pub other_side : KeepsOther a.side old.tap new.tap
 
 -- these pieces arrived, one after another

@@ -36,13 +36,14 @@ words_text most words = flat_map (word_text most) words
 abbrev pub words_line : Option ℕ → List (List ℕ) → List ℕ
 words_line most words = codes " " ++ (words_text most words ++ codes "\n")
 
--- a number and the end of its line
-abbrev pub numbered_end : ℕ → Option Stamp → List ℕ
-numbered_end number stamp = decimal number ++ ending_text stamp
+-- a number, these words after it, and the end of its line
+abbrev pub numbered_end : ℕ → List ℕ → Option Stamp → List ℕ
+numbered_end number words stamp = decimal number ++ (words ++ ending_text stamp)
 
--- a line of a client with a number
-abbrev pub numbered_line : ℕ → List ℕ → ℕ → Option Stamp → List ℕ
-numbered_line client what number stamp = (codes "client " ++ decimal client ++ what) ++ numbered_end number stamp
+-- a line of a client with a number, and these words after it
+abbrev pub numbered_line : ℕ → List ℕ → ℕ → List ℕ → Option Stamp → List ℕ
+numbered_line client what number words stamp =
+    (codes "client " ++ decimal client ++ what) ++ numbered_end number words stamp
 
 -- a line of a client without a number
 abbrev pub client_line : ℕ → List ℕ → Option Stamp → List ℕ
@@ -52,18 +53,13 @@ client_line client what stamp = (codes "client " ++ decimal client ++ what) ++ e
 abbrev pub remark_text : ℕ → List ℕ → List ℕ → Option Stamp → List ℕ
 remark_text client front text stamp = (codes "client " ++ decimal client ++ front) ++ (text ++ ending_text stamp)
 
--- the number of a command that came as a line, and the end of the line
-abbrev pub inline_end : ℕ → Option Stamp → List ℕ
-inline_end number stamp = (codes "" ++ decimal number ++ codes " inline") ++ ending_text stamp
-
--- the first line of a command that came as a line
-abbrev pub inline_line : ℕ → ℕ → Option Stamp → List ℕ
-inline_line client number stamp = (codes "client " ++ decimal client ++ codes " command ") ++ inline_end number stamp
+-- the words about a command that came as a line, and no words about one that came as an array
+abbrev pub line_words : Bool → List ℕ
+line_words is_line = if is_line then codes " inline" else codes ""
 
 -- the first line of a command, which came as a line or as an array
 abbrev pub heading : Bool → ℕ → ℕ → Option Stamp → List ℕ
-heading is_line client number stamp =
-    if is_line then inline_line client number stamp else numbered_line client (codes " command ") number stamp
+heading is_line client number stamp = numbered_line client (codes " command ") number (line_words is_line) stamp
 
 -- the lines of a command of a client, which came as a line or as an array
 abbrev pub command_text : TextOptions → ℕ → Bool → Option Stamp → List (List ℕ) → List ℕ
@@ -72,7 +68,8 @@ command_text p number is_line stamp words =
 
 -- the lines of the reply to it
 abbrev pub reply_text : TextOptions → ℕ → Option Stamp → Datum → List ℕ
-reply_text p number stamp x = numbered_line p.client (codes " reply ") number stamp ++ lines_within p.shown.most 1 x
+reply_text p number stamp x =
+    numbered_line p.client (codes " reply ") number (codes "") stamp ++ lines_within p.shown.most 1 x
 
 -- the lines of a push to a client
 abbrev pub push_text : TextOptions → Option Stamp → Datum → List ℕ
@@ -84,8 +81,8 @@ value_text p stamp x = client_line p.client (codes " value") stamp ++ lines_with
 
 -- the command, reply or value that contains a wrong byte
 abbrev pub place_text : Place → Option Stamp → List ℕ
-place_text (place.Command number) stamp = codes "command " ++ numbered_end number stamp
-place_text (place.Reply number) stamp = codes "reply " ++ numbered_end number stamp
+place_text (place.Command number) stamp = codes "command " ++ numbered_end number (codes "") stamp
+place_text (place.Reply number) stamp = codes "reply " ++ numbered_end number (codes "") stamp
 place_text place.Value stamp = codes "a value" ++ ending_text stamp
 
 -- the line of an error up to its name

@@ -18,6 +18,7 @@ use Rattle.resp_tap.specs.declared.tap.Tap.{Tap}
 use Rattle.resp_tap.specs.declared.timed.TimedTap.{TimedTap}
 use Rattle.resp_tap.specs.declared.watch.Side.{Side}
 use Rattle.resp_tap.specs.declared.watch.Side.TheVariants.{Client, Server}
+use Rattle.resp_tap.specs.declared.watch.Watched.{Watched}
 
 -- the bytes read of the other side's value stay the same
 abbrev pub KeepsOther : Side → Tap → Tap → Type 0
@@ -67,16 +68,26 @@ abbrev pub first_error : Result (Unit {0}) PrintError → Result (Unit {0}) Prin
 first_error (Ok done) next = next
 first_error (Err error) next = Err error
 
--- These are all results in a piece, in order. Each result is printed before the next one is read. The first error of
--- printing is told.
-abbrev pub WatchesAll : Printing → Side → Option Moment → List Seen → TimedTap → TimedTap → List ℕ → Option (List ℕ) →
-    Option (List ℕ) → ℕ → ℕ → Result (Unit {0}) PrintError → Type 0
-WatchesAll printing side now [] old new piece before after failures failures' told =
+-- A statement about one step of reading a piece: the state before and after it, the piece, what the step returns, the
+-- result that it reads, the bytes written before and after it, and the numbers of failures.
+abbrev pub StepOn : Type 0 → Type 1
+StepOn S = S → S → List ℕ → Watched → Seen → Option (List ℕ) → Option (List ℕ) → ℕ → ℕ → Type 0
+
+-- These are all results in a piece, in order, and this holds of the step that reads each one. A step begins with the
+-- rest of the piece. Its result is printed before the next step. The first error of printing is told.
+abbrev pub WatchesAll : {S : Type 0} → StepOn S → List Seen → S → S → List ℕ → Option (List ℕ) → Option (List ℕ) →
+    ℕ → ℕ → Result (Unit {0}) PrintError → Type 0
+WatchesAll Step [] old new piece before after failures failures' told =
     (piece ≡ []) × (new ≡ old) × (after ≡ before) × (failures' ≡ failures) × (told ≡ Ok tt)
-WatchesAll printing side now (what ∷ more) old new piece before after failures failures' told =
-    (next : TimedTap) × (used : ℕ) × (written : Option (List ℕ)) × (failed : ℕ) ×
-    (printed : Result (Unit {0}) PrintError) × (later : Result (Unit {0}) PrintError) ×
-    SeesFirst side now old next piece used what ×
-    PrintsSeen printing now old what before written failures failed printed ×
-    (told ≡ first_error printed later) ×
-    WatchesAll printing side now more next new (drop used piece) written after failed failures' later
+WatchesAll {S} Step (what ∷ more) old new piece before after failures failures' told =
+    (next : S) × (watched : Watched) × (written : Option (List ℕ)) × (failed : ℕ) ×
+    (later : Result (Unit {0}) PrintError) ×
+    Step old next piece watched what before written failures failed ×
+    (told ≡ first_error watched.printed later) ×
+    WatchesAll Step more next new (drop watched.used piece) written after failed failures' later
+
+-- the first result in a piece is read and printed
+abbrev pub Watches : Printing → Side → Option Moment → StepOn TimedTap
+Watches printing side now old new piece watched what before after failures failures' =
+    SeesFirst side now old new piece watched.used what ×
+    PrintsSeen printing now old what before after failures failures' watched.printed

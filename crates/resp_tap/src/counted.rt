@@ -1,16 +1,16 @@
 //! A tap whose commands are counted.
 
-ghost use Rattle.std.specs.Prelude.{◌≡◌, ◌<◌, ◌≤◌, Bool, List, [], Some, length, drop, slice_get, true};
+ghost use Rattle.std.specs.Prelude.{◌≡◌, ◌<◌, ◌≤◌, Bool, List, [], Some, length, drop, slice_get};
 ghost use Rattle.resp_print.specs.Printed.{Prints};
 ghost use Rattle.resp_tap.specs.Connections.{IsNewConnection, SeesNext};
-ghost use Rattle.resp_tap.specs.CountedTaps.{CountsAll, PrintsCounted, SeesCounted, counted_text};
+ghost use Rattle.resp_tap.specs.CountedTaps.{WatchesCounted, counted_text};
 ghost use Rattle.resp_tap.specs.Filters.{kept_by};
 ghost use Rattle.resp_tap.specs.Counting.{AnswersCall, AsksCall, CountsAfter, CountsSeen, IsCounted, IsPlaceFor, ReleasesCall, is_error};
 ghost use Rattle.resp_counts.specs.Names.{table_name};
 ghost use Rattle.resp_counts.specs.Rows.{MayAddRow};
 ghost use Rattle.resp_tap.specs.Texts.{levels_of};
 ghost use Rattle.resp_tap.specs.Times.{waits_in};
-ghost use Rattle.resp_tap.specs.Watches.{KeepsOther};
+ghost use Rattle.resp_tap.specs.Watches.{KeepsOther, WatchesAll};
 ghost use Rattle.resp_tap.specs.declared.seen.Seen.{Seen};
 
 use crate::connection::ConnectionTap;
@@ -286,11 +286,10 @@ fn watch_counted_some<W: Sink>(
     now: Moment,
     writer: &mut W,
 ) -> Watched
-    ensures watches { (what : Seen) × (is_line : Bool) ×
-        SeesCounted filter.now printing.client side now tap.old tap.new piece.now result.used what
-        is_line counts.old.rows.items counts.new.rows.items ×
-        PrintsCounted filter.now printing now what (W.written writer.old) (W.written writer.new)
-        (W.failures writer.old) (W.failures writer.new) result.printed }
+    ensures watches { (what : Seen) × WatchesCounted filter.now printing side now
+        (tap.old, counts.old.rows.items) (tap.new, counts.new.rows.items) piece.now result what
+        (W.written writer.old) (W.written writer.new) (W.failures writer.old)
+        (W.failures writer.new) }
     ensures other_side { KeepsOther side tap.old.connection.timed.tap tap.new.connection.timed.tap }
     ensures within_piece { result.used ≤ length piece.now }
     ensures uses_bytes { 0 < length piece.now → 0 < result.used }
@@ -321,9 +320,11 @@ pub fn watch_counted<W: Sink>(
     now: Moment,
     writer: &mut W,
 ) -> Result<(), PrintError>
-    ensures watches { (all : List Seen) × CountsAll filter.now printing side now all tap.old tap.new
-        piece.now counts.old.rows.items counts.new.rows.items (W.written writer.old)
-        (W.written writer.new) (W.failures writer.old) (W.failures writer.new) result }
+    ensures watches { (all : List Seen) ×
+        WatchesAll (WatchesCounted filter.now printing side now) all
+        (tap.old, counts.old.rows.items) (tap.new, counts.new.rows.items) piece.now
+        (W.written writer.old) (W.written writer.new) (W.failures writer.old)
+        (W.failures writer.new) result }
     ensures other_side { KeepsOther side tap.old.connection.timed.tap tap.new.connection.timed.tap }
 {
     let mut rest = piece;

@@ -1,15 +1,15 @@
 //! The end of one side of a connection, and the command or reply that it cuts off.
 
-ghost use Rattle.std.specs.Prelude.{◌≡◌, ◌+◌, ◌++◌, ℕ, List, codes, decimal, length, None, false, true};
+ghost use Rattle.std.specs.Prelude.{◌≡◌, ◌+◌, ◌++◌, ℕ, List, codes, length, None, false, true};
 ghost use Rattle.resp_print.specs.Written.{WritesText};
-ghost use Rattle.resp_tap.specs.Ends.{CutsCommand, CutsOff, bytes_end, client_words, cut_end, cut_of, end_text, ended_words, named_line, part_words};
+ghost use Rattle.resp_tap.specs.Ends.{CutsCommand, CutsOff, client_words, cut_end, cut_of, end_text, ended_words, named_line, part_words};
 ghost use Rattle.resp_tap.specs.Taps.{tap_state};
 ghost use Rattle.resp_tap.specs.Watching.{WhereAnswered, WhereRequested, place_of_value};
 ghost use Rattle.resp_tap.specs.declared.seen.Place.TheVariants as place;
 
-use crate::print::write_line;
+use crate::print::{write_line, write_numbered_end};
 use crate::seen::Place;
-use crate::stamp::{Stamp, write_ending};
+use crate::stamp::Stamp;
 use crate::tap::Tap;
 use crate::watch::Side;
 use resp_print::text::{write_number, write_text};
@@ -200,7 +200,7 @@ fn write_cut<W: Sink>(cut: Cut, stamp: Option<Stamp>, writer: &mut W) -> Result<
         (W.failures writer.new) result (cut_end cut stamp) }
 {
     write_part_words(cut.place, writer)?;
-    write_bytes_end(cut.bytes, stamp, writer)
+    write_numbered_end(cut.bytes, b" bytes", stamp, writer)
 }
 
 /// Writes which command, reply or value is incomplete.
@@ -213,17 +213,4 @@ fn write_part_words<W: Sink>(place: Place, writer: &mut W) -> Result<(), DeviceF
         Place::Reply(number) => write_number(writer, b" in reply ", number, b", after "),
         Place::Value => write_text(writer, b" in a value, after "),
     }
-}
-
-/// Writes a number of bytes, and the end of the line.
-fn write_bytes_end<W: Sink>(
-    bytes: u64,
-    stamp: Option<Stamp>,
-    writer: &mut W,
-) -> Result<(), DeviceFault>
-    ensures { WritesText (W.written writer.old) (W.written writer.new) (W.failures writer.old)
-        (W.failures writer.new) result (bytes_end bytes stamp) }
-{
-    write_number(writer, b"", bytes, b" bytes")?;
-    write_ending(stamp, writer)
 }

@@ -1,14 +1,14 @@
 //! A tap whose traffic is printed through a filter.
 
-ghost use Rattle.std.specs.Prelude.{◌≡◌, ◌<◌, ◌≤◌, ◌-◌, ℕ, Bool, List, [], length, true};
+ghost use Rattle.std.specs.Prelude.{◌≡◌, ◌<◌, ◌≤◌, ◌-◌, ℕ, List, [], length};
 ghost use Rattle.resp_tap.specs.Connections.{IsNewConnection};
-ghost use Rattle.resp_tap.specs.Filtering.{FiltersAll, PrintsFiltered, SeesFiltered};
+ghost use Rattle.resp_tap.specs.Filtering.{WatchesFiltered};
 ghost use Rattle.resp_tap.specs.Filters.{kept_by};
-ghost use Rattle.resp_tap.specs.Noted.{IsAdded, NotesAfter, NotesBy};
+ghost use Rattle.resp_tap.specs.Noted.{IsNoted, NotesAfter};
 ghost use Rattle.resp_tap.specs.Parts.{AreKeptOf};
 ghost use Rattle.resp_tap.specs.SeenOf.{IsKeptIn, with_whole};
 ghost use Rattle.resp_tap.specs.Times.{waits_in};
-ghost use Rattle.resp_tap.specs.Watches.{KeepsOther};
+ghost use Rattle.resp_tap.specs.Watches.{KeepsOther, WatchesAll};
 ghost use Rattle.resp_tap.specs.declared.seen.Seen.{Seen};
 ghost use Rattle.resp_value.specs.Data.{Datum};
 
@@ -129,7 +129,7 @@ impl FilteredTap {
     )
         ensures notes { (whole : List (List ℕ)) →
             AreKeptOf options.shown.most options.kept.most whole words.now lengths.now →
-            IsAdded filter.now options now is_line is_chosen whole self.old.notes.items
+            IsNoted filter.now options now is_line is_chosen whole self.old.notes.items
             self.new.notes.items }
         ensures same { self.new.connection ≡ self.old.connection }
     {
@@ -164,12 +164,9 @@ pub fn watch_filtered_some<W: Sink>(
     now: Option<Moment>,
     writer: &mut W,
 ) -> Watched
-    ensures watches { (what : Seen) × (is_line : Bool) × (is_chosen : Bool) ×
-        SeesFiltered filter.now printing side now tap.old tap.new piece.now result.used what is_line
-        is_chosen ×
-        PrintsFiltered filter.now printing now tap.old what is_line is_chosen
-        (W.written writer.old) (W.written writer.new) (W.failures writer.old)
-        (W.failures writer.new) result.printed }
+    ensures watches { (what : Seen) × WatchesFiltered filter.now printing side now tap.old tap.new
+        piece.now result what (W.written writer.old) (W.written writer.new) (W.failures writer.old)
+        (W.failures writer.new) }
     ensures other_side { KeepsOther side tap.old.connection.timed.tap tap.new.connection.timed.tap }
     ensures within_piece { result.used ≤ length piece.now }
     ensures uses_bytes { 0 < length piece.now → 0 < result.used }
@@ -237,8 +234,9 @@ pub fn watch_filtered<W: Sink>(
     now: Option<Moment>,
     writer: &mut W,
 ) -> Result<(), PrintError>
-    ensures watches { (all : List Seen) × FiltersAll filter.now printing side now all tap.old tap.new
-        piece.now (W.written writer.old) (W.written writer.new) (W.failures writer.old)
+    ensures watches { (all : List Seen) ×
+        WatchesAll (WatchesFiltered filter.now printing side now) all tap.old tap.new piece.now
+        (W.written writer.old) (W.written writer.new) (W.failures writer.old)
         (W.failures writer.new) result }
     ensures other_side { KeepsOther side tap.old.connection.timed.tap tap.new.connection.timed.tap }
 {

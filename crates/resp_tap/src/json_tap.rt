@@ -1,15 +1,16 @@
 //! A tap whose traffic is printed as JSON.
 
-ghost use Rattle.std.specs.Prelude.{◌≡◌, ◌<◌, ◌≤◌, ℕ, Bool, List, [], Option, Some, length, true};
+ghost use Rattle.std.specs.Prelude.{◌≡◌, ◌<◌, ◌≤◌, ℕ, List, [], Option, Some, length};
 ghost use Rattle.resp_print.specs.Printed.{Prints};
 ghost use Rattle.resp_tap.specs.Connections.{IsNewConnection};
-ghost use Rattle.resp_tap.specs.Called.{CalledAfter, IsKept};
+ghost use Rattle.resp_tap.specs.Called.{CalledAfter, IsCalled};
 ghost use Rattle.resp_tap.specs.Filters.{kept_by};
-ghost use Rattle.resp_tap.specs.JsonTaps.{PrintsAll, PrintsJson, SeesJson, kept_json};
+ghost use Rattle.resp_tap.specs.Keeping.{IsAdded};
+ghost use Rattle.resp_tap.specs.JsonTaps.{WatchesJson, kept_json};
 ghost use Rattle.resp_value.specs.Data.{Datum};
 ghost use Rattle.resp_tap.specs.SeenOf.{IsKeptIn};
 ghost use Rattle.resp_tap.specs.Times.{waits_in};
-ghost use Rattle.resp_tap.specs.Watches.{KeepsOther};
+ghost use Rattle.resp_tap.specs.Watches.{KeepsOther, WatchesAll};
 ghost use Rattle.resp_tap.specs.declared.seen.Seen.{Seen};
 
 use crate::called::{Called, command_name, is_chosen_called, name_of_called};
@@ -103,7 +104,8 @@ impl JsonTap {
 
     /// Keeps the name of a command behind so many others that wait.
     fn keep(&mut self, before: u64, is_chosen: bool, words: &Words)
-        ensures calls { IsKept is_chosen words.now self.old.calls.items self.new.calls.items }
+        ensures calls { IsAdded (IsCalled is_chosen words.now) self.old.calls.items
+            self.new.calls.items }
         ensures same { self.new.connection ≡ self.old.connection }
         ensures same_taken { self.new.taken ≡ self.old.taken }
     {
@@ -155,12 +157,9 @@ pub fn watch_json_some<W: Sink>(
     now: Moment,
     writer: &mut W,
 ) -> Watched
-    ensures watches { (what : Seen) × (is_line : Bool) × (is_chosen : Bool) × (size : ℕ) ×
-        SeesJson filter.now side now tap.old tap.new piece.now result.used what is_line is_chosen
-        size ×
-        PrintsJson filter.now client now tap.old what is_line is_chosen size
-        (W.written writer.old) (W.written writer.new) (W.failures writer.old)
-        (W.failures writer.new) result.printed }
+    ensures watches { (what : Seen) × WatchesJson filter.now client side now tap.old tap.new
+        piece.now result what (W.written writer.old) (W.written writer.new) (W.failures writer.old)
+        (W.failures writer.new) }
     ensures other_side { KeepsOther side tap.old.connection.timed.tap tap.new.connection.timed.tap }
     ensures within_piece { result.used ≤ length piece.now }
     ensures uses_bytes { 0 < length piece.now → 0 < result.used }
@@ -225,8 +224,9 @@ pub fn watch_json<W: Sink>(
     now: Moment,
     writer: &mut W,
 ) -> Result<(), PrintError>
-    ensures watches { (all : List Seen) × PrintsAll filter.now client side now all tap.old tap.new
-        piece.now (W.written writer.old) (W.written writer.new) (W.failures writer.old)
+    ensures watches { (all : List Seen) ×
+        WatchesAll (WatchesJson filter.now client side now) all tap.old tap.new piece.now
+        (W.written writer.old) (W.written writer.new) (W.failures writer.old)
         (W.failures writer.new) result }
     ensures other_side { KeepsOther side tap.old.connection.timed.tap tap.new.connection.timed.tap }
 {

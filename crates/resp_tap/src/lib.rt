@@ -14,7 +14,6 @@ pub mod counted;
 pub mod end;
 pub mod filter;
 pub mod filtered;
-mod heading;
 pub mod json_line;
 pub mod json_tap;
 mod keys;

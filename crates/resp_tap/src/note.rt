@@ -1,6 +1,6 @@
 //! The notes of the commands that wait, while a filter is used.
 
-ghost use Rattle.std.specs.Prelude.{◌++◌, ◌≡◌, ◌≤◌, ℕ, List, [], false, true, length, take, IfOk, codes, if◌then◌else◌, option_map};
+ghost use Rattle.std.specs.Prelude.{◌++◌, ◌≡◌, ◌≤◌, ℕ, List, [], false, true, length, take, IfOk, if◌then◌else◌, option_map};
 ghost use Rattle.resp_print.specs.Printed.{Prints};
 ghost use Rattle.resp_print.specs.Written.{WritesText};
 ghost use Rattle.resp_value.specs.Data.{Datum};
@@ -11,9 +11,8 @@ ghost use Rattle.resp_tap.specs.Noted.{IsChosen, IsNote, before_text, deferred_t
 ghost use Rattle.resp_tap.specs.Texts.{heading, levels_of};
 
 use crate::filter::Filter;
-use crate::heading::write_heading;
 use crate::moment::Moment;
-use crate::print::{TextOptions, secrets_for, write_seen, write_words};
+use crate::print::{TextOptions, secrets_for, write_heading, write_seen, write_words};
 use crate::seen::Seen;
 use crate::stamp::Stamp;
 use resp_print::print_error::PrintError;

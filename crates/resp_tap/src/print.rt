@@ -1,6 +1,6 @@
 //! The lines of commands, replies and pushes, as `resp tap` prints them.
 
-ghost use Rattle.std.specs.Prelude.{◌+◌, ◌++◌, ◌≡◌, [], ℕ, List, Option, Some, codes, decimal, length};
+ghost use Rattle.std.specs.Prelude.{◌+◌, ◌++◌, ◌≡◌, [], ℕ, List, Option, Some, codes, length};
 ghost use Rattle.resp_print.specs.Printed.{Prints};
 ghost use Rattle.resp_print.specs.Written.{WritesText};
 ghost use Rattle.resp_value.specs.Data.{Datum, depth};
@@ -11,13 +11,12 @@ ghost use Rattle.resp_tap.specs.Parts.{AreKeptOf, IsKeptOf, cut_within, length_w
 ghost use Rattle.resp_tap.specs.SeenOf.{IsKeptIn};
 ghost use Rattle.resp_tap.specs.Secrets.{printed_words, redacted_after, shown_word};
 ghost use Rattle.resp_tap.specs.Stamps.{ending_text};
-ghost use Rattle.resp_tap.specs.Texts.{IsPrintedAs, byte_text, client_line, command_text, levels_of, numbered_end, numbered_line, place_text, push_text, refusal_heading, refusal_text, refused_text, remark_text, reply_text, seen_text, value_text, word_end, word_text, words_line, words_text};
+ghost use Rattle.resp_tap.specs.Texts.{IsPrintedAs, byte_text, client_line, command_text, heading, levels_of, line_words, numbered_end, numbered_line, place_text, push_text, refusal_heading, refusal_text, refused_text, remark_text, reply_text, seen_text, value_text, word_end, word_text, words_line, words_text};
 
-use crate::heading::write_heading;
 use crate::secrets::Secrets;
 use crate::seen::{Place, Seen};
 use crate::shown_part::ShownPart;
-use crate::stamp::{Stamp, write_ending, write_stamp};
+use crate::stamp::{Stamp, write_ending};
 use crate::tap::Tap;
 use resp_cut::CutValue;
 use resp_print::print_error::PrintError;
@@ -156,7 +155,7 @@ fn write_reply<W: Sink>(
         (W.failures writer.new) result (reply_text options number stamp whole)
         (1 + depth (datum_of kept.now.value)) }
 {
-    match write_numbered_line(options.client, b" reply ", number, stamp, writer) {
+    match write_numbered_line(options.client, b" reply ", number, b"", stamp, writer) {
         Ok(()) => write_kept(kept, options.shown, writer),
         Err(_) => Err(PrintError::Write),
     }
@@ -233,6 +232,28 @@ fn write_unpaired<W: Sink>(
     }
 }
 
+/// Returns the words about a command that came as a line, or no words.
+fn line_words(is_line: bool) -> &'static [u8]
+    ensures { result.now ≡ line_words is_line }
+{
+    if is_line { b" inline" } else { b"" }
+}
+
+/// Writes the number of a command, and whether it came as a line.
+pub(crate) fn write_heading<W: Sink>(
+    client: u64,
+    number: u64,
+    is_line: bool,
+    stamp: Option<Stamp>,
+    writer: &mut W,
+) -> Result<(), DeviceFault>
+    ensures { WritesText (W.written writer.old) (W.written writer.new) (W.failures writer.old)
+        (W.failures writer.new) result (heading is_line client number stamp) }
+{
+    let words = line_words(is_line);
+    write_numbered_line(client, b" command ", number, words, stamp, writer)
+}
+
 /// Writes the number of a command, and its words on the next line.
 fn write_command<W: Sink>(
     options: TextOptions,
@@ -265,19 +286,20 @@ pub(crate) fn secrets_for(options: TextOptions, words: &Words) -> Secrets
     }
 }
 
-/// Writes the heading of a command or a reply, with its number.
-pub(crate) fn write_numbered_line<W: Sink>(
+/// Writes the heading of a command or a reply, with its number and these words after it.
+fn write_numbered_line<W: Sink>(
     client: u64,
     what: &[u8],
     number: u64,
+    words: &[u8],
     stamp: Option<Stamp>,
     writer: &mut W,
 ) -> Result<(), DeviceFault>
     ensures { WritesText (W.written writer.old) (W.written writer.new) (W.failures writer.old)
-        (W.failures writer.new) result (numbered_line client what.now number stamp) }
+        (W.failures writer.new) result (numbered_line client what.now number words.now stamp) }
 {
     write_number(writer, b"client ", client, what)?;
-    write_numbered_end(number, stamp, writer)
+    write_numbered_end(number, words, stamp, writer)
 }
 
 /// Writes a line, with the time if there is a stamp.
@@ -335,32 +357,18 @@ pub fn write_remark<W: Sink>(
     write_line(text, stamp, writer)
 }
 
-/// Writes a number and the end of its line.
-fn write_numbered_end<W: Sink>(
+/// Writes a number, these words after it, and the end of its line.
+pub(crate) fn write_numbered_end<W: Sink>(
     number: u64,
+    words: &[u8],
     stamp: Option<Stamp>,
     writer: &mut W,
 ) -> Result<(), DeviceFault>
     ensures { WritesText (W.written writer.old) (W.written writer.new) (W.failures writer.old)
-        (W.failures writer.new) result (numbered_end number stamp) }
+        (W.failures writer.new) result (numbered_end number words.now stamp) }
 {
-    match stamp {
-        None => write_number(writer, b"", number, b"\n"),
-        Some(stamp) => write_stamped_number(number, stamp, writer),
-    }
-}
-
-/// Writes a number and a stamp.
-fn write_stamped_number<W: Sink>(
-    number: u64,
-    stamp: Stamp,
-    writer: &mut W,
-) -> Result<(), DeviceFault>
-    ensures { WritesText (W.written writer.old) (W.written writer.new) (W.failures writer.old)
-        (W.failures writer.new) result (numbered_end number (Some stamp)) }
-{
-    write_number(writer, b"", number, b" at ")?;
-    write_stamp(stamp, writer)
+    write_number(writer, b"", number, words)?;
+    write_ending(stamp, writer)
 }
 
 /// Writes the line with the words of a command, from their kept part.
@@ -546,10 +554,10 @@ fn write_named<W: Sink>(
     writer: &mut W,
 ) -> Result<(), DeviceFault>
     ensures { WritesText (W.written writer.old) (W.written writer.new) (W.failures writer.old)
-        (W.failures writer.new) result (name.now ++ numbered_end number stamp) }
+        (W.failures writer.new) result (name.now ++ numbered_end number (codes "") stamp) }
 {
     write_text(writer, name)?;
-    write_numbered_end(number, stamp, writer)
+    write_numbered_end(number, b"", stamp, writer)
 }
 
 /// Writes that a value contains the wrong byte, and the end of the line.

@@ -60,7 +60,7 @@ fn write_stamped_ending<W: Sink>(stamp: Stamp, writer: &mut W) -> Result<(), Dev
 /// # Errors
 ///
 /// `DeviceFault` if a write fails. The first part of the text was written.
-pub(crate) fn write_stamp<W: Sink>(stamp: Stamp, writer: &mut W) -> Result<(), DeviceFault>
+fn write_stamp<W: Sink>(stamp: Stamp, writer: &mut W) -> Result<(), DeviceFault>
     ensures { WritesText (W.written writer.old) (W.written writer.new) (W.failures writer.old)
         (W.failures writer.new) result (stamp_text stamp) }
 {

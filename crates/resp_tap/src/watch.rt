@@ -1,9 +1,8 @@
 //! Prints the traffic of a connection, piece by piece.
 
-ghost use Rattle.std.specs.Prelude.{◌≡◌, ◌<◌, ◌≤◌, List, length, true, false};
-ghost use Rattle.resp_tap.specs.Taps.{tap_state};
-ghost use Rattle.resp_tap.specs.Times.{KeepsTimes, stamp_of, waited_of};
-ghost use Rattle.resp_tap.specs.Watches.{KeepsOther, PrintsSeen, SeesFirst, SeesSent, WatchesAll, WhereSent, first_error};
+ghost use Rattle.std.specs.Prelude.{◌≡◌, ◌<◌, ◌≤◌, List, length, false};
+ghost use Rattle.resp_tap.specs.Times.{stamp_of, waited_of};
+ghost use Rattle.resp_tap.specs.Watches.{KeepsOther, SeesFirst, Watches, WatchesAll, first_error};
 ghost use Rattle.resp_tap.specs.declared.seen.Seen.{Seen};
 
 use crate::moment::Moment;
@@ -84,10 +83,9 @@ pub fn watch_some<W: Sink>(
     now: Option<Moment>,
     writer: &mut W,
 ) -> Watched
-    ensures watches { (what : Seen) ×
-        SeesFirst side now tap.old tap.new piece.now result.used what ×
-        PrintsSeen printing now tap.old what (W.written writer.old) (W.written writer.new)
-        (W.failures writer.old) (W.failures writer.new) result.printed }
+    ensures watches { (what : Seen) × Watches printing side now tap.old tap.new piece.now result
+        what (W.written writer.old) (W.written writer.new) (W.failures writer.old)
+        (W.failures writer.new) }
     ensures other_side { KeepsOther side tap.old.tap tap.new.tap }
     ensures within_piece { result.used ≤ length piece.now }
     ensures uses_bytes { 0 < length piece.now → 0 < result.used }
@@ -157,8 +155,8 @@ pub fn watch<W: Sink>(
     now: Option<Moment>,
     writer: &mut W,
 ) -> Result<(), PrintError>
-    ensures watches { (all : List Seen) × WatchesAll printing side now all tap.old tap.new piece.now
-        (W.written writer.old) (W.written writer.new) (W.failures writer.old)
+    ensures watches { (all : List Seen) × WatchesAll (Watches printing side now) all tap.old tap.new
+        piece.now (W.written writer.old) (W.written writer.new) (W.failures writer.old)
         (W.failures writer.new) result }
     ensures other_side { KeepsOther side tap.old.tap tap.new.tap }
 {

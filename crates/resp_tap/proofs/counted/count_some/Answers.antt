@@ -1,9 +1,7 @@
 use Rattle.std.proofs.Common.{◌∙◌, ℕ, Some, ap, sym, subst}
 use Rattle.resp_tap.specs.Counting.{CountsAfter}
 use Rattle.resp_tap.specs.Connections.{SeesNext}
-use Rattle.resp_tap.specs.Lines.{asked_at}
 use Rattle.resp_tap.specs.Taken.{KeepsTaken, taken_of}
-use Rattle.resp_tap.specs.Taps.{tap_state}
 use Rattle.resp_tap.specs.Times.{waits_in}
 use Rattle.resp_tap.specs.declared.counted.Heard.{Heard}
 use Rattle.resp_tap.specs.declared.connection.ConnectionTap.{ConnectionTap}
@@ -14,13 +12,11 @@ returns-clause-counts c =
     let f = c.args.filter.now in
     let client = c.args.client in
     let old = c.args.tap.now in
-    let stepped = c.step.new.self in
     let new = c.follow.new.self in
     let what = c.step.result.step.seen in
     let heard : Heard = record { bytes = c.take.result; is_error = c.is_error.result; waited = c.waited_of.result } in
     let rows = c.args.counts.now.rows.items in
     let rows' = c.follow.new.counts.rows.items in
-    let at = asked_at (tap_state old.connection.timed.tap).line.due in
     record {
       heard = heard;
       is_heard = record {
@@ -32,14 +28,10 @@ returns-clause-counts c =
       };
       left = ap (taken_of c.args.side) c.follow.ensures.same_taken ∙ c.take.ensures.left;
       same_taken = subst (KeepsTaken c.args.side old.taken) (sym c.follow.ensures.same_taken) c.take.ensures.same_taken;
-      counts = subst (λ (t : ConnectionTap). CountsAfter f client what heard (waits_in old.connection.timed) (waits_in t.timed) at old.asked.items
-          new.asked.items rows rows')
-          (sym c.follow.ensures.same)
-          (subst (λ (n : ℕ). CountsAfter f client what heard (waits_in old.connection.timed) (waits_in stepped.timed) n old.asked.items
-          new.asked.items rows rows') c.asked_at-at.ensures
-          (subst (λ (n : ℕ). CountsAfter f client what heard n (waits_in stepped.timed) c.asked_at-at.result old.asked.items new.asked.items rows
-          rows') c.waiting-before.ensures
-          c.follow.ensures.counts));
+      counts = subst (λ (t : ℕ × ℕ × ConnectionTap). CountsAfter f client what heard t.0 (waits_in t.2.timed) t.1
+          old.asked.items new.asked.items rows rows')
+          (λ i. (c.waiting-before.ensures i, c.asked_at-at.ensures i, sym c.follow.ensures.same i))
+          c.follow.ensures.counts;
     }
 
 pub returns-clause-sees : goal.returns-clause-sees

@@ -12,15 +12,11 @@ named client (byte ∷ name) some = refl
 pub returns-in_err-write_number : goal.returns-in_err-write_number
 returns-in_err-write_number g c =
     let some : 0 < length c.args.name.now = search rules in
-    subst (λ text. WritesText (g.W.Sink.written c.args.writer.now) (g.W.Sink.written c.write_number-2.new.writer) (g.W.Sink.failures c.args.writer.now)
-    (g.W.Sink.failures c.write_number-2.new.writer) c.from_residual.result text) (sym (named c.args.client c.args.name.now some))
-    (writes_part c.from_residual.result _ _ _ _ (codes "client " ++ decimal c.args.client ++ codes " (") (c.args.name.now ++ codes ")")
-    c.from_residual.ensures.0 c.in_err-write_number.ensures)
+    subst (WritesText _ _ _ _ c.from_residual.result) (sym (named c.args.client c.args.name.now some))
+    (writes_part _ _ _ _ _ _ _ c.from_residual.ensures.0 c.in_err-write_number.ensures)
 
 pub returns : goal.returns
 returns g c =
     let some : 0 < length c.args.name.now = search rules in
-    subst (λ text. WritesText (g.W.Sink.written c.args.writer.now) (g.W.Sink.written c.write_name.new.writer) (g.W.Sink.failures c.args.writer.now)
-    (g.W.Sink.failures c.write_name.new.writer) c.write_name.result text) (sym (named c.args.client c.args.name.now some))
-    (writes_next c.write_name.result _ _ _ _ _ _ (codes "client " ++ decimal c.args.client ++ codes " (") (c.args.name.now ++ codes ")")
-    c.in_ok-write_number.ensures c.write_name.ensures)
+    subst (WritesText _ _ _ _ c.write_name.result) (sym (named c.args.client c.args.name.now some))
+    (writes_next _ _ _ _ _ _ _ _ _ c.in_ok-write_number.ensures c.write_name.ensures)

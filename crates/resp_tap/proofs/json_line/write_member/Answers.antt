@@ -14,11 +14,11 @@ returns-in_err-write_text g c =
     let some : 0 < length c.args.text.now = search rules in
     let r = c.from_residual.result in
     subst (WritesText _ _ _ _ r) (some_member c.args.front.now c.args.text.now some)
-    (writes_part r _ _ _ _ c.args.front.now (text_json (shown_part c.args.text.now)) c.from_residual.ensures.0 c.in_err-write_text.ensures)
+    (writes_part _ _ _ _ _ _ _ c.from_residual.ensures.0 c.in_err-write_text.ensures)
 
 pub returns : goal.returns
 returns g c =
     let some : 0 < length c.args.text.now = search rules in
     let r = c.write_part.result in
     subst (WritesText _ _ _ _ r) (some_member c.args.front.now c.args.text.now some)
-    (writes_next r _ _ _ _ _ _ c.args.front.now (text_json (shown_part c.args.text.now)) c.in_ok-write_text.ensures c.write_part.ensures)
+    (writes_next _ _ _ _ _ _ _ _ _ c.in_ok-write_text.ensures c.write_part.ensures)

@@ -1,15 +1,8 @@
-use Rattle.std.proofs.Common.{codes}
 use Rattle.resp_print.proofs.WrittenLemmas.{writes_next, writes_part}
-use Rattle.resp_tap.specs.JsonLines.{answer_json, front_json}
-use Rattle.resp_value.specs.Values.{datum_of}
 use Rattle.resp_tap.proofs.json_line.write_unpaired.Goals as goal
 
 pub returns-in_err-write_front : goal.returns-in_err-write_front
-returns-in_err-write_front g c =
-    let r = c.from_residual.result in
-    writes_part r _ _ _ _ (front_json c.args.facts.client (codes ",\"kind\":\"value\"")) (answer_json c.args.facts (datum_of c.args.value.now)) c.from_residual.ensures.0 c.in_err-write_front.ensures
+returns-in_err-write_front g c = writes_part _ _ _ _ _ _ _ c.from_residual.ensures.0 c.in_err-write_front.ensures
 
 pub returns : goal.returns
-returns g c =
-    let r = c.write_answer.result in
-    writes_next r _ _ _ _ _ _ (front_json c.args.facts.client (codes ",\"kind\":\"value\"")) (answer_json c.args.facts (datum_of c.args.value.now)) c.in_ok-write_front.ensures c.write_answer.ensures
+returns g c = writes_next _ _ _ _ _ _ _ _ _ c.in_ok-write_front.ensures c.write_answer.ensures

@@ -1,6 +1,5 @@
 use Rattle.std.proofs.Common.{◌≡◌, ◌∙◌, ℕ, List, Option, ap, sym, subst}
 use Rattle.std.specs.Prelude.{Some, option_map, slice_get}
-use Rattle.resp_print.specs.Printed.{Prints}
 use Rattle.resp_tap.specs.Called.{CalledAfter, IsChosenCalled, name_of_called}
 use Rattle.resp_tap.specs.JsonTaps.{called_of, kept_json}
 use Rattle.resp_tap.specs.Connections.{SeesNext}
@@ -10,7 +9,7 @@ use Rattle.resp_tap.specs.Times.{waits_in}
 use Rattle.resp_tap.specs.declared.called.Called.{Called}
 use Rattle.resp_tap.specs.declared.json_line.Facts.{Facts}
 use Rattle.resp_tap.specs.declared.connection.ConnectionTap.{ConnectionTap}
-use Rattle.resp_tap.proofs.KeptItems.{kept_at}
+use Rattle.resp_tap.proofs.KeptItems.{kept_at, prints_same}
 use Rattle.resp_tap.proofs.json_tap.watch_json_some.Goals as goal
 
 pub returns-clause-watches : goal.returns-clause-watches
@@ -19,15 +18,14 @@ returns-clause-watches g c =
     let now = c.args.now in
     let side = c.args.side in
     let old = c.args.tap.now in
-    let stepped = c.step-lined.new.self in
-    let new = c.follow.new.self in
     let used = c.step-lined.result.step.used in
     let what = c.step-lined.result.step.seen in
     let is_line = c.step-lined.result.is_line in
     let size = c.take-size.result in
     let is_chosen = c.is_chosen_called-is_chosen.result in
     let called : option_map (λ called. called.now) c.get-called.result ≡ called_of old =
-    kept_at old.calls.items c.asked_at-at.result c.get-called.result c.get-called.ensures.item ∙ ap (slice_get old.calls.items) c.asked_at-at.ensures in
+    kept_at old.calls.items c.asked_at-at.result c.get-called.result c.get-called.ensures.item ∙
+    ap (slice_get old.calls.items) c.asked_at-at.ensures in
     let facts : Facts = record {
       client = c.args.client;
       is_line = is_line;
@@ -36,29 +34,32 @@ returns-clause-watches g c =
       waited = c.waited_of.result;
     } in (
       what,
-      is_line,
-      is_chosen,
-      size,
-      record {
-        seen = subst (λ (t : ConnectionTap). SeesNext (Some now) side old.connection t c.args.piece.now used what is_line) (sym c.follow.ensures.same)
-            c.step-lined.ensures.sees;
-        bytes = c.take-size.ensures.bytes;
-        left = ap (taken_of side) c.follow.ensures.same_taken ∙ c.take-size.ensures.left;
-        same_taken = subst (KeepsTaken side old.taken) (sym c.follow.ensures.same_taken) c.take-size.ensures.same_taken;
-        chosen = subst (λ (kept : Option Called). IsChosenCalled f kept what is_chosen) called c.is_chosen_called-is_chosen.ensures;
-        calls = subst (λ (t : ConnectionTap). CalledAfter is_chosen what (waits_in old.connection.timed) (waits_in t.timed) old.calls.items new.calls.items)
-            (sym c.follow.ensures.same)
-            (subst (λ (n : ℕ). CalledAfter is_chosen what n (waits_in stepped.timed) old.calls.items new.calls.items) c.waiting-before.ensures
-            c.follow.ensures.calls);
-      },
-      record {
-        asked = c.asked-asked.result;
-        of_command = c.asked-asked.ensures;
-        facts = facts;
-        are = ap (λ (waited : Option ℕ). record facts { waited = waited }) c.waited_of.ensures;
-        text = λ whole kept. subst (λ (name : List ℕ). Prints (g.W.Sink.written c.args.writer.now) (g.W.Sink.written c.write_kept-printed.new.writer)
-            (g.W.Sink.failures c.args.writer.now) (g.W.Sink.failures c.write_kept-printed.new.writer) c.write_kept-printed.result
-            (kept_json f facts is_chosen name whole what) 0) (c.name_of_called-name.ensures ∙ ap name_of_called called)
-            (c.write_kept-printed.ensures (tap_state old.connection.timed.tap).kept whole kept);
-      },
+      (
+        is_line,
+        is_chosen,
+        size,
+        record {
+          seen = subst (λ (t : ConnectionTap). SeesNext (Some now) side old.connection t c.args.piece.now used what
+              is_line) (sym c.follow.ensures.same) c.step-lined.ensures.sees;
+          bytes = c.take-size.ensures.bytes;
+          left = ap (taken_of side) c.follow.ensures.same_taken ∙ c.take-size.ensures.left;
+          same_taken = subst (KeepsTaken side old.taken) (sym c.follow.ensures.same_taken)
+              c.take-size.ensures.same_taken;
+          chosen = subst (λ (kept : Option Called). IsChosenCalled f kept what is_chosen) called
+              c.is_chosen_called-is_chosen.ensures;
+          calls = subst (λ (t : ℕ × ConnectionTap). CalledAfter is_chosen what t.0 (waits_in t.1.timed) old.calls.items
+              c.follow.new.self.calls.items) (λ i. (c.waiting-before.ensures i, sym c.follow.ensures.same i))
+              c.follow.ensures.calls;
+        },
+        record {
+          asked = c.asked-asked.result;
+          of_command = c.asked-asked.ensures;
+          facts = facts;
+          are = ap (λ (waited : Option ℕ). record facts { waited = waited }) c.waited_of.ensures;
+          text = λ whole kept. prints_same _ _ _ _ _ _ _ _
+              (ap (λ (name : List ℕ). kept_json f facts is_chosen name whole what)
+              (c.name_of_called-name.ensures ∙ ap name_of_called called))
+              (c.write_kept-printed.ensures (tap_state old.connection.timed.tap).kept whole kept);
+        },
+      ),
     )

@@ -1,13 +1,13 @@
-use Rattle.std.proofs.Common.{rules, ◌≡◌, [], Bool, true, List, ℕ, ap, sym, subst, ◌∙◌}
+use Rattle.std.proofs.Common.{rules, ◌≡◌, [], Bool, true, List, ℕ, ap, sym, ◌∙◌}
 use Rattle.std.specs.Prelude.{if◌then◌else◌}
 use Rattle.resp_value.specs.Data.{Datum}
-use Rattle.resp_print.specs.Printed.{Prints}
 use Rattle.resp_tap.specs.Filters.{keeps}
 use Rattle.resp_tap.specs.JsonLines.{seen_json}
 use Rattle.resp_tap.specs.JsonTaps.{kept_json}
 use Rattle.resp_tap.specs.declared.filter.Filter.{Filter}
 use Rattle.resp_tap.specs.declared.json_line.Facts.{Facts}
 use Rattle.resp_tap.specs.declared.seen.Seen.{Seen}
+use Rattle.resp_tap.proofs.KeptItems.{prints_same}
 use Rattle.resp_tap.proofs.json_tap.write_kept.Goals as goal
 
 -- the line of a result that is let through
@@ -18,7 +18,6 @@ let_through f facts is_chosen name whole what passes = sym (ap (λ b. if b then 
 pub returns : goal.returns
 returns g c = λ most whole kept.
     let passes : c.keeps.result ≡ true = search rules in
-    subst (λ text. Prints (g.W.Sink.written c.args.writer.now) (g.W.Sink.written c.write_seen_json.new.writer)
-    (g.W.Sink.failures c.args.writer.now) (g.W.Sink.failures c.write_seen_json.new.writer) c.printed.result text 0)
+    prints_same _ _ _ _ _ _ _ _
     (let_through c.args.filter.now c.args.facts c.args.is_chosen c.args.name.now whole c.args.seen.now (sym c.keeps.ensures ∙ passes))
     (c.printed.ensures _ _ _ _ _ 0 (c.write_seen_json.ensures most whole kept))

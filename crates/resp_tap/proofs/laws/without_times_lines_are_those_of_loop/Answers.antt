@@ -5,7 +5,7 @@ use Rattle.resp_tap.proofs.laws.without_times_lines_are_those_of_loop.Goals as g
 
 pub returns : goal.returns
 returns c = λ p number x whole. (
-  ap (λ most. numbered_line p.client (codes " reply ") number None ++ lines_within most 1 x) whole,
+  ap (λ most. numbered_line p.client (codes " reply ") number (codes "") None ++ lines_within most 1 x) whole,
   ap (λ most. client_line p.client (codes " push") None ++ lines_within most 1 x) whole ∙
       ap (λ z. z ++ lines_on 1 x) (append_assoc (codes "client ") (decimal p.client ++ codes " push") (codes "\n") ∙
       ap (λ z. codes "client " ++ z) (append_assoc (decimal p.client) (codes " push") (codes "\n"))),

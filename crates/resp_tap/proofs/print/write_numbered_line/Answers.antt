@@ -1,14 +1,8 @@
-use Rattle.std.proofs.Common.{◌++◌, codes, decimal}
-use Rattle.resp_tap.specs.Texts.{numbered_end}
 use Rattle.resp_print.proofs.WrittenLemmas.{writes_next, writes_part}
 use Rattle.resp_tap.proofs.print.write_numbered_line.Goals as goal
 
 pub returns-in_err-write_number : goal.returns-in_err-write_number
-returns-in_err-write_number g c =
-    writes_part c.from_residual.result _ _ _ _ (codes "client " ++ decimal c.args.client ++ c.args.what.now) (numbered_end c.args.number c.args.stamp)
-    c.from_residual.ensures.0 c.in_err-write_number.ensures
+returns-in_err-write_number g c = writes_part _ _ _ _ _ _ _ c.from_residual.ensures.0 c.in_err-write_number.ensures
 
 pub returns : goal.returns
-returns g c =
-    writes_next c.write_numbered_end.result _ _ _ _ _ _ (codes "client " ++ decimal c.args.client ++ c.args.what.now) (numbered_end c.args.number c.args.stamp)
-    c.in_ok-write_number.ensures c.write_numbered_end.ensures
+returns g c = writes_next _ _ _ _ _ _ _ _ _ c.in_ok-write_number.ensures c.write_numbered_end.ensures

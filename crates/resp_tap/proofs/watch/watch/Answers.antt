@@ -1,43 +1,21 @@
-use Rattle.std.proofs.Common.{rules, ◌≡◌, ◌∙◌, [], ◌∷◌, Ok, ap, refl, subst, sym}
+use Rattle.std.proofs.Common.{rules}
 use Rattle.std.proofs.lemmas.List.{take_rest}
-use Rattle.resp_tap.specs.Watches.{WatchesAll, first_error}
-use Rattle.resp_tap.proofs.PieceLemmas.{error_of_three, keeps_on, no_bytes, no_error_after}
+use Rattle.resp_tap.specs.Watches.{Watches}
+use Rattle.resp_tap.proofs.PieceLemmas.{keeps_on, watched_all, watched_more}
 use Rattle.resp_tap.proofs.watch.watch.Goals as goal
 
 pub loop-rest-preserved : goal.loop-rest-preserved
 loop-rest-preserved g c =
     let watched = c.watch_some-watched in
-    let seen = watched.ensures.watches in
+    let has = c.loop-rest.invariant in
     record {
-      other = keeps_on c.args.side c.args.tap.now.tap c.loop-rest.tap.tap watched.new.tap.tap c.loop-rest.invariant.other watched.ensures.other_side;
-      so_far = λ more new after failures' later beyond.
-          let all = c.loop-rest.invariant.so_far (seen.0 ∷ more) new after failures' (first_error watched.result.printed later) (
-            watched.new.tap,
-            watched.result.used,
-            g.W.Sink.written watched.new.writer,
-            g.W.Sink.failures watched.new.writer,
-            watched.result.printed,
-            later,
-            seen.1,
-            seen.2,
-            refl,
-            subst (λ rest. WatchesAll c.args.printing c.args.side c.args.now more watched.new.tap new rest (g.W.Sink.written watched.new.writer) after
-                (g.W.Sink.failures watched.new.writer) failures' later) (take_rest c.loop-rest.rest.now watched.result.used) beyond,
-          ) in (
-            all.0,
-            subst (λ told. WatchesAll c.args.printing c.args.side c.args.now all.0 c.args.tap.now new c.args.piece.now
-                (g.W.Sink.written c.args.writer.now) after (g.W.Sink.failures c.args.writer.now) failures' told)
-                (error_of_three c.loop-rest.printed watched.result.printed later ∙ ap (λ told. first_error told later) (sym c.first_error-printed.ensures)) all.1,
-          );
+      other = keeps_on c.args.side _ _ _ has.other watched.ensures.other_side;
+      so_far = watched_more (Watches c.args.printing c.args.side c.args.now)
+          _ _ _ _ _ _ watched.result watched.ensures.watches.0 _ _ _ _ _ _ _ _ has.so_far watched.ensures.watches.1
+          (take_rest c.loop-rest.rest.now watched.result.used) c.first_error-printed.ensures;
     }
 
 pub returns-clause-watches : goal.returns-clause-watches
 returns-clause-watches g c =
-    let empty : c.loop-rest.rest.now ≡ [] = no_bytes c.loop-rest.rest.now (search rules) in
-    let all = c.loop-rest.invariant.so_far [] c.loop-rest.tap (g.W.Sink.written c.loop-rest.writer) (g.W.Sink.failures c.loop-rest.writer) (Ok tt)
-    (empty, refl, refl, refl, refl) in (
-      all.0,
-      subst (λ told. WatchesAll c.args.printing c.args.side c.args.now all.0 c.args.tap.now c.loop-rest.tap c.args.piece.now
-          (g.W.Sink.written c.args.writer.now) (g.W.Sink.written c.loop-rest.writer) (g.W.Sink.failures c.args.writer.now)
-          (g.W.Sink.failures c.loop-rest.writer) told) (no_error_after c.loop-rest.printed) all.1,
-    )
+    watched_all (Watches c.args.printing c.args.side c.args.now)
+    _ _ _ _ _ _ _ _ _ c.loop-rest.invariant.so_far (search rules)

@@ -1,0 +1,14 @@
+-- What is kept of each command that waits, in their order.
+use Rattle.std.specs.Prelude.{◌≡◌, ◌⊎◌, ℕ, Bool, true, List, [], ◌∷◌, ◌++◌, drop}
+use Rattle.resp_tap.specs.declared.seen.Seen.{Seen}
+use Rattle.resp_tap.specs.declared.seen.Seen.TheVariants as seen
+
+-- the next command that waits was added; or memory for it was out, or nothing is kept of a command before it
+abbrev pub IsAdded : {A : Type 0} → (A → Type 0) → List A → List A → Type 0
+IsAdded {A} IsOf old new = (new ≡ old) ⊎ ((kept : A) × IsOf kept × (new ≡ old ++ kept ∷ []))
+
+-- What is kept after a result, by which one more command waits, which is added in this way, or this many wait no more.
+abbrev pub KeptBy : {A : Type 0} → Bool → (List (List ℕ) → List A → List A → Type 0) → Seen → ℕ → List A → List A →
+    Type 0
+KeptBy true Adds (seen.Command number words lengths) gone old new = Adds words old new
+KeptBy more Adds what gone old new = new ≡ drop gone old
