@@ -1,5 +1,5 @@
 -- The bytes of a value that a connection has begun, and the value's end.
-use Rattle.std.specs.Prelude.{◌≡◌, ℕ, ◌<◌, ◌≤◌, List, [], ◌++◌, length, take, MatchOption}
+use Rattle.std.specs.Prelude.{◌≡◌, ℕ, ◌<◌, ◌≤◌, List, [], ◌++◌, length, take, MatchOption, Option, Result, IfErr, IfNone, IfOk, IfSome}
 use Rattle.resp_value.specs.Bounds.{Bounds}
 use Rattle.resp_value.specs.Rules.{Rules, rules_under}
 use Rattle.resp_scan.specs.declared.event.Fault.{Fault}
@@ -59,6 +59,22 @@ abbrev pub OnFault : FrameError → (Fault → Type 0) → Type 0
 OnFault (error.Fault fault) P = P fault
 OnFault error.NotACommand P = Unit {0}
 OnFault error.OutOfMemory P = Unit {0}
+
+-- the result is a value that has ended: this is true of it, and the next value may begin
+abbrev pub EndsValue : {A : Type 0} → Rules → Begun → (A → Type 0) → Result (Option A) FrameError → Type 0
+EndsValue rules b P result = IfOk result (λ found. IfSome found (λ value. P value × HasBegun rules b []))
+
+-- if no value is found, none has ended with these bytes, in any version and under any limits, and they are begun
+abbrev pub GoesOn : {A : Type 0} → Rules → Begun → List ℕ → Result (Option A) FrameError → Type 0
+GoesOn rules b bytes result = IfOk result (λ found. IfNone found (HasNoValue bytes × HasBegun rules b bytes))
+
+-- if a byte of the piece is rejected, it is the first that cannot follow the bytes before it
+abbrev pub RejectsIn : {A : Type 0} → Rules → List ℕ → List ℕ → Result A FrameError → Type 0
+RejectsIn rules front piece result = IfErr result (λ error. OnFault error (RejectsByte rules front piece))
+
+-- no more bytes of the piece are used than it has
+abbrev pub UsesWithin : {A : Type 0} → (A → ℕ) → List ℕ → Result (Option A) FrameError → Type 0
+UsesWithin used piece result = IfOk result (λ found. IfSome found (λ value. used value ≤ length piece))
 
 -- the value that is held ends after this many bytes of the piece, at least one, and all its bytes are held
 pub record EndsWithin (rules : Rules) (held : Held) (front piece : List ℕ) (used : ℕ) : Type 0 where

@@ -3,7 +3,7 @@
 ghost use Rattle.std.specs.Prelude.{◌≡◌, ◌++◌, ◌≤◌, [], length, IfErr, IfNone, IfOk, IfSome, IsErrOf, OnErr};
 ghost use Rattle.resp_frames.specs.Commands.{EndsOther, IsFrameOfWords};
 ghost use Rattle.resp_frames.specs.Requests.{EndsNoRequest, IfEmpty, IsRequest, request_used};
-ghost use Rattle.resp_frames.specs.Framing.{HasBegun, IsReady, OnFault, RejectsByte, WhereBegun, frame_limits, frame_rules};
+ghost use Rattle.resp_frames.specs.Framing.{EndsValue, GoesOn, HasBegun, IsReady, RejectsIn, UsesWithin, WhereBegun, frame_limits, frame_rules};
 ghost use Rattle.resp_frames.specs.Texts.{used_of};
 ghost use Rattle.resp_scan.specs.Reading.{HasNoValue};
 
@@ -29,18 +29,16 @@ impl Frames {
     ) -> Result<Option<CommandFrame<'a>>, FrameError>
         // The bytes that came since the last command are a command, and the next may begin. The words
         // are those of the command.
-        ensures whole { WhereBegun self.old begun.old (λ front. IfOk result (λ found.
-            IfSome found (λ frame. IsFrameOfWords (frame_limits self.old) front piece.now frame ×
-            HasBegun (frame_rules self.old) begun.new []))) }
+        ensures whole { WhereBegun self.old begun.old (λ front. EndsValue (frame_rules self.old)
+            begun.new (IsFrameOfWords (frame_limits self.old) front piece.now) result) }
 
         // No value has ended, in any version and under any limits.
-        ensures more { WhereBegun self.old begun.old (λ front. IfOk result (λ found.
-            IfNone found (HasNoValue (front ++ piece.now) ×
-            HasBegun (frame_rules self.old) begun.new (front ++ piece.now)))) }
+        ensures more { WhereBegun self.old begun.old (λ front. GoesOn (frame_rules self.old)
+            begun.new (front ++ piece.now) result) }
 
         // The byte is the first that cannot follow the bytes before it, and the fault has its cause.
-        ensures refused { WhereBegun self.old begun.old (λ front. IfErr result (λ error.
-            OnFault error (RejectsByte (frame_rules self.old) front piece.now))) }
+        ensures refused { WhereBegun self.old begun.old (λ front.
+            RejectsIn (frame_rules self.old) front piece.now result) }
 
         // A value has ended that is no command.
         ensures no_command { WhereBegun self.old begun.old (λ front.
@@ -48,17 +46,11 @@ impl Frames {
             EndsOther (frame_rules self.old) (frame_limits self.old) front piece.now) }
         ensures nothing_begun { WhereBegun self.old begun.old (λ front.
             OnErr result (HasBegun (frame_rules self.old) begun.new [])) }
-        ensures within { IfOk result (λ found. IfSome found (λ command.
-            used_of command.frame ≤ length piece.now)) }
+        ensures within { UsesWithin (λ command. used_of command.frame) piece.now result }
         ensures ready { IsReady self.old → IsReady self.new }
         ensures same_rules { frame_rules self.new ≡ frame_rules self.old }
     {
-        if begun.held.is_none() {
-            if let Some(found) = self.heads.find(piece, &self.limits) {
-                return Ok(Some(found));
-            }
-        }
-        match self.scan_request(begun, piece) {
+        match self.next_request(begun, piece) {
             Ok(Some(Request::Command(command))) => Ok(Some(command)),
             Ok(Some(Request::Empty(_))) => Err(FrameError::NotACommand),
             Ok(None) => Ok(None),
@@ -79,18 +71,21 @@ impl Frames {
         piece: &'a [u8],
     ) -> Result<Option<Request<'a>>, FrameError>
         // The bytes that came since the last value are this command, or this empty array.
-        ensures whole { WhereBegun self.old begun.old (λ front. IfOk result (λ found.
-            IfSome found (λ request. IsRequest (frame_limits self.old) front piece.now request ×
-            HasBegun (frame_rules self.old) begun.new []))) }
+        ensures whole { WhereBegun self.old begun.old (λ front. EndsValue (frame_rules self.old)
+            begun.new (IsRequest (frame_limits self.old) front piece.now) result) }
+
+        // An empty array is a value that is no command.
+        ensures empty { WhereBegun self.old begun.old (λ front. IfOk result (λ found.
+            IfSome found (IfEmpty (λ used. EndsOther (frame_rules self.old) (frame_limits self.old)
+            front piece.now)))) }
 
         // No value has ended, in any version and under any limits.
-        ensures more { WhereBegun self.old begun.old (λ front. IfOk result (λ found.
-            IfNone found (HasNoValue (front ++ piece.now) ×
-            HasBegun (frame_rules self.old) begun.new (front ++ piece.now)))) }
+        ensures more { WhereBegun self.old begun.old (λ front. GoesOn (frame_rules self.old)
+            begun.new (front ++ piece.now) result) }
 
         // The byte is the first that cannot follow the bytes before it, and the fault has its cause.
-        ensures refused { WhereBegun self.old begun.old (λ front. IfErr result (λ error.
-            OnFault error (RejectsByte (frame_rules self.old) front piece.now))) }
+        ensures refused { WhereBegun self.old begun.old (λ front.
+            RejectsIn (frame_rules self.old) front piece.now result) }
 
         // A value has ended that is neither a command nor an empty array.
         ensures no_request { WhereBegun self.old begun.old (λ front.
@@ -98,8 +93,7 @@ impl Frames {
             EndsNoRequest (frame_rules self.old) (frame_limits self.old) front piece.now) }
         ensures nothing_begun { WhereBegun self.old begun.old (λ front.
             OnErr result (HasBegun (frame_rules self.old) begun.new [])) }
-        ensures within { IfOk result (λ found. IfSome found (λ request.
-            request_used request ≤ length piece.now)) }
+        ensures within { UsesWithin request_used piece.now result }
         ensures ready { IsReady self.old → IsReady self.new }
         ensures same_rules { frame_rules self.new ≡ frame_rules self.old }
     {
@@ -118,24 +112,21 @@ impl Frames {
         begun: &mut Begun,
         piece: &'a [u8],
     ) -> Result<Option<Request<'a>>, FrameError>
-        ensures whole { WhereBegun self.old begun.old (λ front. IfOk result (λ found.
-            IfSome found (λ request. IsRequest (frame_limits self.old) front piece.now request ×
-            HasBegun (frame_rules self.old) begun.new []))) }
+        ensures whole { WhereBegun self.old begun.old (λ front. EndsValue (frame_rules self.old)
+            begun.new (IsRequest (frame_limits self.old) front piece.now) result) }
         ensures empty { WhereBegun self.old begun.old (λ front. IfOk result (λ found.
             IfSome found (IfEmpty (λ used. EndsOther (frame_rules self.old) (frame_limits self.old)
             front piece.now)))) }
-        ensures more { WhereBegun self.old begun.old (λ front. IfOk result (λ found.
-            IfNone found (HasNoValue (front ++ piece.now) ×
-            HasBegun (frame_rules self.old) begun.new (front ++ piece.now)))) }
-        ensures refused { WhereBegun self.old begun.old (λ front. IfErr result (λ error.
-            OnFault error (RejectsByte (frame_rules self.old) front piece.now))) }
+        ensures more { WhereBegun self.old begun.old (λ front. GoesOn (frame_rules self.old)
+            begun.new (front ++ piece.now) result) }
+        ensures refused { WhereBegun self.old begun.old (λ front.
+            RejectsIn (frame_rules self.old) front piece.now result) }
         ensures no_request { WhereBegun self.old begun.old (λ front.
             IsErrOf result FrameError.NotACommand →
             EndsNoRequest (frame_rules self.old) (frame_limits self.old) front piece.now) }
         ensures nothing_begun { WhereBegun self.old begun.old (λ front.
             OnErr result (HasBegun (frame_rules self.old) begun.new [])) }
-        ensures within { IfOk result (λ found. IfSome found (λ request.
-            request_used request ≤ length piece.now)) }
+        ensures within { UsesWithin request_used piece.now result }
         ensures ready { IsReady self.old → IsReady self.new }
         ensures same_rules { frame_rules self.new ≡ frame_rules self.old }
     {

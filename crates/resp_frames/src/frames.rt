@@ -2,7 +2,7 @@
 
 ghost use Rattle.std.specs.Prelude.{◌≡◌, ◌++◌, ◌≤◌, length, take, ℕ, List, None, false, true, [], IfErr, IfNone, IfOk, IfSome, IsErrOf, OnErr, OnOk, ◌≢◌};
 ghost use Rattle.resp_value.specs.Rules.{Rules, rules_under};
-ghost use Rattle.resp_frames.specs.Framing.{EndsWithin, HasBegun, IsFrame, IsHeld, OnFault, RejectsByte};
+ghost use Rattle.resp_frames.specs.Framing.{EndsValue, EndsWithin, GoesOn, HasBegun, IsFrame, IsHeld, OnFault, RejectsIn, UsesWithin};
 ghost use Rattle.resp_frames.specs.Texts.{used_of};
 ghost use Rattle.resp_scan.specs.Kinds.{rules_of};
 ghost use Rattle.resp_scan.specs.Listening.{HearsPiece, HearsRefusal, HearsValue, IfRefused, IfUsedUp, IfWhole};
@@ -87,21 +87,18 @@ impl Frames {
         piece: &'a [u8],
     ) -> Result<Option<Frame<'a>>, FrameError>
         // The bytes that came since the last value are a spelling, and the next value may begin.
-        ensures whole { WhereBegun self.old begun.old (λ front. IfOk result (λ found.
-            IfSome found (λ frame. IsFrame (frame_rules self.old) front piece.now frame ×
-            HasBegun (frame_rules self.old) begun.new []))) }
+        ensures whole { WhereBegun self.old begun.old (λ front. EndsValue (frame_rules self.old)
+            begun.new (IsFrame (frame_rules self.old) front piece.now) result) }
 
         // No value has ended, in any version and under any limits.
-        ensures more { WhereBegun self.old begun.old (λ front. IfOk result (λ found.
-            IfNone found (HasNoValue (front ++ piece.now) ×
-            HasBegun (frame_rules self.old) begun.new (front ++ piece.now)))) }
+        ensures more { WhereBegun self.old begun.old (λ front. GoesOn (frame_rules self.old)
+            begun.new (front ++ piece.now) result) }
 
         // The byte is the first that cannot follow the bytes before it, and the fault has its cause.
-        ensures refused { WhereBegun self.old begun.old (λ front. IfErr result (λ error.
-            OnFault error (RejectsByte (frame_rules self.old) front piece.now))) }
+        ensures refused { WhereBegun self.old begun.old (λ front.
+            RejectsIn (frame_rules self.old) front piece.now result) }
         ensures nothing_begun { OnErr result (HasBegun (frame_rules self.old) begun.new []) }
-        ensures within { IfOk result (λ found. IfSome found (λ frame.
-            used_of frame ≤ length piece.now)) }
+        ensures within { UsesWithin used_of piece.now result }
         ensures any_value { IsErrOf result FrameError.NotACommand → ⊥ }
         ensures ready { IsReady self.old → IsReady self.new }
         ensures same_rules { frame_rules self.new ≡ frame_rules self.old }
@@ -122,17 +119,14 @@ impl Frames {
         begun: &mut Begun,
         piece: &'a [u8],
     ) -> Result<Option<Frame<'a>>, FrameError>
-        ensures whole { WhereBegun self.old begun.old (λ front. IfOk result (λ found.
-            IfSome found (λ frame. IsFrame (frame_rules self.old) front piece.now frame ×
-            HasBegun (frame_rules self.old) begun.new []))) }
-        ensures more { WhereBegun self.old begun.old (λ front. IfOk result (λ found.
-            IfNone found (HasNoValue (front ++ piece.now) ×
-            HasBegun (frame_rules self.old) begun.new (front ++ piece.now)))) }
-        ensures refused { WhereBegun self.old begun.old (λ front. IfErr result (λ error.
-            OnFault error (RejectsByte (frame_rules self.old) front piece.now))) }
+        ensures whole { WhereBegun self.old begun.old (λ front. EndsValue (frame_rules self.old)
+            begun.new (IsFrame (frame_rules self.old) front piece.now) result) }
+        ensures more { WhereBegun self.old begun.old (λ front. GoesOn (frame_rules self.old)
+            begun.new (front ++ piece.now) result) }
+        ensures refused { WhereBegun self.old begun.old (λ front.
+            RejectsIn (frame_rules self.old) front piece.now result) }
         ensures nothing_begun { OnErr result (HasBegun (frame_rules self.old) begun.new []) }
-        ensures within { IfOk result (λ found. IfSome found (λ frame.
-            used_of frame ≤ length piece.now)) }
+        ensures within { UsesWithin used_of piece.now result }
         ensures any_value { IsErrOf result FrameError.NotACommand → ⊥ }
         ensures ready { IsReady self.old → IsReady self.new }
         ensures same_rules { frame_rules self.new ≡ frame_rules self.old }
@@ -152,14 +146,12 @@ impl Frames {
     ) -> Result<Option<Frame<'a>>, FrameError>
         ensures whole { IsReady self.old → IfOk result (λ found. IfSome found (λ frame.
             IsFrame (frame_rules self.old) [] piece.now frame × (begun.new ≡ begun.old))) }
-        ensures more { IsReady self.old → begun.old.held ≡ None → IfOk result (λ found.
-            IfNone found (HasNoValue piece.now ×
-            HasBegun (frame_rules self.old) begun.new piece.now)) }
-        ensures refused { IsReady self.old → IfErr result (λ error.
-            OnFault error (RejectsByte (frame_rules self.old) [] piece.now)) }
+        ensures more { IsReady self.old → begun.old.held ≡ None →
+            GoesOn (frame_rules self.old) begun.new piece.now result }
+        ensures refused { IsReady self.old →
+            RejectsIn (frame_rules self.old) [] piece.now result }
         ensures nothing_begun { OnErr result (begun.new ≡ begun.old) }
-        ensures within { IfOk result (λ found. IfSome found (λ frame.
-            used_of frame ≤ length piece.now)) }
+        ensures within { UsesWithin used_of piece.now result }
         ensures any_value { IsErrOf result FrameError.NotACommand → ⊥ }
         ensures ready { IsReady self.old → IsReady self.new }
         ensures same_rules { frame_rules self.new ≡ frame_rules self.old }
@@ -294,13 +286,11 @@ fn resume<'a>(
         IfOk result (λ found. IfSome found (λ frame. IsFrame rules front piece.now frame ×
         (begun.new ≡ begun.old))) }
     ensures more { (rules : Rules) (front : List ℕ) → IsHeld rules held.value front →
-        IfOk result (λ found. IfNone found (HasNoValue (front ++ piece.now) ×
-        HasBegun rules begun.new (front ++ piece.now))) }
+        GoesOn rules begun.new (front ++ piece.now) result }
     ensures refused { (rules : Rules) (front : List ℕ) → IsHeld rules held.value front →
-        IfErr result (λ error. OnFault error (RejectsByte rules front piece.now)) }
+        RejectsIn rules front piece.now result }
     ensures nothing_begun { OnErr result (begun.new ≡ begun.old) }
-    ensures within { IfOk result (λ found. IfSome found (λ frame.
-        used_of frame ≤ length piece.now)) }
+    ensures within { UsesWithin used_of piece.now result }
     ensures any_value { IsErrOf result FrameError.NotACommand → ⊥ }
 {
     let mut held = held;
@@ -327,7 +317,7 @@ fn extend(held: &mut Held, piece: &[u8]) -> Result<Scanned, FrameError>
         IfOk result (λ scanned. scanned.is_whole ≡ false →
         HasNoValue (front ++ piece.now) × IsHeld rules held.new (front ++ piece.now)) }
     ensures refused { (rules : Rules) (front : List ℕ) → IsHeld rules held.old front →
-        IfErr result (λ error. OnFault error (RejectsByte rules front piece.now)) }
+        RejectsIn rules front piece.now result }
     ensures within { IfOk result (λ scanned. scanned.used ≤ length piece.now) }
     ensures any_value { IsErrOf result FrameError.NotACommand → ⊥ }
 {

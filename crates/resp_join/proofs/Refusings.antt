@@ -1,6 +1,6 @@
--- Bytes of a client that queue no command.
-use Rattle.std.proofs.Common.{◌≡◌, ℕ, None, Option, Result, Ok, Err, List, refl, subst}
-use Rattle.std.specs.Prelude.{IfErr}
+-- Bytes of a client that queue a command or none.
+use Rattle.std.proofs.Common.{◌≡◌, ◌++◌, ℕ, None, Option, Some, Result, Ok, Err, List, refl, subst, sym, take}
+use Rattle.std.specs.Prelude.{IfErr, IfOk, IfSome}
 use Rattle.resp_value.specs.Bounds.{Bounds}
 use Rattle.resp_value.specs.Rules.{Rules}
 use Rattle.resp_frames.specs.Commands.{EndsOther, IsCommand, IsCommandFrame}
@@ -45,3 +45,13 @@ command_refused rules limits mux who front piece found (Err (command.Forward e))
   command = subst (IsCommand limits) f.text f.command;
   holds = subst (IsNotQueued mux who e) f.text fails;
 }
+
+-- a command is queued
+pub command_queued : {Ended : Type 0} (Queued : List ℕ → Type 0) (limits : Bounds) (front piece : List ℕ) (found : Frame)
+    (result : Result (Option ℕ) CommandError) → IsCommandFrame limits front piece found → Ended → IfOk result (λ n. Queued (text_of found)) →
+    IfOk result (λ n. n ≡ Some (used_of found)) →
+    IfOk result (λ n. IfSome n (λ used. IsCommand limits (front ++ take used piece) × Ended × Queued (front ++ take used piece)))
+command_queued {Ended} Queued limits front piece found (Ok n) f ended queued same =
+    subst (λ n. IfSome n (λ used. IsCommand limits (front ++ take used piece) × Ended × Queued (front ++ take used piece))) (sym same)
+    (subst (IsCommand limits) f.text f.command, ended, subst Queued f.text queued)
+command_queued Queued limits front piece found (Err e) f ended queued same = tt
