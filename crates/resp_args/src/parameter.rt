@@ -12,7 +12,7 @@ pub(crate) struct Parameter {
     pub(crate) name: &'static str,
     pub(crate) help: &'static str,
     pub(crate) form: Form,
-    /// What help calls its value, if it has one.
+    /// The name of its value in help, if it has a value.
     pub(crate) value_names: &'static [&'static str],
     /// Its value if it is not given, if there is one.
     pub(crate) defaults: &'static [&'static str],

@@ -1,5 +1,5 @@
 -- The blocks of a file of the format pcap or pcapng: how many bytes they have, and what they say.
-use Rattle.std.specs.Prelude.{◌≡◌, ℕ, ◌+◌, ◌%◌, ◌==◌, ◌||◌, List, Option, None, Some, Result, Ok, Err, if◌then◌else◌, is_some, length, ltb}
+use Rattle.std.specs.Prelude.{ℕ, ◌+◌, ◌%◌, ◌==◌, ◌||◌, List, Option, None, Some, Result, Ok, Err, if◌then◌else◌, is_some, length, ltb}
 use Rattle.resp_capture.specs.Numbers.{number32}
 use Rattle.resp_capture.specs.declared.block.Format.{Format}
 use Rattle.resp_capture.specs.declared.block.Format.TheVariants as format
@@ -19,10 +19,6 @@ magic_of n = if n == 0xa1b2_c3d4 then Some (record { order = Big; per_second = 1
 -- the order of the numbers of a section of the format pcapng, by its third number
 abbrev pub section_order : ℕ → Option ByteOrder
 section_order n = if n == 0x1a2b_3c4d then Some Big else (if n == 0x4d3c_2b1a then Some Little else None)
-
--- a block of the format pcapng begins a section: its type is the same in both orders
-abbrev pub IsSection : List ℕ → Type 0
-IsSection bytes = number32 Big 0 bytes ≡ 0x0a0d_0d0a
 
 -- a number of bytes of a whole block, which the head of the block says
 abbrev pub checked_size : ℕ → Result ℕ Reason

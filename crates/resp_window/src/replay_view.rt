@@ -96,7 +96,7 @@ impl ReplayView {
         }
     }
 
-    /// Returns the printer of what taps report.
+    /// Returns a printer for the results of taps.
     pub(crate) fn printer<'a, W: Sink>(
         &'a mut self,
         out: &'a mut W,
