@@ -55,7 +55,7 @@ given_at_start given due =
     let whole : Tree = leaf (null PlainNull) in
     sym (due (text whole) whole (record { is_tree = tt; spelled = refl })) ∙ due_at_start (all_events whole)
 
--- Both decoders: what is held is the result of the events given, in the words of its listener.
+-- Both decoders: the values held are the result of the events given, in the words of the decoder's listener.
 
 -- nothing is taken where the scanner has read nothing, and nothing is held
 pub takes_nothing : (Has : Events → Type 0) (s : Place) → HasRead s [] [] → Has [] → TakesFront Has s []

@@ -1,4 +1,4 @@
--- What a decoder holds that keeps the first bytes of each text.
+-- The values held by a decoder that keeps the first bytes of each text.
 use Rattle.std.specs.Prelude.{◌≡◌, ℕ, if◌then◌else◌, Option, None, Some, [], length}
 use Rattle.resp_scan.specs.Reading.{Events}
 use Rattle.resp_decode.specs.Builds.{Construction, Text, built_from, nothing}

@@ -4,8 +4,8 @@ use Rattle.resp_scan.specs.Machine.Tokens.{Place}
 use Rattle.resp_scan.specs.Reading.{AreDue, Events, HasNoValue, HasRead, IsFaulted}
 use Rattle.resp_scan.specs.declared.event.Fault.{Fault}
 
--- the scanner has read the bytes of this front, no value has ended in them, and what is held is the result of their
--- events
+-- the scanner has read the bytes of this front, no value has ended in them, and the values held are the result of
+-- their events
 pub record TakesFront (IsResultOf : Events → Type 0) (scanner : Place) (front : List ℕ) : Type 0 where
   pub given : Events
   pub reads : HasRead scanner front given

@@ -64,7 +64,7 @@ OnFault error.OutOfMemory P = Unit {0}
 abbrev pub EndsValue : {A : Type 0} → Rules → Begun → (A → Type 0) → Result (Option A) FrameError → Type 0
 EndsValue rules b P result = IfOk result (λ found. IfSome found (λ value. P value × HasBegun rules b []))
 
--- if no value is found, none has ended with these bytes, in any version and under any limits, and they are begun
+-- if no value is found, no value ends in these bytes, in any version and under any limits, and the bytes are begun
 abbrev pub GoesOn : {A : Type 0} → Rules → Begun → List ℕ → Result (Option A) FrameError → Type 0
 GoesOn rules b bytes result = IfOk result (λ found. IfNone found (HasNoValue bytes × HasBegun rules b bytes))
 

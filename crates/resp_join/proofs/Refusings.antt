@@ -1,4 +1,4 @@
--- Bytes of a client that queue a command or none.
+-- Bytes of a client that queue a command, and bytes that queue no command.
 use Rattle.std.proofs.Common.{◌≡◌, ◌++◌, ℕ, None, Option, Some, Result, Ok, Err, List, refl, subst, sym, take}
 use Rattle.std.specs.Prelude.{IfErr, IfOk, IfSome}
 use Rattle.resp_value.specs.Bounds.{Bounds}

@@ -1,4 +1,4 @@
--- What is kept of commands that wait, and what is printed by it.
+-- The items kept for the commands that wait, and the texts printed from them.
 use Rattle.std.proofs.Common.{◌≡◌, ℕ, Bool, true, false, Global, List, [], ◌∷◌, ◌++◌, Option, inl, inr, length, refl, subst, sym}
 use Rattle.std.specs.Prelude.{None, Result, Some, Vec, if◌then◌else◌, option_map, slice_get}
 use Rattle.std.specs.Slice.{IsItemAt}
@@ -15,7 +15,7 @@ pub kept_at : {A : Type 0} (kept : List A) (i : ℕ) (r : Option (Bor A)) → Is
 kept_at kept i None item = sym (slice_get_past kept i item.3)
 kept_at kept i (Some x) item = sym (slice_get_read kept (length kept) i x.now refl item.3.0 item.1)
 
--- one was put at the end, unless memory is out
+-- an item was put at the end, unless memory is out
 pub put_last : {A : Type 0} (IsOf : A → Type 0) (old new : List A) (kept : A) (put : Bool) → IsOf kept →
     new ≡ (if put then old ++ kept ∷ [] else old) → IsAdded IsOf old new
 put_last IsOf old new kept true is e = inr (kept, is, e)

@@ -27,7 +27,7 @@ pub error_of_three : (a b c : Result (Unit {0}) PrintError) → first_error a (f
 error_of_three (Ok done) b c = refl
 error_of_three (Err error) b c = refl
 
--- what is read of the rest, after what was read before it, is read of the piece
+-- the bytes read of the rest, after the bytes read before it, are read of the piece
 abbrev pub HasWatched : {S : Type 0} → StepOn S → S → S → List ℕ → List ℕ → Option (List ℕ) → Option (List ℕ) →
     ℕ → ℕ → Result (Unit {0}) PrintError → Type 0
 HasWatched {S} Step first now piece rest before so_far failures failed printed =

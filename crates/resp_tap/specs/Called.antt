@@ -37,8 +37,8 @@ IsChosenCalled f kept what is_chosen = is_chosen ≡ chosen_called f kept
 abbrev pub IsCalled : Bool → List (List ℕ) → Called → Type 0
 IsCalled is_chosen words called = (called.name.items ≡ command_name words) × (called.is_chosen ≡ is_chosen)
 
--- What is kept after a result, if this many commands waited before it and after it: that of a new command is added, and
--- that of commands that wait no more is dropped.
+-- The items after a result, if this many commands waited before it and after it: the item of a new command is added,
+-- and the items of commands that wait no more are dropped.
 abbrev pub CalledAfter : Bool → Seen → ℕ → ℕ → List Called → List Called → Type 0
 CalledAfter is_chosen what before after old new =
     KeptBy (nat_lt before after) (λ words. IsAdded (IsCalled is_chosen words)) what (before - after) old new

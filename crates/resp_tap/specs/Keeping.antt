@@ -1,4 +1,4 @@
--- What is kept of each command that waits, in their order.
+-- The items that are kept for the commands that wait, in the order of the commands.
 use Rattle.std.specs.Prelude.{◌≡◌, ◌⊎◌, ℕ, Bool, true, List, [], ◌∷◌, ◌++◌, drop}
 use Rattle.resp_tap.specs.declared.seen.Seen.{Seen}
 use Rattle.resp_tap.specs.declared.seen.Seen.TheVariants as seen
@@ -7,7 +7,8 @@ use Rattle.resp_tap.specs.declared.seen.Seen.TheVariants as seen
 abbrev pub IsAdded : {A : Type 0} → (A → Type 0) → List A → List A → Type 0
 IsAdded {A} IsOf old new = (new ≡ old) ⊎ ((kept : A) × IsOf kept × (new ≡ old ++ kept ∷ []))
 
--- What is kept after a result, by which one more command waits, which is added in this way, or this many wait no more.
+-- The items after a result. If one more command waits, its item is added in this way. Otherwise the items of the
+-- commands that wait no more, this many, are dropped.
 abbrev pub KeptBy : {A : Type 0} → Bool → (List (List ℕ) → List A → List A → Type 0) → Seen → ℕ → List A → List A →
     Type 0
 KeptBy true Adds (seen.Command number words lengths) gone old new = Adds words old new

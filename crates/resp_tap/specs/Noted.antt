@@ -45,8 +45,8 @@ abbrev pub IsNoted : Filter → TextOptions → Option Moment → Bool → Bool 
 IsNoted f p now is_line is_chosen words old new =
     IsAdded (IsNote p now is_line is_chosen words (room_for f is_chosen (length old))) old new
 
--- What is kept after a result, if this many commands waited before it and after it: that of a new command is added, and
--- that of commands that wait no more is dropped.
+-- The items after a result, if this many commands waited before it and after it: the item of a new command is added,
+-- and the items of commands that wait no more are dropped.
 abbrev pub NotesAfter : Filter → TextOptions → Option Moment → Bool → Bool → Seen → ℕ → ℕ → List Note → List Note →
     Type 0
 NotesAfter f p now is_line is_chosen what before after old new =

@@ -58,7 +58,7 @@ bytes_all front piece used = append_assoc front (take used piece) (drop used pie
 
 -- One turn more.
 
--- its outcome, for what the turns before it have read
+-- the outcome of the turn, for the bytes that the turns before it have read
 outcome_by : {O : Type 0} {s₀ s t : Place} {H₀ H H' M : O → Events → Type 0} {piece : List ℕ} {used : ℕ} {turned : Turned} (x : Turn) → turned.turn ≡ x →
     (r : Runs O s₀ s H₀ H piece used) → IsTurn O s t H H' M (drop used piece) turned → (since : O) (front : List ℕ) (given : Events)
     (w : HasRead s₀ front given) (had : H₀ since given) →
