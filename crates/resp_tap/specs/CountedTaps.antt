@@ -3,13 +3,12 @@ use Rattle.std.specs.Prelude.{ℕ, Bool, List, [], Option, None, Some, Result, i
 use Rattle.resp_counts.specs.declared.row.Row.{Row}
 use Rattle.resp_print.specs.Printed.{Prints}
 use Rattle.resp_print.specs.declared.print_error.PrintError.{PrintError}
-use Rattle.resp_tap.specs.Counting.{CountsSeen}
+use Rattle.resp_tap.specs.Counting.{CountedTap, CountsSeen}
 use Rattle.resp_tap.specs.Filters.{keeps_client}
 use Rattle.resp_tap.specs.Connections.{SeesNext}
 use Rattle.resp_tap.specs.Texts.{levels_of, refused_text}
 use Rattle.resp_tap.specs.Times.{stamp_of}
 use Rattle.resp_tap.specs.Watches.{StepOn}
-use Rattle.resp_tap.specs.declared.counted.CountedTap.{CountedTap}
 use Rattle.resp_tap.specs.declared.filter.Filter.{Filter}
 use Rattle.resp_tap.specs.declared.moment.Moment.{Moment}
 use Rattle.resp_tap.specs.declared.print.Printing.{Printing}

@@ -8,12 +8,11 @@ use Rattle.resp_counts.specs.declared.row.Row.{Row}
 use Rattle.resp_value.specs.Values.{datum_of}
 use Rattle.resp_session.specs.Reading.{is_refusal}
 use Rattle.resp_tap.specs.Filters.{DropsWords, KeepsWords, keeps_answer, keeps_client}
-use Rattle.resp_tap.specs.Lines.{asked_at}
 use Rattle.resp_tap.specs.Taken.{KeepsTaken, left_of, taken_of}
-use Rattle.resp_tap.specs.Taps.{tap_state}
-use Rattle.resp_tap.specs.Times.{HasTimes, waited_of, waits_in}
+use Rattle.resp_tap.specs.Times.{IsAskedIn, next_asked, waited_of, waits_in}
 use Rattle.resp_tap.specs.declared.counted.Asked.{Asked}
-use Rattle.resp_tap.specs.declared.counted.CountedTap.{CountedTap}
+use Rattle.resp_tap.specs.declared.connection.KeepingTap.{KeepingTap}
+use Rattle.resp_tap.specs.declared.counted.Asks.{Asks}
 use Rattle.resp_tap.specs.declared.counted.Heard.{Heard}
 use Rattle.resp_tap.specs.declared.filter.Filter.{Filter}
 use Rattle.resp_tap.specs.declared.moment.Moment.{Moment}
@@ -92,13 +91,15 @@ abbrev pub CountsAfter : Filter → ℕ → Seen → Heard → ℕ → ℕ → �
 CountsAfter f client what heard before after at old new rows rows' =
     CountsBy (nat_lt before after) f client what heard before (before - after) at old new rows rows'
 
+abbrev pub CountedTap : Type 0
+CountedTap = KeepingTap Asks
+
 -- What was heard by a result: its bytes, and the delay of the command that it answers.
 pub record IsHeard (side : Side) (now : Moment) (old : CountedTap) (used : ℕ) (what : Seen) (heard : Heard) : Type 0 where
-  pub bytes : heard.bytes ≡ min (taken_of side old.taken + used) 18446744073709551615
+  pub bytes : heard.bytes ≡ min (taken_of side old.kept.taken + used) 18446744073709551615
   pub error : heard.is_error ≡ is_error what
   pub asked : Option ℕ
-  pub of_command : (times : List ℕ) → HasTimes old.connection.timed times →
-      asked ≡ slice_get times (asked_at (tap_state old.connection.timed.tap).line.due)
+  pub of_command : IsAskedIn old.connection.timed asked
   pub delay : heard.waited ≡ waited_of now asked what
 
 -- The first result in a piece is counted.
@@ -106,7 +107,7 @@ pub record CountsSeen (f : Filter) (client : ℕ) (side : Side) (now : Moment) (
     (rows rows' : List Row) : Type 0 where
   pub heard : Heard
   pub is_heard : IsHeard side now old used what heard
-  pub left : taken_of side new.taken ≡ left_of what heard.bytes
-  pub same_taken : KeepsTaken side old.taken new.taken
+  pub left : taken_of side new.kept.taken ≡ left_of what heard.bytes
+  pub same_taken : KeepsTaken side old.kept.taken new.kept.taken
   pub counts : CountsAfter f client what heard (waits_in old.connection.timed) (waits_in new.connection.timed)
-      (asked_at (tap_state old.connection.timed.tap).line.due) old.asked.items new.asked.items rows rows'
+      (next_asked old.connection.timed) old.kept.asked.items new.kept.asked.items rows rows'

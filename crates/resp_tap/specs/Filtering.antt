@@ -3,26 +3,29 @@ use Rattle.std.specs.Prelude.{◌≡◌, ℕ, Bool, List, slice_get, Option, Res
 use Rattle.resp_value.specs.Data.{Datum}
 use Rattle.resp_print.specs.Printed.{Prints}
 use Rattle.resp_print.specs.declared.print_error.PrintError.{PrintError}
-use Rattle.resp_tap.specs.Lines.{asked_at}
 use Rattle.resp_tap.specs.Noted.{IsChosen, NotesAfter, filtered_text}
 use Rattle.resp_tap.specs.Options.{options_of}
 use Rattle.resp_tap.specs.SeenOf.{IsKeptIn, with_whole}
 use Rattle.resp_tap.specs.Taps.{tap_state}
 use Rattle.resp_tap.specs.Texts.{levels_of}
-use Rattle.resp_tap.specs.Times.{HasTimes, stamp_of, waits_in}
+use Rattle.resp_tap.specs.Times.{IsAskedIn, next_asked, stamp_of, waits_in}
 use Rattle.resp_tap.specs.Connections.{SeesNext}
 use Rattle.resp_tap.specs.Watches.{StepOn}
 use Rattle.resp_tap.specs.declared.filter.Filter.{Filter}
-use Rattle.resp_tap.specs.declared.filtered.FilteredTap.{FilteredTap}
+use Rattle.resp_tap.specs.declared.connection.KeepingTap.{KeepingTap}
+use Rattle.resp_tap.specs.declared.filtered.Notes.{Notes}
 use Rattle.resp_tap.specs.declared.moment.Moment.{Moment}
 use Rattle.resp_tap.specs.declared.note.Note.{Note}
 use Rattle.resp_tap.specs.declared.print.Printing.{Printing}
 use Rattle.resp_tap.specs.declared.seen.Seen.{Seen}
 use Rattle.resp_tap.specs.declared.watch.Side.{Side}
 
+abbrev pub FilteredTap : Type 0
+FilteredTap = KeepingTap Notes
+
 -- what is kept of the command that the next reply belongs to
 abbrev pub note_of : FilteredTap → Option Note
-note_of t = slice_get t.notes.items (asked_at (tap_state t.connection.timed.tap).line.due)
+note_of t = slice_get t.kept.notes.items (next_asked t.connection.timed)
 
 -- The first result in a piece: it is reported as without a filter, and that of a line too. Its command is let through by
 -- its words or is not. What is kept of the commands that wait follows the whole words.
@@ -32,7 +35,7 @@ pub record SeesFiltered (filter : Filter) (printing : Printing) (side : Side) (n
   pub chosen : IsChosen filter (note_of old) what is_chosen
   pub notes : (whole : Datum) → IsKeptIn (tap_state old.connection.timed.tap).shown (tap_state old.connection.timed.tap).kept whole what →
       NotesAfter filter (options_of printing old.connection.timed.tap) now is_line is_chosen (with_whole whole what) (waits_in old.connection.timed)
-      (waits_in new.connection.timed) old.notes.items new.notes.items
+      (waits_in new.connection.timed) old.kept.notes.items new.kept.notes.items
 
 -- The text of the result is printed as far as the filter lets it through and writes succeed. A reply is judged by what is
 -- kept of its command, and by the time of its command.
@@ -40,8 +43,7 @@ pub record PrintsFiltered (filter : Filter) (printing : Printing) (now : Option 
     (is_line is_chosen : Bool) (before after : Option (List ℕ)) (failures failures' : ℕ)
     (printed : Result (Unit {0}) PrintError) : Type 0 where
   pub asked : Option ℕ
-  pub of_command : (times : List ℕ) → HasTimes old.connection.timed times →
-      asked ≡ slice_get times (asked_at (tap_state old.connection.timed.tap).line.due)
+  pub of_command : IsAskedIn old.connection.timed asked
   pub text : (whole : Datum) → IsKeptIn (tap_state old.connection.timed.tap).shown (tap_state old.connection.timed.tap).kept whole what →
       Prints before after failures failures' printed (filtered_text filter (options_of printing old.connection.timed.tap) is_line is_chosen
       (note_of old) (stamp_of now asked what) whole what) (levels_of what)

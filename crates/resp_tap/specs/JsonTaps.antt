@@ -7,23 +7,26 @@ use Rattle.resp_tap.specs.Called.{CalledAfter, IsChosenCalled, name_of_called}
 use Rattle.resp_tap.specs.Filters.{keeps}
 use Rattle.resp_tap.specs.JsonLines.{seen_json}
 use Rattle.resp_tap.specs.Connections.{SeesNext}
-use Rattle.resp_tap.specs.Lines.{asked_at}
 use Rattle.resp_tap.specs.SeenOf.{IsKeptIn}
 use Rattle.resp_tap.specs.Taken.{KeepsTaken, left_of, taken_of}
 use Rattle.resp_tap.specs.Taps.{tap_state}
-use Rattle.resp_tap.specs.Times.{HasTimes, waited_of, waits_in}
+use Rattle.resp_tap.specs.Times.{IsAskedIn, next_asked, waited_of, waits_in}
 use Rattle.resp_tap.specs.Watches.{StepOn}
 use Rattle.resp_tap.specs.declared.called.Called.{Called}
 use Rattle.resp_tap.specs.declared.filter.Filter.{Filter}
 use Rattle.resp_tap.specs.declared.json_line.Facts.{Facts}
-use Rattle.resp_tap.specs.declared.json_tap.JsonTap.{JsonTap}
+use Rattle.resp_tap.specs.declared.connection.KeepingTap.{KeepingTap}
+use Rattle.resp_tap.specs.declared.json_tap.Calls.{Calls}
 use Rattle.resp_tap.specs.declared.moment.Moment.{Moment}
 use Rattle.resp_tap.specs.declared.seen.Seen.{Seen}
 use Rattle.resp_tap.specs.declared.watch.Side.{Side}
 
+abbrev pub JsonTap : Type 0
+JsonTap = KeepingTap Calls
+
 -- what is kept of the command that the next reply belongs to
 abbrev pub called_of : JsonTap → Option Called
-called_of t = slice_get t.calls.items (asked_at (tap_state t.connection.timed.tap).line.due)
+called_of t = slice_get t.kept.calls.items (next_asked t.connection.timed)
 
 -- the line of a result, if the filter lets it through: that of this whole command or value
 abbrev pub kept_json : Filter → Facts → Bool → List ℕ → Datum → Seen → List ℕ
@@ -35,19 +38,18 @@ kept_json f facts is_chosen name whole what =
 pub record SeesJson (f : Filter) (side : Side) (now : Moment) (old new : JsonTap) (piece : List ℕ) (used : ℕ) (what : Seen)
     (is_line is_chosen : Bool) (size : ℕ) : Type 0 where
   pub seen : SeesNext (Some now) side old.connection new.connection piece used what is_line
-  pub bytes : size ≡ min (taken_of side old.taken + used) 18446744073709551615
-  pub left : taken_of side new.taken ≡ left_of what size
-  pub same_taken : KeepsTaken side old.taken new.taken
+  pub bytes : size ≡ min (taken_of side old.kept.taken + used) 18446744073709551615
+  pub left : taken_of side new.kept.taken ≡ left_of what size
+  pub same_taken : KeepsTaken side old.kept.taken new.kept.taken
   pub chosen : IsChosenCalled f (called_of old) what is_chosen
-  pub calls : CalledAfter is_chosen what (waits_in old.connection.timed) (waits_in new.connection.timed) old.calls.items new.calls.items
+  pub calls : CalledAfter is_chosen what (waits_in old.connection.timed) (waits_in new.connection.timed) old.kept.calls.items new.kept.calls.items
 
 -- The line of the result is printed if the filter lets it through, as far as writes succeed. A reply has the name and the
 -- delay of its command.
 pub record PrintsJson (f : Filter) (client : ℕ) (now : Moment) (old : JsonTap) (what : Seen) (is_line is_chosen : Bool)
     (size : ℕ) (before after : Option (List ℕ)) (failures failures' : ℕ) (printed : Result (Unit {0}) PrintError) : Type 0 where
   pub asked : Option ℕ
-  pub of_command : (times : List ℕ) → HasTimes old.connection.timed times →
-      asked ≡ slice_get times (asked_at (tap_state old.connection.timed.tap).line.due)
+  pub of_command : IsAskedIn old.connection.timed asked
   pub facts : Facts
   pub are : facts ≡ record {
     client = client;

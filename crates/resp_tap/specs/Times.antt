@@ -1,11 +1,13 @@
 -- The times of the commands that wait.
-use Rattle.std.specs.Prelude.{◌≡◌, ℕ, ◌-◌, Bool, true, false, List, [], ◌∷◌, ◌++◌, length, drop, nat_lt, if◌then◌else◌, Option, None, Some}
+use Rattle.std.specs.Prelude.{◌≡◌, ℕ, ◌-◌, Bool, true, false, List, [], ◌∷◌, ◌++◌, length, drop, nat_lt, slice_get, if◌then◌else◌, Option, None, Some}
+use Rattle.resp_tap.specs.Lines.{asked_at}
 use Rattle.resp_tap.specs.Taps.{tap_state}
 use Rattle.resp_tap.specs.declared.moment.Moment.{Moment}
 use Rattle.resp_tap.specs.declared.stamp.Stamp.{Stamp}
 use Rattle.resp_tap.specs.declared.seen.Seen.{Seen}
 use Rattle.resp_tap.specs.declared.seen.Seen.TheVariants as seen
 use Rattle.resp_tap.specs.declared.timed.TimedTap.{TimedTap}
+use Rattle.resp_tap.specs.declared.timed.Waiting.{Waiting}
 
 -- the number of commands that wait
 abbrev pub waits_in : TimedTap → ℕ
@@ -15,6 +17,20 @@ waits_in t = length (tap_state t.tap).line.due
 pub record HasTimes (t : TimedTap) (times : List ℕ) : Type 0 where
   pub kept : t.times.items ≡ times
   pub each : length times ≡ waits_in t
+
+-- the index of the command that the next reply belongs to
+abbrev pub next_asked : TimedTap → ℕ
+next_asked t = asked_at (tap_state t.tap).line.due
+
+-- this is the time of the command that the next reply belongs to, if the times of all commands that wait are kept
+abbrev pub IsAskedIn : TimedTap → Option ℕ → Type 0
+IsAskedIn t asked = (times : List ℕ) → HasTimes t times → asked ≡ slice_get times (next_asked t)
+
+-- these commands wait
+pub record AreWaiting (t : TimedTap) (waiting : Waiting) : Type 0 where
+  pub number : waiting.count ≡ waits_in t
+  pub index : waiting.next ≡ next_asked t
+  pub time : IsAskedIn t waiting.asked
 
 -- The times after a step, if so many commands waited before and after it: the time of a new command is added, and those
 -- of commands that wait no more are removed.

@@ -3,12 +3,11 @@ use Rattle.std.specs.Prelude.{◌≡◌, ℕ, Bool, true, false, List, [], ◌�
 use Rattle.resp_value.specs.Data.{Datum}
 use Rattle.resp_print.specs.Printed.{Prints}
 use Rattle.resp_print.specs.declared.print_error.PrintError.{PrintError}
-use Rattle.resp_tap.specs.Lines.{asked_at}
 use Rattle.resp_tap.specs.Options.{options_of}
 use Rattle.resp_tap.specs.SeenOf.{IsKeptIn}
 use Rattle.resp_tap.specs.Taps.{TapState, at_front, tap_state}
 use Rattle.resp_tap.specs.Texts.{levels_of, seen_text}
-use Rattle.resp_tap.specs.Times.{HasTimes, KeepsTimes, stamp_of}
+use Rattle.resp_tap.specs.Times.{IsAskedIn, KeepsTimes, stamp_of}
 use Rattle.resp_tap.specs.Watching.{HasTakenSomeRequest, HasTakenSomeValue, KeepsRequest, KeepsValue, SeesTimed, SeesValue, WhereAnswered, WhereRequested}
 use Rattle.resp_tap.specs.declared.moment.Moment.{Moment}
 use Rattle.resp_tap.specs.declared.print.Printing.{Printing}
@@ -58,7 +57,7 @@ pub record SeesFirst (side : Side) (now : Option Moment) (old new : TimedTap) (p
 pub record PrintsSeen (printing : Printing) (now : Option Moment) (old : TimedTap) (what : Seen) (before after : Option (List ℕ))
     (failures failures' : ℕ) (printed : Result (Unit {0}) PrintError) : Type 0 where
   pub asked : Option ℕ
-  pub of_command : (times : List ℕ) → HasTimes old times → asked ≡ slice_get times (asked_at (tap_state old.tap).line.due)
+  pub of_command : IsAskedIn old asked
   pub text : (whole : Datum) → IsKeptIn (tap_state old.tap).shown (tap_state old.tap).kept whole what →
       Prints before after failures failures' printed
       (seen_text (options_of printing old.tap) false (stamp_of now asked what) whole what) (levels_of what)

@@ -4,18 +4,32 @@ ghost use Rattle.std.specs.Prelude.{◌≡◌, ◌<◌, ◌≤◌, length};
 ghost use Rattle.resp_tap.specs.Connections.{IsNewConnection, SeesNext};
 ghost use Rattle.resp_tap.specs.Ends.{CutsOff};
 ghost use Rattle.resp_tap.specs.Parts.{IsEnough};
+ghost use Rattle.resp_tap.specs.Times.{AreWaiting, waits_in};
 ghost use Rattle.resp_tap.specs.Watches.{KeepsOther};
 
 use crate::client_name::ClientName;
 use crate::end::Cut;
-use crate::lines::{Lined, Lines};
+use crate::lines::Lines;
 use crate::moment::Moment;
+use crate::seen::Step;
 use crate::shown_part::ShownPart;
 use crate::tap::Tap;
-use crate::timed::TimedTap;
-use crate::watch::{Side, step};
+use crate::timed::{TimedTap, Waiting};
+use crate::watch::Side;
 use resp_value::limits::Limits;
 use std::alloc::Global;
+
+/// The next result of a connection.
+#[derive(Drop)]
+pub(crate) struct Next {
+    pub(crate) step: Step,
+    /// Whether the step read a line.
+    pub(crate) is_line: bool,
+    /// The commands that waited before the step.
+    pub(crate) waiting: Waiting,
+    /// The number of commands that wait after the step.
+    pub(crate) left: u64,
+}
 
 /// The tap of a connection whose client may send commands as lines, and may name the connection.
 #[derive(Drop)]
@@ -70,20 +84,52 @@ impl ConnectionTap {
 
     /// Reads bytes that one side sent, until there is a result or the piece ends, as
     /// [`step`](crate::watch::step) does. A line of the client is a command too, if lines are read.
-    pub(crate) fn step(&mut self, side: Side, piece: &[u8], now: Option<Moment>) -> Lined
+    pub(crate) fn step(&mut self, side: Side, piece: &[u8], now: Option<Moment>) -> Next
         ensures sees { SeesNext now side self.old self.new piece.now result.step.used
             result.step.seen result.is_line }
+        ensures waited { AreWaiting self.old.timed result.waiting }
+        ensures left { result.left ≡ waits_in self.new.timed }
         ensures other_side { KeepsOther side self.old.timed.tap self.new.timed.tap }
         ensures within_piece { result.step.used ≤ length piece.now }
         ensures uses_bytes { 0 < length piece.now → 0 < result.step.used }
     {
-        let is_line = side == Side::Client && self.lines.have(&self.timed.tap, piece);
-        let step = if is_line {
-            self.lines.read(&mut self.timed, piece, now)
-        } else {
-            step(&mut self.timed, side, piece, now)
-        };
-        self.name.follow(&step.seen);
-        Lined { step, is_line }
+        let waiting = self.timed.waiting();
+        let lined = self.lines.step(&mut self.timed, side, piece, now);
+        self.name.follow(&lined.step.seen);
+        Next {
+            step: lined.step,
+            is_line: lined.is_line,
+            waiting,
+            left: self.timed.tap.waiting(),
+        }
+    }
+}
+
+/// A tap of a connection that keeps something for each command that waits.
+#[derive(Drop)]
+pub struct KeepingTap<K> {
+    pub(crate) connection: ConnectionTap,
+    pub(crate) kept: K,
+}
+
+impl<K> KeepingTap<K> {
+    /// Returns the tap of the connection.
+    pub fn connection(&self) -> &ConnectionTap
+        ensures { result.now ≡ self.now.connection }
+    {
+        &self.connection
+    }
+
+    /// Returns the tap of a new connection, whose lines are commands or are not. Without lines a byte
+    /// that begins no array is an error.
+    pub fn with_lines(mut self, are_read: bool) -> KeepingTap<K>
+        ensures lines { result.connection.lines ≡ record self.connection.lines { are_read = are_read } }
+        ensures same { result ≡ record self {
+          connection =
+              record self.connection { lines = result.connection.lines };
+        } }
+    {
+        self.connection.lines.are_read = are_read;
+        self
     }
 }

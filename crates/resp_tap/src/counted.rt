@@ -9,11 +9,10 @@ ghost use Rattle.resp_tap.specs.Counting.{AnswersCall, AsksCall, CountsAfter, Co
 ghost use Rattle.resp_counts.specs.Names.{table_name};
 ghost use Rattle.resp_counts.specs.Rows.{MayAddRow};
 ghost use Rattle.resp_tap.specs.Texts.{levels_of};
-ghost use Rattle.resp_tap.specs.Times.{waits_in};
 ghost use Rattle.resp_tap.specs.Watches.{KeepsOther, WatchesAll};
 ghost use Rattle.resp_tap.specs.declared.seen.Seen.{Seen};
 
-use crate::connection::ConnectionTap;
+use crate::connection::{ConnectionTap, KeepingTap, Next};
 use crate::filter::Filter;
 use crate::line::is_refusal;
 use crate::moment::Moment;
@@ -87,9 +86,11 @@ fn answer(counts: &mut Counts, filter: &Filter, asked: Option<Asked>, heard: Hea
 ///
 /// If an allocation fails, a command is not counted, and neither are the commands after it as long as
 /// it waits.
+pub type CountedTap = KeepingTap<Asks>;
+
+/// The commands that wait to be counted, and the bytes of incomplete ones.
 #[derive(Drop)]
-pub struct CountedTap {
-    pub(crate) connection: ConnectionTap,
+pub struct Asks {
     /// The commands that wait, in their order.
     pub(crate) asked: VecDeque<Asked>,
     /// The bytes read of an incomplete command and of an incomplete value.
@@ -104,101 +105,84 @@ impl CountedTap {
     pub fn new(alloc: Global, limits: &Limits, filter: &Filter) -> CountedTap
         ensures new_connection { IsNewConnection limits.now (Some 12)
             (kept_by filter.now (Some 12)) result.connection }
-        ensures nothing_asked { result.asked.items ≡ [] }
+        ensures nothing_asked { result.kept.asked.items ≡ [] }
     {
         let shown = ShownPart::first(0);
         let kept = filter.kept_part(shown);
-        CountedTap {
+        KeepingTap {
             connection: ConnectionTap::keeping(alloc, limits, shown, kept),
-            asked: VecDeque::new(alloc),
-            taken: NONE_TAKEN,
+            kept: Asks {
+                asked: VecDeque::new(alloc),
+                taken: NONE_TAKEN,
+            },
         }
     }
+}
 
-    /// Returns the tap of the connection.
-    pub fn connection(&self) -> &ConnectionTap
-        ensures { result.now ≡ self.now.connection }
-    {
-        &self.connection
-    }
-
-    /// Returns the tap of a new connection, whose lines are commands or are not. Without lines a byte
-    /// that begins no array is an error.
-    pub fn with_lines(mut self, are_read: bool) -> CountedTap
-        ensures lines { result.connection.lines ≡ record self.connection.lines { are_read = are_read } }
-        ensures same { result ≡ record self {
-          connection =
-              record self.connection { lines = result.connection.lines };
-        } }
-    {
-        self.connection.lines.are_read = are_read;
-        self
-    }
-
-    /// Counts the command at this index if it waits no more, or keeps a new command that waits. This many
-    /// commands waited before.
-    fn follow(
-        &mut self,
-        counts: &mut Counts,
-        filter: &Filter,
-        client: u64,
-        before: u64,
-        at: usize,
-        heard: Heard,
-        seen: &Seen,
-    )
-        ensures counts { CountsAfter filter.now client seen.now heard before
-            (waits_in self.old.connection.timed) at self.old.asked.items self.new.asked.items
-            counts.old.rows.items counts.new.rows.items }
-        ensures same { self.new.connection ≡ self.old.connection }
-        ensures same_taken { self.new.taken ≡ self.old.taken }
-    {
-        let after = self.connection.timed.tap.waiting();
-        match seen {
-            Seen::Command { words, .. } if before < after => {
-                self.ask(counts, filter, client, before, heard.bytes, words);
-            }
-            _ => self.release(counts, filter, before.saturating_sub(after), at, heard),
+/// Counts a command if it waits no more, or keeps a new command that waits, after a result.
+fn follow(
+    asked: &mut VecDeque<Asked>,
+    counts: &mut Counts,
+    filter: &Filter,
+    client: u64,
+    next: &Next,
+    heard: Heard,
+)
+    ensures { CountsAfter filter.now client next.now.step.seen heard next.now.waiting.count
+        next.now.left next.now.waiting.next asked.old.items asked.new.items
+        counts.old.rows.items counts.new.rows.items }
+{
+    let before = next.waiting.count;
+    match &next.step.seen {
+        Seen::Command { words, .. } if before < next.left => {
+            ask(asked, counts, filter, client, before, heard.bytes, words);
+        }
+        _ => {
+            let gone = before.saturating_sub(next.left);
+            release(asked, counts, filter, gone, next.waiting.next, heard);
         }
     }
+}
 
-    /// Removes this many commands that wait no more, and counts the command at this index.
-    fn release(&mut self, counts: &mut Counts, filter: &Filter, gone: u64, at: usize, heard: Heard)
-        ensures asked { self.new.asked.items ≡ drop gone self.old.asked.items }
-        ensures counts { ReleasesCall gone filter.now (slice_get self.old.asked.items at) heard
-            counts.old.rows.items counts.new.rows.items }
-        ensures same { self.new.connection ≡ self.old.connection }
-        ensures same_taken { self.new.taken ≡ self.old.taken }
-    {
-        if gone > 0 {
-            answer(counts, filter, self.asked.get(at).copied(), heard);
-            drop_first(&mut self.asked, gone);
-        }
+/// Removes this many commands that wait no more, and counts the command at this index.
+fn release(
+    asked: &mut VecDeque<Asked>,
+    counts: &mut Counts,
+    filter: &Filter,
+    gone: u64,
+    at: usize,
+    heard: Heard,
+)
+    ensures asked { asked.new.items ≡ drop gone asked.old.items }
+    ensures counts { ReleasesCall gone filter.now (slice_get asked.old.items at) heard
+        counts.old.rows.items counts.new.rows.items }
+{
+    if gone > 0 {
+        answer(counts, filter, asked.get(at).copied(), heard);
+        drop_first(asked, gone);
     }
+}
 
-    /// Keeps the place and the bytes of a command behind this many others that wait.
-    fn ask(
-        &mut self,
-        counts: &mut Counts,
-        filter: &Filter,
-        client: u64,
-        before: u64,
-        bytes: u64,
-        words: &Words,
-    )
-        ensures asks { AsksCall filter.now client words.now before bytes self.old.asked.items
-            self.new.asked.items counts.old.rows.items counts.new.rows.items }
-        ensures same { self.new.connection ≡ self.old.connection }
-        ensures same_taken { self.new.taken ≡ self.old.taken }
-    {
-        // Otherwise a command before this one is missing.
-        if self.asked.len() as u64 != before {
-            return;
-        }
-        let counted = is_counted(filter, client, words);
-        let place = place_for(counts, counted, words);
-        let _ = self.asked.push_back(Asked { place, bytes });
+/// Keeps the place and the bytes of a command behind this many others that wait.
+fn ask(
+    asked: &mut VecDeque<Asked>,
+    counts: &mut Counts,
+    filter: &Filter,
+    client: u64,
+    before: u64,
+    bytes: u64,
+    words: &Words,
+)
+    ensures { AsksCall filter.now client words.now before bytes asked.old.items
+        asked.new.items counts.old.rows.items counts.new.rows.items }
+{
+    // Otherwise a command before this one is missing.
+    if asked.len() as u64 != before {
+        return;
     }
+    let counted = is_counted(filter, client, words);
+    let place = place_for(counts, counted, words);
+    let _ = asked.push_back(Asked { place, bytes });
 }
 
 /// Returns whether a command of this client is counted, if the filter lets its reply through.
@@ -242,17 +226,15 @@ pub fn count_some(
     ensures within_piece { result.used ≤ length piece.now }
     ensures uses_bytes { 0 < length piece.now → 0 < result.used }
 {
-    let asked = tap.connection.timed.asked();
-    let before = tap.connection.timed.tap.waiting();
-    let at = tap.connection.timed.tap.line.asked_at();
-    let step = tap.connection.step(side, piece, Some(now)).step;
+    let next = tap.connection.step(side, piece, Some(now));
+    let seen = &next.step.seen;
     let heard = Heard {
-        bytes: tap.taken.take(side, step.used, &step.seen),
-        is_error: is_error(&step.seen),
-        waited: waited_of(now, asked, &step.seen),
+        bytes: tap.kept.taken.take(side, next.step.used, seen),
+        is_error: is_error(seen),
+        waited: waited_of(now, next.waiting.asked, seen),
     };
-    tap.follow(counts, filter, client, before, at, heard, &step.seen);
-    step
+    follow(&mut tap.kept.asked, counts, filter, client, &next, heard);
+    next.step
 }
 
 /// Writes the line of a result if it is an error, and the filter lets lines about the client through.

@@ -1,18 +1,17 @@
 //! A tap whose traffic is printed through a filter.
 
-ghost use Rattle.std.specs.Prelude.{◌≡◌, ◌<◌, ◌≤◌, ◌-◌, ℕ, List, [], length};
+ghost use Rattle.std.specs.Prelude.{◌≡◌, ◌<◌, ◌≤◌, ℕ, List, [], length};
 ghost use Rattle.resp_tap.specs.Connections.{IsNewConnection};
 ghost use Rattle.resp_tap.specs.Filtering.{WatchesFiltered};
 ghost use Rattle.resp_tap.specs.Filters.{kept_by};
 ghost use Rattle.resp_tap.specs.Noted.{IsNoted, NotesAfter};
 ghost use Rattle.resp_tap.specs.Parts.{AreKeptOf};
 ghost use Rattle.resp_tap.specs.SeenOf.{IsKeptIn, with_whole};
-ghost use Rattle.resp_tap.specs.Times.{waits_in};
 ghost use Rattle.resp_tap.specs.Watches.{KeepsOther, WatchesAll};
 ghost use Rattle.resp_tap.specs.declared.seen.Seen.{Seen};
 ghost use Rattle.resp_value.specs.Data.{Datum};
 
-use crate::connection::ConnectionTap;
+use crate::connection::{ConnectionTap, KeepingTap, Next};
 use crate::filter::Filter;
 use crate::moment::Moment;
 use crate::note::{Note, is_chosen, note_of, write_filtered};
@@ -38,11 +37,13 @@ use std::collections::VecDeque;
 ///
 /// If an allocation fails, the tap keeps no note of the command, nor of the commands after it as long
 /// as it waits.
+pub type FilteredTap = KeepingTap<Notes>;
+
+/// The notes of the commands that wait.
 #[derive(Drop)]
-pub struct FilteredTap {
-    pub(crate) alloc: Global,
-    pub(crate) connection: ConnectionTap,
-    /// The notes of the commands that wait, in their order.
+pub struct Notes {
+    alloc: Global,
+    /// The notes, in the order of the commands.
     pub(crate) notes: VecDeque<Note>,
 }
 
@@ -55,67 +56,56 @@ impl FilteredTap {
     pub fn new(alloc: Global, limits: &Limits, shown: ShownPart, filter: &Filter) -> FilteredTap
         ensures new_connection { IsNewConnection limits.now shown.most
             (kept_by filter.now shown.most) result.connection }
-        ensures nothing_kept { result.notes.items ≡ [] }
+        ensures nothing_kept { result.kept.notes.items ≡ [] }
     {
         let kept = filter.kept_part(shown);
-        FilteredTap {
-            alloc,
+        KeepingTap {
             connection: ConnectionTap::keeping(alloc, limits, shown, kept),
-            notes: VecDeque::new(alloc),
+            kept: Notes {
+                alloc,
+                notes: VecDeque::new(alloc),
+            },
         }
     }
+}
 
-    /// Returns the tap of the connection.
-    pub fn connection(&self) -> &ConnectionTap
-        ensures { result.now ≡ self.now.connection }
-    {
-        &self.connection
-    }
-
-    /// Returns the tap of a new connection, whose lines are commands or are not. Without lines a byte
-    /// that begins no array is an error.
-    pub fn with_lines(mut self, are_read: bool) -> FilteredTap
-        ensures lines { result.connection.lines ≡ record self.connection.lines { are_read = are_read } }
-        ensures same { result ≡ record self {
-          connection =
-              record self.connection { lines = result.connection.lines };
-        } }
-    {
-        self.connection.lines.are_read = are_read;
-        self
-    }
-
-    /// Adds or drops notes of the commands that wait, after a result. This many commands waited before
-    /// it.
+impl Notes {
+    /// Adds or drops notes after a result. `is_chosen` says whether the words of its command are
+    /// printed.
     fn follow(
         &mut self,
         filter: &Filter,
         options: TextOptions,
         now: Option<Moment>,
-        before: u64,
-        is_line: bool,
+        next: &Next,
         is_chosen: bool,
-        seen: &Seen,
     )
-        ensures notes { (whole : Datum) →
-            IsKeptIn options.shown.most options.kept.most whole seen.now →
-            NotesAfter filter.now options now is_line is_chosen (with_whole whole seen.now) before
-            (waits_in self.old.connection.timed) self.old.notes.items self.new.notes.items }
-        ensures same { self.new.connection ≡ self.old.connection }
+        ensures { (whole : Datum) →
+            IsKeptIn options.shown.most options.kept.most whole next.now.step.seen →
+            NotesAfter filter.now options now next.now.is_line is_chosen
+            (with_whole whole next.now.step.seen) next.now.waiting.count next.now.left
+            self.old.notes.items self.new.notes.items }
     {
-        let after = self.connection.timed.tap.waiting();
-        match seen {
-            Seen::Command { words, lengths, .. } if before < after && filter.is_selective() => {
+        let before = next.waiting.count;
+        match &next.step.seen {
+            Seen::Command { words, lengths, .. } if before < next.left && filter.is_selective() => {
                 let lengths = lengths.as_slice();
                 self.add(
-                    filter, options, now, before, is_line, is_chosen, words, lengths,
+                    filter,
+                    options,
+                    now,
+                    before,
+                    next.is_line,
+                    is_chosen,
+                    words,
+                    lengths,
                 );
             }
-            _ => drop_first(&mut self.notes, before.saturating_sub(after)),
+            _ => drop_first(&mut self.notes, before.saturating_sub(next.left)),
         }
     }
 
-    /// Keeps what is needed of a command behind so many others that wait.
+    /// Keeps the note of a command behind this many others that wait.
     fn add(
         &mut self,
         filter: &Filter,
@@ -127,11 +117,10 @@ impl FilteredTap {
         words: &Words,
         lengths: &[u64],
     )
-        ensures notes { (whole : List (List ℕ)) →
+        ensures { (whole : List (List ℕ)) →
             AreKeptOf options.shown.most options.kept.most whole words.now lengths.now →
             IsNoted filter.now options now is_line is_chosen whole self.old.notes.items
             self.new.notes.items }
-        ensures same { self.new.connection ≡ self.old.connection }
     {
         let behind = self.notes.len();
         // Otherwise a command before this one has no note.
@@ -172,21 +161,24 @@ pub fn watch_filtered_some<W: Sink>(
     ensures uses_bytes { 0 < length piece.now → 0 < result.used }
 {
     let options = tap.connection.timed.tap.options(printing);
-    let asked = tap.connection.timed.asked();
-    let before = tap.connection.timed.tap.waiting();
-    let at = tap.connection.timed.tap.line.asked_at();
-    let lined = tap.connection.step(side, piece, now);
-    let step = lined.step;
-    let is_line = lined.is_line;
-    let stamp = stamp_of(now, asked, &step.seen);
-    let note = tap.notes.get(at);
-    let is_chosen = is_chosen(filter, note, &step.seen);
+    let next = tap.connection.step(side, piece, now);
+    let seen = &next.step.seen;
+    let stamp = stamp_of(now, next.waiting.asked, seen);
+    let note = tap.kept.notes.get(next.waiting.next);
+    let is_chosen = is_chosen(filter, note, seen);
     let printed = write_filtered(
-        filter, options, is_line, is_chosen, note, stamp, &step.seen, writer,
+        filter,
+        options,
+        next.is_line,
+        is_chosen,
+        note,
+        stamp,
+        seen,
+        writer,
     );
-    tap.follow(filter, options, now, before, is_line, is_chosen, &step.seen);
+    tap.kept.follow(filter, options, now, &next, is_chosen);
     Watched {
-        used: step.used,
+        used: next.step.used,
         printed,
     }
 }

@@ -9,12 +9,11 @@ ghost use Rattle.resp_tap.specs.Keeping.{IsAdded};
 ghost use Rattle.resp_tap.specs.JsonTaps.{WatchesJson, kept_json};
 ghost use Rattle.resp_value.specs.Data.{Datum};
 ghost use Rattle.resp_tap.specs.SeenOf.{IsKeptIn};
-ghost use Rattle.resp_tap.specs.Times.{waits_in};
 ghost use Rattle.resp_tap.specs.Watches.{KeepsOther, WatchesAll};
 ghost use Rattle.resp_tap.specs.declared.seen.Seen.{Seen};
 
 use crate::called::{Called, command_name, is_chosen_called, name_of_called};
-use crate::connection::ConnectionTap;
+use crate::connection::{ConnectionTap, KeepingTap, Next};
 use crate::filter::Filter;
 use crate::json_line::{Facts, SHOWN, write_seen_json};
 use crate::moment::Moment;
@@ -38,9 +37,11 @@ use std::collections::VecDeque;
 ///
 /// If an allocation fails, the tap does not keep the command, nor the commands after it as long as it
 /// waits. The lines of their replies have no name then.
+pub type JsonTap = KeepingTap<Calls>;
+
+/// The names of the commands that wait, and the bytes of incomplete ones.
 #[derive(Drop)]
-pub struct JsonTap {
-    pub(crate) connection: ConnectionTap,
+pub struct Calls {
     /// The commands that wait, in their order.
     pub(crate) calls: VecDeque<Called>,
     /// The bytes read of an incomplete command and of an incomplete value.
@@ -55,67 +56,44 @@ impl JsonTap {
     pub fn new(alloc: Global, limits: &Limits, filter: &Filter) -> JsonTap
         ensures new_connection { IsNewConnection limits.now (Some 1024)
             (kept_by filter.now (Some 1024)) result.connection }
-        ensures nothing_kept { result.calls.items ≡ [] }
-        ensures no_bytes { (result.taken.sent ≡ 0) × (result.taken.received ≡ 0) }
+        ensures nothing_kept { result.kept.calls.items ≡ [] }
+        ensures no_bytes { (result.kept.taken.sent ≡ 0) × (result.kept.taken.received ≡ 0) }
     {
         let shown = ShownPart::first(SHOWN);
         let kept = filter.kept_part(shown);
-        JsonTap {
+        KeepingTap {
             connection: ConnectionTap::keeping(alloc, limits, shown, kept),
-            calls: VecDeque::new(alloc),
-            taken: NONE_TAKEN,
+            kept: Calls {
+                calls: VecDeque::new(alloc),
+                taken: NONE_TAKEN,
+            },
         }
     }
+}
 
-    /// Returns the tap of the connection.
-    pub fn connection(&self) -> &ConnectionTap
-        ensures { result.now ≡ self.now.connection }
-    {
-        &self.connection
+/// Adds a command that waits, or drops those that wait no more, after a result. `is_chosen` says
+/// whether the words of its command are printed.
+fn follow(calls: &mut VecDeque<Called>, next: &Next, is_chosen: bool)
+    ensures { CalledAfter is_chosen next.now.step.seen next.now.waiting.count next.now.left
+        calls.old.items calls.new.items }
+{
+    let before = next.waiting.count;
+    match &next.step.seen {
+        Seen::Command { words, .. } if before < next.left => keep(calls, before, is_chosen, words),
+        _ => drop_first(calls, before.saturating_sub(next.left)),
     }
+}
 
-    /// Returns the tap of a new connection, whose lines are commands or are not. Without lines a byte
-    /// that begins no array is an error.
-    pub fn with_lines(mut self, are_read: bool) -> JsonTap
-        ensures lines { result.connection.lines ≡ record self.connection.lines { are_read = are_read } }
-        ensures same { result ≡ record self {
-          connection =
-              record self.connection { lines = result.connection.lines };
-        } }
-    {
-        self.connection.lines.are_read = are_read;
-        self
+/// Keeps the name of a command behind this many others that wait.
+fn keep(calls: &mut VecDeque<Called>, before: u64, is_chosen: bool, words: &Words)
+    ensures { IsAdded (IsCalled is_chosen words.now) calls.old.items calls.new.items }
+{
+    // Otherwise a command before this one is missing.
+    if calls.len() as u64 != before {
+        return;
     }
-
-    /// Adds a command that waits, or drops those that wait no more, after a result. This many commands
-    /// waited before it.
-    fn follow(&mut self, before: u64, is_chosen: bool, seen: &Seen)
-        ensures calls { CalledAfter is_chosen seen.now before (waits_in self.old.connection.timed)
-            self.old.calls.items self.new.calls.items }
-        ensures same { self.new.connection ≡ self.old.connection }
-        ensures same_taken { self.new.taken ≡ self.old.taken }
-    {
-        let after = self.connection.timed.tap.waiting();
-        match seen {
-            Seen::Command { words, .. } if before < after => self.keep(before, is_chosen, words),
-            _ => drop_first(&mut self.calls, before.saturating_sub(after)),
-        }
-    }
-
-    /// Keeps the name of a command behind so many others that wait.
-    fn keep(&mut self, before: u64, is_chosen: bool, words: &Words)
-        ensures calls { IsAdded (IsCalled is_chosen words.now) self.old.calls.items
-            self.new.calls.items }
-        ensures same { self.new.connection ≡ self.old.connection }
-        ensures same_taken { self.new.taken ≡ self.old.taken }
-    {
-        // Otherwise a command before this one is missing.
-        if self.calls.len() as u64 != before {
-            return;
-        }
-        let name = command_name(words);
-        let _ = self.calls.push_back(Called { name, is_chosen });
-    }
+    let name = command_name(words);
+    let _ = calls.push_back(Called { name, is_chosen });
 }
 
 /// Writes the line of a result, if the filter lets it through. `name` is that of the command that is
@@ -164,26 +142,23 @@ pub fn watch_json_some<W: Sink>(
     ensures within_piece { result.used ≤ length piece.now }
     ensures uses_bytes { 0 < length piece.now → 0 < result.used }
 {
-    let asked = tap.connection.timed.asked();
-    let before = tap.connection.timed.tap.waiting();
-    let at = tap.connection.timed.tap.line.asked_at();
-    let lined = tap.connection.step(side, piece, Some(now));
-    let step = lined.step;
-    let size = tap.taken.take(side, step.used, &step.seen);
-    let called = tap.calls.get(at);
-    let is_chosen = is_chosen_called(filter, called, &step.seen);
+    let next = tap.connection.step(side, piece, Some(now));
+    let seen = &next.step.seen;
+    let size = tap.kept.taken.take(side, next.step.used, seen);
+    let called = tap.kept.calls.get(next.waiting.next);
+    let is_chosen = is_chosen_called(filter, called, seen);
     let facts = Facts {
         client,
-        is_line: lined.is_line,
+        is_line: next.is_line,
         size,
         of_day: now.of_day,
-        waited: waited_of(now, asked, &step.seen),
+        waited: waited_of(now, next.waiting.asked, seen),
     };
     let name = name_of_called(called);
-    let printed = write_kept(filter, facts, is_chosen, name, &step.seen, writer);
-    tap.follow(before, is_chosen, &step.seen);
+    let printed = write_kept(filter, facts, is_chosen, name, seen, writer);
+    follow(&mut tap.kept.calls, &next, is_chosen);
     Watched {
-        used: step.used,
+        used: next.step.used,
         printed,
     }
 }

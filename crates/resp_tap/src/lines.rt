@@ -2,14 +2,16 @@
 
 ghost use Rattle.std.specs.Prelude.{◌≡◌, ◌≢◌, ◌⊎◌, ◌<◌, ◌≤◌, ◌++◌, [], true, length, IfErr, IfOk, OnOk};
 ghost use Rattle.std.specs.Bool.{MatchBool};
-ghost use Rattle.resp_tap.specs.Lined.{BeginsLine, EndsSo, IsInLine, IsNoLine, IsTextOf, TellsLine, WhyRejected};
+ghost use Rattle.resp_tap.specs.Lined.{BeginsLine, EndsSo, IsInLine, IsNoLine, IsTextOf, SeesLined, TellsLine, WhyRejected};
 ghost use Rattle.resp_tap.specs.Taps.{tap_state};
+ghost use Rattle.resp_tap.specs.Watches.{KeepsOther};
 ghost use Rattle.resp_tap.specs.Watching.{HasTakenRequest, KeepsValue};
 
 use crate::moment::Moment;
 use crate::seen::{Seen, Step};
 use crate::tap::Tap;
 use crate::timed::TimedTap;
+use crate::watch::{Side, step};
 use bytes::BytesMut;
 use memchr::memchr;
 use resp_encode::{EncodeError, encode_words};
@@ -71,7 +73,7 @@ impl Lines {
 
     /// Returns whether the next bytes of the client belong to a line. A line begins where a command
     /// may begin, with any byte but `*`.
-    pub(crate) fn have(&self, tap: &Tap, piece: &[u8]) -> bool
+    fn have(&self, tap: &Tap, piece: &[u8]) -> bool
         ensures { MatchBool result (IsInLine self.now tap.now piece.now)
             (IsNoLine self.now tap.now piece.now) }
     {
@@ -107,8 +109,32 @@ impl Lines {
         }
     }
 
+    /// Reads bytes that one side sent, until there is a result or the piece ends, as
+    /// [`step`](crate::watch::step) does. A line of the client is a command too, if lines are read.
+    pub(crate) fn step(
+        &mut self,
+        tap: &mut TimedTap,
+        side: Side,
+        piece: &[u8],
+        now: Option<Moment>,
+    ) -> Lined
+        ensures sees { SeesLined now side self.old self.new tap.old tap.new piece.now
+            result.step.used result.step.seen result.is_line }
+        ensures other_side { KeepsOther side tap.old.tap tap.new.tap }
+        ensures within_piece { result.step.used ≤ length piece.now }
+        ensures uses_bytes { 0 < length piece.now → 0 < result.step.used }
+    {
+        let is_line = side == Side::Client && self.have(&tap.tap, piece);
+        let step = if is_line {
+            self.read(tap, piece, now)
+        } else {
+            step(tap, side, piece, now)
+        };
+        Lined { step, is_line }
+    }
+
     /// Reads bytes of a line, up to its end or to that of the piece.
-    pub(crate) fn read(&mut self, tap: &mut TimedTap, piece: &[u8], now: Option<Moment>) -> Step
+    fn read(&mut self, tap: &mut TimedTap, piece: &[u8], now: Option<Moment>) -> Step
         ensures told { HasTakenRequest tap.old.tap [] → (tap_state tap.old.tap).reads_commands ≡ true →
             TellsLine now self.old self.new tap.old tap.new piece.now result.used result.seen }
         ensures same_value { KeepsValue tap.old.tap tap.new.tap }

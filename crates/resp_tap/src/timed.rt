@@ -1,7 +1,6 @@
 //! A tap that measures how long commands wait for their replies.
 
-ghost use Rattle.std.specs.Prelude.{◌≡◌, ◌-◌, ◌<◌, ◌≤◌, true, false, ℕ, List, [], Some, drop, length, slice_get};
-ghost use Rattle.resp_tap.specs.Lines.{asked_at};
+ghost use Rattle.std.specs.Prelude.{◌≡◌, ◌-◌, ◌<◌, ◌≤◌, true, false, [], Some, drop, length};
 ghost use Rattle.resp_tap.specs.Parts.{IsEnough, kept_for};
 ghost use Rattle.resp_tap.specs.Taps.{at_front, new_tap, tap_state};
 ghost use Rattle.resp_tap.specs.Watching.{HasTakenRequest, HasTakenValue, KeepsRequest, KeepsValue, SeesTimed, SeesValue, WhereAnswered, WhereRequested};
@@ -41,7 +40,18 @@ pub struct TimedTap {
     pub(crate) times: VecDeque<u64>,
 }
 
-ghost use Rattle.resp_tap.specs.Times.{HasTimes, KeepsTimes, is_heard, waits_in};
+/// The commands that wait for their replies.
+#[derive(Clone, Copy, Debug)]
+pub(crate) struct Waiting {
+    /// The number of the commands.
+    pub(crate) count: u64,
+    /// The index of the command that the next reply belongs to.
+    pub(crate) next: usize,
+    /// The time of that command by the steady clock, if it is known.
+    pub(crate) asked: Option<u64>,
+}
+
+ghost use Rattle.resp_tap.specs.Times.{AreWaiting, HasTimes, IsAskedIn, KeepsTimes, is_heard, waits_in};
 
 /// Returns whether a value of the server was heard.
 fn is_heard(seen: &Seen) -> bool
@@ -97,10 +107,20 @@ impl TimedTap {
     /// known if a moment was given with all bytes of both sides so far. If it was given with some of
     /// them only, the time may be missing, or that of another command.
     pub fn asked(&self) -> Option<u64>
-        ensures { (times : List ℕ) → HasTimes self.now times →
-            result ≡ slice_get times (asked_at (tap_state self.now.tap).line.due) }
+        ensures { IsAskedIn self.now result }
     {
         self.times.get(self.tap.line.asked_at()).copied()
+    }
+
+    /// Returns the commands that wait for their replies.
+    pub(crate) fn waiting(&self) -> Waiting
+        ensures { AreWaiting self.now result }
+    {
+        Waiting {
+            count: self.tap.waiting(),
+            next: self.tap.line.asked_at(),
+            asked: self.asked(),
+        }
     }
 
     /// Reads bytes that the client sent, which arrived at this moment, as [`Tap::from_client`]

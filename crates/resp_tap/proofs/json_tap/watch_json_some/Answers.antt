@@ -1,14 +1,10 @@
-use Rattle.std.proofs.Common.{◌≡◌, ◌∙◌, ℕ, List, Option, ap, sym, subst}
-use Rattle.std.specs.Prelude.{Some, option_map, slice_get}
+use Rattle.std.proofs.Common.{◌≡◌, ◌∙◌, ℕ, List, Option, ap, subst}
+use Rattle.std.specs.Prelude.{option_map, slice_get}
 use Rattle.resp_tap.specs.Called.{CalledAfter, IsChosenCalled, name_of_called}
 use Rattle.resp_tap.specs.JsonTaps.{called_of, kept_json}
-use Rattle.resp_tap.specs.Connections.{SeesNext}
-use Rattle.resp_tap.specs.Taken.{KeepsTaken, taken_of}
 use Rattle.resp_tap.specs.Taps.{tap_state}
-use Rattle.resp_tap.specs.Times.{waits_in}
 use Rattle.resp_tap.specs.declared.called.Called.{Called}
 use Rattle.resp_tap.specs.declared.json_line.Facts.{Facts}
-use Rattle.resp_tap.specs.declared.connection.ConnectionTap.{ConnectionTap}
 use Rattle.resp_tap.proofs.KeptItems.{kept_at, prints_same}
 use Rattle.resp_tap.proofs.json_tap.watch_json_some.Goals as goal
 
@@ -16,16 +12,16 @@ pub returns-clause-watches : goal.returns-clause-watches
 returns-clause-watches g c =
     let f = c.args.filter.now in
     let now = c.args.now in
-    let side = c.args.side in
     let old = c.args.tap.now in
-    let used = c.step-lined.result.step.used in
-    let what = c.step-lined.result.step.seen in
-    let is_line = c.step-lined.result.is_line in
+    let next = c.step-next.result in
+    let waited = c.step-next.ensures.waited in
+    let what = next.step.seen in
+    let is_line = next.is_line in
     let size = c.take-size.result in
     let is_chosen = c.is_chosen_called-is_chosen.result in
     let called : option_map (λ called. called.now) c.get-called.result ≡ called_of old =
-    kept_at old.calls.items c.asked_at-at.result c.get-called.result c.get-called.ensures.item ∙
-    ap (slice_get old.calls.items) c.asked_at-at.ensures in
+    kept_at old.kept.calls.items next.waiting.next c.get-called.result c.get-called.ensures.item ∙
+    ap (slice_get old.kept.calls.items) waited.index in
     let facts : Facts = record {
       client = c.args.client;
       is_line = is_line;
@@ -39,21 +35,18 @@ returns-clause-watches g c =
         is_chosen,
         size,
         record {
-          seen = subst (λ (t : ConnectionTap). SeesNext (Some now) side old.connection t c.args.piece.now used what
-              is_line) (sym c.follow.ensures.same) c.step-lined.ensures.sees;
+          seen = c.step-next.ensures.sees;
           bytes = c.take-size.ensures.bytes;
-          left = ap (taken_of side) c.follow.ensures.same_taken ∙ c.take-size.ensures.left;
-          same_taken = subst (KeepsTaken side old.taken) (sym c.follow.ensures.same_taken)
-              c.take-size.ensures.same_taken;
+          left = c.take-size.ensures.left;
+          same_taken = c.take-size.ensures.same_taken;
           chosen = subst (λ (kept : Option Called). IsChosenCalled f kept what is_chosen) called
               c.is_chosen_called-is_chosen.ensures;
-          calls = subst (λ (t : ℕ × ConnectionTap). CalledAfter is_chosen what t.0 (waits_in t.1.timed) old.calls.items
-              c.follow.new.self.calls.items) (λ i. (c.waiting-before.ensures i, sym c.follow.ensures.same i))
-              c.follow.ensures.calls;
+          calls = subst (λ (t : ℕ × ℕ). CalledAfter is_chosen what t.0 t.1 old.kept.calls.items
+              c.follow.new.calls.items) (λ i. (waited.number i, c.step-next.ensures.left i)) c.follow.ensures;
         },
         record {
-          asked = c.asked-asked.result;
-          of_command = c.asked-asked.ensures;
+          asked = next.waiting.asked;
+          of_command = waited.time;
           facts = facts;
           are = ap (λ (waited : Option ℕ). record facts { waited = waited }) c.waited_of.ensures;
           text = λ whole kept. prints_same _ _ _ _ _ _ _ _

@@ -2,13 +2,12 @@ use Rattle.std.proofs.Common.{rules, ◌≡◌, ◌<◌, ◌-◌, ℕ, List, tru
 use Rattle.std.specs.Prelude.{Vec, nat_lt}
 use Rattle.resp_counts.specs.declared.row.Row.{Row}
 use Rattle.resp_tap.specs.Counting.{AsksCall, CountsAfter, CountsBy}
-use Rattle.resp_tap.specs.Times.{waits_in}
 use Rattle.resp_tap.specs.declared.counted.Asked.{Asked}
 use Rattle.resp_tap.specs.declared.counted.Heard.{Heard}
 use Rattle.resp_tap.specs.declared.filter.Filter.{Filter}
 use Rattle.resp_tap.specs.declared.seen.Seen.{Seen}
 use Rattle.resp_tap.specs.declared.seen.Seen.TheVariants as seen
-use Rattle.resp_tap.proofs.counted.CountedTap.follow.Goals as goal
+use Rattle.resp_tap.proofs.counted.follow.Goals as goal
 
 is_more : (before after : ℕ) → before < after → nat_lt before after ≡ true
 is_more before after less = search rules
@@ -22,9 +21,11 @@ one_more f client what number words lengths heard before after at old new rows r
     (subst (λ b. CountsBy b f client (seen.Command number words lengths) heard before (before - after) at old new rows rows')
     (sym (is_more before after less)) asks)
 
-pub returns-in-Command-clause-counts : goal.returns-in-Command-clause-counts
-returns-in-Command-clause-counts c =
-    let more : c.args.before < waits_in c.args.self.now.connection.timed = search rules in
-    one_more c.args.filter.now c.args.client c.args.seen.now c.in-Command.number c.in-Command.words c.in-Command.lengths c.args.heard c.args.before
-    (waits_in c.args.self.now.connection.timed) c.args.at c.args.self.now.asked.items c.ask.new.self.asked.items
-    c.args.counts.now.rows.items c.ask.new.counts.rows.items c.in-Command.is more c.ask.ensures.asks
+pub returns-in-Command : goal.returns-in-Command
+returns-in-Command c =
+    let a = c.args in
+    let command = c.in-Command in
+    let more : a.next.now.waiting.count < a.next.now.left = search rules in
+    one_more a.filter.now a.client a.next.now.step.seen command.number command.words command.lengths a.heard
+    a.next.now.waiting.count a.next.now.left a.next.now.waiting.next a.asked.now.items c.ask.new.asked.items
+    a.counts.now.rows.items c.ask.new.counts.rows.items command.is more c.ask.ensures

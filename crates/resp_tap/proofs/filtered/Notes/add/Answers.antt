@@ -1,10 +1,10 @@
 use Rattle.std.proofs.Common.{rules, ◌≡◌, ℕ, length, subst}
 use Rattle.resp_tap.specs.Noted.{IsNote, room_for}
 use Rattle.resp_tap.proofs.KeptItems.{put_last}
-use Rattle.resp_tap.proofs.filtered.FilteredTap.add.Goals as goal
+use Rattle.resp_tap.proofs.filtered.Notes.add.Goals as goal
 
-pub returns-in-Ok-clause-notes : goal.returns-in-Ok-clause-notes
-returns-in-Ok-clause-notes c = λ whole are.
+pub returns-in-Ok : goal.returns-in-Ok
+returns-in-Ok c = λ whole are.
     let a = c.args in
     let old = a.self.now.notes.items in
     let IsBehind = λ (count : ℕ). IsNote a.options a.now a.is_line a.is_chosen whole
