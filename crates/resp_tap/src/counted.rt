@@ -278,10 +278,9 @@ fn watch_counted_some<W: Sink>(
 {
     let step = count_some(tap, counts, filter, printing.client, side, piece, now);
     let printed = write_counted(filter, printing, now, &step.seen, writer);
-    Watched {
-        used: step.used,
-        printed,
-    }
+    let used = step.used;
+    drop(step);
+    Watched { used, printed }
 }
 
 /// Reads a piece that one side sent, as [`count_some`] does, and counts all commands that wait no

@@ -177,10 +177,9 @@ pub fn watch_filtered_some<W: Sink>(
         writer,
     );
     tap.kept.follow(filter, options, now, &next, is_chosen);
-    Watched {
-        used: next.step.used,
-        printed,
-    }
+    let used = next.step.used;
+    drop(next);
+    Watched { used, printed }
 }
 
 /// Reads a piece that one side sent, and prints all commands, replies and pushes in it that the

@@ -157,10 +157,9 @@ pub fn watch_json_some<W: Sink>(
     let name = name_of_called(called);
     let printed = write_kept(filter, facts, is_chosen, name, seen, writer);
     follow(&mut tap.kept.calls, &next, is_chosen);
-    Watched {
-        used: next.step.used,
-        printed,
-    }
+    let used = next.step.used;
+    drop(next);
+    Watched { used, printed }
 }
 
 /// Reads a piece that one side sent, and prints all commands, replies and pushes in it that the

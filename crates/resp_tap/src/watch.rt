@@ -95,10 +95,9 @@ pub fn watch_some<W: Sink>(
     let step = step(tap, side, piece, now);
     let stamp = stamp_of(now, asked, &step.seen);
     let printed = write_seen(options, false, stamp, &step.seen, writer);
-    Watched {
-        used: step.used,
-        printed,
-    }
+    let used = step.used;
+    drop(step);
+    Watched { used, printed }
 }
 
 /// Returns the first of two results of printing that is an error.
