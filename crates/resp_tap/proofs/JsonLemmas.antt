@@ -55,16 +55,7 @@ member_kept front (byte ∷ text) = ap (λ t. front ++ text_json t) (shown_kept 
 -- ---- values
 
 scalar_word_kept : (n : ℕ) (s : Scalar) → scalar_word (cut_scalar n s) ≡ scalar_word s
-scalar_word_kept n d.Null = refl
-scalar_word_kept n (d.Bool b) = refl
-scalar_word_kept n (d.Int i) = refl
-scalar_word_kept n (d.Simple text) = refl
-scalar_word_kept n (d.Error text) = refl
-scalar_word_kept n (d.Double text) = refl
-scalar_word_kept n (d.Bulk text) = refl
-scalar_word_kept n (d.BulkError text) = refl
-scalar_word_kept n (d.Verbatim format text) = refl
-scalar_word_kept n (d.Big negative digits) = refl
+scalar_word_kept n s = grind arith
 
 plain_word_kept : (n : ℕ) (x : Datum) → plain_word (cut n x) ≡ plain_word x
 plain_word_kept n (scalar s) = scalar_word_kept n s
@@ -78,17 +69,7 @@ type_kept : (n : ℕ) (x : Datum) → type_word (cut n x) ≡ type_word x
 type_kept n x = ap plain_word (plain_kept n x) ∙ plain_word_kept n (without_attributes x)
 
 plain_error_kept : (n : ℕ) (x : Datum) → plain_error (cut n x) ≡ take (suc n) (plain_error x)
-plain_error_kept n (scalar d.Null) = refl
-plain_error_kept n (scalar (d.Bool b)) = refl
-plain_error_kept n (scalar (d.Int i)) = refl
-plain_error_kept n (scalar (d.Simple text)) = refl
-plain_error_kept n (scalar (d.Error text)) = refl
-plain_error_kept n (scalar (d.Double text)) = refl
-plain_error_kept n (scalar (d.Bulk text)) = refl
-plain_error_kept n (scalar (d.BulkError text)) = refl
-plain_error_kept n (scalar (d.Verbatim format text)) = refl
-plain_error_kept n (scalar (d.Big negative digits)) = refl
-plain_error_kept n (aggregate k xs) = refl
+plain_error_kept n x = grind arith
 
 error_kept : (x : Datum) → error_text (cut 1024 x) ≡ take 1025 (error_text x)
 error_kept x = ap plain_error (plain_kept 1024 x) ∙ plain_error_kept 1024 (without_attributes x)
