@@ -10,7 +10,7 @@ use Rattle.resp_value.specs.Attributes.{without_attributes}
 use Rattle.resp_value.specs.Data.{Datum, Scalar, Array, Set, Map, Attr, Push, scalar, aggregate}
 use Rattle.resp_value.specs.Data as d
 use Rattle.resp_value.specs.Values.{datum_of}
-use Rattle.resp_tap.specs.JsonLines.{answer_json, called_json, continues, continues_at, end_json, error_text, front_json, last_end, member_json, number_json, plain_error, plain_word, reply_json, scalar_word, shown_part, type_word, unpaired_json, waited_json}
+use Rattle.resp_tap.specs.JsonLines.{answer_json, continues, continues_at, end_json, error_text, front_json, last_end, member_json, number_json, plain_error, plain_word, reply_json, scalar_word, shown_part, type_word, unpaired_json, waited_json}
 use Rattle.resp_tap.specs.Parts.{IsKeptOf}
 use Rattle.resp_tap.specs.declared.json_line.Facts.{Facts}
 use Rattle.resp_tap.proofs.KeptLemmas.{plain_kept}
@@ -55,16 +55,7 @@ member_kept front (byte ∷ text) = ap (λ t. front ++ text_json t) (shown_kept 
 -- ---- values
 
 scalar_word_kept : (n : ℕ) (s : Scalar) → scalar_word (cut_scalar n s) ≡ scalar_word s
-scalar_word_kept n d.Null = refl
-scalar_word_kept n (d.Bool b) = refl
-scalar_word_kept n (d.Int i) = refl
-scalar_word_kept n (d.Simple text) = refl
-scalar_word_kept n (d.Error text) = refl
-scalar_word_kept n (d.Double text) = refl
-scalar_word_kept n (d.Bulk text) = refl
-scalar_word_kept n (d.BulkError text) = refl
-scalar_word_kept n (d.Verbatim format text) = refl
-scalar_word_kept n (d.Big negative digits) = refl
+scalar_word_kept n s = grind arith
 
 plain_word_kept : (n : ℕ) (x : Datum) → plain_word (cut n x) ≡ plain_word x
 plain_word_kept n (scalar s) = scalar_word_kept n s
@@ -78,17 +69,7 @@ type_kept : (n : ℕ) (x : Datum) → type_word (cut n x) ≡ type_word x
 type_kept n x = ap plain_word (plain_kept n x) ∙ plain_word_kept n (without_attributes x)
 
 plain_error_kept : (n : ℕ) (x : Datum) → plain_error (cut n x) ≡ take (suc n) (plain_error x)
-plain_error_kept n (scalar d.Null) = refl
-plain_error_kept n (scalar (d.Bool b)) = refl
-plain_error_kept n (scalar (d.Int i)) = refl
-plain_error_kept n (scalar (d.Simple text)) = refl
-plain_error_kept n (scalar (d.Error text)) = refl
-plain_error_kept n (scalar (d.Double text)) = refl
-plain_error_kept n (scalar (d.Bulk text)) = refl
-plain_error_kept n (scalar (d.BulkError text)) = refl
-plain_error_kept n (scalar (d.Verbatim format text)) = refl
-plain_error_kept n (scalar (d.Big negative digits)) = refl
-plain_error_kept n (aggregate k xs) = refl
+plain_error_kept n x = grind arith
 
 error_kept : (x : Datum) → error_text (cut 1024 x) ≡ take 1025 (error_text x)
 error_kept x = ap plain_error (plain_kept 1024 x) ∙ plain_error_kept 1024 (without_attributes x)
@@ -103,8 +84,9 @@ answer_as facts whole kept is = ap (answer_json facts) is.value ∙ answer_kept 
 pub reply_as : (facts : Facts) (number : ℕ) (name : List ℕ) (whole : Datum) (kept : CutValue) → IsKeptOf (Some 1024) whole kept →
     reply_json facts number name (datum_of kept.value) ≡ reply_json facts number name whole
 reply_as facts number name whole kept is =
-    ap (λ a. called_json facts.client (codes ",\"kind\":\"reply\"") number name ++ (waited_json facts.waited ++ a)) (answer_as facts whole kept is)
+    ap (λ a. front_json facts.client (codes ",\"kind\":\"reply\"") (number_json (codes ",\"number\":") number ++ member_json (codes ",\"command\":") name) ++
+    (waited_json facts.waited ++ a)) (answer_as facts whole kept is)
 
 pub unpaired_as : (facts : Facts) (whole : Datum) (kept : CutValue) → IsKeptOf (Some 1024) whole kept →
     unpaired_json facts (datum_of kept.value) ≡ unpaired_json facts whole
-unpaired_as facts whole kept is = ap (λ a. front_json facts.client (codes ",\"kind\":\"value\"") ++ a) (answer_as facts whole kept is)
+unpaired_as facts whole kept is = ap (front_json facts.client (codes ",\"kind\":\"value\"")) (answer_as facts whole kept is)

@@ -81,17 +81,7 @@ same_message_word n word enough = λ i.
 -- ---- notices
 
 three_kept : (n : ℕ) (word : List ℕ) (last : Datum) → three_by word (cut n last) ≡ three_by word last
-three_kept n word (scalar d.Null) = refl
-three_kept n word (scalar (d.Bool b)) = refl
-three_kept n word (scalar (d.Int i)) = refl
-three_kept n word (scalar (d.Simple text)) = refl
-three_kept n word (scalar (d.Error text)) = refl
-three_kept n word (scalar (d.Double text)) = refl
-three_kept n word (scalar (d.Bulk text)) = refl
-three_kept n word (scalar (d.BulkError text)) = refl
-three_kept n word (scalar (d.Verbatim format text)) = refl
-three_kept n word (scalar (d.Big negative digits)) = refl
-three_kept n word (aggregate k xs) = refl
+three_kept n word last = grind arith
 
 -- the notice of three members depends on their first word by what the word is
 abbrev notice_by : Bool → Notice
@@ -176,17 +166,7 @@ mutual
   annotated_kept n (more x (more y ys)) = annotated_kept n (more y ys)
 
 error_kept : (n : ℕ) (x : Datum) → is_error (cut n x) ≡ is_error x
-error_kept n (scalar d.Null) = refl
-error_kept n (scalar (d.Bool b)) = refl
-error_kept n (scalar (d.Int i)) = refl
-error_kept n (scalar (d.Simple text)) = refl
-error_kept n (scalar (d.Error text)) = refl
-error_kept n (scalar (d.Double text)) = refl
-error_kept n (scalar (d.Bulk text)) = refl
-error_kept n (scalar (d.BulkError text)) = refl
-error_kept n (scalar (d.Verbatim format text)) = refl
-error_kept n (scalar (d.Big negative digits)) = refl
-error_kept n (aggregate k xs) = refl
+error_kept n x = grind arith
 
 refusal_kept : (n : ℕ) (x : Datum) → is_refusal (cut n x) ≡ is_refusal x
 refusal_kept n x = ap is_error (plain_kept n x) ∙ error_kept n (without_attributes x)

@@ -2,7 +2,7 @@
 use Rattle.std.proofs.Common.{◌≡◌, ◌≢◌, ◌∙◌, ◌⊎◌, ℕ, ◌+◌, ◌^◌, ◌<◌, ◌≤◌, false, List, [], ◌∷◌, ◌++◌, length, map, Option, refl, sym, ap, subst, arith}
 use Rattle.std.specs.Prelude.{None, Some, option_map}
 use Rattle.resp_cut.specs.Cuts.{cut, cut_each, kept_part, lengths_of_each, longer}
-use Rattle.resp_value.specs.Data.{Datum, Data, Array, Set, Map, Attr, Push, scalar, aggregate, none, more}
+use Rattle.resp_value.specs.Data.{Datum, Data, Scalar, Array, Set, Map, Attr, Push, scalar, aggregate, none, more}
 use Rattle.resp_value.specs.Data as d
 use Rattle.resp_session.specs.Commands.{Call, Meaning, NoCommand, Nothing, array_meaning, bulk_content, bulk_contents, contents_with, meaning_of}
 use Rattle.resp_tap.specs.Kinds.{command_kind}
@@ -20,17 +20,7 @@ use Rattle.resp_tap.proofs.LineReading.{no_other, same_words}
 -- ---- the words of an array
 
 content_kept : (n : ℕ) (x : Datum) → bulk_content (cut n x) ≡ option_map (kept_part n) (bulk_content x)
-content_kept n (scalar d.Null) = refl
-content_kept n (scalar (d.Bool b)) = refl
-content_kept n (scalar (d.Int i)) = refl
-content_kept n (scalar (d.Simple text)) = refl
-content_kept n (scalar (d.Error text)) = refl
-content_kept n (scalar (d.Double text)) = refl
-content_kept n (scalar (d.Bulk text)) = refl
-content_kept n (scalar (d.BulkError text)) = refl
-content_kept n (scalar (d.Verbatim format text)) = refl
-content_kept n (scalar (d.Big negative digits)) = refl
-content_kept n (aggregate k xs) = refl
+content_kept n x = grind arith
 
 both_kept : (n : ℕ) (content : Option (List ℕ)) (contents : Option (List (List ℕ))) →
     contents_with (option_map (kept_part n) content) (option_map (map (kept_part n)) contents) ≡
@@ -141,17 +131,11 @@ array_kept n None = refl
 array_kept n (Some []) = refl
 array_kept n (Some (name ∷ arguments)) = refl
 
+scalar_meaning_kept : (n : ℕ) (s : Scalar) → meaning_of (cut n (scalar s)) ≡ kept_meaning n (meaning_of (scalar s))
+scalar_meaning_kept n s = grind arith
+
 meaning_kept : (n : ℕ) (x : Datum) → meaning_of (cut n x) ≡ kept_meaning n (meaning_of x)
-meaning_kept n (scalar d.Null) = refl
-meaning_kept n (scalar (d.Bool b)) = refl
-meaning_kept n (scalar (d.Int i)) = refl
-meaning_kept n (scalar (d.Simple text)) = refl
-meaning_kept n (scalar (d.Error text)) = refl
-meaning_kept n (scalar (d.Double text)) = refl
-meaning_kept n (scalar (d.Bulk text)) = refl
-meaning_kept n (scalar (d.BulkError text)) = refl
-meaning_kept n (scalar (d.Verbatim format text)) = refl
-meaning_kept n (scalar (d.Big negative digits)) = refl
+meaning_kept n (scalar s) = scalar_meaning_kept n s
 meaning_kept n (aggregate Array xs) = ap array_meaning (contents_kept n xs) ∙ array_kept n (bulk_contents xs)
 meaning_kept n (aggregate Set xs) = refl
 meaning_kept n (aggregate Map xs) = refl

@@ -2,7 +2,7 @@
 use Rattle.std.specs.Prelude.{◌≡◌, ◌<◌, ◌+◌, true, false, ℕ, List, [], ◌∷◌, ◌++◌, length, Option, None, Some, codes, decimal}
 use Rattle.resp_tap.specs.Stamps.{ending_text}
 use Rattle.resp_tap.specs.Taps.{tap_state}
-use Rattle.resp_tap.specs.Texts.{numbered_end}
+use Rattle.resp_tap.specs.Texts.{about_client, place_text}
 use Rattle.resp_tap.specs.Watching.{WhereAnswered, WhereRequested, place_of_value}
 use Rattle.resp_tap.specs.declared.end.Cut.{Cut}
 use Rattle.resp_tap.specs.declared.seen.Place.{Place}
@@ -40,26 +40,30 @@ abbrev pub ended_words : Side → List ℕ
 ended_words Client = codes " closed"
 ended_words Server = codes ": the server closed the connection"
 
--- which command, reply or value is incomplete
-abbrev pub part_words : Place → List ℕ
-part_words (place.Command number) = codes " in command " ++ decimal number ++ codes ", after "
-part_words (place.Reply number) = codes " in reply " ++ decimal number ++ codes ", after "
-part_words place.Value = codes " in a value, after "
+-- the parenthesis before the name of a connection, if it has one
+abbrev pub before_name : List ℕ → List ℕ
+before_name [] = []
+before_name (byte ∷ name) = codes " ("
 
--- the end of a line about an incomplete command, reply or value
-abbrev pub cut_end : Cut → Option Stamp → List ℕ
-cut_end cut stamp = part_words cut.place ++ numbered_end cut.bytes (codes " bytes") stamp
+-- the parenthesis after it
+abbrev pub after_name : List ℕ → List ℕ
+after_name [] = []
+after_name (byte ∷ name) = codes ")"
 
--- the number of a client, with the name of its connection if it has one
-abbrev pub client_words : ℕ → List ℕ → List ℕ
-client_words client [] = codes "client " ++ decimal client ++ codes ""
-client_words client (byte ∷ name) = (codes "client " ++ decimal client ++ codes " (") ++ ((byte ∷ name) ++ codes ")")
+-- a line about a client's connection with this name, if it has one
+abbrev pub about_connection : ℕ → List ℕ → List ℕ → List ℕ
+about_connection client name rest = about_client client (before_name name) (name ++ (after_name name ++ rest))
 
 -- a line about a client's connection
 abbrev pub named_line : ℕ → List ℕ → List ℕ → Option Stamp → List ℕ
-named_line client name what stamp = client_words client name ++ (what ++ ending_text stamp)
+named_line client name what stamp = about_connection client name (what ++ ending_text stamp)
+
+-- the line about a side that has ended inside a command, reply or value
+abbrev pub cut_end : ℕ → List ℕ → Side → Cut → Option Stamp → List ℕ
+cut_end client name side cut stamp = about_connection client name (ended_words side ++ (codes " in " ++
+    (place_text cut.place ++ ((codes ", after " ++ decimal cut.bytes) ++ (codes " bytes" ++ ending_text stamp)))))
 
 -- the line about the side that has ended
 abbrev pub end_text : ℕ → List ℕ → Side → Option Cut → Option Stamp → List ℕ
 end_text client name side None stamp = named_line client name (ended_words side) stamp
-end_text client name side (Some cut) stamp = client_words client name ++ (ended_words side ++ cut_end cut stamp)
+end_text client name side (Some cut) stamp = cut_end client name side cut stamp

@@ -43,22 +43,17 @@ member_json front (byte ∷ text) = front ++ text_json (shown_part (byte ∷ tex
 
 -- a member with this number, after these bytes
 abbrev pub number_json : List ℕ → ℕ → List ℕ
-number_json front number = front ++ decimal number ++ codes ""
+number_json front number = front ++ decimal number
 
 -- ---- parts of lines
 
--- the client, and the kind of the line
-abbrev pub front_json : ℕ → List ℕ → List ℕ
-front_json client kind = codes "{\"client\":" ++ decimal client ++ kind
+-- the client, the kind of the line, and the rest
+abbrev pub front_json : ℕ → List ℕ → List ℕ → List ℕ
+front_json client kind rest = number_json (codes "{\"client\":") client ++ (kind ++ rest)
 
 -- the time of day, and the end of a line
 abbrev pub end_json : ℕ → List ℕ
 end_json of_day = codes ",\"time\":\"" ++ (time_text of_day ++ codes "\"}\n")
-
--- a line about the command with this number and this name, up to its name
-abbrev pub called_json : ℕ → List ℕ → ℕ → List ℕ → List ℕ
-called_json client kind number name =
-    front_json client kind ++ (number_json (codes ",\"number\":") number ++ member_json (codes ",\"command\":") name)
 
 -- ---- values
 
@@ -102,6 +97,10 @@ abbrev pub value_json : List ℕ → List ℕ → ℕ → ℕ → List ℕ
 value_json word error size of_day =
     codes ",\"type\":\"" ++ (word ++ (number_json (codes "\",\"size\":") size ++ (member_json (codes ",\"error\":") error ++ end_json of_day)))
 
+-- the type and the bytes of a value, its text if it is an error, and the end of its line
+abbrev pub answer_json : Facts → Datum → List ℕ
+answer_json facts x = value_json (type_word x) (error_text x) facts.size facts.of_day
+
 -- the delay of a reply, if it is known
 abbrev pub waited_json : Option ℕ → List ℕ
 waited_json None = []
@@ -112,32 +111,25 @@ waited_json (Some micros) = number_json (codes ",\"micros\":") micros
 abbrev pub inline_json : Bool → List ℕ
 inline_json is_line = if is_line then codes ",\"inline\":true" else []
 
--- the number of a command's words, its bytes, and the end of its line
-abbrev pub words_json : Facts → ℕ → List ℕ
-words_json facts words = inline_json facts.is_line ++
-    (number_json (codes ",\"words\":") words ++ (number_json (codes ",\"size\":") facts.size ++ end_json facts.of_day))
-
--- the line of a command
+-- the line of a command with this number, this name and so many words
 abbrev pub command_json : Facts → ℕ → List ℕ → ℕ → List ℕ
-command_json facts number name words =
-    called_json facts.client (codes ",\"kind\":\"command\"") number name ++ words_json facts words
-
--- the type and the bytes of a value, its text if it is an error, and the end of its line
-abbrev pub answer_json : Facts → Datum → List ℕ
-answer_json facts x = value_json (type_word x) (error_text x) facts.size facts.of_day
+command_json facts number name words = front_json facts.client (codes ",\"kind\":\"command\"")
+    (number_json (codes ",\"number\":") number ++ (member_json (codes ",\"command\":") name ++ (inline_json facts.is_line ++
+    (number_json (codes ",\"words\":") words ++ (number_json (codes ",\"size\":") facts.size ++ end_json facts.of_day)))))
 
 -- the line of the reply to the command with this number and this name
 abbrev pub reply_json : Facts → ℕ → List ℕ → Datum → List ℕ
-reply_json facts number name x = called_json facts.client (codes ",\"kind\":\"reply\"") number name ++
+reply_json facts number name x =
+    front_json facts.client (codes ",\"kind\":\"reply\"") (number_json (codes ",\"number\":") number ++ member_json (codes ",\"command\":") name) ++
     (waited_json facts.waited ++ answer_json facts x)
 
 -- the line of a push
 abbrev pub push_json : Facts → List ℕ
-push_json facts = front_json facts.client (codes ",\"kind\":\"push\"") ++ value_json (codes "push") [] facts.size facts.of_day
+push_json facts = front_json facts.client (codes ",\"kind\":\"push\"") (value_json (codes "push") [] facts.size facts.of_day)
 
 -- the line of a value that is paired with no command
 abbrev pub unpaired_json : Facts → Datum → List ℕ
-unpaired_json facts x = front_json facts.client (codes ",\"kind\":\"value\"") ++ answer_json facts x
+unpaired_json facts x = front_json facts.client (codes ",\"kind\":\"value\"") (answer_json facts x)
 
 -- the command, reply or value that is incomplete or wrong
 abbrev pub place_json : Place → List ℕ
@@ -147,7 +139,7 @@ place_json place.Value = codes ",\"in\":\"value\""
 
 -- the line of an error in the bytes of a side
 abbrev pub refused_json : Facts → List ℕ → ℕ → Place → List ℕ
-refused_json facts name at where' = front_json facts.client (codes ",\"kind\":\"refused\",\"cause\":\"") ++
+refused_json facts name at where' = front_json facts.client (codes ",\"kind\":\"refused\",\"cause\":\"")
     (name ++ (number_json (codes "\",\"at\":") at ++ (place_json where' ++ end_json facts.of_day)))
 
 -- The line of a result; that of a result of the server is the line of this whole value. The name is that of the command
@@ -167,25 +159,26 @@ seen_json facts name whole (seen.Refused cause at where') = refused_json facts (
 
 -- the line about a connection with this text, which may be empty
 abbrev pub remark_json : ℕ → List ℕ → List ℕ → List ℕ → ℕ → List ℕ
-remark_json client kind member text of_day = front_json client kind ++ (member_json member text ++ end_json of_day)
+remark_json client kind member text of_day = front_json client kind (member_json member text ++ end_json of_day)
 
 abbrev pub closed_kind : Side → List ℕ
 closed_kind Client = codes ",\"kind\":\"closed\",\"side\":\"client\""
 closed_kind Server = codes ",\"kind\":\"closed\",\"side\":\"server\""
 
 -- the incomplete command or reply at the end of a side, if there is one
-abbrev pub cut_json : Option Cut → List ℕ
-cut_json None = []
-cut_json (Some cut) = place_json cut.place ++ number_json (codes ",\"size\":") cut.bytes
+abbrev pub cut_place : Option Cut → List ℕ
+cut_place None = []
+cut_place (Some cut) = place_json cut.place
 
--- the line with this kind about a side of a connection that has ended
-abbrev pub ended_json : ℕ → List ℕ → List ℕ → Option Cut → ℕ → List ℕ
-ended_json client kind name cut of_day =
-    front_json client kind ++ (member_json (codes ",\"name\":") name ++ (cut_json cut ++ end_json of_day))
+-- the number of its bytes
+abbrev pub cut_size : Option Cut → List ℕ
+cut_size None = []
+cut_size (Some cut) = number_json (codes ",\"size\":") cut.bytes
 
 -- the line about the side of a connection that has ended
 abbrev pub closed_json : ℕ → List ℕ → Side → Option Cut → ℕ → List ℕ
-closed_json client name side cut of_day = ended_json client (closed_kind side) name cut of_day
+closed_json client name side cut of_day = front_json client (closed_kind side)
+    (member_json (codes ",\"name\":") name ++ (cut_place cut ++ (cut_size cut ++ end_json of_day)))
 
 -- ---- other lines
 

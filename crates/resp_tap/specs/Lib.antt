@@ -37,4 +37,5 @@ pub mod CountedTaps
 -- What is printed as JSON.
 pub mod Called
 pub mod JsonLines
+pub mod Segments
 pub mod JsonTaps

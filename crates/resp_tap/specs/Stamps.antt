@@ -7,7 +7,7 @@ use Rattle.resp_tap.specs.declared.stamp.Stamp.{Stamp}
 abbrev pub waited_text : Option ℕ → List ℕ
 waited_text None = codes "\n"
 waited_text (Some micros) =
-    (codes " after " ++ decimal (micros / 1000000) ++ codes ".") ++ (micros_text micros ++ codes " s\n")
+    (codes " after " ++ decimal (micros / 1000000)) ++ (codes "." ++ (micros_text micros ++ codes " s\n"))
 
 abbrev pub stamp_text : Stamp → List ℕ
 stamp_text stamp = time_text stamp.of_day ++ waited_text stamp.waited

@@ -36,22 +36,21 @@ words_text most words = flat_map (word_text most) words
 abbrev pub words_line : Option ℕ → List (List ℕ) → List ℕ
 words_line most words = codes " " ++ (words_text most words ++ codes "\n")
 
--- a number, these words after it, and the end of its line
-abbrev pub numbered_end : ℕ → List ℕ → Option Stamp → List ℕ
-numbered_end number words stamp = decimal number ++ (words ++ ending_text stamp)
+-- a line about a client: these bytes after its number, and the rest
+abbrev pub about_client : ℕ → List ℕ → List ℕ → List ℕ
+about_client client what rest = (codes "client " ++ decimal client) ++ (what ++ rest)
 
 -- a line of a client with a number, and these words after it
 abbrev pub numbered_line : ℕ → List ℕ → ℕ → List ℕ → Option Stamp → List ℕ
-numbered_line client what number words stamp =
-    (codes "client " ++ decimal client ++ what) ++ numbered_end number words stamp
+numbered_line client what number words stamp = about_client client what (decimal number ++ (words ++ ending_text stamp))
 
 -- a line of a client without a number
 abbrev pub client_line : ℕ → List ℕ → Option Stamp → List ℕ
-client_line client what stamp = (codes "client " ++ decimal client ++ what) ++ ending_text stamp
+client_line client what stamp = about_client client what (ending_text stamp)
 
 -- a line of a client with these bytes after its number, and a text
 abbrev pub remark_text : ℕ → List ℕ → List ℕ → Option Stamp → List ℕ
-remark_text client front text stamp = (codes "client " ++ decimal client ++ front) ++ (text ++ ending_text stamp)
+remark_text client front text stamp = about_client client front (text ++ ending_text stamp)
 
 -- the words about a command that came as a line, and no words about one that came as an array
 abbrev pub line_words : Bool → List ℕ
@@ -79,23 +78,16 @@ push_text p stamp x = client_line p.client (codes " push") stamp ++ lines_within
 abbrev pub value_text : TextOptions → Option Stamp → Datum → List ℕ
 value_text p stamp x = client_line p.client (codes " value") stamp ++ lines_within p.shown.most 1 x
 
--- the command, reply or value that contains a wrong byte
-abbrev pub place_text : Place → Option Stamp → List ℕ
-place_text (place.Command number) stamp = codes "command " ++ numbered_end number (codes "") stamp
-place_text (place.Reply number) stamp = codes "reply " ++ numbered_end number (codes "") stamp
-place_text place.Value stamp = codes "a value" ++ ending_text stamp
+-- the words about a command, reply or value
+abbrev pub place_text : Place → List ℕ
+place_text (place.Command number) = codes "command " ++ decimal number
+place_text (place.Reply number) = codes "reply " ++ decimal number
+place_text place.Value = codes "a value"
 
--- the line of an error up to its name
-abbrev pub refusal_heading : ℕ → List ℕ → List ℕ
-refusal_heading client name = (codes "client " ++ decimal client ++ codes " refused ") ++ name
-
--- the index of the wrong byte, and the command, reply or value that contains it
-abbrev pub byte_text : ℕ → Place → Option Stamp → List ℕ
-byte_text at where' stamp = (codes " at byte " ++ decimal at ++ codes " of ") ++ place_text where' stamp
-
--- the line of an error
+-- the line of an error: its name, the index of the wrong byte, and the command, reply or value that contains it
 abbrev pub refusal_text : ℕ → List ℕ → ℕ → Place → Option Stamp → List ℕ
-refusal_text client name at where' stamp = refusal_heading client name ++ byte_text at where' stamp
+refusal_text client name at where' stamp = about_client client (codes " refused ")
+    (name ++ ((codes " at byte " ++ decimal at) ++ (codes " of " ++ (place_text where' ++ ending_text stamp))))
 
 -- the line of a result that is an error, and no line of another result
 abbrev pub refused_text : ℕ → Option Stamp → Seen → List ℕ

@@ -1,18 +1,18 @@
 //! The end of one side of a connection, and the command or reply that it cuts off.
 
-ghost use Rattle.std.specs.Prelude.{◌≡◌, ◌+◌, ◌++◌, ℕ, List, codes, length, None, false, true};
+ghost use Rattle.std.specs.Prelude.{◌≡◌, ◌+◌, ℕ, List, length, None, false, true};
 ghost use Rattle.resp_print.specs.Written.{WritesText};
-ghost use Rattle.resp_tap.specs.Ends.{CutsCommand, CutsOff, client_words, cut_end, cut_of, end_text, ended_words, named_line, part_words};
+ghost use Rattle.resp_tap.specs.Ends.{CutsCommand, CutsOff, after_name, before_name, cut_end, cut_of, end_text, ended_words, named_line};
 ghost use Rattle.resp_tap.specs.Taps.{tap_state};
 ghost use Rattle.resp_tap.specs.Watching.{WhereAnswered, WhereRequested, place_of_value};
 ghost use Rattle.resp_tap.specs.declared.seen.Place.TheVariants as place;
 
-use crate::print::{write_line, write_numbered_end};
+use crate::print::place_segment;
 use crate::seen::Place;
+use crate::segment::{Segment, write_segments};
 use crate::stamp::Stamp;
 use crate::tap::Tap;
 use crate::watch::Side;
-use resp_print::text::{write_number, write_text};
 use resp_value::device::{DeviceFault, Sink};
 
 /// An incomplete command, reply or value.
@@ -99,25 +99,18 @@ fn ended_words(side: Side) -> &'static [u8]
     }
 }
 
-/// Writes the number of a client, and the name of its connection if it has one.
-fn write_client<W: Sink>(client: u64, name: &[u8], writer: &mut W) -> Result<(), DeviceFault>
-    ensures { WritesText (W.written writer.old) (W.written writer.new) (W.failures writer.old)
-        (W.failures writer.new) result (client_words client name.now) }
+/// Returns the parenthesis before the name of a connection, if it has one.
+fn before_name(name: &[u8]) -> &'static [u8]
+    ensures { result.now ≡ before_name name.now }
 {
-    if name.is_empty() {
-        return write_number(writer, b"client ", client, b"");
-    }
-    write_number(writer, b"client ", client, b" (")?;
-    write_name(name, writer)
+    if name.is_empty() { b"" } else { b" (" }
 }
 
-/// Writes a name and the parenthesis after it.
-fn write_name<W: Sink>(name: &[u8], writer: &mut W) -> Result<(), DeviceFault>
-    ensures { WritesText (W.written writer.old) (W.written writer.new) (W.failures writer.old)
-        (W.failures writer.new) result (name.now ++ codes ")") }
+/// Returns the parenthesis after the name of a connection, if it has one.
+fn after_name(name: &[u8]) -> &'static [u8]
+    ensures { result.now ≡ after_name name.now }
 {
-    write_text(writer, name)?;
-    write_text(writer, b")")
+    if name.is_empty() { b"" } else { b")" }
 }
 
 /// Writes a line about a client's connection with its name, such as `client 1 (worker) gone`. A
@@ -126,18 +119,27 @@ fn write_name<W: Sink>(name: &[u8], writer: &mut W) -> Result<(), DeviceFault>
 /// # Errors
 ///
 /// `DeviceFault` if a write fails. The first part of the line was written.
-pub fn write_named_line<W: Sink>(
+pub fn write_named_line<'a, W: Sink>(
     client: u64,
-    name: &[u8],
-    what: &[u8],
+    name: &'a [u8],
+    what: &'a [u8],
     stamp: Option<Stamp>,
     writer: &mut W,
 ) -> Result<(), DeviceFault>
     ensures { WritesText (W.written writer.old) (W.written writer.new) (W.failures writer.old)
         (W.failures writer.new) result (named_line client name.now what.now stamp) }
 {
-    write_client(client, name, writer)?;
-    write_line(what, stamp, writer)
+    write_segments(
+        &[
+            Segment::Number(b"client ", client),
+            Segment::Text(before_name(name)),
+            Segment::Text(name),
+            Segment::Text(after_name(name)),
+            Segment::Text(what),
+            Segment::Ending(stamp),
+        ],
+        writer,
+    )
 }
 
 /// Writes the line about the side of a client's connection that has ended, and the incomplete
@@ -159,58 +161,35 @@ pub fn write_end<W: Sink>(
 {
     match cut {
         None => write_named_line(client, name, ended_words(side), stamp, writer),
-        Some(cut) => write_cut_end(client, name, ended_words(side), cut, stamp, writer),
+        Some(cut) => write_cut_end(client, name, side, cut, stamp, writer),
     }
 }
 
-/// Writes the line with these words about a side that has ended inside a command or a reply.
+/// Writes the line about a side that has ended inside a command or a reply.
 fn write_cut_end<W: Sink>(
     client: u64,
     name: &[u8],
-    words: &[u8],
+    side: Side,
     cut: Cut,
     stamp: Option<Stamp>,
     writer: &mut W,
 ) -> Result<(), DeviceFault>
     ensures { WritesText (W.written writer.old) (W.written writer.new) (W.failures writer.old)
-        (W.failures writer.new) result (client_words client name.now ++
-        (words.now ++ cut_end cut stamp)) }
+        (W.failures writer.new) result (cut_end client name.now side cut stamp) }
 {
-    write_client(client, name, writer)?;
-    write_cut_words(words, cut, stamp, writer)
-}
-
-/// Writes these words, the incomplete command or reply, and the end of the line.
-fn write_cut_words<W: Sink>(
-    words: &[u8],
-    cut: Cut,
-    stamp: Option<Stamp>,
-    writer: &mut W,
-) -> Result<(), DeviceFault>
-    ensures { WritesText (W.written writer.old) (W.written writer.new) (W.failures writer.old)
-        (W.failures writer.new) result (words.now ++ cut_end cut stamp) }
-{
-    write_text(writer, words)?;
-    write_cut(cut, stamp, writer)
-}
-
-/// Writes the incomplete command or reply, and the end of the line.
-fn write_cut<W: Sink>(cut: Cut, stamp: Option<Stamp>, writer: &mut W) -> Result<(), DeviceFault>
-    ensures { WritesText (W.written writer.old) (W.written writer.new) (W.failures writer.old)
-        (W.failures writer.new) result (cut_end cut stamp) }
-{
-    write_part_words(cut.place, writer)?;
-    write_numbered_end(cut.bytes, b" bytes", stamp, writer)
-}
-
-/// Writes which command, reply or value is incomplete.
-fn write_part_words<W: Sink>(place: Place, writer: &mut W) -> Result<(), DeviceFault>
-    ensures { WritesText (W.written writer.old) (W.written writer.new) (W.failures writer.old)
-        (W.failures writer.new) result (part_words place) }
-{
-    match place {
-        Place::Command(number) => write_number(writer, b" in command ", number, b", after "),
-        Place::Reply(number) => write_number(writer, b" in reply ", number, b", after "),
-        Place::Value => write_text(writer, b" in a value, after "),
-    }
+    write_segments(
+        &[
+            Segment::Number(b"client ", client),
+            Segment::Text(before_name(name)),
+            Segment::Text(name),
+            Segment::Text(after_name(name)),
+            Segment::Text(ended_words(side)),
+            Segment::Text(b" in "),
+            place_segment(cut.place),
+            Segment::Number(b", after ", cut.bytes),
+            Segment::Text(b" bytes"),
+            Segment::Ending(stamp),
+        ],
+        writer,
+    )
 }

@@ -1,21 +1,23 @@
 //! The lines of JSON of commands, replies, pushes and connections.
 
-ghost use Rattle.std.specs.Prelude.{◌≡◌, ◌++◌, ◌<◌, ℕ, Option, Some, codes, length};
+ghost use Rattle.std.specs.Prelude.{◌≡◌, ◌++◌, ◌<◌, ℕ, Option, Some, length};
 ghost use Rattle.resp_json.specs.Json.{text_json};
 ghost use Rattle.resp_print.specs.Written.{WritesText};
 ghost use Rattle.resp_value.specs.Data.{Datum};
 ghost use Rattle.resp_tap.specs.SeenOf.{IsKeptIn};
 ghost use Rattle.resp_value.specs.Values.{datum_of};
 ghost use Rattle.resp_tap.specs.Called.{command_name};
-ghost use Rattle.resp_tap.specs.JsonLines.{answer_json, called_json, closed_json, closed_kind, command_json, continues, cut_json, end_json, ended_json, error_text, front_json, inline_json, last_end, listening_json, member_json, number_json, place_json, push_json, refused_json, remark_json, reply_json, seen_json, shown_part, type_word, unpaired_json, value_json, waited_json, words_json};
+ghost use Rattle.resp_tap.specs.JsonLines.{answer_json, closed_json, closed_kind, command_json, continues, cut_place, cut_size, end_json, error_text, last_end, listening_json, member_json, place_json, push_json, refused_json, remark_json, reply_json, seen_json, shown_part, type_word, unpaired_json};
+ghost use Rattle.resp_tap.specs.Segments.{segment_text};
 
 use crate::called::command_name;
 use crate::end::Cut;
 use crate::seen::{Place, Seen};
+use crate::segment::{Segment, write_segments};
 use crate::stamp::write_time;
 use crate::watch::Side;
 use resp_json::text::write_json_text;
-use resp_print::text::{write_number, write_text};
+use resp_print::text::write_text;
 use resp_session::words::Words;
 use resp_value::device::{DeviceFault, Sink};
 use resp_value::value::Value;
@@ -72,7 +74,11 @@ fn shown_part(text: &[u8]) -> &[u8]
 }
 
 /// Writes a member of an object after these bytes, or nothing if the text is empty.
-fn write_member<W: Sink>(front: &[u8], text: &[u8], writer: &mut W) -> Result<(), DeviceFault>
+pub(crate) fn write_member<W: Sink>(
+    front: &[u8],
+    text: &[u8],
+    writer: &mut W,
+) -> Result<(), DeviceFault>
     ensures { WritesText (W.written writer.old) (W.written writer.new) (W.failures writer.old)
         (W.failures writer.new) result (member_json front.now text.now) }
 {
@@ -91,50 +97,13 @@ fn write_part<W: Sink>(text: &[u8], writer: &mut W) -> Result<(), DeviceFault>
     write_json_text(writer, shown_part(text))
 }
 
-/// Writes a member with a number after these bytes.
-fn write_number_member<W: Sink>(
-    front: &[u8],
-    number: u64,
-    writer: &mut W,
-) -> Result<(), DeviceFault>
-    ensures { WritesText (W.written writer.old) (W.written writer.new) (W.failures writer.old)
-        (W.failures writer.new) result (number_json front.now number) }
-{
-    write_number(writer, front, number, b"")
-}
-
-/// Writes the number of the client, and the kind of the line.
-fn write_front<W: Sink>(client: u64, kind: &[u8], writer: &mut W) -> Result<(), DeviceFault>
-    ensures { WritesText (W.written writer.old) (W.written writer.new) (W.failures writer.old)
-        (W.failures writer.new) result (front_json client kind.now) }
-{
-    write_number(writer, b"{\"client\":", client, kind)
-}
-
 /// Writes the time of day, and the end of a line.
-fn write_end_of_line<W: Sink>(of_day: u64, writer: &mut W) -> Result<(), DeviceFault>
+pub(crate) fn write_json_end<W: Sink>(of_day: u64, writer: &mut W) -> Result<(), DeviceFault>
     ensures { WritesText (W.written writer.old) (W.written writer.new) (W.failures writer.old)
         (W.failures writer.new) result (end_json of_day) }
 {
-    write_text(writer, b",\"time\":\"")?;
-    write_time(of_day, writer)?;
+    write_time(b",\"time\":\"", of_day, writer)?;
     write_text(writer, b"\"}\n")
-}
-
-/// Writes the front of a line about a command, up to its name.
-fn write_called<W: Sink>(
-    client: u64,
-    kind: &[u8],
-    number: u64,
-    name: &[u8],
-    writer: &mut W,
-) -> Result<(), DeviceFault>
-    ensures { WritesText (W.written writer.old) (W.written writer.new) (W.failures writer.old)
-        (W.failures writer.new) result (called_json client kind.now number name.now) }
-{
-    write_front(client, kind, writer)?;
-    write_number_member(b",\"number\":", number, writer)?;
-    write_member(b",\"command\":", name, writer)
 }
 
 /// Returns the word for the type of a value, without its attributes.
@@ -172,58 +141,6 @@ fn error_text(value: &Value) -> &[u8]
     }
 }
 
-/// Writes the type and the bytes of a value, and the end of its line.
-fn write_value_end<W: Sink>(
-    word: &[u8],
-    error: &[u8],
-    size: u64,
-    of_day: u64,
-    writer: &mut W,
-) -> Result<(), DeviceFault>
-    ensures { WritesText (W.written writer.old) (W.written writer.new) (W.failures writer.old)
-        (W.failures writer.new) result (value_json word.now error.now size of_day) }
-{
-    write_text(writer, b",\"type\":\"")?;
-    write_text(writer, word)?;
-    write_number_member(b"\",\"size\":", size, writer)?;
-    write_member(b",\"error\":", error, writer)?;
-    write_end_of_line(of_day, writer)
-}
-
-/// Writes the delay of a reply, if it is known.
-fn write_waited<W: Sink>(waited: Option<u64>, writer: &mut W) -> Result<(), DeviceFault>
-    ensures { WritesText (W.written writer.old) (W.written writer.new) (W.failures writer.old)
-        (W.failures writer.new) result (waited_json waited) }
-{
-    match waited {
-        None => Ok(()),
-        Some(micros) => write_number_member(b",\"micros\":", micros, writer),
-    }
-}
-
-/// Writes that a command came as a line, if it did.
-fn write_inline<W: Sink>(is_line: bool, writer: &mut W) -> Result<(), DeviceFault>
-    ensures { WritesText (W.written writer.old) (W.written writer.new) (W.failures writer.old)
-        (W.failures writer.new) result (inline_json is_line) }
-{
-    if is_line {
-        write_text(writer, b",\"inline\":true")
-    } else {
-        Ok(())
-    }
-}
-
-/// Writes the number of a command's words, its bytes, and the end of its line.
-fn write_words_end<W: Sink>(facts: Facts, words: u64, writer: &mut W) -> Result<(), DeviceFault>
-    ensures { WritesText (W.written writer.old) (W.written writer.new) (W.failures writer.old)
-        (W.failures writer.new) result (words_json facts words) }
-{
-    write_inline(facts.is_line, writer)?;
-    write_number_member(b",\"words\":", words, writer)?;
-    write_number_member(b",\"size\":", facts.size, writer)?;
-    write_end_of_line(facts.of_day, writer)
-}
-
 /// Writes the line of a command.
 fn write_command<W: Sink>(
     facts: Facts,
@@ -235,8 +152,19 @@ fn write_command<W: Sink>(
     ensures { WritesText (W.written writer.old) (W.written writer.new) (W.failures writer.old)
         (W.failures writer.new) result (command_json facts number name.now words) }
 {
-    write_called(facts.client, b",\"kind\":\"command\"", number, name, writer)?;
-    write_words_end(facts, words, writer)
+    write_segments(
+        &[
+            Segment::Number(b"{\"client\":", facts.client),
+            Segment::Text(b",\"kind\":\"command\""),
+            Segment::Number(b",\"number\":", number),
+            Segment::Member(b",\"command\":", name),
+            Segment::TextIf(facts.is_line, b",\"inline\":true"),
+            Segment::Number(b",\"words\":", words),
+            Segment::Number(b",\"size\":", facts.size),
+            Segment::JsonEnd(facts.of_day),
+        ],
+        writer,
+    )
 }
 
 /// Writes the line of the reply to the command with this number and this name.
@@ -250,21 +178,49 @@ fn write_reply<W: Sink>(
     ensures { WritesText (W.written writer.old) (W.written writer.new) (W.failures writer.old)
         (W.failures writer.new) result (reply_json facts number name.now (datum_of value.now)) }
 {
-    write_called(facts.client, b",\"kind\":\"reply\"", number, name, writer)?;
-    write_waited(facts.waited, writer)?;
-    write_answer(facts, value, writer)
+    write_segments(
+        &[
+            Segment::Number(b"{\"client\":", facts.client),
+            Segment::Text(b",\"kind\":\"reply\""),
+            Segment::Number(b",\"number\":", number),
+            Segment::Member(b",\"command\":", name),
+        ],
+        writer,
+    )?;
+    let waited = Segment::NumberIf(b",\"micros\":", facts.waited);
+    write_answer(facts, waited, value, writer)
 }
 
-/// Writes the type and the bytes of a value, its text if it is an error, and the end of its line.
-fn write_answer<W: Sink>(facts: Facts, value: &Value, writer: &mut W) -> Result<(), DeviceFault>
+/// Writes the line of a value that is paired with no command.
+fn write_unpaired<W: Sink>(facts: Facts, value: &Value, writer: &mut W) -> Result<(), DeviceFault>
     ensures { WritesText (W.written writer.old) (W.written writer.new) (W.failures writer.old)
-        (W.failures writer.new) result (answer_json facts (datum_of value.now)) }
+        (W.failures writer.new) result (unpaired_json facts (datum_of value.now)) }
 {
-    write_value_end(
-        type_word(value),
-        error_text(value),
-        facts.size,
-        facts.of_day,
+    write_segments(&[Segment::Number(b"{\"client\":", facts.client)], writer)?;
+    write_answer(facts, Segment::Text(b",\"kind\":\"value\""), value, writer)
+}
+
+/// Writes a segment, the type and the bytes of a value, its text if it is an error, and the end of its
+/// line.
+fn write_answer<'a, W: Sink>(
+    facts: Facts,
+    first: Segment<'a>,
+    value: &'a Value,
+    writer: &mut W,
+) -> Result<(), DeviceFault>
+    ensures { WritesText (W.written writer.old) (W.written writer.new) (W.failures writer.old)
+        (W.failures writer.new) result (segment_text first.entry ++
+        answer_json facts (datum_of value.now)) }
+{
+    write_segments(
+        &[
+            first,
+            Segment::Text(b",\"type\":\""),
+            Segment::Text(type_word(value)),
+            Segment::Number(b"\",\"size\":", facts.size),
+            Segment::Member(b",\"error\":", error_text(value)),
+            Segment::JsonEnd(facts.of_day),
+        ],
         writer,
     )
 }
@@ -274,32 +230,25 @@ fn write_push<W: Sink>(facts: Facts, writer: &mut W) -> Result<(), DeviceFault>
     ensures { WritesText (W.written writer.old) (W.written writer.new) (W.failures writer.old)
         (W.failures writer.new) result (push_json facts) }
 {
-    write_front(facts.client, b",\"kind\":\"push\"", writer)?;
-    write_value_end(b"push", b"", facts.size, facts.of_day, writer)
+    write_segments(
+        &[
+            Segment::Number(b"{\"client\":", facts.client),
+            Segment::Text(b",\"kind\":\"push\",\"type\":\"push"),
+            Segment::Number(b"\",\"size\":", facts.size),
+            Segment::JsonEnd(facts.of_day),
+        ],
+        writer,
+    )
 }
 
-/// Writes the line of a value that is paired with no command.
-fn write_unpaired<W: Sink>(facts: Facts, value: &Value, writer: &mut W) -> Result<(), DeviceFault>
-    ensures { WritesText (W.written writer.old) (W.written writer.new) (W.failures writer.old)
-        (W.failures writer.new) result (unpaired_json facts (datum_of value.now)) }
-{
-    write_front(facts.client, b",\"kind\":\"value\"", writer)?;
-    write_answer(facts, value, writer)
-}
-
-/// Writes which command, reply or value is incomplete or wrong.
-fn write_place<W: Sink>(place: Place, writer: &mut W) -> Result<(), DeviceFault>
-    ensures { WritesText (W.written writer.old) (W.written writer.new) (W.failures writer.old)
-        (W.failures writer.new) result (place_json place) }
+/// Returns which command, reply or value is incomplete or wrong.
+fn place_segment(place: Place) -> Segment<'static>
+    ensures { segment_text result ≡ place_json place }
 {
     match place {
-        Place::Command(number) => {
-            write_number_member(b",\"in\":\"command\",\"number\":", number, writer)
-        }
-        Place::Reply(number) => {
-            write_number_member(b",\"in\":\"reply\",\"number\":", number, writer)
-        }
-        Place::Value => write_text(writer, b",\"in\":\"value\""),
+        Place::Command(number) => Segment::Number(b",\"in\":\"command\",\"number\":", number),
+        Place::Reply(number) => Segment::Number(b",\"in\":\"reply\",\"number\":", number),
+        Place::Value => Segment::Text(b",\"in\":\"value\""),
     }
 }
 
@@ -314,11 +263,17 @@ fn write_refused<W: Sink>(
     ensures { WritesText (W.written writer.old) (W.written writer.new) (W.failures writer.old)
         (W.failures writer.new) result (refused_json facts name.now at place) }
 {
-    write_front(facts.client, b",\"kind\":\"refused\",\"cause\":\"", writer)?;
-    write_text(writer, name)?;
-    write_number_member(b"\",\"at\":", at, writer)?;
-    write_place(place, writer)?;
-    write_end_of_line(facts.of_day, writer)
+    write_segments(
+        &[
+            Segment::Number(b"{\"client\":", facts.client),
+            Segment::Text(b",\"kind\":\"refused\",\"cause\":\""),
+            Segment::Text(name),
+            Segment::Number(b"\",\"at\":", at),
+            place_segment(place),
+            Segment::JsonEnd(facts.of_day),
+        ],
+        writer,
+    )
 }
 
 /// Writes the line of a result. `name` is that of the command that is answered.
@@ -369,20 +324,26 @@ fn write_words<W: Sink>(
 /// # Errors
 ///
 /// `DeviceFault` if a write fails. The first part of the line was written.
-pub fn write_remark_json<W: Sink>(
+pub fn write_remark_json<'a, W: Sink>(
     client: u64,
-    kind: &[u8],
-    member: &[u8],
-    text: &[u8],
+    kind: &'a [u8],
+    member: &'a [u8],
+    text: &'a [u8],
     of_day: u64,
     writer: &mut W,
 ) -> Result<(), DeviceFault>
     ensures { WritesText (W.written writer.old) (W.written writer.new) (W.failures writer.old)
         (W.failures writer.new) result (remark_json client kind.now member.now text.now of_day) }
 {
-    write_front(client, kind, writer)?;
-    write_member(member, text, writer)?;
-    write_end_of_line(of_day, writer)
+    write_segments(
+        &[
+            Segment::Number(b"{\"client\":", client),
+            Segment::Text(kind),
+            Segment::Member(member, text),
+            Segment::JsonEnd(of_day),
+        ],
+        writer,
+    )
 }
 
 /// Returns the kind of the line about the side that has ended.
@@ -395,25 +356,24 @@ fn closed_kind(side: Side) -> &'static [u8]
     }
 }
 
-/// Writes the incomplete command or reply at the end of a side, if there is one.
-fn write_cut<W: Sink>(cut: Option<Cut>, writer: &mut W) -> Result<(), DeviceFault>
-    ensures { WritesText (W.written writer.old) (W.written writer.new) (W.failures writer.old)
-        (W.failures writer.new) result (cut_json cut) }
+/// Returns which command or reply is incomplete at the end of a side, if there is one.
+fn cut_place(cut: Option<Cut>) -> Segment<'static>
+    ensures { segment_text result ≡ cut_place cut }
 {
     match cut {
-        None => Ok(()),
-        Some(cut) => write_some_cut(cut, writer),
+        None => Segment::Text(b""),
+        Some(cut) => place_segment(cut.place),
     }
 }
 
-/// Writes the incomplete command or reply at the end of a side.
-fn write_some_cut<W: Sink>(cut: Cut, writer: &mut W) -> Result<(), DeviceFault>
-    ensures { WritesText (W.written writer.old) (W.written writer.new) (W.failures writer.old)
-        (W.failures writer.new) result (place_json cut.place ++
-        number_json (codes ",\"size\":") cut.bytes) }
+/// Returns the bytes of the incomplete command or reply, if there is one.
+fn cut_size(cut: Option<Cut>) -> Segment<'static>
+    ensures { segment_text result ≡ cut_size cut }
 {
-    write_place(cut.place, writer)?;
-    write_number_member(b",\"size\":", cut.bytes, writer)
+    match cut {
+        None => Segment::Text(b""),
+        Some(cut) => Segment::Number(b",\"size\":", cut.bytes),
+    }
 }
 
 /// Writes the line about the side of a client's connection that has ended, and the incomplete
@@ -433,25 +393,17 @@ pub fn write_closed_json<W: Sink>(
     ensures { WritesText (W.written writer.old) (W.written writer.new) (W.failures writer.old)
         (W.failures writer.new) result (closed_json client name.now side cut of_day) }
 {
-    write_closed(client, closed_kind(side), name, cut, of_day, writer)
-}
-
-/// Writes the line with this kind about a side that has ended.
-fn write_closed<W: Sink>(
-    client: u64,
-    kind: &[u8],
-    name: &[u8],
-    cut: Option<Cut>,
-    of_day: u64,
-    writer: &mut W,
-) -> Result<(), DeviceFault>
-    ensures { WritesText (W.written writer.old) (W.written writer.new) (W.failures writer.old)
-        (W.failures writer.new) result (ended_json client kind.now name.now cut of_day) }
-{
-    write_front(client, kind, writer)?;
-    write_member(b",\"name\":", name, writer)?;
-    write_cut(cut, writer)?;
-    write_end_of_line(of_day, writer)
+    write_segments(
+        &[
+            Segment::Number(b"{\"client\":", client),
+            Segment::Text(closed_kind(side)),
+            Segment::Member(b",\"name\":", name),
+            cut_place(cut),
+            cut_size(cut),
+            Segment::JsonEnd(of_day),
+        ],
+        writer,
+    )
 }
 
 /// Writes the line about the address that is listened on.
@@ -463,7 +415,12 @@ pub fn write_listening_json<W: Sink>(address: &[u8], writer: &mut W) -> Result<(
     ensures { WritesText (W.written writer.old) (W.written writer.new) (W.failures writer.old)
         (W.failures writer.new) result (listening_json address.now) }
 {
-    write_text(writer, b"{\"kind\":\"listening\",\"address\":")?;
-    write_json_text(writer, address)?;
-    write_text(writer, b"}\n")
+    write_segments(
+        &[
+            Segment::Text(b"{\"kind\":\"listening\",\"address\":"),
+            Segment::Json(address),
+            Segment::Text(b"}\n"),
+        ],
+        writer,
+    )
 }

@@ -28,6 +28,7 @@ pub mod print;
 pub mod screen;
 pub mod secrets;
 pub mod seen;
+mod segment;
 mod shown;
 pub mod shown_part;
 mod side_reader;

@@ -14,9 +14,9 @@ use crate::filter::Filter;
 use crate::moment::Moment;
 use crate::print::{TextOptions, secrets_for, write_heading, write_seen, write_words};
 use crate::seen::Seen;
+use crate::segment::{Segment, write_segments};
 use crate::stamp::Stamp;
 use resp_print::print_error::PrintError;
-use resp_print::text::write_text;
 use resp_session::words::Words;
 use resp_value::device::{DeviceFault, MemorySink, Sink};
 use std::alloc::{AllocError, Global};
@@ -291,7 +291,12 @@ fn write_kept_line<W: Sink>(is_whole: bool, text: &[u8], writer: &mut W) -> Resu
     ensures { WritesText (W.written writer.old) (W.written writer.new) (W.failures writer.old)
         (W.failures writer.new) result (kept_line is_whole text.now) }
 {
-    write_text(writer, b" ")?;
-    write_text(writer, text)?;
-    write_text(writer, line_end(is_whole))
+    write_segments(
+        &[
+            Segment::Text(b" "),
+            Segment::Text(text),
+            Segment::Text(line_end(is_whole)),
+        ],
+        writer,
+    )
 }

@@ -9,18 +9,20 @@ ghost use Rattle.resp_value.specs.declared.value.Value.TheVariants as value;
 ghost use Rattle.resp_print.specs.Shown.{lines_within};
 ghost use Rattle.resp_tap.specs.Parts.{AreKeptOf, IsKeptOf, cut_within, length_within, lengths_within, word_within};
 ghost use Rattle.resp_tap.specs.SeenOf.{IsKeptIn};
+ghost use Rattle.resp_tap.specs.Segments.{segment_text};
 ghost use Rattle.resp_tap.specs.Secrets.{printed_words, redacted_after, shown_word};
 ghost use Rattle.resp_tap.specs.Stamps.{ending_text};
-ghost use Rattle.resp_tap.specs.Texts.{IsPrintedAs, byte_text, client_line, command_text, heading, levels_of, line_words, numbered_end, numbered_line, place_text, push_text, refusal_heading, refusal_text, refused_text, remark_text, reply_text, seen_text, value_text, word_end, word_text, words_line, words_text};
+ghost use Rattle.resp_tap.specs.Texts.{IsPrintedAs, client_line, command_text, heading, levels_of, line_words, numbered_line, place_text, push_text, refusal_text, refused_text, remark_text, reply_text, seen_text, value_text, word_end, word_text, words_line, words_text};
 
 use crate::secrets::Secrets;
 use crate::seen::{Place, Seen};
+use crate::segment::{Segment, write_segments};
 use crate::shown_part::ShownPart;
-use crate::stamp::{Stamp, write_ending};
+use crate::stamp::Stamp;
 use crate::tap::Tap;
 use resp_cut::CutValue;
 use resp_print::print_error::PrintError;
-use resp_print::text::{is_cut, shown_part, write_number, write_quoted, write_text};
+use resp_print::text::{is_cut, shown_part, write_text};
 use resp_print::value::{write_cut_push_value, write_cut_value, write_push_value, write_value};
 use resp_session::words::Words;
 use resp_value::device::{DeviceFault, Sink};
@@ -287,19 +289,27 @@ pub(crate) fn secrets_for(options: TextOptions, words: &Words) -> Secrets
 }
 
 /// Writes the heading of a command or a reply, with its number and these words after it.
-fn write_numbered_line<W: Sink>(
+fn write_numbered_line<'a, W: Sink>(
     client: u64,
-    what: &[u8],
+    what: &'a [u8],
     number: u64,
-    words: &[u8],
+    words: &'a [u8],
     stamp: Option<Stamp>,
     writer: &mut W,
 ) -> Result<(), DeviceFault>
     ensures { WritesText (W.written writer.old) (W.written writer.new) (W.failures writer.old)
         (W.failures writer.new) result (numbered_line client what.now number words.now stamp) }
 {
-    write_number(writer, b"client ", client, what)?;
-    write_numbered_end(number, words, stamp, writer)
+    write_segments(
+        &[
+            Segment::Number(b"client ", client),
+            Segment::Text(what),
+            Segment::Number(b"", number),
+            Segment::Text(words),
+            Segment::Ending(stamp),
+        ],
+        writer,
+    )
 }
 
 /// Writes a line, with the time if there is a stamp.
@@ -315,8 +325,7 @@ pub fn write_line<W: Sink>(
     ensures { WritesText (W.written writer.old) (W.written writer.new) (W.failures writer.old)
         (W.failures writer.new) result (what.now ++ ending_text stamp) }
 {
-    write_text(writer, what)?;
-    write_ending(stamp, writer)
+    write_segments(&[Segment::Text(what), Segment::Ending(stamp)], writer)
 }
 
 /// Writes a line about a client without a number, such as `client 1 gone`.
@@ -333,8 +342,14 @@ pub fn write_client_line<W: Sink>(
     ensures { WritesText (W.written writer.old) (W.written writer.new) (W.failures writer.old)
         (W.failures writer.new) result (client_line client what.now stamp) }
 {
-    write_number(writer, b"client ", client, what)?;
-    write_ending(stamp, writer)
+    write_segments(
+        &[
+            Segment::Number(b"client ", client),
+            Segment::Text(what),
+            Segment::Ending(stamp),
+        ],
+        writer,
+    )
 }
 
 /// Writes a line about a client: these bytes after its number, and a text, such as
@@ -343,32 +358,25 @@ pub fn write_client_line<W: Sink>(
 /// # Errors
 ///
 /// `DeviceFault` if a write fails. The first part of the line was written.
-pub fn write_remark<W: Sink>(
+pub fn write_remark<'a, W: Sink>(
     client: u64,
-    front: &[u8],
-    text: &[u8],
+    front: &'a [u8],
+    text: &'a [u8],
     stamp: Option<Stamp>,
     writer: &mut W,
 ) -> Result<(), DeviceFault>
     ensures { WritesText (W.written writer.old) (W.written writer.new) (W.failures writer.old)
         (W.failures writer.new) result (remark_text client front.now text.now stamp) }
 {
-    write_number(writer, b"client ", client, front)?;
-    write_line(text, stamp, writer)
-}
-
-/// Writes a number, these words after it, and the end of its line.
-pub(crate) fn write_numbered_end<W: Sink>(
-    number: u64,
-    words: &[u8],
-    stamp: Option<Stamp>,
-    writer: &mut W,
-) -> Result<(), DeviceFault>
-    ensures { WritesText (W.written writer.old) (W.written writer.new) (W.failures writer.old)
-        (W.failures writer.new) result (numbered_end number words.now stamp) }
-{
-    write_number(writer, b"", number, words)?;
-    write_ending(stamp, writer)
+    write_segments(
+        &[
+            Segment::Number(b"client ", client),
+            Segment::Text(front),
+            Segment::Text(text),
+            Segment::Ending(stamp),
+        ],
+        writer,
+    )
 }
 
 /// Writes the line with the words of a command, from their kept part.
@@ -466,24 +474,24 @@ fn write_word<W: Sink>(
         WritesText (W.written writer.old) (W.written writer.new) (W.failures writer.old)
         (W.failures writer.new) result (word_text most whole) }
 {
-    write_text(writer, b" \"")?;
-    write_quoted(writer, shown_part(word, most))?;
-    write_word_end(count, most, writer)
+    write_segments(
+        &[
+            Segment::Text(b" \""),
+            Segment::Quoted(shown_part(word, most)),
+            word_end(count, most),
+        ],
+        writer,
+    )
 }
 
-/// Writes the quote after a word of this many bytes, and two dots and their number if not all are
+/// Returns the quote after a word of this many bytes, and two dots and their number if not all are
 /// printed.
-fn write_word_end<W: Sink>(
-    count: u64,
-    most: Option<usize>,
-    writer: &mut W,
-) -> Result<(), DeviceFault>
-    ensures { WritesText (W.written writer.old) (W.written writer.new) (W.failures writer.old)
-        (W.failures writer.new) result (word_end most count) }
+fn word_end(count: u64, most: Option<usize>) -> Segment<'static>
+    ensures { segment_text result ≡ word_end most count }
 {
     match most {
-        Some(most) if count > most as u64 => write_number(writer, b"\" .. ", count, b""),
-        _ => write_text(writer, b"\""),
+        Some(most) if count > most as u64 => Segment::Number(b"\" .. ", count),
+        _ => Segment::Text(b"\""),
     }
 }
 
@@ -499,72 +507,27 @@ fn write_refusal<W: Sink>(
     ensures { WritesText (W.written writer.old) (W.written writer.new) (W.failures writer.old)
         (W.failures writer.new) result (refusal_text client name.now at place stamp) }
 {
-    write_refusal_heading(client, name, writer)?;
-    write_byte(at, place, stamp, writer)
+    write_segments(
+        &[
+            Segment::Number(b"client ", client),
+            Segment::Text(b" refused "),
+            Segment::Text(name),
+            Segment::Number(b" at byte ", at),
+            Segment::Text(b" of "),
+            place_segment(place),
+            Segment::Ending(stamp),
+        ],
+        writer,
+    )
 }
 
-/// Writes the line of an error up to its name.
-fn write_refusal_heading<W: Sink>(
-    client: u64,
-    name: &[u8],
-    writer: &mut W,
-) -> Result<(), DeviceFault>
-    ensures { WritesText (W.written writer.old) (W.written writer.new) (W.failures writer.old)
-        (W.failures writer.new) result (refusal_heading client name.now) }
-{
-    write_number(writer, b"client ", client, b" refused ")?;
-    write_text(writer, name)
-}
-
-/// Writes the index of the wrong byte, and the command, reply or value that contains it.
-fn write_byte<W: Sink>(
-    at: u64,
-    place: Place,
-    stamp: Option<Stamp>,
-    writer: &mut W,
-) -> Result<(), DeviceFault>
-    ensures { WritesText (W.written writer.old) (W.written writer.new) (W.failures writer.old)
-        (W.failures writer.new) result (byte_text at place stamp) }
-{
-    write_number(writer, b" at byte ", at, b" of ")?;
-    write_place(place, stamp, writer)
-}
-
-/// Writes the command, reply or value that contains a wrong byte.
-fn write_place<W: Sink>(
-    place: Place,
-    stamp: Option<Stamp>,
-    writer: &mut W,
-) -> Result<(), DeviceFault>
-    ensures { WritesText (W.written writer.old) (W.written writer.new) (W.failures writer.old)
-        (W.failures writer.new) result (place_text place stamp) }
+/// Returns the words about a command, reply or value.
+pub(crate) fn place_segment(place: Place) -> Segment<'static>
+    ensures { segment_text result ≡ place_text place }
 {
     match place {
-        Place::Command(number) => write_named(b"command ", number, stamp, writer),
-        Place::Reply(number) => write_named(b"reply ", number, stamp, writer),
-        Place::Value => write_value_end(stamp, writer),
+        Place::Command(number) => Segment::Number(b"command ", number),
+        Place::Reply(number) => Segment::Number(b"reply ", number),
+        Place::Value => Segment::Text(b"a value"),
     }
-}
-
-/// Writes a word with its number, and the end of the line.
-fn write_named<W: Sink>(
-    name: &[u8],
-    number: u64,
-    stamp: Option<Stamp>,
-    writer: &mut W,
-) -> Result<(), DeviceFault>
-    ensures { WritesText (W.written writer.old) (W.written writer.new) (W.failures writer.old)
-        (W.failures writer.new) result (name.now ++ numbered_end number (codes "") stamp) }
-{
-    write_text(writer, name)?;
-    write_numbered_end(number, b"", stamp, writer)
-}
-
-/// Writes that a value contains the wrong byte, and the end of the line.
-fn write_value_end<W: Sink>(stamp: Option<Stamp>, writer: &mut W) -> Result<(), DeviceFault>
-    ensures { WritesText (W.written writer.old) (W.written writer.new) (W.failures writer.old)
-        (W.failures writer.new) result (codes "a value" ++ ending_text stamp) }
-{
-    write_text(writer, b"a value")?;
-    write_ending(stamp, writer)
 }

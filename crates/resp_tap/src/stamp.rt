@@ -42,39 +42,30 @@ pub(crate) fn write_ending<W: Sink>(stamp: Option<Stamp>, writer: &mut W) -> Res
 {
     match stamp {
         None => write_text(writer, b"\n"),
-        Some(stamp) => write_stamped_ending(stamp, writer),
+        Some(stamp) => write_stamp(stamp, writer),
     }
 }
 
-/// Writes the end of a line that has a stamp.
-fn write_stamped_ending<W: Sink>(stamp: Stamp, writer: &mut W) -> Result<(), DeviceFault>
+/// Writes a time of day, the waiting time of a command, and LF.
+fn write_stamp<W: Sink>(stamp: Stamp, writer: &mut W) -> Result<(), DeviceFault>
     ensures { WritesText (W.written writer.old) (W.written writer.new) (W.failures writer.old)
         (W.failures writer.new) result (codes " at " ++ stamp_text stamp) }
 {
-    write_text(writer, b" at ")?;
-    write_stamp(stamp, writer)
-}
-
-/// Writes a time of day, the waiting time of a command, and LF.
-///
-/// # Errors
-///
-/// `DeviceFault` if a write fails. The first part of the text was written.
-fn write_stamp<W: Sink>(stamp: Stamp, writer: &mut W) -> Result<(), DeviceFault>
-    ensures { WritesText (W.written writer.old) (W.written writer.new) (W.failures writer.old)
-        (W.failures writer.new) result (stamp_text stamp) }
-{
-    write_time(stamp.of_day, writer)?;
+    write_time(b" at ", stamp.of_day, writer)?;
     write_waited(stamp.waited, writer)
 }
 
-/// Writes a time of day, given in microseconds since midnight.
-pub(crate) fn write_time<W: Sink>(micros: u64, writer: &mut W) -> Result<(), DeviceFault>
+/// Writes a time of day after these bytes, given in microseconds since midnight.
+pub(crate) fn write_time<W: Sink>(
+    front: &[u8],
+    micros: u64,
+    writer: &mut W,
+) -> Result<(), DeviceFault>
     ensures { WritesText (W.written writer.old) (W.written writer.new) (W.failures writer.old)
-        (W.failures writer.new) result (time_text micros) }
+        (W.failures writer.new) result (front.now ++ time_text micros) }
 {
-    let text = time_of_day(micros);
-    write_text(writer, text.as_slice())
+    write_text(writer, front)?;
+    write_text(writer, &time_of_day(micros))
 }
 
 /// Writes how long a command waited, if that is known, and LF.
@@ -84,27 +75,19 @@ fn write_waited<W: Sink>(waited: Option<u64>, writer: &mut W) -> Result<(), Devi
 {
     match waited {
         None => write_text(writer, b"\n"),
-        Some(micros) => write_seconds(micros, writer),
+        Some(micros) => {
+            let seconds = micros / 1_000_000;
+            write_number(writer, b" after ", seconds, &seconds_end(micros))
+        }
     }
 }
 
-/// Writes a number of microseconds as seconds with six decimals, and LF.
-fn write_seconds<W: Sink>(micros: u64, writer: &mut W) -> Result<(), DeviceFault>
-    ensures { WritesText (W.written writer.old) (W.written writer.new) (W.failures writer.old)
-        (W.failures writer.new) result (waited_text (Some micros)) }
+/// Returns the point and the six decimals of a number of seconds, given in microseconds, and LF.
+fn seconds_end(micros: u64) -> [u8; 10]
+    ensures { result ≡ codes "." ++ (micros_text micros ++ codes " s\n") }
 {
-    write_number(writer, b" after ", micros / 1_000_000, b".")?;
-    write_micros(micros, writer)?;
-    write_text(writer, b" s\n")
-}
-
-/// Writes the last six decimal digits of a number of microseconds.
-fn write_micros<W: Sink>(micros: u64, writer: &mut W) -> Result<(), DeviceFault>
-    ensures { WritesText (W.written writer.old) (W.written writer.new) (W.failures writer.old)
-        (W.failures writer.new) result (micros_text micros) }
-{
-    let text = micros_of(micros);
-    write_text(writer, text.as_slice())
+    let [a, b, c, d, e, f] = micros_of(micros);
+    [b'.', a, b, c, d, e, f, b' ', b's', b'\n']
 }
 
 /// Returns the last decimal digit of a number.
