@@ -1,6 +1,6 @@
 //! The lines of commands, replies and pushes, as `resp tap` prints them.
 
-ghost use Rattle.std.specs.Prelude.{◌+◌, ◌++◌, ◌≡◌, [], ℕ, List, Option, Some, codes, length};
+ghost use Rattle.std.specs.Prelude.{◌+◌, ◌++◌, ◌≡◌, [], ℕ, List, Option, Some, length};
 ghost use Rattle.resp_print.specs.Printed.{Prints};
 ghost use Rattle.resp_print.specs.Written.{WritesText};
 ghost use Rattle.resp_value.specs.Data.{Datum, depth};
