@@ -9,7 +9,7 @@ use Rattle.resp_json.specs.Json.{text_json}
 use Rattle.resp_value.specs.Attributes.{without_attributes}
 use Rattle.resp_value.specs.Data.{Datum, Scalar}
 use Rattle.resp_value.specs.Values.{datum_of}
-use Rattle.resp_tap.specs.JsonLines.{answer_json, continues, continues_at, end_json, error_text, front_json, last_end, member_json, number_json, plain_error, plain_word, reply_json, scalar_word, shown_part, type_word, unpaired_json, waited_json}
+use Rattle.resp_tap.specs.JsonLines.{answer_json, continues, continues_at, end_json, error_text, front_json, known_json, last_end, member_json, number_json, plain_error, plain_word, reply_json, scalar_word, shown_part, type_word, unpaired_json}
 use Rattle.resp_tap.specs.Parts.{IsKeptOf}
 use Rattle.resp_tap.specs.declared.json_line.Facts.{Facts}
 use Rattle.resp_tap.proofs.KeptLemmas.{plain_kept}
@@ -76,7 +76,7 @@ pub reply_as : (facts : Facts) (number : ℕ) (name : List ℕ) (whole : Datum) 
     reply_json facts number name (datum_of kept.value) ≡ reply_json facts number name whole
 reply_as facts number name whole kept is =
     ap (λ a. front_json facts.client (codes ",\"kind\":\"reply\"") (number_json (codes ",\"number\":") number ++ member_json (codes ",\"command\":") name) ++
-    (waited_json facts.waited ++ a)) (answer_as facts whole kept is)
+    (known_json (codes ",\"micros\":") facts.waited ++ a)) (answer_as facts whole kept is)
 
 pub unpaired_as : (facts : Facts) (whole : Datum) (kept : CutValue) → IsKeptOf (Some 1024) whole kept →
     unpaired_json facts (datum_of kept.value) ≡ unpaired_json facts whole
