@@ -1,4 +1,4 @@
-use Rattle.std.proofs.Common.{rules, ◌≡◌, ◌∙◌, ◌+◌, [], ap, inr, refl, subst, sym}
+use Rattle.std.proofs.Common.{rules, ◌∙◌, [], ap, inr, refl, subst, sym}
 use Rattle.resp_session.specs.Commands.{meaning_of}
 use Rattle.resp_tap.specs.Sides.{HasSent}
 use Rattle.resp_tap.specs.Taps.{tap_state, with_command, with_refused_command}
