@@ -108,19 +108,17 @@ answer_json facts x = value_json (type_word x) (error_text x) facts.size facts.o
 
 -- ---- lines of results
 
-abbrev pub inline_json : Bool → List ℕ
-inline_json is_line = if is_line then codes ",\"inline\":true" else []
-
 -- the line of a command with this number, this name and so many words
 abbrev pub command_json : Facts → ℕ → List ℕ → ℕ → List ℕ
 command_json facts number name words = front_json facts.client (codes ",\"kind\":\"command\"")
-    (number_json (codes ",\"number\":") number ++ (member_json (codes ",\"command\":") name ++ (inline_json facts.is_line ++
-    (number_json (codes ",\"words\":") words ++ (number_json (codes ",\"size\":") facts.size ++ end_json facts.of_day)))))
+    (number_json (codes ",\"number\":") number ++ (member_json (codes ",\"command\":") name ++
+    ((if facts.is_line then codes ",\"inline\":true" else []) ++ (number_json (codes ",\"words\":") words ++
+    (number_json (codes ",\"size\":") facts.size ++ end_json facts.of_day)))))
 
 -- the line of the reply to the command with this number and this name
 abbrev pub reply_json : Facts → ℕ → List ℕ → Datum → List ℕ
-reply_json facts number name x =
-    front_json facts.client (codes ",\"kind\":\"reply\"") (number_json (codes ",\"number\":") number ++ member_json (codes ",\"command\":") name) ++
+reply_json facts number name x = front_json facts.client (codes ",\"kind\":\"reply\"")
+    (number_json (codes ",\"number\":") number ++ member_json (codes ",\"command\":") name) ++
     (known_json (codes ",\"micros\":") facts.waited ++ answer_json facts x)
 
 -- the line of a push
@@ -177,7 +175,8 @@ cut_bytes cut = option_map (λ (cut : Cut). cut.bytes) cut
 -- the line about the side of a connection that has ended
 abbrev pub closed_json : ℕ → List ℕ → Side → Option Cut → ℕ → List ℕ
 closed_json client name side cut of_day = front_json client (closed_kind side)
-    (member_json (codes ",\"name\":") name ++ (cut_place cut ++ (known_json (codes ",\"size\":") (cut_bytes cut) ++ end_json of_day)))
+    (member_json (codes ",\"name\":") name ++ (cut_place cut ++
+    (known_json (codes ",\"size\":") (cut_bytes cut) ++ end_json of_day)))
 
 -- ---- other lines
 
