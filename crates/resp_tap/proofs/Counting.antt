@@ -6,13 +6,11 @@ use Rattle.std.proofs.lemmas.List.{length_push}
 use Rattle.resp_value.specs.Bounds.{Bounds}
 use Rattle.resp_value.specs.Data.{Datum}
 use Rattle.resp_session.specs.Heard.{is_push, numbered_from, replies_of}
-use Rattle.resp_session.specs.Reading.{is_refusal}
 use Rattle.resp_tap.specs.Kinds.{command_kind}
 use Rattle.resp_tap.specs.Lines.{LineState, ReadsLine, after_confirmation, after_due, after_reply, asking, confirms, due_of, is_free, is_listening, is_notification, is_subscribed, is_two, line_after, line_with, line_with_all, new_line, no_subscriptions, number_by_due, number_for, number_of_reply, numbered, open_after, paired}
 use Rattle.resp_tap.specs.Notices.{notice_of}
 use Rattle.resp_tap.specs.Streams.{CountsReplies, HasOneReply, IsAnswered}
 use Rattle.resp_tap.specs.declared.kind.CommandKind.{CommandKind}
-use Rattle.resp_tap.specs.declared.kind.CommandKind.TheVariants.{Plain, Hello, Reset, Silent, Subscribing, Unpairing}
 use Rattle.resp_tap.specs.declared.line.Due.{Due}
 use Rattle.resp_tap.specs.declared.line.Subscriptions.{Subscriptions}
 use Rattle.resp_tap.specs.declared.notice.Notice.{Notice}
@@ -32,20 +30,10 @@ order_more n (first ∷ due) number kind order one is =
     (order.0, order.1, order_more (n + 1) due number kind order.2 one (is ∙ (let e : n + length (first ∷ due) ≡ n + 1 + length due = omega arith in e)))
 
 due_of_one : (number : ℕ) (kind : CommandKind) → IsAnswered kind → due_of number kind true ≡ record { number = number; kind = kind } ∷ []
-due_of_one number Plain one = refl
-due_of_one number (Hello version) one = refl
-due_of_one number Reset one = refl
-due_of_one number Silent one = absurd one
-due_of_one number (Subscribing verb channels) one = absurd one
-due_of_one number Unpairing one = absurd one
+due_of_one number kind one = grind arith
 
 open_after_one : (kind : CommandKind) → IsAnswered kind → open_after kind true ≡ true
-open_after_one Plain one = refl
-open_after_one (Hello version) one = refl
-open_after_one Reset one = refl
-open_after_one Silent one = absurd one
-open_after_one (Subscribing verb channels) one = absurd one
-open_after_one Unpairing one = absurd one
+open_after_one kind one = grind arith
 
 all_in_order : (first n : ℕ) (l : LineState) (all : List (List (List ℕ))) → InOrder first l.due → n ≡ first + length l.due → l.is_open ≡ true →
     AllByRecursion HasOneReply all → InOrder first (line_with_all n l all).due
@@ -65,12 +53,10 @@ same_subscriptions n l (words ∷ all) = same_subscriptions (n + 1) (line_with n
 -- ---- one value
 
 never : (b : Bool) → (b && false) ≡ false
-never true = refl
-never false = refl
+never b = grind arith
 
 or_never : (b : Bool) → (b || false) ≡ b
-or_never true = refl
-or_never false = refl
+or_never b = grind arith
 
 -- without subscriptions only pushes are free
 free_is : (l : LineState) (x : Datum) → l.subscriptions ≡ no_subscriptions → is_free l x ≡ is_push x
@@ -79,41 +65,20 @@ free_is l x none =
     ap (λ b. is_push x || (b && is_notification (notice_of x))) deaf ∙ or_never (is_push x)
 
 confirms_none : (kind : CommandKind) (what : Notice) → IsAnswered kind → confirms kind what ≡ false
-confirms_none Plain what one = refl
-confirms_none (Hello version) what one = refl
-confirms_none Reset what one = refl
-confirms_none Silent what one = absurd one
-confirms_none (Subscribing verb channels) what one = absurd one
-confirms_none Unpairing what one = absurd one
+confirms_none kind what one = grind arith
 
 reply_due : (l : LineState) (kind : CommandKind) (due : List Due) (what : Notice) (x : Datum) → IsAnswered kind → (after_reply l kind due what x).due ≡ due
-reply_due l Plain due what x one = refl
-reply_due l (Hello version) due what x one = refl
-reply_due l Reset due what x one = refl
-reply_due l Silent due what x one = absurd one
-reply_due l (Subscribing verb channels) due what x one = absurd one
-reply_due l Unpairing due what x one = absurd one
+reply_due l kind due what x one = grind arith
 
 either_none : (b : Bool) (s : Subscriptions) → s ≡ no_subscriptions → (if b then s else no_subscriptions) ≡ no_subscriptions
-either_none true s none = none
-either_none false s none = refl
+either_none b s none = grind arith
 
 reply_none : (l : LineState) (kind : CommandKind) (due : List Due) (what : Notice) (x : Datum) → IsAnswered kind → l.subscriptions ≡ no_subscriptions →
     (after_reply l kind due what x).subscriptions ≡ no_subscriptions
-reply_none l Plain due what x one none = none
-reply_none l (Hello version) due what x one none = none
-reply_none l Reset due what x one none = either_none (is_refusal x) l.subscriptions none
-reply_none l Silent due what x one none = absurd one
-reply_none l (Subscribing verb channels) due what x one none = absurd one
-reply_none l Unpairing due what x one none = absurd one
+reply_none l kind due what x one none = grind arith
 
 reply_number : (first : Due) (kind : CommandKind) (due : List Due) (what : Notice) → IsAnswered kind → number_of_reply first kind due what ≡ Some first.number
-reply_number first Plain due what one = refl
-reply_number first (Hello version) due what one = refl
-reply_number first Reset due what one = refl
-reply_number first Silent due what one = absurd one
-reply_number first (Subscribing verb channels) due what one = absurd one
-reply_number first Unpairing due what one = absurd one
+reply_number first kind due what one = grind arith
 
 -- a value has the next number unless it is a push, and the commands after it are in order
 record Goes (n : ℕ) (push : Bool) (number : Option ℕ) (after : LineState) : Type 0 where

@@ -7,10 +7,9 @@ use Rattle.resp_cut.specs.Cuts.{cut, cut_scalar}
 use Rattle.resp_cut.specs.declared.cut_value.CutValue.{CutValue}
 use Rattle.resp_json.specs.Json.{text_json}
 use Rattle.resp_value.specs.Attributes.{without_attributes}
-use Rattle.resp_value.specs.Data.{Datum, Scalar, Array, Set, Map, Attr, Push, scalar, aggregate}
-use Rattle.resp_value.specs.Data as d
+use Rattle.resp_value.specs.Data.{Datum, Scalar}
 use Rattle.resp_value.specs.Values.{datum_of}
-use Rattle.resp_tap.specs.JsonLines.{answer_json, continues, continues_at, end_json, error_text, front_json, last_end, member_json, number_json, plain_error, plain_word, reply_json, scalar_word, shown_part, type_word, unpaired_json, waited_json}
+use Rattle.resp_tap.specs.JsonLines.{answer_json, continues, continues_at, end_json, error_text, front_json, known_json, last_end, member_json, number_json, plain_error, plain_word, reply_json, scalar_word, shown_part, type_word, unpaired_json}
 use Rattle.resp_tap.specs.Parts.{IsKeptOf}
 use Rattle.resp_tap.specs.declared.json_line.Facts.{Facts}
 use Rattle.resp_tap.proofs.KeptLemmas.{plain_kept}
@@ -24,10 +23,7 @@ abbrev end_by : Bool → Bool → Bool → ℕ
 end_by a b c = if a then (if b then (if c then 1021 else 1022) else 1023) else 1024
 
 end_near : (a b c : Bool) → end_by a b c ≤ 1025
-end_near true true true = omega arith
-end_near true true false = omega arith
-end_near true false c = omega arith
-end_near false b c = omega arith
+end_near a b c = grind arith
 
 last_kept : (text : List ℕ) → last_end (take 1025 text) ≡ last_end text
 last_kept text = λ i. end_by (continues_kept text 1024 (omega arith) i) (continues_kept text 1023 (omega arith) i) (continues_kept text 1022 (omega arith) i)
@@ -58,12 +54,7 @@ scalar_word_kept : (n : ℕ) (s : Scalar) → scalar_word (cut_scalar n s) ≡ s
 scalar_word_kept n s = grind arith
 
 plain_word_kept : (n : ℕ) (x : Datum) → plain_word (cut n x) ≡ plain_word x
-plain_word_kept n (scalar s) = scalar_word_kept n s
-plain_word_kept n (aggregate Array xs) = refl
-plain_word_kept n (aggregate Set xs) = refl
-plain_word_kept n (aggregate Map xs) = refl
-plain_word_kept n (aggregate Attr xs) = refl
-plain_word_kept n (aggregate Push xs) = refl
+plain_word_kept n x = grind arith
 
 type_kept : (n : ℕ) (x : Datum) → type_word (cut n x) ≡ type_word x
 type_kept n x = ap plain_word (plain_kept n x) ∙ plain_word_kept n (without_attributes x)
@@ -85,7 +76,7 @@ pub reply_as : (facts : Facts) (number : ℕ) (name : List ℕ) (whole : Datum) 
     reply_json facts number name (datum_of kept.value) ≡ reply_json facts number name whole
 reply_as facts number name whole kept is =
     ap (λ a. front_json facts.client (codes ",\"kind\":\"reply\"") (number_json (codes ",\"number\":") number ++ member_json (codes ",\"command\":") name) ++
-    (waited_json facts.waited ++ a)) (answer_as facts whole kept is)
+    (known_json (codes ",\"micros\":") facts.waited ++ a)) (answer_as facts whole kept is)
 
 pub unpaired_as : (facts : Facts) (whole : Datum) (kept : CutValue) → IsKeptOf (Some 1024) whole kept →
     unpaired_json facts (datum_of kept.value) ≡ unpaired_json facts whole

@@ -11,28 +11,24 @@ use Rattle.resp_cut.proofs.Cutting.{short_texts_are_kept}
 use Rattle.resp_value.specs.Attributes.{annotated_value, without_attributes}
 use Rattle.resp_value.specs.Bounds.{AreBounds}
 use Rattle.resp_value.specs.Data.{Datum, Data, Array, Set, Map, Attr, Push, scalar, aggregate, none, more, depth, greatest_depth, longest}
-use Rattle.resp_value.specs.Data as d
 use Rattle.resp_value.specs.Rules.{Rules, WithinLength}
 use Rattle.resp_value.specs.Spellings.{IsSpelling}
 use Rattle.resp_value.specs.Values.{datum_of}
-use Rattle.resp_value.specs.declared.version.Version.{Version}
 use Rattle.resp_session.specs.Heard.{is_push}
 use Rattle.resp_session.specs.Operations.{is_name}
-use Rattle.resp_session.specs.Reading.{is_error, is_refusal, version_after}
+use Rattle.resp_session.specs.Reading.{is_error, is_refusal}
 use Rattle.resp_tap.specs.KeptLaws.{KeptPartsTellTheSame}
 use Rattle.resp_tap.specs.Kinds.{verb_named}
-use Rattle.resp_tap.specs.Lines.{LineState, after_confirmation, after_due, after_reply, asked_by_kind, confirms, is_free, is_listening, is_notification, line_after, no_subscriptions, number_by_due, number_for, subscriptions_after}
-use Rattle.resp_tap.specs.Notices.{confirmation_by, is_message_word, members_by, notice_in, notice_of, three_by}
+use Rattle.resp_tap.specs.Lines.{LineState, after_due, after_reply, is_free, is_listening, is_notification, line_after, number_by_due, number_for}
+use Rattle.resp_tap.specs.Notices.{is_message_word, members_by, notice_in, notice_of, three_by}
 use Rattle.resp_tap.specs.Parts.{IsKeptOf, cut_within, kept_bytes}
 use Rattle.resp_tap.specs.SeenOf.{ToldAs}
 use Rattle.resp_tap.specs.Taps.{TapState, tap_state, with_value}
 use Rattle.resp_tap.specs.Watching.{HasTakenValue, HearsValue, SeesValue, value_rules}
 use Rattle.resp_tap.specs.declared.kind.CommandKind.{CommandKind}
-use Rattle.resp_tap.specs.declared.kind.CommandKind.TheVariants.{Plain, Hello, Reset, Silent, Subscribing, Unpairing}
 use Rattle.resp_tap.specs.declared.kind.Verb.{Verb}
 use Rattle.resp_tap.specs.declared.kind.Verb.TheVariants.{Subscribe, Unsubscribe, Psubscribe, Punsubscribe, Ssubscribe, Sunsubscribe}
 use Rattle.resp_tap.specs.declared.line.Due.{Due}
-use Rattle.resp_tap.specs.declared.line.Subscriptions.{Subscriptions}
 use Rattle.resp_tap.specs.declared.notice.Notice.{Notice}
 use Rattle.resp_tap.specs.declared.notice.Notice.TheVariants as notice
 use Rattle.resp_tap.specs.declared.seen.Seen.{Seen}
@@ -89,17 +85,7 @@ notice_by b = if b then notice.Message else notice.Other
 
 three_word : (word other : List ℕ) (last : Datum) → verb_named word ≡ verb_named other → is_message_word word ≡ is_message_word other →
     three_by word last ≡ three_by other last
-three_word word other (scalar d.Null) verb message = ap notice_by message
-three_word word other (scalar (d.Bool b)) verb message = ap notice_by message
-three_word word other (scalar (d.Int total)) verb message = ap (λ v. confirmation_by v total) verb
-three_word word other (scalar (d.Simple text)) verb message = ap notice_by message
-three_word word other (scalar (d.Error text)) verb message = ap notice_by message
-three_word word other (scalar (d.Double text)) verb message = ap notice_by message
-three_word word other (scalar (d.Bulk text)) verb message = ap notice_by message
-three_word word other (scalar (d.BulkError text)) verb message = ap notice_by message
-three_word word other (scalar (d.Verbatim format text)) verb message = ap notice_by message
-three_word word other (scalar (d.Big negative digits)) verb message = ap notice_by message
-three_word word other (aggregate k xs) verb message = ap notice_by message
+three_word word other last verb message = grind arith
 
 members_kept : (n : ℕ) (word : List ℕ) (xs : Data) → 12 ≤ n → members_by (take (suc n) word) (cut_each n xs) ≡ members_by word xs
 members_kept n word none enough = ap notice_by (same_message_word n word enough)
@@ -110,46 +96,15 @@ members_kept n word (more x (more last none)) enough =
 members_kept n word (more x (more y (more z zs))) enough = ap notice_by (same_message_word n word enough)
 
 notice_in_kept : (n : ℕ) (xs : Data) → 12 ≤ n → notice_in (cut_each n xs) ≡ notice_in xs
-notice_in_kept n none enough = refl
-notice_in_kept n (more (scalar d.Null) xs) enough = refl
-notice_in_kept n (more (scalar (d.Bool b)) xs) enough = refl
-notice_in_kept n (more (scalar (d.Int i)) xs) enough = refl
-notice_in_kept n (more (scalar (d.Simple text)) xs) enough = refl
-notice_in_kept n (more (scalar (d.Error text)) xs) enough = refl
-notice_in_kept n (more (scalar (d.Double text)) xs) enough = refl
-notice_in_kept n (more (scalar (d.Bulk word)) xs) enough = members_kept n word xs enough
-notice_in_kept n (more (scalar (d.BulkError text)) xs) enough = refl
-notice_in_kept n (more (scalar (d.Verbatim format text)) xs) enough = refl
-notice_in_kept n (more (scalar (d.Big negative digits)) xs) enough = refl
-notice_in_kept n (more (aggregate k ys) xs) enough = refl
+notice_in_kept n xs enough = grind (arith, members_kept)
 
 notice_kept : (n : ℕ) (x : Datum) → 12 ≤ n → notice_of (cut n x) ≡ notice_of x
-notice_kept n (scalar d.Null) enough = refl
-notice_kept n (scalar (d.Bool b)) enough = refl
-notice_kept n (scalar (d.Int i)) enough = refl
-notice_kept n (scalar (d.Simple text)) enough =
-    ap (λ b. if b then notice.Reset else notice.Other) (same_word n text (codes "RESET") (omega (arith, enough)))
-notice_kept n (scalar (d.Error text)) enough = refl
-notice_kept n (scalar (d.Double text)) enough = refl
-notice_kept n (scalar (d.Bulk text)) enough = refl
-notice_kept n (scalar (d.BulkError text)) enough = refl
-notice_kept n (scalar (d.Verbatim format text)) enough = refl
-notice_kept n (scalar (d.Big negative digits)) enough = refl
-notice_kept n (aggregate Array xs) enough = notice_in_kept n xs enough
-notice_kept n (aggregate Push xs) enough = notice_in_kept n xs enough
-notice_kept n (aggregate Set xs) enough = refl
-notice_kept n (aggregate Map xs) enough = refl
-notice_kept n (aggregate Attr xs) enough = refl
+notice_kept n x enough = grind (arith, notice_in_kept, same_word)
 
 -- ---- types
 
 push_kept : (n : ℕ) (x : Datum) → is_push (cut n x) ≡ is_push x
-push_kept n (scalar s) = refl
-push_kept n (aggregate Array xs) = refl
-push_kept n (aggregate Set xs) = refl
-push_kept n (aggregate Map xs) = refl
-push_kept n (aggregate Attr xs) = refl
-push_kept n (aggregate Push xs) = refl
+push_kept n x = grind arith
 
 mutual
   pub plain_kept : (n : ℕ) (x : Datum) → without_attributes (cut n x) ≡ cut n (without_attributes x)
@@ -173,31 +128,12 @@ refusal_kept n x = ap is_error (plain_kept n x) ∙ error_kept n (without_attrib
 
 -- ---- the line
 
-version_kept : (n : ℕ) (version : Version) (asked : Option Version) (x : Datum) → version_after version asked (cut n x) ≡ version_after version asked x
-version_kept n version None x = refl
-version_kept n version (Some asked) x = ap (λ b. if b then version else asked) (refusal_kept n x)
-
-subscriptions_kept : (n : ℕ) (kind : CommandKind) (x : Datum) (s : Subscriptions) → subscriptions_after kind (cut n x) s ≡ subscriptions_after kind x s
-subscriptions_kept n Plain x s = refl
-subscriptions_kept n (Hello version) x s = refl
-subscriptions_kept n Reset x s = ap (λ b. if b then s else no_subscriptions) (refusal_kept n x)
-subscriptions_kept n Silent x s = refl
-subscriptions_kept n (Subscribing verb channels) x s = refl
-subscriptions_kept n Unpairing x s = refl
-
 reply_kept : (n : ℕ) (l : LineState) (kind : CommandKind) (due : List Due) (what : Notice) (x : Datum) →
     after_reply l kind due what (cut n x) ≡ after_reply l kind due what x
-reply_kept n l Unpairing due what x = refl
-reply_kept n l Plain due what x = λ i. record l { version = version_kept n l.version (asked_by_kind Plain) x i; due = due; heard = 0; subscriptions = subscriptions_kept n Plain x l.subscriptions i }
-reply_kept n l (Hello v) due what x = λ i. record l { version = version_kept n l.version (asked_by_kind (Hello v)) x i; due = due; heard = 0; subscriptions = subscriptions_kept n (Hello v) x l.subscriptions i }
-reply_kept n l Reset due what x = λ i. record l { version = version_kept n l.version (asked_by_kind Reset) x i; due = due; heard = 0; subscriptions = subscriptions_kept n Reset x l.subscriptions i }
-reply_kept n l Silent due what x = λ i. record l { version = version_kept n l.version (asked_by_kind Silent) x i; due = due; heard = 0; subscriptions = subscriptions_kept n Silent x l.subscriptions i }
-reply_kept n l (Subscribing verb c) due what x = λ i. record l { version = version_kept n l.version (asked_by_kind (Subscribing verb c)) x i; due = due; heard = 0; subscriptions = subscriptions_kept n (Subscribing verb c) x l.subscriptions i }
+reply_kept n l kind due what x = grind (arith, refusal_kept n x)
 
 due_kept : (n : ℕ) (l : LineState) (due : List Due) (what : Notice) (free : Bool) (x : Datum) → after_due l due what free (cut n x) ≡ after_due l due what free x
-due_kept n l [] what free x = refl
-due_kept n l (first ∷ due) what free x =
-    ap (λ z. if confirms first.kind what then after_confirmation l first due what else if free then l else z) (reply_kept n l first.kind due what x)
+due_kept n l due what free x = grind (arith, reply_kept)
 
 after_kept : (n : ℕ) (l : LineState) (x : Datum) → 12 ≤ n → line_after l (cut n x) ≡ line_after l x
 after_kept n l x enough =

@@ -16,3 +16,4 @@ pub mod KeptWords
 pub mod KeptPrinting
 pub mod WholeCommands
 pub mod NoteLemmas
+pub mod FirstBytes

@@ -10,7 +10,7 @@ use Rattle.resp_value.specs.declared.version.Version.{Version}
 use Rattle.resp_value.specs.declared.version.Version.TheVariants.{Two, Three}
 use Rattle.resp_session.specs.Heard.{is_push}
 use Rattle.resp_tap.specs.Kinds.{command_kind}
-use Rattle.resp_tap.specs.Lines.{LineState, ReadsLine, after_confirmation, after_due, after_reply, confirms, due_confirmed, due_of, has_all, is_confirmation, is_free, is_listening, is_notification, is_reset, line_after, line_sent, line_with, line_with_all, next_version, number_by_due, number_first, number_for, number_of_reply, numbered, open_after, paired, resumed, subscriptions_by, version_by, version_for}
+use Rattle.resp_tap.specs.Lines.{LineState, ReadsLine, after_confirmation, after_due, after_reply, confirms, due_confirmed, due_of, has_all, is_confirmation, is_free, is_listening, is_notification, line_after, line_sent, line_with, line_with_all, next_version, number_by_due, number_first, number_for, number_of_reply, numbered, open_after, paired, resumed, subscriptions_by, version_by, version_for}
 use Rattle.resp_tap.specs.Notices.{notice_of}
 use Rattle.resp_tap.specs.declared.kind.CommandKind.{CommandKind}
 use Rattle.resp_tap.specs.declared.kind.CommandKind.TheVariants.{Plain, Hello, Reset, Silent, Subscribing, Unpairing}
@@ -98,13 +98,7 @@ resumed_longer l (reset ∷ due) more o found = refl
 
 reply_longer : (l : LineState) (kind : CommandKind) (due more : List Due) (o : Bool) (what : Notice) (x : Datum) →
     (after_reply l kind due what x).is_lost ≡ false → after_reply (longer l more o) kind (due ++ more) what x ≡ longer (after_reply l kind due what x) more o
-reply_longer l Plain due more o what x found = refl
-reply_longer l (Hello version) due more o what x found = refl
-reply_longer l Reset due more o what x found = refl
-reply_longer l Silent due more o what x found = refl
-reply_longer l (Subscribing verb channels) due more o what x found = refl
-reply_longer l Unpairing due more o what x found =
-    if_longer (is_reset what) (resumed l due) l (resumed (longer l more o) (due ++ more)) (longer l more o) more o (resumed_longer l due more o) (λ _. refl) found
+reply_longer l kind due more o what x found = grind (arith, resumed_longer)
 
 confirmed_longer : (b : Bool) (first : Due) (due more : List Due) → due_confirmed b first (due ++ more) ≡ due_confirmed b first due ++ more
 confirmed_longer true first due more = refl
@@ -112,22 +106,11 @@ confirmed_longer false first due more = refl
 
 -- a value that is no confirmation confirms no channel
 not_confirms : (kind : CommandKind) (what : Notice) → is_confirmation what ≡ false → confirms kind what ≡ false
-not_confirms (Subscribing verb channels) (notice.Confirmation other total) none = absurd (cc)
-not_confirms (Subscribing verb channels) notice.Message none = refl
-not_confirms (Subscribing verb channels) notice.Reset none = refl
-not_confirms (Subscribing verb channels) notice.Other none = refl
-not_confirms Plain what none = refl
-not_confirms (Hello version) what none = refl
-not_confirms Reset what none = refl
-not_confirms Silent what none = refl
-not_confirms Unpairing what none = refl
+not_confirms kind what none = grind arith
 
 -- a value that comes while no command waits, and after which the line is not lost
 pub idle_free : (free confirmation : Bool) → not (free && not confirmation) ≡ false → (free ≡ true) × (confirmation ≡ false)
-idle_free true true e = absurd (cc)
-idle_free true false e = (refl, refl)
-idle_free false true e = absurd (cc)
-idle_free false false e = absurd (cc)
+idle_free free confirmation e = grind arith
 
 due_longer : (l : LineState) (due more : List Due) (o : Bool) (what : Notice) (free : Bool) (x : Datum) → l.is_lost ≡ false →
     (after_due l due what free x).is_lost ≡ false → after_due (longer l more o) (due ++ more) what free x ≡ longer (after_due l due what free x) more o
@@ -166,20 +149,13 @@ reset_number false l due more found = refl
 
 reply_number : (l : LineState) (first : Due) (kind : CommandKind) (due more : List Due) (what : Notice) (x : Datum) →
     (after_reply l kind due what x).is_lost ≡ false → number_of_reply first kind (due ++ more) what ≡ number_of_reply first kind due what
-reply_number l first Plain due more what x found = refl
-reply_number l first (Hello version) due more what x found = refl
-reply_number l first Reset due more what x found = refl
-reply_number l first Silent due more what x found = refl
-reply_number l first (Subscribing verb channels) due more what x found = refl
-reply_number l first Unpairing due more what x found = reset_number (is_reset what) l due more found
+reply_number l first kind due more what x found = grind (arith, reset_number)
 
 first_number : (b free : Bool) (told : Option ℕ) (l c : LineState) (first : Due) (due more : List Due) (what : Notice) (x : Datum) →
     (if b then c else if free then l else after_reply l first.kind due what x).is_lost ≡ false →
     (if b then told else if free then None else number_of_reply first first.kind (due ++ more) what) ≡
     (if b then told else if free then None else number_of_reply first first.kind due what)
-first_number true free told l c first due more what x found = refl
-first_number false true told l c first due more what x found = refl
-first_number false false told l c first due more what x found = reply_number l first first.kind due more what x found
+first_number b free told l c first due more what x found = grind (arith, reply_number)
 
 due_number : (l : LineState) (due more : List Due) (what : Notice) (free push : Bool) (x : Datum) → (after_due l due what free x).is_lost ≡ false →
     number_by_due (due ++ more) what free push ≡ number_by_due due what free push
@@ -258,12 +234,7 @@ resumed_open l [] = refl
 resumed_open l (reset ∷ due) = refl
 
 reply_open : (l : LineState) (kind : CommandKind) (due : List Due) (what : Notice) (x : Datum) → (after_reply l kind due what x).is_open ≡ l.is_open
-reply_open l Plain due what x = refl
-reply_open l (Hello version) due what x = refl
-reply_open l Reset due what x = refl
-reply_open l Silent due what x = refl
-reply_open l (Subscribing verb channels) due what x = refl
-reply_open l Unpairing due what x = if_open (is_reset what) (resumed l due) l l.is_open (resumed_open l due) refl
+reply_open l kind due what x = grind (arith, resumed_open)
 
 due_open : (l : LineState) (due : List Due) (what : Notice) (free : Bool) (x : Datum) → (after_due l due what free x).is_open ≡ l.is_open
 due_open l [] what free x = refl

@@ -143,30 +143,40 @@ same_replies limits most x y commands s t rest server replies pushes same r = su
 used_whole : (piece : List ℕ) (used : ℕ) → used ≡ length piece → take used piece ≡ piece
 used_whole piece used all = ap (λ n. take n piece) all ∙ take_all (length piece) piece (omega arith)
 
+-- one more value of the client, after which these commands are told
+client_more : (limits : Bounds) (most held : Option ℕ) (x : Told) (s t : TapState) (request rest bytes : List ℕ) (told : List (ℕ × WordsPart)) (n : ℕ) (l : LineState) (h : SoFar limits most held x s request rest) →
+    t ≡ record s { commands = n; line = l } → (v : Datum) → IsSpelling (request_rules s.limits) v (request ++ bytes) →
+    x.commands ++ told ≡ map (command_part held) (numbered_commands 1 (commands_of (h.values ++ v ∷ []))) → n ≡ length (commands_of (h.values ++ v ∷ [])) →
+    (t.line.is_lost ≡ false → Replies limits most (told_more x Client bytes told [] []) (commands_of (h.values ++ v ∷ [])) t rest) →
+    SoFar limits most held (told_more x Client bytes told [] []) t [] rest
+client_more limits most held x s t request rest bytes told n l h same v spelled commands count replies = record {
+  values = h.values ++ v ∷ [];
+  front = h.front ++ (request ++ bytes);
+  whole = ap (λ l. l ++ bytes) h.whole ∙ append_assoc h.front request bytes ∙ sym (append-nil (h.front ++ (request ++ bytes)));
+  spelled = spellings-append (request_rules limits) h.values (v ∷ []) h.front (request ++ bytes) h.spelled
+      (request ++ bytes, [], subst (λ l. IsSpelling (request_rules l) v (request ++ bytes)) h.same_limits spelled, refl, sym (append-nil (request ++ bytes)));
+  no_more = no_value_at_start;
+  commands = commands;
+  count = ap (λ (z : TapState). z.commands) same ∙ count;
+  same_limits = ap (λ (z : TapState). z.limits) same ∙ h.same_limits;
+  same_shown = ap (λ (z : TapState). z.shown) same ∙ h.same_shown;
+  same_kept = ap (λ (z : TapState). z.kept) same ∙ h.same_kept;
+  reads_commands = ap (λ (z : TapState). z.reads_commands) same ∙ h.reads_commands;
+  reads_replies = ap (λ (z : TapState). z.reads_replies) same ∙ h.reads_replies;
+  replies = replies;
+}
+
 -- one more value of the client, which is no command
 client_ignored : (limits : Bounds) (most held : Option ℕ) (x : Told) (s t : TapState) (request rest bytes : List ℕ) → SoFar limits most held x s request rest → t ≡ s → (v : Datum) →
     IsSpelling (request_rules s.limits) v (request ++ bytes) → meaning_of v ≡ Nothing → SoFar limits most held (told_more x Client bytes [] [] []) t [] rest
 client_ignored limits most held x s t request rest bytes h same v spelled means =
     let commands : commands_of (h.values ++ v ∷ []) ≡ commands_of h.values = commands_more h.values v ∙ ap (λ m. commands_of h.values ++ words_of m) means ∙
     append-nil (commands_of h.values) in
-    record {
-      values = h.values ++ v ∷ [];
-      front = h.front ++ (request ++ bytes);
-      whole = ap (λ l. l ++ bytes) h.whole ∙ append_assoc h.front request bytes ∙ sym (append-nil (h.front ++ (request ++ bytes)));
-      spelled = spellings-append (request_rules limits) h.values (v ∷ []) h.front (request ++ bytes) h.spelled
-          (request ++ bytes, [], subst (λ l. IsSpelling (request_rules l) v (request ++ bytes)) h.same_limits spelled, refl, sym (append-nil (request ++ bytes)));
-      no_more = no_value_at_start;
-      commands = append-nil x.commands ∙ h.commands ∙ ap (λ l. map (command_part held) (numbered_commands 1 l)) (sym commands);
-      count = ap (λ (z : TapState). z.commands) same ∙ h.count ∙ ap length (sym commands);
-      same_limits = ap (λ (z : TapState). z.limits) same ∙ h.same_limits;
-      same_shown = ap (λ (z : TapState). z.shown) same ∙ h.same_shown;
-      same_kept = ap (λ (z : TapState). z.kept) same ∙ h.same_kept;
-      reads_commands = ap (λ (z : TapState). z.reads_commands) same ∙ h.reads_commands;
-      reads_replies = ap (λ (z : TapState). z.reads_replies) same ∙ h.reads_replies;
-      replies = λ found. subst (λ c. Replies limits most (told_more x Client bytes [] [] []) c t rest) (sym commands)
-          (same_replies limits most x (told_more x Client bytes [] [] []) (commands_of h.values) s t rest (append-nil x.server) (append-nil x.replies) (append-nil x.pushes)
-          same (h.replies (ap (λ (z : TapState). z.line.is_lost) (sym same) ∙ found)));
-    }
+    client_more limits most held x s t request rest bytes [] s.commands s.line h same v spelled
+    (append-nil x.commands ∙ h.commands ∙ ap (λ l. map (command_part held) (numbered_commands 1 l)) (sym commands)) (h.count ∙ ap length (sym commands))
+    (λ found. subst (λ c. Replies limits most (told_more x Client bytes [] [] []) c t rest) (sym commands)
+    (same_replies limits most x (told_more x Client bytes [] [] []) (commands_of h.values) s t rest (append-nil x.server) (append-nil x.replies) (append-nil x.pushes)
+    same (h.replies (ap (λ (z : TapState). z.line.is_lost) (sym same) ∙ found))))
 
 -- the replies so far stay what they are when a command is sent
 reading_on : (limits : Bounds) (s : TapState) (more : List Due) (o : Bool) (rest : List ℕ) → IsReading limits s rest →
@@ -230,32 +240,20 @@ client_command three limits most held x s t request rest bytes number name argum
     let number_is : number ≡ 1 + length (commands_of h.values) = let c = h.count in omega (arith, numbered, c) in
     let longer = length-append (commands_of h.values) (words ∷ []) in
     let counted : s.commands + 1 ≡ length (commands_of h.values ++ words ∷ []) = let c = h.count in omega (arith, c, longer) in
-    record {
-      values = h.values ++ v ∷ [];
-      front = h.front ++ (request ++ bytes);
-      whole = ap (λ l. l ++ bytes) h.whole ∙ append_assoc h.front request bytes ∙ sym (append-nil (h.front ++ (request ++ bytes)));
-      spelled = spellings-append (request_rules limits) h.values (v ∷ []) h.front (request ++ bytes) h.spelled
-          (request ++ bytes, [], subst (λ l. IsSpelling (request_rules l) v (request ++ bytes)) h.same_limits spelled, refl, sym (append-nil (request ++ bytes)));
-      no_more = no_value_at_start;
-      commands = ap (λ l. l ++ (number, part) ∷ []) h.commands ∙
-          ap (λ p. map (command_part held) (numbered_commands 1 (commands_of h.values)) ++ (number, p) ∷ []) kept ∙
-          sym (map-append (command_part held) (numbered_commands 1 (commands_of h.values)) ((number, words) ∷ [])) ∙
-          ap (λ n. map (command_part held) (numbered_commands 1 (commands_of h.values) ++ (n, words) ∷ [])) number_is ∙
-          ap (map (command_part held)) (sym (numbered_more 1 (commands_of h.values) words)) ∙
-          ap (λ l. map (command_part held) (numbered_commands 1 l)) (sym commands);
-      count = ap (λ (z : TapState). z.commands) same ∙ counted ∙ ap length (sym commands);
-      same_limits = ap (λ (z : TapState). z.limits) same ∙ h.same_limits;
-      same_shown = ap (λ (z : TapState). z.shown) same ∙ h.same_shown;
-      same_kept = ap (λ (z : TapState). z.kept) same ∙ h.same_kept;
-      reads_commands = ap (λ (z : TapState). z.reads_commands) same ∙ h.reads_commands;
-      reads_replies = ap (λ (z : TapState). z.reads_replies) same ∙ h.reads_replies;
-      replies = λ found.
-          let was : s.line.is_lost ≡ false = sent_found s.line.is_lost (s.commands + 1) (command_kind words) s.line refl
-          (ap (λ (z : TapState). z.line.is_lost) (sym same) ∙ found) in
-          subst (λ c. Replies limits most y c t rest) (sym commands) (subst (λ z. Replies limits most y (commands_of h.values ++ words ∷ []) z rest) (sym same)
-          (replies_on three limits most x y (commands_of h.values) words s rest (append-nil x.server) (append-nil x.replies) (append-nil x.pushes) h.count was
-          (h.replies was)));
-    }
+    client_more limits most held x s t request rest bytes ((number, part) ∷ []) (s.commands + 1) (line_sent (s.commands + 1) (command_kind words) s.line) h same v spelled
+    (ap (λ l. l ++ (number, part) ∷ []) h.commands ∙
+    ap (λ p. map (command_part held) (numbered_commands 1 (commands_of h.values)) ++ (number, p) ∷ []) kept ∙
+    sym (map-append (command_part held) (numbered_commands 1 (commands_of h.values)) ((number, words) ∷ [])) ∙
+    ap (λ n. map (command_part held) (numbered_commands 1 (commands_of h.values) ++ (n, words) ∷ [])) number_is ∙
+    ap (map (command_part held)) (sym (numbered_more 1 (commands_of h.values) words)) ∙
+    ap (λ l. map (command_part held) (numbered_commands 1 l)) (sym commands))
+    (counted ∙ ap length (sym commands))
+    (λ found.
+    let was : s.line.is_lost ≡ false = sent_found s.line.is_lost (s.commands + 1) (command_kind words) s.line refl
+    (ap (λ (z : TapState). z.line.is_lost) (sym same) ∙ found) in
+    subst (λ c. Replies limits most y c t rest) (sym commands) (subst (λ z. Replies limits most y (commands_of h.values ++ words ∷ []) z rest) (sym same)
+    (replies_on three limits most x y (commands_of h.values) words s rest (append-nil x.server) (append-nil x.replies) (append-nil x.pushes) h.count was
+    (h.replies was))))
 
 command_told : VersionThreeSpellsWhatTwoDoes → (limits : Bounds) (most held : Option ℕ) (x : Told) (s t : TapState) (request rest bytes : List ℕ) (number : ℕ)
     (whole words : List (List ℕ)) (lengths : List ℕ) → SoFar limits most held x s request rest → 0 < length whole → t ≡ with_command (command_kind whole) s →

@@ -4,13 +4,12 @@ use Rattle.std.proofs.lemmas.List.{append-nil, length-drop, length_push, take_at
 use Rattle.std.specs.Prelude.{if◌then◌else◌, IsSome, None, Some, is_some, take}
 use Rattle.std.specs.Option.{option_to_list}
 use Rattle.resp_tap.specs.Kinds.{command_kind}
-use Rattle.resp_tap.specs.Lines.{LineState, after_confirmation, after_due, after_reply, confirms, due_confirmed, due_of, has_all, is_free, is_reset, line_after, line_sent, line_with, resumed, subscriptions_by}
+use Rattle.resp_tap.specs.Lines.{LineState, after_confirmation, after_due, after_reply, confirms, due_confirmed, due_of, has_all, is_free, line_after, line_sent, line_with, resumed, subscriptions_by}
 use Rattle.resp_tap.specs.Taps.{TapState, at_front, tap_state}
 use Rattle.resp_tap.specs.Times.{HasTimes, KeepsTimes, is_heard, times_after, waits_in}
 use Rattle.resp_tap.specs.Notices.{notice_of}
 use Rattle.resp_tap.specs.Watching.{SeesRequest, SeesValue}
 use Rattle.resp_tap.specs.declared.kind.CommandKind.{CommandKind}
-use Rattle.resp_tap.specs.declared.kind.CommandKind.TheVariants.{Plain, Hello, Reset, Silent, Subscribing, Unpairing}
 use Rattle.resp_tap.specs.declared.line.Due.{Due}
 use Rattle.resp_tap.specs.declared.moment.Moment.{Moment}
 use Rattle.resp_tap.specs.declared.notice.Notice.{Notice}
@@ -35,17 +34,7 @@ WaitsOneMore old new = (length new.due ≡ length old.due) ⊎ (length new.due �
 
 one_more : (number : ℕ) (kind : CommandKind) (is_open : Bool) (due : List Due) →
     (length (due ++ due_of number kind is_open) ≡ length due) ⊎ (length (due ++ due_of number kind is_open) ≡ length due + 1)
-one_more number Silent is_open due = inl (ap length (append-nil due))
-one_more number Plain true due = inr (length_push due (record { number = number; kind = Plain }))
-one_more number (Hello version) true due = inr (length_push due (record { number = number; kind = Hello version }))
-one_more number Reset true due = inr (length_push due (record { number = number; kind = Reset }))
-one_more number (Subscribing verb channels) true due = inr (length_push due (record { number = number; kind = Subscribing verb channels }))
-one_more number Unpairing true due = inr (length_push due (record { number = number; kind = Unpairing }))
-one_more number Plain false due = inl (ap length (append-nil due))
-one_more number (Hello version) false due = inl (ap length (append-nil due))
-one_more number Reset false due = inr (length_push due (record { number = number; kind = Reset }))
-one_more number (Subscribing verb channels) false due = inl (ap length (append-nil due))
-one_more number Unpairing false due = inl (ap length (append-nil due))
+one_more number kind is_open due = grind (arith, length_push, append-nil)
 
 sent_by : (b : Bool) (number : ℕ) (kind : CommandKind) (l : LineState) → l.is_lost ≡ b → WaitsOneMore l (line_sent number kind l)
 sent_by true number kind l lost = inl (ap (λ b. length (if b then l else line_with number kind l).due) lost)
@@ -124,13 +113,7 @@ resumed_waits l first (reset ∷ due) is = let e = ap length is in omega (arith,
 
 reply_waits : (l : LineState) (first : Due) (due : List Due) (kind : CommandKind) (what : Notice) (x : Datum) → l.due ≡ first ∷ due →
     WaitsNoMore (after_reply l kind due what x) (length l.due)
-reply_waits l first due Plain what x is = let e = ap length is in omega (arith, e)
-reply_waits l first due (Hello version) what x is = let e = ap length is in omega (arith, e)
-reply_waits l first due Reset what x is = let e = ap length is in omega (arith, e)
-reply_waits l first due Silent what x is = let e = ap length is in omega (arith, e)
-reply_waits l first due (Subscribing verb channels) what x is = let e = ap length is in omega (arith, e)
-reply_waits l first due Unpairing what x is =
-    either_waits (is_reset what) (resumed l due) l (length l.due) (resumed_waits l first due is) (omega arith)
+reply_waits l first due kind what x is = let e = ap length is in grind (arith, resumed_waits)
 
 due_waits : (l : LineState) (due : List Due) (what : Notice) (free : Bool) (x : Datum) → l.due ≡ due → WaitsNoMore (after_due l due what free x) (length l.due)
 due_waits l [] what free x is = omega arith

@@ -1,9 +1,8 @@
 -- The kept part of a value is a command exactly if the value is one, and its words are the kept parts of the words.
 use Rattle.std.proofs.Common.{◌≡◌, ◌≢◌, ◌∙◌, ◌⊎◌, ℕ, ◌+◌, ◌^◌, ◌<◌, ◌≤◌, false, List, [], ◌∷◌, ◌++◌, length, map, Option, refl, sym, ap, subst, arith}
 use Rattle.std.specs.Prelude.{None, Some, option_map}
-use Rattle.resp_cut.specs.Cuts.{cut, cut_each, kept_part, lengths_of_each, longer}
+use Rattle.resp_cut.specs.Cuts.{cut, cut_each, cut_lengths, kept_part, lengths_of_each, longer}
 use Rattle.resp_value.specs.Data.{Datum, Data, Scalar, Array, Set, Map, Attr, Push, scalar, aggregate, none, more}
-use Rattle.resp_value.specs.Data as d
 use Rattle.resp_session.specs.Commands.{Call, Meaning, NoCommand, Nothing, array_meaning, bulk_content, bulk_contents, contents_with, meaning_of}
 use Rattle.resp_tap.specs.Kinds.{command_kind}
 use Rattle.resp_tap.specs.Parts.{AreKeptOf, IsEnough, IsKeptOf, cut_within, lengths_within, word_lengths, words_within}
@@ -25,9 +24,7 @@ content_kept n x = grind arith
 both_kept : (n : ℕ) (content : Option (List ℕ)) (contents : Option (List (List ℕ))) →
     contents_with (option_map (kept_part n) content) (option_map (map (kept_part n)) contents) ≡
     option_map (map (kept_part n)) (contents_with content contents)
-both_kept n None contents = refl
-both_kept n (Some content) None = refl
-both_kept n (Some content) (Some contents) = refl
+both_kept n content contents = grind arith
 
 contents_kept : (n : ℕ) (xs : Data) → bulk_contents (cut_each n xs) ≡ option_map (map (kept_part n)) (bulk_contents xs)
 contents_kept n none = refl
@@ -39,31 +36,27 @@ contents_or None = []
 contents_or (Some words) = words
 
 -- the first word, and the words after it
-record First (content : List ℕ) (contents : Option (List (List ℕ))) (words : List (List ℕ)) : Type 0 where
+record First (content : Option (List ℕ)) (contents : Option (List (List ℕ))) (words : List (List ℕ)) : Type 0 where
+  word : List ℕ
+  is : content ≡ Some word
   rest : List (List ℕ)
   are : contents ≡ Some rest
-  all : words ≡ content ∷ rest
+  all : words ≡ word ∷ rest
 
-first_of : (content : List ℕ) (contents : Option (List (List ℕ))) (words : List (List ℕ)) → contents_with (Some content) contents ≡ Some words →
+first_of : (content : Option (List ℕ)) (contents : Option (List (List ℕ))) (words : List (List ℕ)) → contents_with content contents ≡ Some words →
     First content contents words
-first_of content None words e = absurd (cc)
-first_of content (Some rest) words e = record { rest = rest; are = refl; all = sym (ap contents_or e) }
+first_of None contents words e = absurd (cc)
+first_of (Some word) None words e = absurd (cc)
+first_of (Some word) (Some rest) words e = record { word = word; is = refl; rest = rest; are = refl; all = sym (ap contents_or e) }
+
+bulk_lengths : (n : ℕ) (x : Datum) (word : List ℕ) → bulk_content x ≡ Some word → cut_lengths n x ≡ longer n (length word)
+bulk_lengths n x word is = grind arith
 
 lengths_kept : (n : ℕ) (xs : Data) (words : List (List ℕ)) → bulk_contents xs ≡ Some words → lengths_of_each n xs ≡ word_lengths (Some n) words
 lengths_kept n none words e = ap (word_lengths (Some n)) (ap contents_or e)
-lengths_kept n (more (scalar (d.Bulk text)) xs) words e =
-    let first = first_of text (bulk_contents xs) words e in
-    ap (λ l. longer n (length text) ++ l) (lengths_kept n xs first.rest first.are) ∙ ap (word_lengths (Some n)) (sym first.all)
-lengths_kept n (more (scalar d.Null) xs) words e = absurd (cc)
-lengths_kept n (more (scalar (d.Bool b)) xs) words e = absurd (cc)
-lengths_kept n (more (scalar (d.Int i)) xs) words e = absurd (cc)
-lengths_kept n (more (scalar (d.Simple text)) xs) words e = absurd (cc)
-lengths_kept n (more (scalar (d.Error text)) xs) words e = absurd (cc)
-lengths_kept n (more (scalar (d.Double text)) xs) words e = absurd (cc)
-lengths_kept n (more (scalar (d.BulkError text)) xs) words e = absurd (cc)
-lengths_kept n (more (scalar (d.Verbatim format text)) xs) words e = absurd (cc)
-lengths_kept n (more (scalar (d.Big negative digits)) xs) words e = absurd (cc)
-lengths_kept n (more (aggregate k ys) xs) words e = absurd (cc)
+lengths_kept n (more x xs) words e =
+    let first = first_of (bulk_content x) (bulk_contents xs) words e in
+    (λ i. bulk_lengths n x first.word first.is i ++ lengths_kept n xs first.rest first.are i) ∙ ap (word_lengths (Some n)) (sym first.all)
 
 -- ---- a command
 
@@ -87,18 +80,12 @@ of_array n xs words (Some (name ∷ arguments)) are some same = record {
   lengths = lengths_kept n xs (name ∷ arguments) are;
 }
 
+no_words : (n : ℕ) (s : Scalar) (words : List (List ℕ)) → 0 < length words → meaning_of (cut n (scalar s)) ≡ array_meaning (Some words) → ⊥
+no_words n s words some same = grind arith
+
 of_part : (n : ℕ) (whole : Datum) (words : List (List ℕ)) → 0 < length words → meaning_of (cut n whole) ≡ array_meaning (Some words) →
     WholeCommand (Some n) whole words
-of_part n (scalar d.Null) words some same = absurd (no_other words Nothing some refl same)
-of_part n (scalar (d.Bool b)) words some same = absurd (no_other words NoCommand some refl same)
-of_part n (scalar (d.Int i)) words some same = absurd (no_other words NoCommand some refl same)
-of_part n (scalar (d.Simple text)) words some same = absurd (no_other words NoCommand some refl same)
-of_part n (scalar (d.Error text)) words some same = absurd (no_other words NoCommand some refl same)
-of_part n (scalar (d.Double text)) words some same = absurd (no_other words NoCommand some refl same)
-of_part n (scalar (d.Bulk text)) words some same = absurd (no_other words NoCommand some refl same)
-of_part n (scalar (d.BulkError text)) words some same = absurd (no_other words NoCommand some refl same)
-of_part n (scalar (d.Verbatim format text)) words some same = absurd (no_other words NoCommand some refl same)
-of_part n (scalar (d.Big negative digits)) words some same = absurd (no_other words NoCommand some refl same)
+of_part n (scalar s) words some same = absurd (no_words n s words some same)
 of_part n (aggregate Array xs) words some same =
     of_array n xs words (bulk_contents xs) refl some (sym (ap array_meaning (contents_kept n xs)) ∙ same)
 of_part n (aggregate Set xs) words some same = absurd (no_other words NoCommand some refl same)
@@ -127,30 +114,19 @@ kept_meaning n Nothing = Nothing
 kept_meaning n NoCommand = NoCommand
 
 array_kept : (n : ℕ) (contents : Option (List (List ℕ))) → array_meaning (option_map (map (kept_part n)) contents) ≡ kept_meaning n (array_meaning contents)
-array_kept n None = refl
-array_kept n (Some []) = refl
-array_kept n (Some (name ∷ arguments)) = refl
+array_kept n contents = grind arith
 
 scalar_meaning_kept : (n : ℕ) (s : Scalar) → meaning_of (cut n (scalar s)) ≡ kept_meaning n (meaning_of (scalar s))
 scalar_meaning_kept n s = grind arith
 
 meaning_kept : (n : ℕ) (x : Datum) → meaning_of (cut n x) ≡ kept_meaning n (meaning_of x)
-meaning_kept n (scalar s) = scalar_meaning_kept n s
-meaning_kept n (aggregate Array xs) = ap array_meaning (contents_kept n xs) ∙ array_kept n (bulk_contents xs)
-meaning_kept n (aggregate Set xs) = refl
-meaning_kept n (aggregate Map xs) = refl
-meaning_kept n (aggregate Attr xs) = refl
-meaning_kept n (aggregate Push xs) = refl
+meaning_kept n x = grind (arith, contents_kept, array_kept)
 
 nothing_by : (n : ℕ) (m : Meaning) → kept_meaning n m ≡ Nothing → m ≡ Nothing
-nothing_by n (Call name arguments) e = absurd (cc)
-nothing_by n Nothing e = refl
-nothing_by n NoCommand e = absurd (cc)
+nothing_by n m e = grind arith
 
 no_command_by : (n : ℕ) (m : Meaning) → kept_meaning n m ≡ NoCommand → m ≡ NoCommand
-no_command_by n (Call name arguments) e = absurd (cc)
-no_command_by n Nothing e = absurd (cc)
-no_command_by n NoCommand e = refl
+no_command_by n m e = grind arith
 
 pub whole_nothing : (most : Option ℕ) (whole : Datum) → meaning_of (cut_within most whole) ≡ Nothing → meaning_of whole ≡ Nothing
 whole_nothing None whole same = same

@@ -1,13 +1,12 @@
 -- What is kept of a command that waits, while JSON is printed.
 use Rattle.std.specs.Prelude.{◌≡◌, ℕ, ◌-◌, Bool, List, [], map, take, nat_lt, Option, None, Some}
 use Rattle.std.specs.Char.{to_ascii_uppercase}
-use Rattle.resp_tap.specs.Filters.{Chooses, keeps_all}
-use Rattle.resp_tap.specs.Keeping.{IsAdded, KeptBy}
+use Rattle.resp_tap.specs.Filters.{keeps_all}
+use Rattle.resp_tap.specs.Keeping.{IsAdded, IsChosenBy, KeptBy}
 use Rattle.resp_tap.specs.Keyed.{name_in}
 use Rattle.resp_tap.specs.declared.called.Called.{Called}
 use Rattle.resp_tap.specs.declared.filter.Filter.{Filter}
 use Rattle.resp_tap.specs.declared.seen.Seen.{Seen}
-use Rattle.resp_tap.specs.declared.seen.Seen.TheVariants as seen
 
 -- the first 32 bytes of a word, with letters in upper case
 abbrev pub upper_word : List ℕ → List ℕ
@@ -27,11 +26,9 @@ abbrev pub chosen_called : Filter → Option Called → Bool
 chosen_called f None = keeps_all f
 chosen_called f (Some called) = called.is_chosen
 
--- Whether the command of a result is let through by its words: the words that were sent, or what is kept of them for the
--- reply.
+-- whether the command of a result is let through by its words, if this is kept for the reply
 abbrev pub IsChosenCalled : Filter → Option Called → Seen → Bool → Type 0
-IsChosenCalled f kept (seen.Command number words lengths) is_chosen = Chooses f words is_chosen
-IsChosenCalled f kept what is_chosen = is_chosen ≡ chosen_called f kept
+IsChosenCalled f kept what is_chosen = IsChosenBy f (chosen_called f kept) what is_chosen
 
 -- this is kept of a command with these words, which is let through by them or is not
 abbrev pub IsCalled : Bool → List (List ℕ) → Called → Type 0

@@ -1,5 +1,5 @@
 -- The lines of JSON that are printed in place of text.
-use Rattle.std.specs.Prelude.{ℕ, Bool, List, [], ◌∷◌, ◌++◌, length, take, nat_le, ◌&&◌, Option, None, Some, if◌then◌else◌, codes, decimal, slice_index_or}
+use Rattle.std.specs.Prelude.{ℕ, Bool, List, [], ◌∷◌, ◌++◌, length, take, nat_le, ◌&&◌, Option, None, Some, option_map, if◌then◌else◌, codes, decimal, slice_index_or}
 use Rattle.resp_json.specs.Json.{text_json}
 use Rattle.resp_value.specs.Attributes.{without_attributes}
 use Rattle.resp_value.specs.Causes.{name_of}
@@ -44,6 +44,11 @@ member_json front (byte ∷ text) = front ++ text_json (shown_part (byte ∷ tex
 -- a member with this number, after these bytes
 abbrev pub number_json : List ℕ → ℕ → List ℕ
 number_json front number = front ++ decimal number
+
+-- such a member, if the number is known
+abbrev pub known_json : List ℕ → Option ℕ → List ℕ
+known_json front None = []
+known_json front (Some number) = number_json front number
 
 -- ---- parts of lines
 
@@ -101,27 +106,20 @@ value_json word error size of_day =
 abbrev pub answer_json : Facts → Datum → List ℕ
 answer_json facts x = value_json (type_word x) (error_text x) facts.size facts.of_day
 
--- the delay of a reply, if it is known
-abbrev pub waited_json : Option ℕ → List ℕ
-waited_json None = []
-waited_json (Some micros) = number_json (codes ",\"micros\":") micros
-
 -- ---- lines of results
-
-abbrev pub inline_json : Bool → List ℕ
-inline_json is_line = if is_line then codes ",\"inline\":true" else []
 
 -- the line of a command with this number, this name and so many words
 abbrev pub command_json : Facts → ℕ → List ℕ → ℕ → List ℕ
 command_json facts number name words = front_json facts.client (codes ",\"kind\":\"command\"")
-    (number_json (codes ",\"number\":") number ++ (member_json (codes ",\"command\":") name ++ (inline_json facts.is_line ++
-    (number_json (codes ",\"words\":") words ++ (number_json (codes ",\"size\":") facts.size ++ end_json facts.of_day)))))
+    (number_json (codes ",\"number\":") number ++ (member_json (codes ",\"command\":") name ++
+    ((if facts.is_line then codes ",\"inline\":true" else []) ++ (number_json (codes ",\"words\":") words ++
+    (number_json (codes ",\"size\":") facts.size ++ end_json facts.of_day)))))
 
 -- the line of the reply to the command with this number and this name
 abbrev pub reply_json : Facts → ℕ → List ℕ → Datum → List ℕ
-reply_json facts number name x =
-    front_json facts.client (codes ",\"kind\":\"reply\"") (number_json (codes ",\"number\":") number ++ member_json (codes ",\"command\":") name) ++
-    (waited_json facts.waited ++ answer_json facts x)
+reply_json facts number name x = front_json facts.client (codes ",\"kind\":\"reply\"")
+    (number_json (codes ",\"number\":") number ++ member_json (codes ",\"command\":") name) ++
+    (known_json (codes ",\"micros\":") facts.waited ++ answer_json facts x)
 
 -- the line of a push
 abbrev pub push_json : Facts → List ℕ
@@ -171,14 +169,14 @@ cut_place None = []
 cut_place (Some cut) = place_json cut.place
 
 -- the number of its bytes
-abbrev pub cut_size : Option Cut → List ℕ
-cut_size None = []
-cut_size (Some cut) = number_json (codes ",\"size\":") cut.bytes
+abbrev pub cut_bytes : Option Cut → Option ℕ
+cut_bytes cut = option_map (λ (cut : Cut). cut.bytes) cut
 
 -- the line about the side of a connection that has ended
 abbrev pub closed_json : ℕ → List ℕ → Side → Option Cut → ℕ → List ℕ
 closed_json client name side cut of_day = front_json client (closed_kind side)
-    (member_json (codes ",\"name\":") name ++ (cut_place cut ++ (cut_size cut ++ end_json of_day)))
+    (member_json (codes ",\"name\":") name ++ (cut_place cut ++
+    (known_json (codes ",\"size\":") (cut_bytes cut) ++ end_json of_day)))
 
 -- ---- other lines
 

@@ -1,5 +1,7 @@
 -- The items that are kept for the commands that wait, in the order of the commands.
 use Rattle.std.specs.Prelude.{◌≡◌, ◌⊎◌, ℕ, Bool, true, List, [], ◌∷◌, ◌++◌, drop}
+use Rattle.resp_tap.specs.Filters.{Chooses}
+use Rattle.resp_tap.specs.declared.filter.Filter.{Filter}
 use Rattle.resp_tap.specs.declared.seen.Seen.{Seen}
 use Rattle.resp_tap.specs.declared.seen.Seen.TheVariants as seen
 
@@ -13,3 +15,8 @@ abbrev pub KeptBy : {A : Type 0} → Bool → (List (List ℕ) → List A → Li
     Type 0
 KeptBy true Adds (seen.Command number words lengths) gone old new = Adds words old new
 KeptBy more Adds what gone old new = new ≡ drop gone old
+
+-- whether a result's command is let through by its words: those that were sent, or what is kept of them for the reply
+abbrev pub IsChosenBy : Filter → Bool → Seen → Bool → Type 0
+IsChosenBy f by_kept (seen.Command number words lengths) is_chosen = Chooses f words is_chosen
+IsChosenBy f by_kept what is_chosen = is_chosen ≡ by_kept

@@ -1,8 +1,8 @@
 -- What is kept of the commands that wait while a filter is used, and what is printed through it.
 use Rattle.std.specs.Prelude.{◌≡◌, ℕ, ◌-◌, ◌≤◌, Bool, true, false, ◌&&◌, List, [], ◌++◌, length, take, nat_lt, Option, None, Some, option_map, if◌then◌else◌, codes}
 use Rattle.resp_value.specs.Data.{Datum}
-use Rattle.resp_tap.specs.Filters.{Chooses, is_by_reply, is_selective, keeps, keeps_all}
-use Rattle.resp_tap.specs.Keeping.{IsAdded, KeptBy}
+use Rattle.resp_tap.specs.Filters.{is_by_reply, is_selective, keeps, keeps_all}
+use Rattle.resp_tap.specs.Keeping.{IsAdded, IsChosenBy, KeptBy}
 use Rattle.resp_tap.specs.Secrets.{printed_words}
 use Rattle.resp_tap.specs.Texts.{heading, seen_text, words_text}
 use Rattle.resp_tap.specs.declared.filter.Filter.{Filter}
@@ -82,11 +82,9 @@ abbrev pub chosen_by : Filter → Option Note → Bool
 chosen_by f None = keeps_all f
 chosen_by f (Some note) = note.is_chosen
 
--- Whether the command of a result is let through by its words: the words that were sent, or what is kept of them for the
--- reply.
+-- whether the command of a result is let through by its words, if this is kept for the reply
 abbrev pub IsChosen : Filter → Option Note → Seen → Bool → Type 0
-IsChosen f kept (seen.Command number words lengths) is_chosen = Chooses f words is_chosen
-IsChosen f kept what is_chosen = is_chosen ≡ chosen_by f kept
+IsChosen f kept what is_chosen = IsChosenBy f (chosen_by f kept) what is_chosen
 
 abbrev pub waited_in : Option Stamp → Option ℕ
 waited_in None = None

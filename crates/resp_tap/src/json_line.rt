@@ -7,7 +7,7 @@ ghost use Rattle.resp_value.specs.Data.{Datum};
 ghost use Rattle.resp_tap.specs.SeenOf.{IsKeptIn};
 ghost use Rattle.resp_value.specs.Values.{datum_of};
 ghost use Rattle.resp_tap.specs.Called.{command_name};
-ghost use Rattle.resp_tap.specs.JsonLines.{answer_json, closed_json, closed_kind, command_json, continues, cut_place, cut_size, end_json, error_text, last_end, listening_json, member_json, place_json, push_json, refused_json, remark_json, reply_json, seen_json, shown_part, type_word, unpaired_json};
+ghost use Rattle.resp_tap.specs.JsonLines.{answer_json, closed_json, closed_kind, command_json, continues, cut_bytes, cut_place, end_json, error_text, last_end, listening_json, member_json, place_json, push_json, refused_json, remark_json, reply_json, seen_json, shown_part, type_word, unpaired_json};
 ghost use Rattle.resp_tap.specs.Segments.{segment_text};
 
 use crate::called::command_name;
@@ -366,13 +366,13 @@ fn cut_place(cut: Option<Cut>) -> Segment<'static>
     }
 }
 
-/// Returns the bytes of the incomplete command or reply, if there is one.
-fn cut_size(cut: Option<Cut>) -> Segment<'static>
-    ensures { segment_text result ≡ cut_size cut }
+/// Returns the number of bytes of the incomplete command or reply, if there is one.
+fn cut_bytes(cut: Option<Cut>) -> Option<u64>
+    ensures { result ≡ cut_bytes cut }
 {
     match cut {
-        None => Segment::Text(b""),
-        Some(cut) => Segment::Number(b",\"size\":", cut.bytes),
+        None => None,
+        Some(cut) => Some(cut.bytes),
     }
 }
 
@@ -399,7 +399,7 @@ pub fn write_closed_json<W: Sink>(
             Segment::Text(closed_kind(side)),
             Segment::Member(b",\"name\":", name),
             cut_place(cut),
-            cut_size(cut),
+            Segment::NumberIf(b",\"size\":", cut_bytes(cut)),
             Segment::JsonEnd(of_day),
         ],
         writer,

@@ -1,6 +1,6 @@
 //! The lines of commands, replies and pushes, as `resp tap` prints them.
 
-ghost use Rattle.std.specs.Prelude.{◌+◌, ◌++◌, ◌≡◌, [], ℕ, List, Option, Some, codes, length};
+ghost use Rattle.std.specs.Prelude.{◌+◌, ◌++◌, ◌≡◌, [], ℕ, List, Option, Some, length};
 ghost use Rattle.resp_print.specs.Printed.{Prints};
 ghost use Rattle.resp_print.specs.Written.{WritesText};
 ghost use Rattle.resp_value.specs.Data.{Datum, depth};
@@ -342,14 +342,7 @@ pub fn write_client_line<W: Sink>(
     ensures { WritesText (W.written writer.old) (W.written writer.new) (W.failures writer.old)
         (W.failures writer.new) result (client_line client what.now stamp) }
 {
-    write_segments(
-        &[
-            Segment::Number(b"client ", client),
-            Segment::Text(what),
-            Segment::Ending(stamp),
-        ],
-        writer,
-    )
+    write_remark(client, what, b"", stamp, writer)
 }
 
 /// Writes a line about a client: these bytes after its number, and a text, such as

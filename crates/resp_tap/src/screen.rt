@@ -1,6 +1,6 @@
 //! A bounded buffer for text that waits for the terminal.
 
-ghost use Rattle.std.specs.Prelude.{◌≡◌, ◌≤◌, length, None, IfOk, OnErr, OnOk};
+ghost use Rattle.std.specs.Prelude.{◌≡◌, ◌+◌, ◌≤◌, length, None, IfOk, OnErr, OnOk};
 ghost use Rattle.resp_value.specs.Devices.{Writes, count_after, failures_after, write_fails};
 ghost use Rattle.resp_tap.specs.Screens.{left_out_end, left_out_front, notice_room};
 
@@ -156,10 +156,11 @@ impl Screen {
         if self.in_line {
             self.text.extend_reserved(b"\n");
         }
-        self.text.extend_reserved(left_out_front(self.as_json));
+        let (front, end) = left_out_texts(self.as_json);
+        self.text.extend_reserved(front);
         self.text
             .extend_reserved(buffer.format(self.unshown).as_bytes());
-        self.text.extend_reserved(left_out_end(self.as_json));
+        self.text.extend_reserved(end);
         self.unshown = 0;
         self.in_line = false;
         Ok(())
@@ -174,27 +175,16 @@ fn notice_room(as_json: bool) -> usize
     if as_json { LINE + ROOM } else { ROOM }
 }
 
-/// Returns the text before the number of omitted bytes.
-fn left_out_front(as_json: bool) -> &'static [u8]
-    ensures text { result.now ≡ left_out_front as_json }
-    ensures short { length result.now ≤ 26 }
+/// Returns the texts before and after the number of omitted bytes.
+fn left_out_texts(as_json: bool) -> (&'static [u8], &'static [u8])
+    ensures front { result.0.now ≡ left_out_front as_json }
+    ensures end { result.1.now ≡ left_out_end as_json }
+    ensures short { length result.0.now + length result.1.now ≤ 43 }
 {
     if as_json {
-        b"{\"kind\":\"omitted\",\"bytes\":"
+        (b"{\"kind\":\"omitted\",\"bytes\":", b"}\n")
     } else {
-        b""
-    }
-}
-
-/// Returns the text after the number of omitted bytes.
-fn left_out_end(as_json: bool) -> &'static [u8]
-    ensures text { result.now ≡ left_out_end as_json }
-    ensures short { length result.now ≤ 17 }
-{
-    if as_json {
-        b"}\n"
-    } else {
-        b" bytes not shown\n"
+        (b"", b" bytes not shown\n")
     }
 }
 

@@ -1,6 +1,5 @@
 //! The segments of printed lines.
 
-ghost use Rattle.std.specs.Prelude.{◌≡◌};
 ghost use Rattle.resp_print.specs.Written.{WritesText};
 ghost use Rattle.resp_tap.specs.Segments.{segment_text, segments_text};
 

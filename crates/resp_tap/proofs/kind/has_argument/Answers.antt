@@ -18,23 +18,17 @@ passed a b e = grind (arith, e)
 
 pub returns-then-is_name : goal.returns-then-is_name
 returns-then-is_name c =
-    let words = c.args.words.now in
-    let name = c.args.name.now in
-    let index = c.loop-index.index in
-    let below : index < length words = search rules in
-    let yes : is_name name c.word.result.now ≡ true = search rules in
-    sym (c.loop-index.invariant.rest ∙ next_word name words index c.word.result.now below c.word.ensures ∙ found _ _ yes)
+    let yes : is_name c.args.name.now c.word.result.now ≡ true = search rules in
+    sym (c.loop-index.invariant.rest ∙
+    next_word c.args.name.now c.args.words.now c.loop-index.index c.word.result.now (search rules) c.word.ensures ∙ found _ _ yes)
 
 pub loop-index-preserved : goal.loop-index-preserved
 loop-index-preserved c =
-    let words = c.args.words.now in
-    let name = c.args.name.now in
-    let index = c.loop-index.index in
-    let below : index < length words = search rules in
-    let no : is_name name c.word.result.now ≡ false = search rules in
+    let no : is_name c.args.name.now c.word.result.now ≡ false = search rules in
     record {
       first = omega (arith, c.loop-index.invariant.first);
-      rest = c.loop-index.invariant.rest ∙ next_word name words index c.word.result.now below c.word.ensures ∙ passed _ _ no;
+      rest = c.loop-index.invariant.rest ∙
+          next_word c.args.name.now c.args.words.now c.loop-index.index c.word.result.now (search rules) c.word.ensures ∙ passed _ _ no;
     }
 
 pub returns : goal.returns

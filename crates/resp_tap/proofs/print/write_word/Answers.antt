@@ -1,5 +1,5 @@
 use Rattle.std.proofs.Common.{◌∙◌, ◌++◌, ap, codes, length, subst}
-use Rattle.resp_print.specs.Shown.{quoted_text, shown_part}
+use Rattle.resp_print.specs.Shown.{quoted_text}
 use Rattle.resp_print.specs.Written.{WritesText}
 use Rattle.resp_tap.specs.Texts.{word_end}
 use Rattle.resp_tap.proofs.print.write_word.Goals as goal

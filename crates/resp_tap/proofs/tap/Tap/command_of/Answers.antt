@@ -1,4 +1,4 @@
-use Rattle.std.proofs.Common.{rules, ◌≡◌, ◌∙◌, ◌+◌, [], ap, inr, refl, subst, sym}
+use Rattle.std.proofs.Common.{rules, ◌∙◌, [], ap, inr, refl, subst, sym}
 use Rattle.resp_session.specs.Commands.{meaning_of}
 use Rattle.resp_tap.specs.Sides.{HasSent}
 use Rattle.resp_tap.specs.Taps.{tap_state, with_command, with_refused_command}
@@ -9,11 +9,8 @@ use Rattle.resp_tap.proofs.tap.Tap.command_of.Goals as goal
 
 pub returns-in-Ok-clause-seen : goal.returns-in-Ok-clause-seen
 returns-in-Ok-clause-seen c = λ taken whole front piece used spelled is.
-    let old = c.args.self.now in
-    let shown = old.values.shown.most in
-    let most = old.requests.shown.most in
-    let words = c.in-Command.words in
-    let (command, are) = command_read shown most whole c.args.kept words old.enough is c.in-Command.ensures.has_name c.in-Command.ensures.meaning in
+    let (command, are) = command_read _ _ whole c.args.kept c.in-Command.words c.args.self.now.enough is c.in-Command.ensures.has_name c.in-Command.ensures.meaning in
+    let kind = (kept_words_tell_the_same _ _ command.all c.in-Command.words c.args.kept.lengths.items are).kind in
     record {
       whole = command.all;
       some = command.some;
@@ -22,19 +19,14 @@ returns-in-Ok-clause-seen c = λ taken whole front piece used spelled is.
       means = command.means;
       are_kept = are;
       numbered = search rules;
-      after = c.in-Ok.ensures.counted ∙
-          ap (λ kind. with_command kind (tap_state old)) (kept_words_tell_the_same shown most command.all words c.args.kept.lengths.items are).kind;
+      after = c.in-Ok.ensures.counted ∙ ap (λ k. with_command k (tap_state c.args.self.now)) kind;
       takes = subst (λ r. HasSent r []) (sym c.in-Ok.ensures.same_request) taken;
     }
 
 pub returns-in-Err-clause-seen : goal.returns-in-Err-clause-seen
 returns-in-Err-clause-seen c = λ taken whole front piece used spelled is.
-    let old = c.args.self.now in
-    let shown = old.values.shown.most in
-    let most = old.requests.shown.most in
-    let words = c.in-Command.words in
-    let (command, are) = command_read shown most whole c.args.kept words old.enough is c.in-Command.ensures.has_name c.in-Command.ensures.meaning in
-    let numbered : c.saturating_add-number.result ≡ old.commands + 1 = search rules in
+    let (command, are) = command_read _ _ whole c.args.kept c.in-Command.words c.args.self.now.enough is c.in-Command.ensures.has_name c.in-Command.ensures.meaning in
+    let kind = (kept_words_tell_the_same _ _ command.all c.in-Command.words c.args.kept.lengths.items are).kind in
     record {
       refused = inr (
         record {
@@ -42,12 +34,11 @@ returns-in-Err-clause-seen c = λ taken whole front piece used spelled is.
           words = command.all;
           spelled = spelled;
           means = command.means;
-          left_out = left_out_whole (tap_state old) words command.all c.in-Err.cause
-              (kept_words_tell_the_same shown most command.all words c.args.kept.lengths.items are).kind c.in-Err.ensures.refusal;
+          left_out = left_out_whole (tap_state c.args.self.now) c.in-Command.words command.all c.in-Err.cause kind c.in-Err.ensures.refusal;
         },
         refl,
       );
-      place = ap place.Command numbered;
+      place = ap place.Command (search rules);
       after = c.stop_commands.ensures.after ∙ ap with_refused_command c.in-Err.ensures.unchanged;
     }
 
