@@ -1,5 +1,5 @@
 -- Events told one after another, and what they say of the bytes used.
-use Rattle.std.proofs.Common.{◌≡◌, ◌⊎◌, inl, inr, ℕ, zero, suc, ◌+◌, ◌-◌, ◌<◌, ◌≤◌, List, [], ◌∷◌, ◌++◌, length, take, drop, None, Some, Ok, Err, refl, sym, ap, subst, ◌∙◌, arith, append_assoc, append-nil}
+use Rattle.std.proofs.Common.{◌≡◌, ◌⊎◌, inl, inr, ℕ, zero, suc, ◌+◌, ◌-◌, ◌<◌, ◌≤◌, List, [], ◌∷◌, ◌++◌, length, flat_map, take, drop, None, Some, Ok, Err, refl, sym, ap, subst, ◌∙◌, arith, append_assoc, append-nil}
 use Rattle.std.proofs.lemmas.List.{drop-set-lt, length-drop, take-append-drop, take-set-le, take_more_set}
 use Rattle.std.proofs.Math.ListN.{set}
 use Rattle.std.proofs.Math.Seq.{drop-nil, take-length}
@@ -20,15 +20,15 @@ use Rattle.resp_scan.specs.Machine.Tokens.{Place}
 use Rattle.resp_scan.specs.Reading.{Events, HasRead, IsFaulted, IsRefused, IsValue}
 use Rattle.resp_scan.specs.Slots.{ShowsEvent, ShowsText, Steps, StepsOverText}
 use Rattle.resp_scan.proofs.CallClauses.WholeTexts.{taken_on}
-use Rattle.resp_c.specs.Scans.{IsTreeWithin, IsUsedUp, ReadsTo, Scans, StandFor, StandsForEvent, StandsForText, all_events_of, events_of_trees, texts_of_trees, used_by}
+use Rattle.resp_c.specs.Scans.{IsTreeWithin, IsUsedUp, ReadsTo, Scans, StandFor, StandsForEvent, StandsForText, all_events_of, events_of_trees, used_by}
 use Rattle.resp_c.specs.Told.{Tells, TellsMore, TellsWhole}
 use Rattle.resp_c.specs.declared.event.RespEvent.{RespEvent}
 
 -- Trees read one after another.
 
-texts-snoc : (trees : List Tree) (last : Tree) → texts_of_trees (trees ++ last ∷ []) ≡ texts_of_trees trees ++ tree.text last
+texts-snoc : (trees : List Tree) (last : Tree) → flat_map tree.text (trees ++ last ∷ []) ≡ flat_map tree.text trees ++ tree.text last
 texts-snoc [] last = append-nil (tree.text last)
-texts-snoc (u ∷ us) last = ap (λ z. tree.text u ++ z) (texts-snoc us last) ∙ sym (append_assoc (tree.text u) (texts_of_trees us) (tree.text last))
+texts-snoc (u ∷ us) last = ap (λ z. tree.text u ++ z) (texts-snoc us last) ∙ sym (append_assoc (tree.text u) (flat_map tree.text us) (tree.text last))
 
 events-snoc : (trees : List Tree) (tree : Tree) →
     events_of_trees (trees ++ tree ∷ []) ≡ events_of_trees trees ++ (without_places (events 0 tree) ++ e.Done ∷ [])
@@ -50,7 +50,7 @@ reads_on r written told Ends Ends' bytes more w ends = record {
   front = w.front ++ bytes;
   given = w.given ++ more;
   keep = w.keep;
-  parts = ap (λ z. z ++ bytes) w.parts ∙ append_assoc (texts_of_trees w.trees) w.front bytes;
+  parts = ap (λ z. z ++ bytes) w.parts ∙ append_assoc (flat_map tree.text w.trees) w.front bytes;
   told_of = ap (λ z. z ++ more) w.told_of ∙ append_assoc (events_of_trees w.trees) w.given more;
   ends = ends w.front w.given w.ends;
 }
@@ -63,7 +63,7 @@ reads_bytes r written told Ends Ends' bytes w ends = record {
   front = w.front ++ bytes;
   given = w.given;
   keep = w.keep;
-  parts = ap (λ z. z ++ bytes) w.parts ∙ append_assoc (texts_of_trees w.trees) w.front bytes;
+  parts = ap (λ z. z ++ bytes) w.parts ∙ append_assoc (flat_map tree.text w.trees) w.front bytes;
   told_of = w.told_of;
   ends = ends w.front w.given w.ends;
 }
@@ -91,8 +91,8 @@ reads_done r written told Ends Ends' w value ends =
       front = [];
       given = [];
       keep = keep-snoc r w.trees v.tree w.keep (v.spells.is_tree, v.keeps);
-      parts = w.parts ∙ ap (λ z. texts_of_trees w.trees ++ z) (sym v.spells.spelled) ∙ sym (texts-snoc w.trees v.tree) ∙
-          sym (append-nil (texts_of_trees (w.trees ++ v.tree ∷ [])));
+      parts = w.parts ∙ ap (λ z. flat_map tree.text w.trees ++ z) (sym v.spells.spelled) ∙ sym (texts-snoc w.trees v.tree) ∙
+          sym (append-nil (flat_map tree.text (w.trees ++ v.tree ∷ [])));
       told_of = ap (λ z. z ++ e.Done ∷ []) w.told_of ∙ append_assoc (events_of_trees w.trees) w.given (e.Done ∷ []) ∙
           ap (λ z. events_of_trees w.trees ++ (z ++ e.Done ∷ [])) v.told ∙ sym (events-snoc w.trees v.tree) ∙
           sym (append-nil (events_of_trees (w.trees ++ v.tree ∷ [])));

@@ -9,7 +9,8 @@ use Rattle.resp_value.specs.Trees.{texts}
 use Rattle.resp_value.specs.Words.{command_of, word_datum}
 use Rattle.resp_value.specs.declared.version.Version.TheVariants.{Two}
 use Rattle.resp_encode.proofs.Counts.{count-map}
-use Rattle.resp_c.specs.Writes.{StandsInRoom, Writes, bulk_texts, head_text}
+use Rattle.resp_encode.specs.Encodings.{head_text}
+use Rattle.resp_c.specs.Writes.{StandsInRoom, Writes, bulk_texts}
 
 -- nothing was put there
 pub stands_none : (old : List ℕ) → StandsInRoom old [] old 0

@@ -1,5 +1,5 @@
 -- A run of the calls that pair values is a client's reading.
-use Rattle.std.proofs.Common.{◌≡◌, inl, inr, ℕ, zero, suc, ◌+◌, ◌<◌, ◌≤◌, ◌^◌, Bool, true, false, cond, eqb, List, [], ◌∷◌, ◌++◌, length, map, refl, sym, ap, subst, ◌∙◌, arith, length-append}
+use Rattle.std.proofs.Common.{◌≡◌, inl, inr, ℕ, zero, suc, ◌+◌, ◌<◌, ◌≤◌, ◌^◌, Bool, true, false, cond, eqb, List, [], ◌∷◌, ◌++◌, length, flat_map, map, refl, sym, ap, subst, ◌∙◌, arith, length-append}
 use Rattle.std.proofs.lemmas.Bool.Decides.{eqb_tells}
 use Rattle.resp_value.specs.Bounds.{Bounds}
 use Rattle.resp_value.specs.Data.{Array, Set, Map, Attr, Push, Datum}
@@ -15,7 +15,6 @@ use Rattle.resp_session.specs.Heard.{is_push, numbered_replies}
 use Rattle.resp_session.specs.Reading.{IsUnasked, MayBeRead, ReadsAs, Waiting, is_refusal, reading_rules, waiting_after}
 use Rattle.resp_c.specs.Pairs.{ValueLook, after_events, look_after_event, look_of, opened, closed, reads_push, waiting_of}
 use Rattle.resp_c.specs.Runs.{CallsReadAsAClient, PairsValue, Shows, StandsFor, TakesAll, replies_told, trees_of}
-use Rattle.resp_c.specs.Scans.{texts_of_trees}
 use Rattle.resp_c.specs.declared.event.RespEvent.{RespEvent}
 use Rattle.resp_c.specs.declared.pairing.RespPairing.{RespPairing}
 use Rattle.resp_c.proofs.Refusals.{events_show}
@@ -187,10 +186,10 @@ calls_read limits old new ((number, u) ∷ rest) few (between, one, later) =
     let xs = map value (trees_of rest) in (
       (
         text u,
-        texts_of_trees (trees_of rest),
+        flat_map text (trees_of rest),
         r.spelling,
         r.may_be_read,
-        subst (λ w. ReadsAs limits w xs (texts_of_trees (trees_of rest)) (waiting_of new)) r.waiting beyond.0,
+        subst (λ w. ReadsAs limits w xs (flat_map text (trees_of rest)) (waiting_of new)) r.waiting beyond.0,
         refl,
       ),
       one_number (is_push (value u)) number old.answered between.answered u rest xs refl r.number_is r.answered beyond.1,

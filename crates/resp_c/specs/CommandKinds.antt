@@ -33,17 +33,13 @@ subscribing_names = codes "subscribe" ∷ codes "unsubscribe" ∷ codes "psubscr
 abbrev pub is_subscribing : List ℕ → Bool
 is_subscribing name = list_any (λ other. is_name other name) subscribing_names
 
--- a HELLO whose first argument is this word
-abbrev pub kind_of_version : List ℕ → ℕ
-kind_of_version word =
+-- a HELLO with these arguments, of which the first is the version
+abbrev pub kind_of_hello : List (List ℕ) → ℕ
+kind_of_hello [] = one_reply
+kind_of_hello (word ∷ options) =
     if bytes_eq word (codes "2") then hello_two else
     if bytes_eq word (codes "3") then hello_three else
     one_reply
-
--- a HELLO with these arguments
-abbrev pub kind_of_hello : List (List ℕ) → ℕ
-kind_of_hello [] = one_reply
-kind_of_hello (word ∷ options) = kind_of_version word
 
 -- a command with these words, of which the first is its name; a client of resp_client sends it if its kind is that of one
 -- reply and it is no HELLO

@@ -136,10 +136,6 @@ before_pushes_after p = cond (reads_push p) p.before_pushes (p.before_pushes - 1
 abbrev pub number_of_reply : RespPairing → ℕ
 number_of_reply p = cond (reads_push p) 0 (p.answered + 1)
 
--- 1 for a reply, and 0 for a push
-abbrev pub count_of_reply : RespPairing → ℕ
-count_of_reply p = cond (reads_push p) 0 1
-
 -- the effect of an event as C receives it
 abbrev pub nested_by : ℕ → ℕ → ℕ → ℕ
 nested_by nested kind form =

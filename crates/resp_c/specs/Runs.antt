@@ -1,6 +1,6 @@
 -- Runs of the calls that pair values: resp_pairing_first with the first byte of a value, and resp_pairing_take with each
 -- event that a scanner gives in the version that was set.
-use Rattle.std.specs.Prelude.{◌≡◌, ◌⊎◌, ℕ, ◌+◌, ◌<◌, ◌^◌, false, List, [], ◌∷◌, ◌++◌, length, map, cond, eqb, Some}
+use Rattle.std.specs.Prelude.{◌≡◌, ◌⊎◌, ℕ, ◌+◌, ◌<◌, ◌^◌, Bool, List, [], ◌∷◌, ◌++◌, length, flat_map, map, cond, eqb, Some}
 use Rattle.resp_value.specs.Bounds.{Bounds}
 use Rattle.resp_value.specs.Data.{Datum}
 use Rattle.resp_value.specs.Rules.{rules_under}
@@ -14,8 +14,8 @@ use Rattle.resp_scan.specs.Reading.{Events, events_of}
 use Rattle.resp_session.specs.Heard.{is_push, numbered_replies}
 use Rattle.resp_session.specs.Reading.{IsUnasked, ReadsAs, is_refusal, reading_version, waiting_after}
 use Rattle.resp_c.specs.EventNumbers.{more_number}
-use Rattle.resp_c.specs.Pairs.{after_events, count_of_reply, look_of, new_look, number_of_reply, reads_push, waiting_of}
-use Rattle.resp_c.specs.Scans.{IsTreeWithin, texts_of_trees}
+use Rattle.resp_c.specs.Pairs.{after_events, look_of, new_look, number_of_reply, reads_push, waiting_of}
+use Rattle.resp_c.specs.Scans.{IsTreeWithin}
 use Rattle.resp_c.specs.Told.{Tells, TellsWhole}
 use Rattle.resp_c.specs.Versions.{version_of}
 use Rattle.resp_c.specs.declared.event.RespEvent.{RespEvent}
@@ -41,18 +41,11 @@ pub record Shows (old new : RespPairing) (out : RespEvent) : Type 0 where
   pub same_answered : new.answered ≡ old.answered
 
 -- The end of a value of which the events have shown whether it is an error: a reply belongs to the first command that
--- waits, and a push to none.
-pub record Ends (old new : RespPairing) : Type 0 where
-  pub waiting : (x : Datum) → is_push x ≡ reads_push old → is_refusal x ≡ (look_of old).refuses →
+-- waits, and a push to none. The last push that answers the command which waits first ends as a reply to it does.
+pub record Ends (old new : RespPairing) (ends_as_push : Bool) : Type 0 where
+  pub waiting : (x : Datum) → is_push x ≡ ends_as_push → is_refusal x ≡ (look_of old).refuses →
       waiting_of new ≡ waiting_after (waiting_of old) x
-  pub counted : old.answered < 2 ^ 63 → new.answered ≡ old.answered + count_of_reply old
-  pub same_look : look_of new ≡ look_of old
-
--- The end of the last push that answers the command which waits first: the command has its answer.
-pub record EndsByPush (old new : RespPairing) : Type 0 where
-  pub waiting : (x : Datum) → is_push x ≡ false → is_refusal x ≡ (look_of old).refuses →
-      waiting_of new ≡ waiting_after (waiting_of old) x
-  pub counted : old.answered < 2 ^ 63 → new.answered ≡ old.answered + 1
+  pub counted : old.answered < 2 ^ 63 → new.answered ≡ old.answered + cond ends_as_push 0 1
   pub same_look : look_of new ≡ look_of old
 
 -- an event, or a text with its end, as C receives it
@@ -81,7 +74,7 @@ pub record PairsValue (limits : Bounds) (old : RespPairing) (tree : Tree) (numbe
   pub reads : IsTreeWithin (rules_under (version_of version) limits) tree
   pub takes : TakesAll number begun outs (without_places (events 0 tree)) shown
   pub few : length (without_places (events 0 tree)) < 2 ^ 63
-  pub ends : Ends shown new
+  pub ends : Ends shown new (reads_push shown)
   pub told : number ≡ number_of_reply shown
 
 -- the calls for values, one after another, each with the number that was set
@@ -91,8 +84,7 @@ Pairs limits p ((number, tree) ∷ rest) q = (between : RespPairing) × PairsVal
     Pairs limits between rest q
 
 abbrev pub trees_of : List (ℕ × Tree) → List Tree
-trees_of [] = []
-trees_of ((number, tree) ∷ rest) = tree ∷ trees_of rest
+trees_of told = map (λ (it : ℕ × Tree). it.1) told
 
 -- the values whose number is not 0, each with its number
 abbrev pub replies_told : List (ℕ × Tree) → List (ℕ × Datum)
@@ -104,5 +96,5 @@ replies_told ((number, tree) ∷ rest) = cond (eqb number 0) (replies_told rest)
 abbrev pub CallsReadAsAClient : Type 0
 CallsReadAsAClient = (limits : Bounds) (old new : RespPairing) (told : List (ℕ × Tree)) →
     old.answered + length told < 2 ^ 63 → Pairs limits old told new →
-    ReadsAs limits (waiting_of old) (map value (trees_of told)) (texts_of_trees (trees_of told)) (waiting_of new) ×
+    ReadsAs limits (waiting_of old) (map value (trees_of told)) (flat_map text (trees_of told)) (waiting_of new) ×
     (replies_told told ≡ numbered_replies (old.answered + 1) (map value (trees_of told)))

@@ -1,5 +1,5 @@
 -- The contract of a call that stores many events, in terms of texts and trees.
-use Rattle.std.specs.Prelude.{◌≡◌, ◌⊎◌, ℕ, ◌+◌, List, [], ◌∷◌, ◌++◌, drop, take, Option, Some}
+use Rattle.std.specs.Prelude.{◌≡◌, ◌⊎◌, ℕ, ◌+◌, List, [], ◌∷◌, ◌++◌, drop, flat_map, take, Some}
 use Rattle.std.specs.List.{AllByRecursion}
 use Rattle.resp_value.specs.Rules.{Keeps, Rules, WithinTotal}
 use Rattle.resp_value.specs.Spellings.{IsViable}
@@ -55,11 +55,6 @@ StandFor piece (out ∷ outs) told = (first : Events) × (rest : Events) ×
 
 -- The bytes that were read.
 
--- the texts of trees, one after another
-abbrev pub texts_of_trees : List Tree → List ℕ
-texts_of_trees [] = []
-texts_of_trees (tree ∷ trees) = text tree ++ texts_of_trees trees
-
 -- the events of trees, each with its end
 abbrev pub events_of_trees : List Tree → Events
 events_of_trees [] = []
@@ -76,7 +71,7 @@ pub record ReadsTo (r : Rules) (written : List ℕ) (told : Events) (Ends : List
   pub front : List ℕ
   pub given : Events
   pub keep : AllByRecursion (IsTreeWithin r) trees
-  pub parts : written ≡ texts_of_trees trees ++ front
+  pub parts : written ≡ flat_map text trees ++ front
   pub told_of : told ≡ events_of_trees trees ++ given
   pub ends : Ends front given
 
@@ -94,12 +89,3 @@ pub record Scans (old : Place) (piece : List ℕ) (outs : List RespEvent) (used 
   pub stand_for : StandFor piece outs told
   pub reads : WhereRead old (λ front given.
       ReadsTo (rules_of old) (front ++ take used piece) (given ++ told) Ends)
-
--- The same for scanners in memory. The condition on the end may concern both.
-pub record ScansInMemory (before after : Option Place) (piece : List ℕ) (outs : List RespEvent) (used : ℕ)
-    (Ends : Place → Place → List ℕ → Events → Type 0) : Type 0 where
-  pub old : Place
-  pub new : Place
-  pub was : before ≡ Some old
-  pub is : after ≡ Some new
-  pub scans : Scans old piece outs used (Ends old new)

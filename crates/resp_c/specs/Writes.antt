@@ -1,12 +1,10 @@
 -- The contracts of the functions that write.
-use Rattle.std.specs.Prelude.{◌≡◌, ℕ, ◌<◌, ◌≤◌, List, [], ◌∷◌, ◌++◌, length, drop, cond, eqb}
-use Rattle.resp_value.specs.Bytes.{crlf}
+use Rattle.std.specs.Prelude.{◌≡◌, ℕ, ◌<◌, ◌≤◌, List, ◌++◌, length, drop, flat_map, cond, eqb}
 use Rattle.resp_value.specs.Canonical.{canonical_text, canonical_trees}
 use Rattle.resp_value.specs.Causes.{number_of}
 use Rattle.resp_value.specs.Data.{Data, Kind, aggregate, count, items_of, scalar}
 use Rattle.resp_value.specs.Data as d
-use Rattle.resp_value.specs.Numbers.{decimal}
-use Rattle.resp_value.specs.Trees.{kind_byte, texts}
+use Rattle.resp_value.specs.Trees.{texts}
 use Rattle.resp_value.specs.Words.{command_of}
 use Rattle.resp_value.specs.declared.cause.Cause.TheVariants as cause
 use Rattle.resp_value.specs.declared.cause.Limit.{Limit}
@@ -15,6 +13,7 @@ use Rattle.resp_value.specs.declared.kind.OpenKind.{OpenKind}
 use Rattle.resp_value.specs.declared.kind.OpenKind.TheVariants as kind
 use Rattle.resp_value.specs.declared.version.Version.{Version}
 use Rattle.resp_value.specs.declared.version.Version.TheVariants.{Two}
+use Rattle.resp_encode.specs.Encodings.{head_text}
 use Rattle.resp_c.specs.Answers.{no_room}
 use Rattle.resp_c.specs.EventNumbers.{kind_form}
 
@@ -48,10 +47,6 @@ abbrev pub aggregate_of : ℕ → OpenKind
 aggregate_of n = cond (eqb n (kind_form kind.Array)) kind.Array (cond (eqb n (kind_form kind.Set)) kind.Set
     (cond (eqb n (kind_form kind.Map)) kind.Map (cond (eqb n (kind_form kind.Attr)) kind.Attr kind.Push)))
 
--- the head of an aggregate of this kind, with this number
-abbrev pub head_text : Kind → ℕ → List ℕ
-head_text k n = (kind_byte k ∷ decimal n) ++ crlf []
-
 -- the error number of exceeding a limit
 abbrev pub limit_number : Limit → ℕ
 limit_number Depth = number_of cause.Depth
@@ -61,8 +56,7 @@ limit_number Items = number_of cause.Items
 
 -- the texts of words as bulk strings, one after another
 abbrev pub bulk_texts : List (List ℕ) → List ℕ
-bulk_texts [] = []
-bulk_texts (word ∷ words) = canonical_text Two (scalar (d.Bulk word)) ++ bulk_texts words
+bulk_texts words = flat_map (λ word. canonical_text Two (scalar (d.Bulk word))) words
 
 -- the head of an aggregate and then the texts of its members are together its text
 abbrev pub AHeadAndItsMembersAreTheText : Type 0

@@ -2,7 +2,7 @@
 
 ghost use Rattle.std.specs.Prelude.{◌≡◌, ◌≤◌, [], ◌∷◌, ℕ, List};
 ghost use Rattle.resp_session.specs.Requests.{is_unsent};
-ghost use Rattle.resp_c.specs.CommandKinds.{is_subscribing, kind_of_command, kind_of_version};
+ghost use Rattle.resp_c.specs.CommandKinds.{is_subscribing, kind_of_command, kind_of_hello};
 
 use crate::number;
 use resp_session::names::{is_name, is_unsent_name};
@@ -35,7 +35,7 @@ fn is_unsent(name: &[u8], argument: &[u8]) -> bool
 
 /// Returns the kind of a HELLO with this version argument.
 fn kind_of_version(word: &[u8]) -> u32
-    ensures { result ≡ kind_of_version word.now }
+    ensures { result ≡ kind_of_hello (word.now ∷ []) }
 {
     if word == b"2".as_slice() {
         return number::HELLO_TWO;

@@ -21,8 +21,8 @@ ghost use Rattle.resp_c.specs.CommandKinds.{IsUnpaired};
 ghost use Rattle.resp_c.specs.EventNumbers.{done_number};
 ghost use Rattle.resp_c.specs.Told.{Tells, TellsWhole};
 ghost use Rattle.resp_c.specs.Versions.{IsVersion, version_of};
-ghost use Rattle.resp_c.specs.Runs.{Begins, Ends, EndsByPush, Shows};
-ghost use Rattle.resp_c.specs.Pairs.{HasNoPushes, HasVersions, IsAsk, after_events, ask_of, before_pushes_after, count_of_reply, hello_asks, is_last_push, look_of, nested_by, new_look, number_of_reply, pushes_after, reads_push, refuses_by, waiting_of, with_ask_queued};
+ghost use Rattle.resp_c.specs.Runs.{Begins, Ends, Shows};
+ghost use Rattle.resp_c.specs.Pairs.{HasNoPushes, HasVersions, IsAsk, after_events, ask_of, before_pushes_after, hello_asks, is_last_push, look_of, nested_by, new_look, number_of_reply, pushes_after, reads_push, refuses_by, waiting_of, with_ask_queued};
 
 use crate::answer::{BAD_VERSION, HELLO_WAITS, PUSHES_WAIT, UNPAIRED};
 use crate::event::RespEvent;
@@ -354,9 +354,9 @@ pub extern "C" fn resp_pairing_take(pairing: &mut RespPairing, event: &RespEvent
     ensures shows { (event.now.kind ≡ done_number → ⊥) →
         Shows pairing.old pairing.new event.now }
     ensures ends { event.now.kind ≡ done_number → is_last_push pairing.old ≡ false →
-        Ends pairing.old pairing.new }
+        Ends pairing.old pairing.new (reads_push pairing.old) }
     ensures last_push { event.now.kind ≡ done_number → is_last_push pairing.old ≡ true →
-        EndsByPush pairing.old pairing.new }
+        Ends pairing.old pairing.new false }
     ensures pushes { event.now.kind ≡ done_number → (pairing.new.pushes ≡ pushes_after pairing.old) ×
         (pairing.new.before_pushes ≡ before_pushes_after pairing.old) }
     ensures same_pushes { (event.now.kind ≡ done_number → ⊥) →

@@ -1,8 +1,8 @@
 //! Many events in one call.
 
 ghost use Rattle.std.specs.Prelude.{◌<◌, ◌≡◌, ◌≤◌, drop, length, take};
-ghost use Rattle.resp_c.specs.Scans.{IsUsedUp, Scans, ScansInMemory, used_by};
-ghost use Rattle.resp_c.specs.Steps.{IsHeld, WhereHeld};
+ghost use Rattle.resp_c.specs.Scans.{IsUsedUp, Scans, used_by};
+ghost use Rattle.resp_c.specs.Steps.{InMemory, IsHeld, WhereHeld};
 ghost use Rattle.resp_scan.specs.Kinds.{rules_of};
 ghost use Rattle.resp_scan.specs.Reading.{HasRead, IsFaulted, IsRefused};
 ghost use Rattle.resp_scan.specs.declared.event.Fault.{Fault};
@@ -108,23 +108,22 @@ pub extern "C" fn resp_scanner_scan(
     // The array is full: it has the events of the bytes used, and values may have ended among them.
     ensures full { result ≡ 0 → scanned.new.count ≡ length events.old →
         (scanned.new.used ≡ used_by (take scanned.new.count events.new)) ×
-        ScansInMemory scanner.old.scanner scanner.new.scanner piece.now
-        (take scanned.new.count events.new) scanned.new.used (λ old new. HasRead new) }
+        InMemory scanner.old.scanner scanner.new.scanner (λ old new. Scans old piece.now
+        (take scanned.new.count events.new) scanned.new.used (HasRead new)) }
 
     // The piece is used up, and all events of the bytes read were stored.
     ensures used_up { result ≡ 0 → scanned.new.count < length events.old →
         (scanned.new.used ≡ length piece.now) ×
-        ScansInMemory scanner.old.scanner scanner.new.scanner piece.now
-        (take scanned.new.count events.new) scanned.new.used (λ old new. IsUsedUp new) }
+        InMemory scanner.old.scanner scanner.new.scanner (λ old new. Scans old piece.now
+        (take scanned.new.count events.new) scanned.new.used (IsUsedUp new)) }
 
     // The byte is the first that cannot follow the bytes before it, and the events before it were
     // stored.
     ensures refused { (result ≡ 0 → ⊥) → (fault : Fault) × (result ≡ number_of fault.cause) ×
         (scanned.new.used ≡ used_by (take scanned.new.count events.new)) ×
-        ScansInMemory scanner.old.scanner scanner.new.scanner piece.now
-        (take scanned.new.count events.new) scanned.new.used (λ old new front given.
-        IsFaulted new fault ×
-        IsRefused (rules_of old) front given (drop scanned.new.used piece.now) fault) }
+        InMemory scanner.old.scanner scanner.new.scanner (λ old new. IsFaulted new fault × Scans old
+        piece.now (take scanned.new.count events.new) scanned.new.used (λ front given.
+        IsRefused (rules_of old) front given (drop scanned.new.used piece.now) fault)) }
 
     ensures within_piece { scanned.new.used ≤ length piece.now }
     ensures within_array { scanned.new.count ≤ length events.old }

@@ -4,12 +4,13 @@ ghost use Rattle.std.specs.Prelude.{◌≡◌, ◌↔◌, ◌≤◌, ◌+◌, �
 ghost use Rattle.resp_c.specs.Answers.{bad_version};
 ghost use Rattle.resp_c.specs.Limits.{bounds_of};
 ghost use Rattle.resp_c.specs.Memory.{scanner_alignment, scanner_size};
-ghost use Rattle.resp_c.specs.Steps.{IsHeld, StepsInMemory, WhereHeld};
+ghost use Rattle.resp_c.specs.Steps.{InMemory, IsHeld, WhereHeld};
 ghost use Rattle.resp_c.specs.Told.{Tells};
 ghost use Rattle.resp_c.specs.Versions.{IsVersion, version_of};
 ghost use Rattle.resp_scan.specs.Counts.{close_count, open_count};
 ghost use Rattle.resp_scan.specs.Kinds.{rules_of};
 ghost use Rattle.resp_scan.specs.Reading.{HasRead, IsFaulted, MayEnd, WhereRead};
+ghost use Rattle.resp_scan.specs.Slots.{Steps};
 ghost use Rattle.resp_scan.specs.declared.event.Fault.{Fault};
 ghost use Rattle.resp_scan.specs.declared.event.Step.{Step};
 ghost use Rattle.resp_fronts.specs.LeastCompletions.{IsLeast};
@@ -100,12 +101,12 @@ pub extern "C" fn resp_scanner_step(
     event: &mut RespEvent,
 ) -> u32
     requires { IsHeld scanner.old.scanner }
-    ensures told { result ≡ 0 → (step : Step) × StepsInMemory scanner.old.scanner
-        scanner.new.scanner piece.now (Ok step) × (event.new.used ≡ step.used) ×
+    ensures told { result ≡ 0 → (step : Step) × InMemory scanner.old.scanner scanner.new.scanner
+        (λ old new. Steps old new piece.now (Ok step)) × (event.new.used ≡ step.used) ×
         Tells event.new step.event }
-    ensures refused { (result ≡ 0 → ⊥) → (fault : Fault) × StepsInMemory scanner.old.scanner
-        scanner.new.scanner piece.now (Err fault) × (result ≡ number_of fault.cause) ×
-        (event.new ≡ event.old) }
+    ensures refused { (result ≡ 0 → ⊥) → (fault : Fault) × InMemory scanner.old.scanner
+        scanner.new.scanner (λ old new. Steps old new piece.now (Err fault)) ×
+        (result ≡ number_of fault.cause) × (event.new ≡ event.old) }
     ensures within_piece { result ≡ 0 → event.new.used ≤ length piece.now }
 {
     match scanner.scanner().step(piece) {

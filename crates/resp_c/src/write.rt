@@ -18,7 +18,8 @@ ghost use Rattle.resp_value.specs.declared.version.Version.{Version};
 ghost use Rattle.resp_value.specs.declared.cause.Cause.TheVariants as cause;
 ghost use Rattle.resp_c.specs.Answers.{bad_kind, bad_version};
 ghost use Rattle.resp_c.specs.Versions.{IsVersion, version_of};
-ghost use Rattle.resp_c.specs.Writes.{IsAggregate, Writes, WritesNothing, aggregate_of, head_text};
+ghost use Rattle.resp_c.specs.Writes.{IsAggregate, Writes, WritesNothing, aggregate_of};
+ghost use Rattle.resp_encode.specs.Encodings.{head_text};
 
 use crate::answer::{BAD_KIND, BAD_VERSION};
 use crate::number;

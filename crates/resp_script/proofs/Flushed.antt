@@ -2,20 +2,21 @@
 use Rattle.std.proofs.Common.{◌≡◌, ℕ, zero, suc, ◌+◌, ◌-◌, ◌<◌, true, List, [], ◌∷◌, ◌++◌, Option, Err, length, take, drop, get_or, sym, ap, subst, ◌∙◌, arith, append_assoc, append-nil, add-zero, add-suc, add-one, take-append-drop}
 use Rattle.std.proofs.lemmas.Grind.{flat_map-append}
 use Rattle.resp_value.specs.Bounds.{Bounds}
+use Rattle.resp_value.specs.Devices.{last_count}
 use Rattle.resp_session.specs.Worlds.{World, ToServer, ToClient}
 use Rattle.resp_wire.specs.Worlds.{WorldState}
 use Rattle.resp_wire.specs.declared.event.Event.{Event}
-use Rattle.resp_script.specs.Plays.{PlaysTo, all_bytes, flush_events, played, step_events, steps_events}
+use Rattle.resp_script.specs.Plays.{PlaysTo, flush_events, played, step_events, steps_events}
 use Rattle.resp_script.specs.Printed.{PlayedEvent}
 use Rattle.resp_script.specs.declared.play.PlayError.{PlayError}
 use Rattle.resp_script.proofs.Played.{stops_before}
 
 -- the event by which what waits of a client goes to its session, and that by which what waits there goes to it
 abbrev pub to_server : ℕ → ℕ → PlayedEvent
-to_server line client = played line true (ToServer client all_bytes)
+to_server line client = played line true (ToServer client last_count)
 
 abbrev pub to_client : ℕ → ℕ → PlayedEvent
-to_client line client = played line true (ToClient client all_bytes)
+to_client line client = played line true (ToClient client last_count)
 
 -- the events of one client more
 pub flush_more : (line i : ℕ) → flush_events line (i + 1) ≡ (flush_events line i ++ to_server line (i + 1) ∷ []) ++ to_client line (i + 1) ∷ []

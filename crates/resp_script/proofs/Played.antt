@@ -3,10 +3,9 @@ use Rattle.std.proofs.Common.{◌≡◌, inl, inr, ℕ, List, [], ◌∷◌, ◌
 use Rattle.resp_value.specs.Bounds.{Bounds}
 use Rattle.resp_value.specs.Devices.{Appends}
 use Rattle.resp_session.specs.Worlds.{World}
-use Rattle.resp_print.specs.Written.{AppendsPart}
 use Rattle.resp_print.proofs.WrittenLemmas.{Appends-append, Appends-none}
 use Rattle.resp_wire.specs.Worlds.{Shows, WorldState}
-use Rattle.resp_script.specs.Plays.{ArePlayed, BreaksInCounts, EventIn, Plays, PlaysAll, PlaysPart, PlaysScript, PlaysTo, text_of_step}
+use Rattle.resp_script.specs.Plays.{ArePlayed, EventIn, Plays, PlaysAll, PlaysPart, PlaysScript, PlaysTo, text_of_step}
 use Rattle.resp_script.specs.Printed.{PlayedEvent, PlaysText, counts_text}
 use Rattle.resp_script.specs.declared.play.PlayError.{PlayError}
 use Rattle.resp_script.specs.declared.play.PlayError.TheVariants.{Stopped, Write, Memory}
@@ -135,27 +134,11 @@ module _ {L : Type 0} (is_honest : L → Type 0) (limits : Bounds) (w : World) (
   stops_script after a b Write stops = inl stops
   stops_script after a b Memory stops = inl stops
 
-  -- all of the events were played, and a part of the line of counts was written
-  breaks_in_counts : (after : WorldState L) (a b c : Option (List ℕ)) (all : PlaysAll is_honest limits w events after a b) →
-      AppendsPart b c (counts_text all.played.last) → BreaksInCounts is_honest limits w events after a c
-  breaks_in_counts after a b c all part = record {
-    played = all.played;
-    shows = all.shows;
-    begun = part.part;
-    unwritten = part.beyond;
-    parts = part.whole;
-    appended = Appends-append a b c all.played.text part.part all.appended part.appended;
-  }
-
   -- all of the events were played, and then what came of the line of counts
   pub counts_then : (after : WorldState L) (a b c : Option (List ℕ)) (f g : ℕ) (r : Result (Unit {0}) PlayError)
       (all : PlaysAll is_honest limits w events after a b) → PlaysText b c f g r (counts_text all.played.last) →
       PlaysScript is_honest limits w events after a c r
-  counts_then after a b c f g (Ok x) all prints = record {
-    played = all.played;
-    shows = all.shows;
-    appended = Appends-append a b c all.played.text (counts_text all.played.last) all.appended prints.0;
-  }
-  counts_then after a b c f g (Err Write) all prints = inr (breaks_in_counts after a b c all prints.0)
-  counts_then after a b c f g (Err Memory) all prints = inr (breaks_in_counts after a b c all prints.0)
+  counts_then after a b c f g (Ok x) all prints = (b, all, prints.0)
+  counts_then after a b c f g (Err Write) all prints = inr (b, all, prints.0)
+  counts_then after a b c f g (Err Memory) all prints = inr (b, all, prints.0)
   counts_then after a b c f g (Err (Stopped line cause)) all prints = absurd prints

@@ -5,13 +5,13 @@ use Rattle.resp_wire.specs.declared.event.Event.{Event}
 use Rattle.std.specs.Result.{IfErr}
 use Rattle.resp_value.specs.Devices.{count_after}
 use Rattle.resp_value.specs.declared.cause.Cause.{Cause}
-use Rattle.resp_script.specs.Plays.{EndsPrint, FailsToWrite, IsAtLine, IsAtStep, KeepsCause}
+use Rattle.resp_script.specs.Plays.{EndsPrint, FailsToWrite, IsAtStep, KeepsCause, WhereStopped}
 use Rattle.resp_script.specs.declared.play.PlayError.{PlayError}
 use Rattle.resp_script.specs.declared.play.PlayError.TheVariants.{Stopped, Write, Memory}
 
 -- a stop at the line of one step is at the line of a step
 at_step : (steps : List (ℕ × Option Event)) (i : ℕ) (step : ℕ × Option Event) (error : PlayError) → i < length steps → step ≡ get_or steps i step →
-    IsAtLine step.0 error → IsAtStep steps error
+    WhereStopped (λ at cause. at ≡ step.0) error → IsAtStep steps error
 at_step steps i step (Stopped line cause) within is at = (
   i,
   omega (arith, within, length-map steps (λ (step : ℕ × Option Event). step.0)),
@@ -22,7 +22,7 @@ at_step steps i step Memory within is at = tt
 
 -- the same, of a slice of the steps
 pub at_step_of : (steps items : List (ℕ × Option Event)) (i : ℕ) (step : ℕ × Option Event) (error : PlayError) → items ≡ steps → i < length items →
-    step ≡ get_or items i step → IsAtLine step.0 error → IsAtStep steps error
+    step ≡ get_or items i step → WhereStopped (λ at cause. at ≡ step.0) error → IsAtStep steps error
 at_step_of steps items i step error same within is at = subst (λ z. IsAtStep z error) same (at_step items i step error within is at)
 
 -- what was printed last is no stop

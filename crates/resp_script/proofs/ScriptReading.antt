@@ -7,8 +7,7 @@ use Rattle.std.proofs.lemmas.List.Sums.{sum_by-append}
 use Rattle.resp_wire.specs.declared.event.Event.{Event}
 use Rattle.resp_script.specs.ScriptSteps.{SaysClients, SaysStep, clients_words, joined_words, step_words}
 use Rattle.resp_script.specs.Reasons.{IsReason, parts_of_line}
-use Rattle.resp_script.specs.Scripts.{AreWithin, IsFirstBad, IsWithin, NameNoClients, PassesLimit, SayScript, SaySoFar, SaysNothing, bytes_to_end, is_passed_over, lines_of, step_line}
-use Rattle.resp_script.specs.SaidLines.{Says}
+use Rattle.resp_script.specs.Scripts.{AreWithin, IsFirstBad, IsWithin, NameNoClients, PassesLimit, Says, SayScript, SaySoFar, SaysNothing, bytes_to_end, is_passed_over, lines_of, step_line}
 use Rattle.resp_script.specs.declared.script.reasons.BadLine.{BadLine}
 use Rattle.resp_script.specs.declared.script.reasons.BadLine.TheVariants as reasons
 use Rattle.resp_script.specs.declared.script.steps.Saying.TheVariants.{Nothing, Clients, Step}

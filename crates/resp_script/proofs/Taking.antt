@@ -2,13 +2,13 @@
 use Rattle.std.proofs.Common.{◌≡◌, ℕ, false, List, [], ◌∷◌, Option, Result, Ok, Err, length, refl, sym, subst, ◌∙◌, append-nil}
 use Rattle.resp_value.specs.Bounds.{Bounds}
 use Rattle.resp_session.specs.Runs.{Step, connection_of, is_gone}
-use Rattle.resp_session.specs.Worlds.{World, WorldEvent, client_of, connection_at}
+use Rattle.resp_session.specs.Worlds.{World, WorldEvent, client_of}
 use Rattle.resp_print.specs.Written.{AppendsPart}
 use Rattle.resp_wire.specs.Worlds.{Shows, WorldState, outcome_of}
 use Rattle.resp_wire.specs.declared.event.Outcome.{Outcome}
 use Rattle.resp_wire.specs.declared.event.Outcome.TheVariants.{Done}
 use Rattle.resp_script.proofs.HeardOf.{are_there, still_there}
-use Rattle.resp_script.specs.Plays.{AreThere, AreShownOn, ArePlayed, PlaysPart, PlaysTo, text_of_step}
+use Rattle.resp_script.specs.Plays.{AreThere, ArePlayed, PlaysPart, PlaysTo, text_of_step}
 use Rattle.resp_script.specs.Printed.{PlayedEvent, PlaysText}
 use Rattle.resp_script.specs.declared.play.PlayError.{PlayError}
 use Rattle.resp_script.specs.declared.play.PlayError.TheVariants.{Stopped, Write, Memory}
@@ -66,8 +66,3 @@ stands is_honest limits w next event outcome before after shows shows' as_many s
     are_there outcome (connection_of w event) (connection_of next event) (happened limits w next event outcome step)
     (λ c there. still_there w.connections next.connections (client_of event) c
     (sym shows'.each.as_many ∙ as_many ∙ shows.each.as_many) there)
-
--- what a client is known to have heard, by its number
-pub heard_by : (w : World) (event : WorldEvent) (client replies pushes : ℕ) → client ≡ client_of event → AreShownOn replies pushes (connection_at w.connections client) →
-    AreShownOn replies pushes (connection_of w event)
-heard_by w event client replies pushes is shown = subst (λ n. AreShownOn replies pushes (connection_at w.connections n)) is shown

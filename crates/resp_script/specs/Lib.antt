@@ -1,6 +1,5 @@
 pub mod ScriptSteps
 pub mod Reasons
 pub mod Scripts
-pub mod SaidLines
 pub mod Printed
 pub mod Plays

@@ -3,7 +3,7 @@ use Rattle.std.specs.Prelude.{◌≡◌, ◌⊎◌, ℕ, zero, suc, List, [], �
 use Rattle.std.specs.List.{flat_map}
 use Rattle.resp_value.specs.Bounds.{Bounds}
 use Rattle.resp_value.specs.Causes.{name_of}
-use Rattle.resp_value.specs.Devices.{Appends, count_after}
+use Rattle.resp_value.specs.Devices.{Appends, count_after, last_count}
 use Rattle.resp_value.specs.declared.cause.Cause.{Cause}
 use Rattle.resp_session.specs.Connections.{Connection, shown_pushes, shown_replies}
 use Rattle.resp_session.specs.Runs as runs
@@ -13,6 +13,7 @@ use Rattle.resp_wire.specs.Worlds.{Shows, WorldState, event_of}
 use Rattle.resp_wire.specs.declared.event.Event.{Event}
 use Rattle.resp_wire.specs.declared.event.Outcome.{Outcome}
 use Rattle.resp_wire.specs.declared.event.Outcome.TheVariants.{Done}
+use Rattle.resp_print.specs.Written.{AppendsPart}
 use Rattle.resp_script.specs.Printed.{HaveTooDeep, PlayedEvent, counts_text, outcome_text}
 use Rattle.resp_script.specs.declared.play.PlayError.{PlayError}
 use Rattle.resp_script.specs.declared.play.PlayError.TheVariants.{Stopped, Write, Memory}
@@ -27,10 +28,6 @@ play_fault_line Memory = codes "out of memory\n"
 abbrev pub no_connection_line : ℕ → List ℕ → List ℕ
 no_connection_line client why = codes "  no connection for client " ++ decimal client ++ codes ": " ++ why ++ codes "\n"
 
--- the most bytes that an event can move
-abbrev pub all_bytes : ℕ
-all_bytes = 18446744073709551615
-
 -- an event of the step in this line
 abbrev pub played : ℕ → Bool → WorldEvent → PlayedEvent
 played line is_flush event = record { line = line; event = event; is_flush = is_flush }
@@ -40,7 +37,7 @@ played line is_flush event = record { line = line; event = event; is_flush = is_
 abbrev pub flush_events : ℕ → ℕ → List PlayedEvent
 flush_events line zero = []
 flush_events line (suc clients) = flush_events line clients ++
-    (played line true (ToServer (suc clients) all_bytes) ∷ played line true (ToClient (suc clients) all_bytes) ∷ [])
+    (played line true (ToServer (suc clients) last_count) ∷ played line true (ToClient (suc clients) last_count) ∷ [])
 
 -- the events of the step in this line, with this many clients
 abbrev pub step_events : ℕ → ℕ → Option Event → List PlayedEvent
@@ -117,32 +114,19 @@ PlaysTo {L} is_honest limits w events after held held' (Err (Stopped line cause)
 PlaysTo {L} is_honest limits w events after held held' (Err e) =
     PlaysPart is_honest limits w events after held held'
 
--- all of the events were played, and their text was appended, and after it the line of counts
-pub record PlaysWhole {L : Type 0} (is_honest : L → Type 0) (limits : Bounds) (w : World) (events : List PlayedEvent)
-    (after : WorldState L) (held held' : Option (List ℕ)) : Type 0 where
-  pub played : ArePlayed limits w events
-  pub shows : Shows is_honest after limits played.last
-  pub appended : Appends held held' (played.text ++ counts_text played.last)
-
--- all of the events were played, and their text and the first part of the line of counts was appended
-pub record BreaksInCounts {L : Type 0} (is_honest : L → Type 0) (limits : Bounds) (w : World)
-    (events : List PlayedEvent) (after : WorldState L) (held held' : Option (List ℕ)) : Type 0 where
-  pub played : ArePlayed limits w events
-  pub shows : Shows is_honest after limits played.last
-  pub begun : List ℕ
-  pub unwritten : List ℕ
-  pub parts : counts_text played.last ≡ begun ++ unwritten
-  pub appended : Appends held held' (played.text ++ begun)
-
--- The result of playing all events of a script, with the line of counts after their text.
+-- The result of playing all events of a script, and then the line of counts. Either all text was appended; or the
+-- events ended early, as PlaysTo says; or all were played, and the first part of the line was appended to their text.
 abbrev pub PlaysScript : {L : Type 0} → (L → Type 0) → Bounds → World → List PlayedEvent → WorldState L →
     Option (List ℕ) → Option (List ℕ) → Result (Unit {0}) PlayError → Type 0
 PlaysScript {L} is_honest limits w events after held held' (Ok x) =
-    PlaysWhole is_honest limits w events after held held'
+    (between : Option (List ℕ)) × (all : PlaysAll is_honest limits w events after held between) ×
+    Appends between held' (counts_text all.played.last)
 PlaysScript {L} is_honest limits w events after held held' (Err (Stopped line cause)) =
     PlaysUpTo limits w events line held held'
 PlaysScript {L} is_honest limits w events after held held' (Err e) =
-    PlaysPart is_honest limits w events after held held' ⊎ BreaksInCounts is_honest limits w events after held held'
+    PlaysPart is_honest limits w events after held held' ⊎
+    (between : Option (List ℕ)) × (all : PlaysAll is_honest limits w events after held between) ×
+    AppendsPart between held' (counts_text all.played.last)
 
 -- the world shows a reply or a push that is nested too deeply to be printed
 pub record ShowsTooDeep {L : Type 0} (is_honest : L → Type 0) (limits : Bounds) (after : WorldState L) : Type 0 where
@@ -159,25 +143,20 @@ abbrev pub LacksMemoryOnlyTooDeep : {L : Type 0} → (L → Type 0) → WorldSta
 LacksMemoryOnlyTooDeep {L} is_honest before after result = IsErrOf result Memory → (limits : Bounds) (w : World) →
     Shows is_honest before limits w → ShowsTooDeep is_honest limits after
 
--- the world stopped at this line
-abbrev pub IsAtLine : ℕ → PlayError → Type 0
-IsAtLine line (Stopped stopped cause) = stopped ≡ line
-IsAtLine line _ = Unit {0}
+-- P holds of the line and the cause, if the error is a stop of the world
+abbrev pub WhereStopped : (ℕ → Cause → Type 0) → PlayError → Type 0
+WhereStopped P (Stopped line cause) = P line cause
+WhereStopped P _ = Unit {0}
 
 -- the world stopped at the line of one of these steps
 abbrev pub IsAtStep : List (ℕ × Option Event) → PlayError → Type 0
-IsAtStep steps (Stopped line cause) = Contains (map (λ (step : ℕ × Option Event). step.0) steps) line
-IsAtStep steps _ = Unit {0}
-
--- the world keeps the cause, if the error is its stop
-abbrev pub IsKept : Option Cause → PlayError → Type 0
-IsKept stopped (Stopped line cause) = stopped ≡ Some cause
-IsKept stopped _ = Unit {0}
+IsAtStep steps error =
+    WhereStopped (λ line cause. Contains (map (λ (step : ℕ × Option Event). step.0) steps) line) error
 
 -- if the world stops, it keeps the cause; if the call succeeds, a world that had not stopped goes on
 abbrev pub KeepsCause : Option Cause → Option Cause → Result (Unit {0}) PlayError → Type 0
 KeepsCause before after (Ok x) = before ≡ None → after ≡ None
-KeepsCause before after (Err error) = IsKept after error
+KeepsCause before after (Err error) = WhereStopped (λ line cause. after ≡ Some cause) error
 
 -- one write failed if the error is a failed write, and otherwise none did
 abbrev pub FailsToWrite : ℕ → ℕ → Result (Unit {0}) PlayError → Type 0

@@ -9,6 +9,8 @@ use Rattle.resp_value.specs.declared.value.Value.{Value}
 use Rattle.resp_value.specs.declared.value.Value.TheVariants.{Bulk}
 use Rattle.resp_value.specs.declared.version.Version.{Version}
 use Rattle.resp_value.specs.declared.version.Version.TheVariants.{Two, Three}
+use Rattle.resp_session.specs.Worlds.{client_of}
+use Rattle.resp_wire.specs.Worlds.{event_of}
 use Rattle.resp_wire.specs.declared.event.Event.{Event}
 use Rattle.resp_wire.specs.declared.event.Event.TheVariants as event
 use Rattle.resp_script.specs.declared.script.steps.Verb.{Verb}
@@ -51,15 +53,6 @@ verb_of (event.ToClient client count) = verb.Client
 verb_of (event.Push client items) = verb.Push
 verb_of (event.Drop client) = verb.Drop
 
--- the client of an event
-abbrev pub step_client : Event → ℕ
-step_client (event.Send client command) = client
-step_client (event.Hello client asked) = client
-step_client (event.ToServer client count) = client
-step_client (event.ToClient client count) = client
-step_client (event.Push client items) = client
-step_client (event.Drop client) = client
-
 -- the word for an item of a push; only a bulk string has one
 abbrev pub item_word : Value → List ℕ
 item_word (Bulk content) = content_bytes content
@@ -83,7 +76,7 @@ arguments_of (event.Drop client) = []
 -- the words for a step: an event, or None for `flush`
 abbrev pub step_words : Option Event → List (List ℕ)
 step_words None = codes "flush" ∷ []
-step_words (Some event) = step_name (verb_of event) ∷ decimal (step_client event) ∷ arguments_of event
+step_words (Some event) = step_name (verb_of event) ∷ decimal (client_of (event_of event)) ∷ arguments_of event
 
 -- one line may move this many bytes
 abbrev pub IsMoved : ℕ → Type 0
@@ -98,7 +91,8 @@ HasRange _ = Unit {0}
 -- the client of a step exists, and its count is in its range
 abbrev pub IsStepInRange : ℕ → Option Event → Type 0
 IsStepInRange clients None = Unit {0}
-IsStepInRange clients (Some event) = (1 ≤ step_client event) × (step_client event ≤ clients) × HasRange event
+IsStepInRange clients (Some event) =
+    (1 ≤ client_of (event_of event)) × (client_of (event_of event) ≤ clients) × HasRange event
 
 -- the line means this step, if there are this many clients
 pub record SaysStep (clients : ℕ) (line : List ℕ) (step : Option Event) : Type 0 where

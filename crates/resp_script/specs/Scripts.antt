@@ -7,6 +7,8 @@ use Rattle.resp_script.specs.ScriptSteps.{SaysStep, SaysClients, joined_words, c
 use Rattle.resp_script.specs.Reasons.{IsReason, parts_of_line, reason_text}
 use Rattle.resp_script.specs.declared.script.reasons.BadLine.{BadLine}
 use Rattle.resp_script.specs.declared.script.reasons.BadLine.TheVariants as reasons
+use Rattle.resp_script.specs.declared.script.steps.Saying.{Saying}
+use Rattle.resp_script.specs.declared.script.steps.Saying.TheVariants.{Nothing, Clients, Step}
 use Rattle.resp_script.specs.declared.script.Script.{Script}
 use Rattle.resp_script.specs.declared.script.ScriptError.{ScriptError}
 use Rattle.resp_script.specs.declared.script.ScriptError.TheVariants.{BadScript, Memory}
@@ -61,6 +63,13 @@ pub record AreWithin (text : List ℕ) (lines : List (List ℕ)) : Type 0 where
 pub record IsScript (text : List ℕ) (script : Script) : Type 0 where
   pub said : SayScript script.clients (lines_of text) script.steps.items
   pub within : AreWithin text (lines_of text)
+
+-- the line has this meaning, if this many clients were named, or none yet
+abbrev pub Says : Option ℕ → List ℕ → Saying → Type 0
+Says named line Nothing = is_passed_over line ≡ true
+Says None line (Clients clients) = (is_passed_over line ≡ false) × SaysClients line clients
+Says (Some clients) line (Step step) = (is_passed_over line ≡ false) × SaysStep clients line step
+Says _ line _ = ⊥
 
 -- a line that is allowed, if this many clients were named, or none yet
 abbrev pub SaysSomething : Option ℕ → List ℕ → Type 0

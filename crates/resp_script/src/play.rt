@@ -1,7 +1,7 @@
 //! Plays the events of a script, and prints the result of each.
 
 ghost use Rattle.std.specs.Prelude.{◌≡◌, true, ◌+◌, ◌<◌, ◌^◌, ◌++◌, ◌∷◌, [], codes, decimal, drop, length, None, Option, Some, IfErr, IsErrOf, OnOk};
-ghost use Rattle.resp_script.specs.Plays.{AreThere, EndsPrint, FailsToWrite, AreShownOn, IsAtLine, IsAtStep, KeepsCause, LacksMemoryOnlyTooDeep, PlaysScript, PlaysTo, flush_events, no_connection_line, played, step_events, steps_events};
+ghost use Rattle.resp_script.specs.Plays.{AreThere, EndsPrint, FailsToWrite, AreShownOn, IsAtStep, KeepsCause, LacksMemoryOnlyTooDeep, PlaysScript, PlaysTo, WhereStopped, flush_events, no_connection_line, played, step_events, steps_events};
 ghost use Rattle.resp_script.specs.Printed.{PlaysText, counts_text, key_count, gone_text, heard_text, outcome_text, refused_text};
 ghost use Rattle.resp_session.specs.Connections.{Connection};
 ghost use Rattle.resp_session.specs.Worlds as session;
@@ -114,7 +114,7 @@ pub fn play<L: Link, S: BuildHasher + Drop, W: Sink>(
     ensures plays { (limits : Bounds) (w : session.World) → Shows L.is_honest world.old limits w →
         PlaysScript L.is_honest limits w (steps_events script.now.clients script.now.steps.items)
         world.new (W.written writer.old) (W.written writer.new) result }
-    ensures stopped { IfErr result (λ error. IsAtStep script.now.steps.items error) }
+    ensures stopped { IfErr result (IsAtStep script.now.steps.items) }
     ensures cause { KeepsCause world.old.stopped world.new.stopped result }
     ensures failed { FailsToWrite (W.failures writer.old) (W.failures writer.new) result }
     ensures memory { LacksMemoryOnlyTooDeep L.is_honest world.old world.new result }
@@ -177,7 +177,7 @@ fn play_step<L: Link, S: BuildHasher + Drop, W: Sink>(
     ensures plays { (limits : Bounds) (w : session.World) → Shows L.is_honest world.old limits w →
         PlaysTo L.is_honest limits w (step_events clients line step.now) world.new
         (W.written writer.old) (W.written writer.new) result }
-    ensures stopped { IfErr result (λ error. IsAtLine line error) }
+    ensures stopped { IfErr result (WhereStopped (λ at cause. at ≡ line)) }
     ensures cause { KeepsCause world.old.stopped world.new.stopped result }
     ensures failed { FailsToWrite (W.failures writer.old) (W.failures writer.new) result }
     ensures memory { LacksMemoryOnlyTooDeep L.is_honest world.old world.new result }
@@ -200,7 +200,7 @@ fn flush<L: Link, S: BuildHasher + Drop, W: Sink>(
     ensures plays { (limits : Bounds) (w : session.World) → Shows L.is_honest world.old limits w →
         PlaysTo L.is_honest limits w (flush_events line clients) world.new
         (W.written writer.old) (W.written writer.new) result }
-    ensures stopped { IfErr result (λ error. IsAtLine line error) }
+    ensures stopped { IfErr result (WhereStopped (λ at cause. at ≡ line)) }
     ensures cause { KeepsCause world.old.stopped world.new.stopped result }
     ensures failed { FailsToWrite (W.failures writer.old) (W.failures writer.new) result }
     ensures memory { LacksMemoryOnlyTooDeep L.is_honest world.old world.new result }
@@ -230,7 +230,7 @@ fn take<L: Link, S: BuildHasher + Drop, W: Sink>(
     ensures plays { (limits : Bounds) (w : session.World) → Shows L.is_honest world.old limits w →
         PlaysTo L.is_honest limits w (played line is_flush (event_of event.now) ∷ [])
         world.new (W.written writer.old) (W.written writer.new) result }
-    ensures stopped { IfErr result (λ error. IsAtLine line error) }
+    ensures stopped { IfErr result (WhereStopped (λ at cause. at ≡ line)) }
     ensures cause { KeepsCause world.old.stopped world.new.stopped result }
     ensures failed { FailsToWrite (W.failures writer.old) (W.failures writer.new) result }
     ensures memory { LacksMemoryOnlyTooDeep L.is_honest world.old world.new result }

@@ -1,5 +1,5 @@
 -- Where the values of a stream begin, as more of its bytes come.
-use Rattle.std.proofs.Common.{◌≡◌, ◌≤◌, inl, inr, ℕ, ◌+◌, ◌-◌, List, [], ◌∷◌, ◌++◌, length, drop, take, refl, sym, ap, ◌∙◌, arith, append_assoc, append-nil, subst, length-append}
+use Rattle.std.proofs.Common.{◌≡◌, ◌≤◌, inl, inr, ℕ, ◌+◌, ◌-◌, List, [], ◌∷◌, ◌++◌, length, drop, take, refl, sym, ap, ◌∙◌, arith, append_assoc, subst, length-append}
 use Rattle.std.proofs.Math.Seq.{drop-append_seam}
 use Rattle.std.proofs.lemmas.List.{take-append-drop}
 use Rattle.resp_value.specs.Devices.{last_count}
@@ -15,18 +15,14 @@ use Rattle.resp_scan.specs.declared.event.Fault.{Fault}
 use Rattle.resp_tool.specs.Begun.{BeginsAt, HasReadOrRefused, HavePassed}
 use Rattle.resp_tool.specs.Scans.{HasScanned}
 use Rattle.resp_tool.specs.declared.starts.Starts.{Starts}
-use Rattle.resp_tool.proofs.Rendered.{spelled_on, spelled_one}
+use Rattle.resp_tool.proofs.Rendered.{begins_more, begins_on, begins_one}
 use Rattle.resp_tool.proofs.Scanned.{scanned_nothing}
 
 -- more bytes, under the same rules, with the same counts
-abbrev pub begins_on : {r r' : Rules} {bytes : List ℕ} {count count' start start' : ℕ} (more : List ℕ) → r' ≡ r → count' ≡ count → start' ≡ start →
+abbrev pub begins_at_on : {r r' : Rules} {bytes : List ℕ} {count count' start start' : ℕ} (more : List ℕ) → r' ≡ r → count' ≡ count → start' ≡ start →
     BeginsAt r bytes count start → BeginsAt r' (bytes ++ more) count' start'
-begins_on more same values start b = record {
-  values = b.values;
-  front = b.front;
-  rest = b.rest ++ more;
-  spelled = rw same b.spelled;
-  whole = ap (λ z. z ++ more) b.whole ∙ append_assoc b.front b.rest more;
+begins_at_on more same values start b = record {
+  begins = begins_more more same b.begins;
   counted = b.counted ∙ sym values;
   placed = λ small. start ∙ b.placed small;
 }
@@ -34,49 +30,46 @@ begins_on more same values start b = record {
 -- a byte was refused in them, or before
 pub passed_refused : {starts : Starts} (after : Starts) {bytes : List ℕ} (more : List ℕ) (fault : Fault) (h : HavePassed starts bytes) →
     rules_of after.scanner ≡ rules_of starts.scanner → after.values ≡ starts.values → after.start ≡ starts.start → IsFaulted after.scanner fault →
-    ((given : Events) → HasScanned starts.scanner h.begins.rest given → IsViable (rules_of starts.scanner) WithinTotal (h.begins.rest ++ more) → ⊥) →
+    ((given : Events) → HasScanned starts.scanner h.stands.begins.rest given → IsViable (rules_of starts.scanner) WithinTotal (h.stands.begins.rest ++ more) → ⊥) →
     HavePassed after (bytes ++ more)
 passed_refused {starts} after {bytes} more fault h same values start faulted refused = record {
-  begins = begins_on more same values start h.begins;
-  come = inr (fault, faulted, λ viable. not_viable h.come (subst (λ z. IsViable z WithinTotal (h.begins.rest ++ more)) same viable));
+  stands = begins_at_on more same values start h.stands;
+  come = inr (fault, faulted, λ viable. not_viable h.come (subst (λ z. IsViable z WithinTotal (h.stands.begins.rest ++ more)) same viable));
 }
   where
-    not_viable : HasReadOrRefused starts.scanner h.begins.rest → IsViable (rules_of starts.scanner) WithinTotal (h.begins.rest ++ more) → ⊥
+    not_viable : HasReadOrRefused starts.scanner h.stands.begins.rest → IsViable (rules_of starts.scanner) WithinTotal (h.stands.begins.rest ++ more) → ⊥
     not_viable (inl (given, scanned)) viable = refused given scanned viable
     not_viable (inr (fault, faulted, dead)) viable =
-        dead (fronts_of_viable_texts_are_viable (rules_of starts.scanner) WithinTotal h.begins.rest more viable)
+        dead (fronts_of_viable_texts_are_viable (rules_of starts.scanner) WithinTotal h.stands.begins.rest more viable)
 
 -- no value has ended in them
 pub passed_on : {starts : Starts} (after : Starts) {bytes : List ℕ} (more : List ℕ) {H : Events → Type 0} (h : HavePassed starts bytes) →
     rules_of after.scanner ≡ rules_of starts.scanner → after.values ≡ starts.values → after.start ≡ starts.start →
-    HearsPiece after.scanner H (h.begins.rest ++ more) → HavePassed after (bytes ++ more)
+    HearsPiece after.scanner H (h.stands.begins.rest ++ more) → HavePassed after (bytes ++ more)
 passed_on after more h same values start hears = record {
-  begins = begins_on more same values start h.begins;
+  stands = begins_at_on more same values start h.stands;
   come = inl (hears.heard, record { reads = hears.reads; all_due = hears.all_due; no_value = hears.no_value });
 }
 
 -- a value has ended with them
 pub passed_value : {starts : Starts} (after : Starts) {bytes : List ℕ} (more : List ℕ) {H : Events → Type 0} (h : HavePassed starts bytes) →
     rules_of after.scanner ≡ rules_of starts.scanner → after.values ≡ starts.values + 1 →
-    (starts.start + length (h.begins.rest ++ more) ≤ last_count → after.start ≡ starts.start + length (h.begins.rest ++ more)) →
-    HearsValue (rules_of starts.scanner) after.scanner H (h.begins.rest ++ more) → HavePassed after (bytes ++ more)
+    (starts.start + length (h.stands.begins.rest ++ more) ≤ last_count → after.start ≡ starts.start + length (h.stands.begins.rest ++ more)) →
+    HearsValue (rules_of starts.scanner) after.scanner H (h.stands.begins.rest ++ more) → HavePassed after (bytes ++ more)
 passed_value {starts} after more h same values start hears =
-    let b = h.begins in
+    let b = h.stands.begins in
     let tree = hears.is_value.tree in
     let x = value tree in
     let next = b.rest ++ more in
     let spelling : IsSpelling (rules_of starts.scanner) x next = record { tree = tree; spells = hears.is_value.spells; keeps = hears.is_value.keeps; valued = refl } in
+    let moved : IsSpelling (rules_of after.scanner) x next = rw same spelling in
     record {
-      begins = record {
-        values = b.values ++ x ∷ [];
-        front = b.front ++ next;
-        rest = [];
-        spelled = rw same (spelled_on (rules_of starts.scanner) b.values (x ∷ []) b.front next b.spelled (spelled_one spelling));
-        whole = ap (λ z. z ++ more) b.whole ∙ append_assoc b.front b.rest more ∙ sym (append-nil (b.front ++ next));
-        counted = omega (arith, b.counted, values, length-append b.values (x ∷ []));
+      stands = record {
+        begins = begins_on (begins_more more same b) (begins_one moved);
+        counted = omega (arith, h.stands.counted, values, length-append b.values (x ∷ []));
         placed = λ small.
             let size = length-append b.front next in
-            let before = b.placed (omega (arith, small, size)) in
+            let before = h.stands.placed (omega (arith, small, size)) in
             start (omega (arith, small, size, before)) ∙ omega (arith, size, before);
       };
       come = inl ([], scanned_nothing after.scanner hears.reads);

@@ -3,7 +3,7 @@ use Rattle.std.proofs.Common.{◌≡◌, ℕ, List, [], ◌∷◌, length, flat_
 use Rattle.resp_value.specs.Data.{Datum}
 use Rattle.resp_value.specs.Devices.{Appends}
 use Rattle.resp_value.specs.Rules.{Rules}
-use Rattle.resp_tool.specs.Counts.{Counts, CountsAll, CountsBy, CountsPart, IsAny, LeavesNothing, counts_line, no_text}
+use Rattle.resp_tool.specs.Counts.{Counts, CountsBy, IsAny, LeavesNothing, counts_line, no_text}
 use Rattle.resp_tool.specs.Streams.{RendersCounted, RendersStopped}
 use Rattle.resp_print.specs.Written.{AppendsPart}
 use Rattle.resp_tool.specs.declared.stream.Totals.{Totals}
@@ -40,13 +40,13 @@ counts_by IsLine {r = r} {rules = rules} {bytes = bytes} {before = before} {mid 
 
 pub counts_all : {r rules : Rules} {bytes : List ℕ} {before mid : Option (List ℕ)} {totals : Totals} (after : Option (List ℕ)) → rules ≡ r →
     RendersCounted rules no_text IsAny bytes before mid totals → Appends mid after (counts_line totals.values totals.bytes) →
-    CountsAll r bytes before after
+    CountsBy (Appends before after) r bytes
 counts_all {before = before} {mid = mid} {totals = totals} after same stream line = counts_by (Appends before after) same stream
     (λ nothing. Appends-append before mid after [] (counts_line totals.values totals.bytes) nothing line)
 
 pub counts_part : {r rules : Rules} {bytes : List ℕ} {before mid after : Option (List ℕ)} {totals : Totals} → rules ≡ r →
     RendersCounted rules no_text IsAny bytes before mid totals → AppendsPart mid after (counts_line totals.values totals.bytes) →
-    CountsPart r bytes before after
+    CountsBy (AppendsPart before after) r bytes
 counts_part {before = before} {mid = mid} {after = after} same stream line = counts_by (AppendsPart before after) same stream (λ nothing. record {
   part = line.part;
   beyond = line.beyond;

@@ -13,11 +13,9 @@ use Rattle.resp_scan.specs.Machine.Tokens.{Place}
 use Rattle.resp_scan.specs.Reading.{HasNoValue}
 use Rattle.resp_decode.specs.Builds.{nothing}
 use Rattle.resp_decode.proofs.Values.{value_is_built}
-use Rattle.resp_tool.specs.Canons.{HasBegunDraft}
 use Rattle.resp_tool.specs.Counts.{LeavesNothing}
-use Rattle.resp_tool.specs.Drafts.{HasDrafted, IsDraftOf}
-use Rattle.resp_tool.specs.Takings.{Declines, TakesUnfinished, WritesValue}
-use Rattle.resp_tool.specs.Takings as tool
+use Rattle.resp_tool.specs.Drafts.{HasBegunDraft, HasDrafted, IsDraftOf}
+use Rattle.resp_tool.specs.Takings.{BeginsUnwritten, TakesUnfinished, WritesPart, WritesValue}
 use Rattle.resp_print.specs.Written.{AppendsPart}
 use Rattle.resp_tool.specs.declared.draft.Draft.{Draft}
 use Rattle.resp_tool.proofs.Drafting.{draft_is_text}
@@ -80,24 +78,19 @@ drafts_value law r s draft next front piece so_far before after used none nothin
 -- a value whose text is over the limit of total
 pub declines : (r : Rules) (s : Place) (draft : Draft) (front piece so_far : List ℕ) (used : ℕ) (held : Option (List ℕ)) → so_far ≡ [] →
     HearsValue r s (HasDrafted r.version draft) (front ++ take used piece) → r.limits.total < length draft.text.items →
-    Declines r (Fits r) (front ++ piece) so_far held held
+    BeginsUnwritten r (Fits r) (front ++ piece) × (so_far ≡ []) × Appends held held []
 declines r s draft front piece so_far used held nothing h over =
     let is = is_drafted r s draft (front ++ take used piece) h in
-    record {
-      value = is.x;
-      front = front ++ take used piece;
-      beyond = drop used piece;
-      split = cut front piece used;
-      spelling = is.spelling;
-      not_written = λ fits. omega (arith, over, ap length is.text, fits.within_total);
-      nothing = nothing;
-      appended = Appends-none held;
-    }
+    let over_total : Fits r is.x → ⊥ = λ fits. omega (arith, over, ap length is.text, fits.within_total) in (
+      record { value = is.x; front = front ++ take used piece; beyond = drop used piece; split = cut front piece used; spelling = is.spelling; not_written = over_total },
+      nothing,
+      Appends-none held,
+    )
 
 -- a first part of the text of a draft
 pub part_of_draft : (r : Rules) (s : Place) (draft : Draft) (front piece so_far : List ℕ) (used : ℕ) (before after : Option (List ℕ)) → so_far ≡ [] →
     HearsValue r s (HasDrafted r.version draft) (front ++ take used piece) → AppendsPart before after draft.text.items →
-    tool.WritesPart r (canonical_text r.version) LeavesNothing (front ++ piece) so_far before after
+    WritesPart r (canonical_text r.version) LeavesNothing (front ++ piece) so_far before after
 part_of_draft r s draft front piece so_far used before after nothing h written =
     let is = is_drafted r s draft (front ++ take used piece) h in
     part_of_value (canonical_text r.version) is.x front piece used nothing is.spelling (subst (AppendsPart before after) is.text written)

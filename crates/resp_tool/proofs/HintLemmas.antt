@@ -1,70 +1,56 @@
 -- Where a number or the content of a string begins.
-use Rattle.std.proofs.Common.{◌≡◌, ◌≢◌, ◌⊎◌, inl, inr, ◌≤◌, ◌+◌, ◌-◌, ◌∷◌, ◌++◌, ◌∙◌, ℕ, Bor, Bool, true, false, List, [], length, take, decimal, Option, Some, None, MatchOption, nat_eq, sym, ap, subst, arith, append_assoc, length-append}
+use Rattle.std.proofs.Common.{◌≡◌, ◌≢◌, ◌⊎◌, inl, inr, ◌≤◌, ◌+◌, ◌-◌, ◌∷◌, ◌++◌, ◌∙◌, ◌||◌, ◌==◌, ℕ, Bor, Bool, true, false, List, [], length, drop, take, decimal, Option, Some, None, MatchOption, refl, sym, ap, subst, arith, append_assoc, length-append}
 use Rattle.std.specs.Char.{is_ascii_digit}
-use Rattle.std.specs.List.{Contains}
+use Rattle.std.specs.List.{AllByRecursion, Contains, list_any}
 use Rattle.std.proofs.lemmas.List.{append_cancel_right}
-use Rattle.std.proofs.lemmas.List.Elements.{Contains-append_left, Contains-append_right, Contains-append_cases, Contains-push, Contains-push_cases}
-use Rattle.std.proofs.lemmas.Bool.{eq-eqb}
+use Rattle.std.proofs.lemmas.List.Elements.{Contains-push_cases}
+use Rattle.std.proofs.lemmas.Bool.{eqb-true}
 use Rattle.std.proofs.Math.Seq.{take-append_seam}
-use Rattle.resp_tool.specs.Hints.{Ends, EndsWithContent, EndsWithLength, EndsWithMark, EndsWithNumber, Shows}
+use Rattle.resp_tool.specs.Hints.{Ends, EndsWithContent, EndsWithLength, EndsWithMark, EndsWithNumber, Shows, length_marks}
 use Rattle.resp_tool.specs.declared.hint.Clue.{Clue}
 
 -- all bytes are digits
 abbrev pub AreDigits : List ℕ → Type 0
-AreDigits digits = (b : ℕ) → Contains digits b → is_ascii_digit b ≡ true
+AreDigits digits = AllByRecursion (λ b. is_ascii_digit b ≡ true) digits
 
-no_element : {x : ℕ} → Contains [] x → ⊥
-no_element w = omega (arith, w.1)
+digit_in : (front digits : List ℕ) (b : ℕ) → AreDigits (front ++ b ∷ digits) → is_ascii_digit b ≡ true
+digit_in [] digits b are = are.0
+digit_in (c ∷ front) digits b are = digit_in front digits b are.1
 
-has_head : (b : ℕ) (rest : List ℕ) → Contains (b ∷ rest) b
-has_head b rest = Contains-append_left (b ∷ []) rest b (Contains-push [] b)
-
--- a byte that is no digit is not among digits
-no_digit : (front digits all : List ℕ) (b : ℕ) → AreDigits all → all ≡ front ++ b ∷ digits → is_ascii_digit b ≡ false → ⊥
-no_digit front digits all b are whole not =
-    let is = are b (subst (λ z. Contains z b) (sym whole) (Contains-append_right front (b ∷ digits) b (has_head b digits))) in
-    absurd (cc)
-
+-- the last bytes that are no digits are the same
 same_mark : (f1 f2 d1 d2 : List ℕ) (a b : ℕ) → f1 ++ a ∷ d1 ≡ f2 ++ b ∷ d2 → is_ascii_digit a ≡ false → is_ascii_digit b ≡ false →
     AreDigits d1 → AreDigits d2 → a ≡ b
 same_mark [] [] d1 d2 a b e na nb i j = cc
-same_mark [] (c ∷ f2) d1 d2 a b e na nb i j = absurd (no_digit f2 d2 d1 b i (cc) nb)
-same_mark (c ∷ f1) [] d1 d2 a b e na nb i j = absurd (no_digit f1 d1 d2 a j (cc) na)
+same_mark [] (c ∷ f2) d1 d2 a b e na nb i j = let is = digit_in f2 d2 b (subst AreDigits (ap (drop 1) e) i) in absurd (cc)
+same_mark (c ∷ f1) [] d1 d2 a b e na nb i j = let is = digit_in f1 d1 a (subst AreDigits (sym (ap (drop 1) e)) j) in absurd (cc)
 same_mark (c ∷ f1) (x ∷ f2) d1 d2 a b e na nb i j = same_mark f1 f2 d1 d2 a b (cc) na nb i j
 
-no_tail : (xs : List ℕ) (a : ℕ) → [] ≡ xs ++ a ∷ [] → ⊥
-no_tail xs a e = let sizes : 0 ≡ length xs + 1 = ap (λ z. length z) e ∙ length-append xs (a ∷ []) in omega (arith, sizes)
+-- one of these bytes is no digit
+no_digit : (marks : List ℕ) (b : ℕ) → AllByRecursion (λ m. is_ascii_digit m ≡ false) marks → list_any (λ m. m == b) marks ≡ true →
+    is_ascii_digit b ≡ false
+no_digit [] b none is = absurd (cc)
+no_digit (m ∷ marks) b none is = elim (m == b) as (λ t. (m == b) ≡ t → is_ascii_digit b ≡ false) [
+  | true ↦ λ e. subst (λ z. is_ascii_digit z ≡ false) (eqb-true m b e) none.0
+  | false ↦ λ e. no_digit marks b none.1 (sym (ap (λ t. t || list_any (λ m. m == b) marks) e) ∙ is)
+] refl
 
-same_last : (xs ys : List ℕ) (a b : ℕ) → xs ++ a ∷ [] ≡ ys ++ b ∷ [] → a ≡ b
-same_last [] [] a b e = cc
-same_last [] (c ∷ ys) a b e = absurd (no_tail ys b (cc))
-same_last (c ∷ xs) [] a b e = absurd (no_tail xs a (cc))
-same_last (c ∷ xs) (x ∷ ys) a b e = same_last xs ys a b (cc)
+module _ {marks before : List ℕ} (none : AllByRecursion (λ m. is_ascii_digit m ≡ false) marks) (w : EndsWithNumber marks before) where
+  split : before ≡ w.has_mark.front ++ w.has_mark.mark ∷ w.digits
+  split = w.whole ∙ ap (λ z. z ++ w.digits) w.has_mark.whole ∙ append_assoc w.has_mark.front (w.has_mark.mark ∷ []) w.digits
 
--- the last byte that is no digit is another one
-pub other_mark : (before front digits rest : List ℕ) (mark b : ℕ) → is_ascii_digit mark ≡ false → before ≡ rest ++ digits →
-    rest ≡ front ++ b ∷ [] → AreDigits digits → is_ascii_digit b ≡ false → EndsWithNumber mark before → b ≡ mark
-other_mark before front digits rest mark b not whole split are nb w =
-    same_mark front w.front digits w.digits b mark
-    (sym (append_assoc front (b ∷ []) digits) ∙ ap (λ z. z ++ digits) (sym split) ∙ sym whole ∙ w.whole) nb not are w.are_digits
+  not_digit : is_ascii_digit w.has_mark.mark ≡ false
+  not_digit = no_digit marks w.has_mark.mark none w.has_mark.is_mark
 
-pub only_digits : (before digits : List ℕ) (mark : ℕ) → is_ascii_digit mark ≡ false → before ≡ digits → AreDigits digits →
-    EndsWithNumber mark before → ⊥
-only_digits before digits mark not whole are w = no_digit w.front w.digits digits mark are (sym whole ∙ w.whole) not
+  -- the last byte that is no digit is a mark
+  pub is_mark : (front digits : List ℕ) (b : ℕ) → before ≡ (front ++ b ∷ []) ++ digits → AreDigits digits → is_ascii_digit b ≡ false →
+      list_any (λ m. m == b) marks ≡ true
+  is_mark front digits b is are not =
+      subst (λ z. list_any (λ m. m == z) marks ≡ true)
+      (same_mark w.has_mark.front front w.digits digits w.has_mark.mark b (sym split ∙ is ∙ append_assoc front (b ∷ []) digits) not_digit not w.are_digits are)
+      w.has_mark.is_mark
 
-pub one_more : (digits : List ℕ) (b : ℕ) → AreDigits digits → is_ascii_digit b ≡ true → AreDigits (b ∷ digits)
-one_more digits b are is x has = go (Contains-append_cases (b ∷ []) digits x has)
-  where
-    first : Contains [] x ⊎ (b ≡ x) → is_ascii_digit x ≡ true
-    first (inl has) = absurd (no_element has)
-    first (inr e) = subst (λ z. is_ascii_digit z ≡ true) e is
-
-    go : Contains (b ∷ []) x ⊎ Contains digits x → is_ascii_digit x ≡ true
-    go (inl one) = first (Contains-push_cases [] b x one)
-    go (inr has) = are x has
-
-pub not_same : (a b : ℕ) → nat_eq a b ≡ false → a ≡ b → ⊥
-not_same a b other same = let is = eq-eqb a b same in absurd (cc)
+  pub only_digits : AreDigits before → ⊥
+  only_digits are = let is = digit_in w.has_mark.front w.digits w.has_mark.mark (subst AreDigits split are) in let not = not_digit in absurd (cc)
 
 -- the content with which the bytes end begins where the head of its string ends
 pub at_its_place : (before : List ℕ) (size : ℕ) → EndsWithContent size before →
@@ -96,8 +82,8 @@ module _ (head line front digits : List ℕ) (size : ℕ) (is_line : head ≡ li
       append_cancel_right line (w.front ++ digits) (13 ∷ 10 ∷ [])
       (sym is_line ∙ w.whole ∙ sym (append_assoc w.front (decimal size) (13 ∷ 10 ∷ [])) ∙ ap (λ z. (w.front ++ z) ++ 13 ∷ 10 ∷ []) (sym are))
 
-  pub mark_of_length : line ≡ front ++ digits → EndsWithLength size head → EndsWithMark front
-  mark_of_length is w = subst EndsWithMark (append_cancel_right w.front front digits (sym (line_of_length w) ∙ is)) w.has_mark
+  pub mark_of_length : line ≡ front ++ digits → EndsWithLength size head → EndsWithMark length_marks front
+  mark_of_length is w = subst (EndsWithMark length_marks) (append_cancel_right w.front front digits (sym (line_of_length w) ∙ is)) w.has_mark
 
 pub length_ends : (head : List ℕ) (size : ℕ) → EndsWithLength size head → Ends (13 ∷ 10 ∷ []) head
 length_ends head size w = (w.front ++ decimal size, w.whole ∙ sym (append_assoc w.front (decimal size) (13 ∷ 10 ∷ [])))
@@ -113,7 +99,3 @@ none_more passed c before from none not other has shows = go (Contains-push_case
 
 pub shown_if : (r : Bool) (P : Type 0) → (P → r ≡ true) → r ≡ false → P → ⊥
 shown_if r P is not p = let e = is p in absurd (cc)
-
-pub no_mark : (front : List ℕ) → length front ≡ 0 → EndsWithMark front → ⊥
-no_mark front empty w =
-    let sizes : length front ≡ length w.rest + 1 = ap (λ z. length z) w.whole ∙ length-append w.rest (w.mark ∷ []) in omega (arith, empty, sizes)

@@ -38,16 +38,16 @@ live_on {r} {text} {W} {H} {bytes} {start} {after} {n} s r' same D left left' se
       bytes,
       read,
       record {
-        values = s.values;
-        rest = s.begun;
+        values = s.begins.values;
+        rest = s.begins.rest;
         cut = record {
-          front = s.front;
-          spelled = s.spelled;
-          whole = s.whole;
-          no_more = no_more r s.begun (subst (λ z. HasNoSpelling z s.begun) same (none s.begun s.so_far s.takes));
+          front = s.begins.front;
+          spelled = s.begins.spelled;
+          whole = s.begins.whole;
+          no_more = no_more r s.begins.rest (subst (λ z. HasNoSpelling z s.begins.rest) same (none s.begins.rest s.so_far s.takes));
         };
         due = s.so_far;
-        is_due = subst (λ z. D z s.begun s.so_far) same (due s.begun s.so_far s.takes);
-        appended = subst (λ z. Appends start z (flat_map text s.values ++ s.so_far)) (sym sent_all) s.appended;
+        is_due = subst (λ z. D z s.begins.rest s.so_far) same (due s.begins.rest s.so_far s.takes);
+        appended = subst (λ z. Appends start z (flat_map text s.begins.values ++ s.so_far)) (sym sent_all) s.appended;
       },
     )

@@ -1,7 +1,7 @@
 -- What is open in the lines so far.
-use Rattle.std.proofs.Common.{◌≡◌, ℕ, ℤ, suc, ◌+◌, ◌-◌, ◌<◌, ◌≤◌, ◌^◌, Option, None, Some, Result, Ok, Err, List, [], ◌∷◌, ◌++◌, length, map, reverse, codes, decimal, refl, sym, ap, subst, ◌∙◌, append_assoc, append-nil, arith}
+use Rattle.std.proofs.Common.{◌≡◌, ℕ, ℤ, suc, ◌+◌, ◌-◌, ◌<◌, ◌≤◌, ◌^◌, Option, None, Some, Result, List, [], ◌∷◌, ◌++◌, length, map, reverse, codes, decimal, refl, sym, ap, subst, ◌∙◌, append_assoc, append-nil, arith}
 use Rattle.std.specs.Fmt.{signed_decimal}
-use Rattle.std.specs.Result.{IsErr, OnOk}
+use Rattle.std.specs.Result.{IsErr}
 use Rattle.std.proofs.lemmas.List.{length-reverse}
 use Rattle.std.specs.List.{AllByRecursion}
 use Rattle.resp_fronts.specs.Events as e
@@ -12,9 +12,10 @@ use Rattle.resp_value.specs.Kinds.{kind_of}
 use Rattle.resp_value.specs.Devices.{Appends, count_after}
 use Rattle.resp_print.specs.Shown.{indentation, quoted_byte, quoted_text}
 use Rattle.resp_print.specs.Written.{AppendsPart, WritesText}
-use Rattle.resp_tool.specs.Lines.{HasRoomFor, around, innermost, line_of, page_of}
-use Rattle.resp_tool.specs.Pages.{OpenLine, OpenText, Page, beginning, end_of_text, is_big, last_line, page_after, shown_on, text_line, text_words, with_byte, with_bytes, with_member, with_value}
+use Rattle.resp_tool.specs.Lines.{HasRoomFor, innermost, line_of, page_of}
+use Rattle.resp_tool.specs.Pages.{OpenLine, Page, beginning, end_of_text, is_big, last_line, page_after, shown_on, text_line, text_words, with_bytes, with_member, with_value}
 use Rattle.resp_tool.specs.declared.lines.Lines.{Lines}
+use Rattle.resp_tool.specs.declared.lines.OpenText.{OpenText}
 use Rattle.resp_tool.specs.declared.lines.OpenLine as line
 use Rattle.resp_tool.proofs.ShownTrees.{page-append, shown-append}
 use Rattle.resp_print.proofs.WrittenLemmas.{writes_next, writes_part}
@@ -26,10 +27,6 @@ map_size (l ∷ ls) = ap suc (map_size ls)
 -- as many lines as aggregates
 pub page_level : (lines : Lines) → length (page_of lines).open_lines ≡ length lines.aggregates.items
 page_level lines = map_size (reverse lines.aggregates.items) ∙ length-reverse lines.aggregates.items
-
-pub first_is : (ls : List line.OpenLine) (l : line.OpenLine) → innermost ls ≡ Some l → ls ≡ l ∷ around ls
-first_is [] l is = absurd (cc)
-first_is (x ∷ ls) l is = let same : x ≡ l = cc in ap (λ z. z ∷ ls) same
 
 -- the last line of the innermost aggregate
 pub last_line_is : (ls : List line.OpenLine) (l : line.OpenLine) → innermost ls ≡ Some l →
@@ -51,9 +48,9 @@ writes_last_line ls l level is at =
 -- content on a page
 pub content_shown : (p : Page) (s : List ℕ) → shown_on p (content_events s) ≡ quoted_text s
 content_shown p [] = refl
-content_shown p (c ∷ s) = ap (λ z. quoted_byte c ++ z) (content_shown (record p { text = with_byte p.text }) s)
+content_shown p (c ∷ s) = ap (λ z. quoted_byte c ++ z) (content_shown (record p { text = with_bytes 1 p.text }) s)
 
-with_one_more : (n : ℕ) (t : Option OpenText) → with_bytes n (with_byte t) ≡ with_bytes (suc n) t
+with_one_more : (n : ℕ) (t : Option OpenText) → with_bytes n (with_bytes 1 t) ≡ with_bytes (suc n) t
 with_one_more n None = refl
 with_one_more n (Some t) = ap (λ z. Some (record t { size = z })) (omega arith)
 
@@ -64,7 +61,7 @@ content_page p [] = ap (λ z. let q : Page = record p { text = z } in q) (none_m
     none_more None = refl
     none_more (Some t) = ap (λ z. Some (record t { size = z })) (omega arith)
 content_page p (c ∷ s) =
-    content_page (record p { text = with_byte p.text }) s ∙
+    content_page (record p { text = with_bytes 1 p.text }) s ∙
     ap (λ z. let q : Page = record p { text = z } in q) (with_one_more (length s) p.text)
 
 -- a text in two parts, of which the first failed
@@ -88,10 +85,6 @@ both_written r a b c f g h text next whole same first second = subst (WritesText
 pub content_length : (s : List ℕ) → length (content_events s) ≡ length s
 content_length [] = refl
 content_length (c ∷ s) = ap suc (content_length s)
-
-pub on_ok : {X E A B : Type 0} (r : Result X E) → (A → B) → OnOk r A → OnOk r B
-on_ok (Ok x) f a = f a
-on_ok (Err x) f a = tt
 
 -- the text of a whole text is what begins its line, and its line
 pub whole_shown : (p : Page) (k : TextKind) (s : List ℕ) → shown_on p (e.Text k ∷ (content_events s ++ e.TextEnd ∷ [])) ≡ beginning p ++ text_line k s

@@ -14,8 +14,8 @@ use Rattle.resp_value.specs.Devices.{Appends}
 use Rattle.resp_value.specs.declared.cause.Cause.{Cause}
 use Rattle.resp_scan.specs.Reading.{HasNoSpelling}
 use Rattle.resp_tool.specs.Stops.{error_of}
-use Rattle.resp_tool.specs.Takings.{EndsInput, IsByteFault, IsEndFault, LeavesRefused, Declines, Takes, TakesUnfinished, WritesValue, WritesPart}
-use Rattle.resp_tool.specs.Streams.{HasRendered, IsBeforeEnd, RendersCounted, RendersFront, RendersMost, RendersPart, RendersStopped, RendersUpTo, most_values}
+use Rattle.resp_tool.specs.Takings.{Begins, BeginsUnwritten, EndsInput, IsByteFault, IsEndFault, LeavesRefused, Takes, TakesUnfinished, WritesValue, WritesPart}
+use Rattle.resp_tool.specs.Streams.{HasRendered, IsBeforeEnd, RendersCounted, RendersFront, RendersMost, RendersStopped, RendersUpTo, most_values}
 use Rattle.resp_tool.specs.declared.rendering.Stop.{Stop}
 use Rattle.resp_tool.specs.declared.rendering.Stop.TheVariants as stop
 use Rattle.resp_args.specs.declared.tool_error.ToolError.TheVariants as e
@@ -56,16 +56,41 @@ none_before : (front beyond : List ℕ) → [] ≡ front ++ beyond → front ≡
 none_before [] beyond is = refl
 none_before (byte ∷ front) beyond is = absurd (cc)
 
+-- no values
+abbrev pub begins_none : {r : Rules} (bytes : List ℕ) → Begins r bytes
+begins_none bytes = record { values = []; front = []; rest = bytes; spelled = refl; whole = refl }
+
+-- more bytes, under the same rules
+abbrev pub begins_more : {r r' : Rules} {bytes : List ℕ} (more : List ℕ) → r' ≡ r → Begins r bytes → Begins r' (bytes ++ more)
+begins_more more same b = record {
+  values = b.values;
+  front = b.front;
+  rest = b.rest ++ more;
+  spelled = rw same b.spelled;
+  whole = ap (λ z. z ++ more) b.whole ∙ append_assoc b.front b.rest more;
+}
+
+-- more values
+abbrev pub begins_on : {r : Rules} {bytes : List ℕ} (b : Begins r bytes) → Begins r b.rest → Begins r bytes
+begins_on {r} b next = record {
+  values = b.values ++ next.values;
+  front = b.front ++ next.front;
+  rest = next.rest;
+  spelled = spelled_on r b.values next.values b.front next.front b.spelled next.spelled;
+  whole = b.whole ∙ ap (λ z. b.front ++ z) next.whole ∙ sym (append_assoc b.front next.front next.rest);
+}
+
+-- one value
+abbrev pub begins_one : {r : Rules} {x : Datum} {text : List ℕ} → IsSpelling r x text → Begins r text
+begins_one {r} {x} {text} spelling =
+    record { values = x ∷ []; front = text; rest = []; spelled = spelled_one spelling; whole = sym (append-nil text) }
+
 -- before the first value
 pub nothing_rendered : (r : Rules) (text : Datum → List ℕ) (W : Datum → Type 0) (H : Relation) (held : Option (List ℕ)) → H [] [] →
     HasRendered r text W H [] held held 0
 nothing_rendered r text W H held takes = record {
-  values = [];
-  front = [];
-  begun = [];
+  begins = begins_none [];
   so_far = [];
-  spelled = refl;
-  whole = refl;
   counted = refl;
   all_written = tt;
   takes = takes;
@@ -77,69 +102,57 @@ nothing_rendered r text W H held takes = record {
 module _ {r : Rules} {text : Datum → List ℕ} {W : Datum → Type 0} {H : Relation} {bytes : List ℕ} {start mid : Option (List ℕ)} {n : ℕ}
     (s : HasRendered r text W H bytes start mid n) where
   -- a piece more
-  whole_on : (piece : List ℕ) → bytes ++ piece ≡ s.front ++ (s.begun ++ piece)
-  whole_on piece = ap (λ z. z ++ piece) s.whole ∙ append_assoc s.front s.begun piece
+  abbrev begins_with : (piece : List ℕ) → Begins r (bytes ++ piece)
+  begins_with piece = begins_more piece refl s.begins
 
   -- more text
-  appended_on : (after : Option (List ℕ)) (more : List ℕ) → Appends mid after more → Appends start after (flat_map text s.values ++ (s.so_far ++ more))
+  appended_on : (after : Option (List ℕ)) (more : List ℕ) → Appends mid after more → Appends start after (flat_map text s.begins.values ++ (s.so_far ++ more))
   appended_on after more appended =
-      subst (Appends start after) (append_assoc (flat_map text s.values) s.so_far more)
-      (Appends-append start mid after (flat_map text s.values ++ s.so_far) more s.appended appended)
+      subst (Appends start after) (append_assoc (flat_map text s.begins.values) s.so_far more)
+      (Appends-append start mid after (flat_map text s.begins.values ++ s.so_far) more s.appended appended)
 
   -- no text after those of complete values
-  appended_none : (after : Option (List ℕ)) → s.so_far ≡ [] → Appends mid after [] → Appends start after (flat_map text s.values)
+  appended_none : (after : Option (List ℕ)) → s.so_far ≡ [] → Appends mid after [] → Appends start after (flat_map text s.begins.values)
   appended_none after nothing appended =
-      let same : flat_map text s.values ++ (s.so_far ++ []) ≡ flat_map text s.values =
-      ap (λ z. flat_map text s.values ++ z) (append-nil s.so_far ∙ nothing) ∙ append-nil (flat_map text s.values) in
+      let same : flat_map text s.begins.values ++ (s.so_far ++ []) ≡ flat_map text s.begins.values =
+      ap (λ z. flat_map text s.begins.values ++ z) (append-nil s.so_far ∙ nothing) ∙ append-nil (flat_map text s.begins.values) in
       subst (Appends start after) same (appended_on after [] appended)
 
   -- a flush writes nothing
   pub flushed : {after : Option (List ℕ)} → Appends mid after [] → HasRendered r text W H bytes start after n
   flushed {after} appended = record {
-    values = s.values;
-    front = s.front;
-    begun = s.begun;
+    begins = s.begins;
     so_far = s.so_far;
-    spelled = s.spelled;
-    whole = s.whole;
     counted = s.counted;
     all_written = s.all_written;
     takes = s.takes;
     at_most = s.at_most;
-    appended = subst (λ z. Appends start after (flat_map text s.values ++ z)) (append-nil s.so_far) (appended_on after [] appended);
+    appended = subst (λ z. Appends start after (flat_map text s.begins.values ++ z)) (append-nil s.so_far) (appended_on after [] appended);
   }
 
   -- a value more
-  pub renders_value : {H' : Relation} {after : Option (List ℕ)} (piece : List ℕ) → WritesValue r text W H' (s.begun ++ piece) s.so_far mid after →
+  pub renders_value : {H' : Relation} {after : Option (List ℕ)} (piece : List ℕ) → WritesValue r text W H' (s.begins.rest ++ piece) s.so_far mid after →
       HasRendered r text W H' (bytes ++ piece) start after (n + 1)
   renders_value {H'} {after} piece t = record {
-    values = s.values ++ t.value ∷ [];
-    front = s.front ++ (s.begun ++ piece);
-    begun = [];
+    begins = begins_on (begins_with piece) (begins_one t.spelling);
     so_far = [];
-    spelled = spelled_on r s.values (t.value ∷ []) s.front (s.begun ++ piece) s.spelled (spelled_one t.spelling);
-    whole = whole_on piece ∙ sym (append-nil (s.front ++ (s.begun ++ piece)));
-    counted = omega (arith, s.counted, length-append s.values (t.value ∷ []));
-    all_written = all_on W s.values t.value s.all_written t.written;
+    counted = omega (arith, s.counted, length-append s.begins.values (t.value ∷ []));
+    all_written = all_on W s.begins.values t.value s.all_written t.written;
     takes = t.takes;
     appended =
-        let same : flat_map text s.values ++ (s.so_far ++ t.more) ≡ flat_map text (s.values ++ t.value ∷ []) ++ [] =
-        ap (λ z. flat_map text s.values ++ z) (sym t.whole) ∙ sym (text_on text s.values t.value) ∙
-        sym (append-nil (flat_map text (s.values ++ t.value ∷ []))) in
+        let same : flat_map text s.begins.values ++ (s.so_far ++ t.more) ≡ flat_map text (s.begins.values ++ t.value ∷ []) ++ [] =
+        ap (λ z. flat_map text s.begins.values ++ z) (sym t.whole) ∙ sym (text_on text s.begins.values t.value) ∙
+        sym (append-nil (flat_map text (s.begins.values ++ t.value ∷ []))) in
         subst (Appends start after) same (appended_on after t.more t.appended);
     at_most = λ is. refl;
   }
 
   -- more of the value that was begun
   pub renders_on : {H' : Relation} {after : Option (List ℕ)} (piece : List ℕ) → (n ≡ most_values → ⊥) →
-      TakesUnfinished r H' (s.begun ++ piece) s.so_far mid after → HasRendered r text W H' (bytes ++ piece) start after n
+      TakesUnfinished r H' (s.begins.rest ++ piece) s.so_far mid after → HasRendered r text W H' (bytes ++ piece) start after n
   renders_on {H'} {after} piece few t = record {
-    values = s.values;
-    front = s.front;
-    begun = s.begun ++ piece;
+    begins = begins_with piece;
     so_far = s.so_far ++ t.more;
-    spelled = s.spelled;
-    whole = whole_on piece;
     counted = s.counted;
     all_written = s.all_written;
     takes = t.takes;
@@ -149,14 +162,14 @@ module _ {r : Rules} {text : Datum → List ℕ} {W : Datum → Type 0} {H : Rel
 
   -- a refused rest
   renders_refused : (F : List ℕ → Cause → ℕ → Type 0) (L : Relation) (piece : List ℕ) (after : Option (List ℕ)) (c : Cause) (at : ℕ) →
-      ((rest : List ℕ) → F rest c at → IsByteFault r rest c at ⊎ IsEndFault r rest c at) → LeavesRefused r F L (s.begun ++ piece) s.so_far mid after c at →
+      ((rest : List ℕ) → F rest c at → IsByteFault r rest c at ⊎ IsEndFault r rest c at) → LeavesRefused r F L (s.begins.rest ++ piece) s.so_far mid after c at →
       RendersFront r text W L (bytes ++ piece) start after (n + 1) c at
   renders_refused F L piece after c at why t = record {
-    values = s.values;
-    rest = s.begun ++ piece;
-    cut = record { front = s.front; spelled = s.spelled; whole = whole_on piece; no_more = no_more r (s.begun ++ piece) t.no_spelling };
+    values = s.begins.values;
+    rest = s.begins.rest ++ piece;
+    cut = record { front = s.begins.front; spelled = s.begins.spelled; whole = (begins_with piece).whole; no_more = no_more r (s.begins.rest ++ piece) t.no_spelling };
     counted = omega (arith, s.counted);
-    fault = why (s.begun ++ piece) t.fault;
+    fault = why (s.begins.rest ++ piece) t.fault;
     all_written = s.all_written;
     left = s.so_far ++ t.more;
     is_left = t.is_left;
@@ -164,90 +177,79 @@ module _ {r : Rules} {text : Datum → List ℕ} {W : Datum → Type 0} {H : Rel
   }
 
   -- a value that isn't written
-  renders_declined : (piece : List ℕ) (after : Option (List ℕ)) → Declines r W (s.begun ++ piece) s.so_far mid after →
-      RendersUpTo r text W (bytes ++ piece) start after (n + 1)
-  renders_declined piece after t = record {
-    values = s.values;
-    front = s.front;
-    value = t.value;
-    next = t.front;
-    beyond = t.beyond;
-    spelled = s.spelled;
-    whole = whole_on piece ∙ ap (λ z. s.front ++ z) t.split;
+  renders_declined : (piece : List ℕ) (after : Option (List ℕ)) →
+      BeginsUnwritten r W (s.begins.rest ++ piece) × (s.so_far ≡ []) × Appends mid after [] → RendersUpTo r text W (bytes ++ piece) start after (n + 1)
+  renders_declined piece after (unwritten, nothing, appended) = record {
+    begins = begins_with piece;
     counted = omega (arith, s.counted);
     all_written = s.all_written;
-    spelling = t.spelling;
-    not_written = t.not_written;
-    appended = appended_none after t.nothing t.appended;
+    unwritten = unwritten;
+    appended = appended_none after nothing appended;
   }
 
   -- a part of what was to be written
-  renders_part : (B : Relation) (piece : List ℕ) (after : Option (List ℕ)) → WritesPart r text B (s.begun ++ piece) s.so_far mid after →
-      RendersPart r text B (bytes ++ piece) start after
+  renders_part : (B : Relation) (piece : List ℕ) (after : Option (List ℕ)) → WritesPart r text B (s.begins.rest ++ piece) s.so_far mid after →
+      WritesPart r text B (bytes ++ piece) [] start after
   renders_part B piece after t = record {
-    begins = record {
-      values = s.values ++ t.values;
-      front = s.front ++ t.front;
-      rest = t.beyond;
-      spelled = spelled_on r s.values t.values s.front t.front s.spelled t.spelled;
-      whole = whole_on piece ∙ ap (λ z. s.front ++ z) t.split ∙ sym (append_assoc s.front t.front t.beyond);
-    };
+    begins = begins_on (begins_with piece) t.begins;
     begun = t.begun;
     is_begun = t.is_begun;
-    part = flat_map text s.values ++ (s.so_far ++ t.more);
+    more = flat_map text s.begins.values ++ (s.so_far ++ t.more);
     later = t.later;
-    parts = ap (λ z. z ++ t.begun) (flat_map-append text s.values t.values) ∙ append_assoc (flat_map text s.values) (flat_map text t.values) t.begun ∙
-        ap (λ z. flat_map text s.values ++ z) (t.parts ∙ sym (append_assoc s.so_far t.more t.later)) ∙
-        sym (append_assoc (flat_map text s.values) (s.so_far ++ t.more) t.later);
+    parts =
+        let more = t.begins.values in
+        ap (λ z. z ++ t.begun) (flat_map-append text s.begins.values more) ∙ append_assoc (flat_map text s.begins.values) (flat_map text more) t.begun ∙
+        ap (λ z. flat_map text s.begins.values ++ z) (t.parts ∙ sym (append_assoc s.so_far t.more t.later)) ∙
+        sym (append_assoc (flat_map text s.begins.values) (s.so_far ++ t.more) t.later);
     appended = appended_on after t.more t.appended;
   }
 
   -- what was written so far is a part of what may be written
   pub renders_so_far : {B : Relation} → ((front so_far : List ℕ) → H front so_far → (later : List ℕ) × B front (so_far ++ later)) →
-      RendersPart r text B bytes start mid
+      WritesPart r text B bytes [] start mid
   renders_so_far {B} stands =
-      let (later, is_begun) = stands s.begun s.so_far s.takes in
+      let (later, is_begun) = stands s.begins.rest s.so_far s.takes in
       record {
-        begins = record { values = s.values; front = s.front; rest = s.begun; spelled = s.spelled; whole = s.whole };
+        begins = s.begins;
         begun = s.so_far ++ later;
         is_begun = is_begun;
-        part = flat_map text s.values ++ s.so_far;
+        more = flat_map text s.begins.values ++ s.so_far;
         later = later;
-        parts = sym (append_assoc (flat_map text s.values) s.so_far later);
+        parts = sym (append_assoc (flat_map text s.begins.values) s.so_far later);
         appended = s.appended;
       }
 
   -- the most values of one run, and more
   pub renders_most : (piece : List ℕ) → n ≡ most_values → 0 < length piece → RendersMost r text W (bytes ++ piece) start mid
   renders_most piece most some = record {
-    begins = record { values = s.values; front = s.front; rest = s.begun ++ piece; spelled = s.spelled; whole = whole_on piece };
-    some_rest = omega (arith, some, length-append s.begun piece);
+    begins = begins_with piece;
+    some_rest = omega (arith, some, length-append s.begins.rest piece);
     counted = s.counted ∙ most;
     all_written = s.all_written;
     appended =
-        let same : flat_map text s.values ++ s.so_far ≡ flat_map text s.values =
-        ap (λ z. flat_map text s.values ++ z) (s.at_most most) ∙ append-nil (flat_map text s.values) in
+        let same : flat_map text s.begins.values ++ s.so_far ≡ flat_map text s.begins.values =
+        ap (λ z. flat_map text s.begins.values ++ z) (s.at_most most) ∙ append-nil (flat_map text s.begins.values) in
         subst (Appends start mid) same s.appended;
   }
 
   -- what a piece leaves that stops
   pub took_stop : (L B H' : Relation) (piece : List ℕ) (after : Option (List ℕ)) (why : Stop) →
-      Takes r text W L B H' s.begun piece s.so_far mid after (Err why) → RendersStopped r text W L B (bytes ++ piece) start after (error_of (n + 1) why)
+      Takes r text W L B H' s.begins.rest piece s.so_far mid after (Err why) → RendersStopped r text W L B (bytes ++ piece) start after (error_of (n + 1) why)
   took_stop L B H' piece after (stop.Fault fault) t = renders_refused (IsByteFault r) L piece after fault.cause fault.at (λ rest f. inl f) t
   took_stop L B H' piece after stop.OverLimits t = renders_declined piece after t
   took_stop L B H' piece after stop.Write t = renders_part B piece after t
   took_stop L B H' piece after stop.Memory t = renders_part B piece after t
 
   -- the end between two values
-  pub renders_counted : (byte_count : ℕ) (after : Option (List ℕ)) → NoSpellingIsEmpty → (s.begun ≡ []) × (s.so_far ≡ []) × Appends mid after [] →
+  pub renders_counted : (byte_count : ℕ) (after : Option (List ℕ)) → NoSpellingIsEmpty → (s.begins.rest ≡ []) × (s.so_far ≡ []) × Appends mid after [] →
       n ≤ most_values → byte_count ≡ length bytes → RendersCounted r text W bytes start after (record { values = n; bytes = byte_count })
   renders_counted byte_count after law (none, nothing, appended) few size = record {
-    values = s.values;
+    values = s.begins.values;
     all = record {
       cut = record {
-        front = s.front;
-        spelled = s.spelled;
-        whole = s.whole ∙ ap (λ z. s.front ++ z) none;
+        front = s.begins.front;
+        spelled = s.begins.spelled;
+        whole = s.begins.whole ∙ ap (λ z. s.begins.front ++ z) none;
         no_more = λ y next beyond spelling is. law r y (subst (IsSpelling r y) (none_before next beyond is) spelling);
       };
       few = subst (λ n. n ≤ most_values) (sym s.counted) few;
@@ -259,16 +261,16 @@ module _ {r : Rules} {text : Datum → List ℕ} {W : Datum → Type 0} {H : Rel
   }
 
   -- a part of what was to be written, at the end
-  ended_part : (B : Relation) (after : Option (List ℕ)) → WritesPart r text B s.begun s.so_far mid after → RendersPart r text B bytes start after
+  ended_part : (B : Relation) (after : Option (List ℕ)) → WritesPart r text B s.begins.rest s.so_far mid after → WritesPart r text B bytes [] start after
   ended_part B after ends =
-      subst (λ z. RendersPart r text B z start after) (append-nil bytes)
-      (renders_part B [] after (subst (λ z. WritesPart r text B z s.so_far mid after) (sym (append-nil s.begun)) ends))
+      subst (λ z. WritesPart r text B z [] start after) (append-nil bytes)
+      (renders_part B [] after (subst (λ z. WritesPart r text B z s.so_far mid after) (sym (append-nil s.begins.rest)) ends))
 
   -- the end inside a value
-  pub ended_stop : (L B : Relation) (after : Option (List ℕ)) (why : Stop) → EndsInput r text L B s.begun s.so_far mid after (Err why) →
+  pub ended_stop : (L B : Relation) (after : Option (List ℕ)) (why : Stop) → EndsInput r text L B s.begins.rest s.so_far mid after (Err why) →
       RendersStopped r text W L B bytes start after (error_of (n + 1) why)
   ended_stop L B after (stop.Fault fault) ends =
-      let refused = subst (λ z. LeavesRefused r (IsEndFault r) L z s.so_far mid after fault.cause fault.at) (sym (append-nil s.begun)) ends in
+      let refused = subst (λ z. LeavesRefused r (IsEndFault r) L z s.so_far mid after fault.cause fault.at) (sym (append-nil s.begins.rest)) ends in
       subst (λ z. RendersFront r text W L z start after (n + 1) fault.cause fault.at) (append-nil bytes)
       (renders_refused (IsEndFault r) L [] after fault.cause fault.at (λ rest f. inr f) refused)
   ended_stop L B after stop.OverLimits ends = absurd ends

@@ -20,7 +20,7 @@ use Rattle.resp_tool.specs.Scans.{HasLookedAt, HasScanned}
 use Rattle.resp_tool.specs.Takings.{IsByteFault, IsEndFault, LeavesRefused, TakesUnfinished, WritesPart, WritesValue}
 use Rattle.resp_print.specs.Written.{AppendsPart}
 use Rattle.resp_print.proofs.WrittenLemmas.{Appends-none}
-use Rattle.resp_tool.proofs.Rendered.{spelled_one}
+use Rattle.resp_tool.proofs.Rendered.{begins_none, spelled_one}
 
 -- between two values nothing was scanned
 pub scanned_nothing : (s : Place) → HasRead s [] [] → HasScanned s [] []
@@ -129,11 +129,7 @@ looks_refused r s H front piece so_far held fault looked refusal =
 pub no_part : {r : Rules} {text : Datum → List ℕ} {whole so_far : List ℕ} {held : Option (List ℕ)} → so_far ≡ [] →
     WritesPart r text LeavesNothing whole so_far held held
 no_part {r} {text} {whole} {so_far} {held} nothing = record {
-  values = [];
-  front = [];
-  beyond = whole;
-  split = refl;
-  spelled = refl;
+  begins = begins_none whole;
   begun = [];
   is_begun = refl;
   more = [];
@@ -151,11 +147,7 @@ pub part_of_value : {r : Rules} (text : Datum → List ℕ) (x : Datum) (front p
     so_far ≡ [] → IsSpelling r x (front ++ take used piece) → AppendsPart before after (text x) →
     WritesPart r text LeavesNothing (front ++ piece) so_far before after
 part_of_value {r} text x front piece {so_far} used {before} {after} nothing spelling written = record {
-  values = x ∷ [];
-  front = front ++ take used piece;
-  beyond = drop used piece;
-  split = cut front piece used;
-  spelled = spelled_one spelling;
+  begins = record { values = x ∷ []; front = front ++ take used piece; rest = drop used piece; spelled = spelled_one spelling; whole = cut front piece used };
   begun = [];
   is_begun = refl;
   more = written.part;

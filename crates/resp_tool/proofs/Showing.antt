@@ -1,5 +1,5 @@
 -- What was printed of a value by a call over a piece, and what stands of it then.
-use Rattle.std.proofs.Common.{◌≡◌, ℕ, ◌+◌, ◌-◌, ◌<◌, ◌≤◌, ◌^◌, Bool, true, false, Option, None, Some, List, [], ◌∷◌, ◌++◌, length, take, refl, sym, ap, subst, ◌∙◌, append_assoc, append-nil, length-append, arith, MatchBool, Result, Ok, Err}
+use Rattle.std.proofs.Common.{◌≡◌, ℕ, ◌+◌, ◌-◌, ◌<◌, ◌≤◌, ◌^◌, Bool, true, false, Option, None, Some, List, [], ◌∷◌, ◌++◌, drop, length, take, refl, sym, ap, subst, ◌∙◌, append_assoc, append-nil, length-append, arith, MatchBool, Result, Ok, Err}
 use Rattle.std.specs.Prelude.{OnOk, is_ok}
 use Rattle.std.specs.List.{AllByRecursion}
 use Rattle.std.proofs.lemmas.List.{take_all}
@@ -23,14 +23,16 @@ use Rattle.resp_scan.specs.declared.event.Scanned.{Scanned}
 use Rattle.resp_scan.specs.declared.event.TextKind.{TextKind as ScannedKind}
 use Rattle.resp_tool.specs.Counts.{IsAny}
 use Rattle.resp_tool.specs.Lines.{HasRoomFor, page_of, size_of_text}
-use Rattle.resp_tool.specs.Pages.{OpenLine, OpenText, Page, blank, end_of_line, left_text, page_after, page_after_event, shown, shown_on, with_byte, with_member, without_last}
+use Rattle.resp_tool.specs.Pages.{OpenLine, Page, blank, end_of_line, left_text, page_after, page_after_event, shown, shown_on, with_bytes, with_member}
 use Rattle.resp_tool.specs.Printing.{Call, HasBroken, HasPrinted, IsOfCall, IsPageAfter, Start}
 use Rattle.resp_tool.specs.Scans.{HasShown, IsShownIn, IsShownOf}
 use Rattle.resp_print.specs.Shown.{shown_text}
 use Rattle.resp_tool.specs.Takings.{IsByteFault, IsEndFault, LeavesRefused, TakesUnfinished, WritesValue, WritesPart}
 use Rattle.resp_print.specs.Written.{AppendsPart, WritesText}
 use Rattle.resp_tool.specs.declared.lines.Lines.{Lines}
+use Rattle.resp_tool.specs.declared.lines.OpenText.{OpenText}
 use Rattle.resp_decode.proofs.Feeding.{given_at_start}
+use Rattle.resp_tool.proofs.Rendered.{begins_none}
 use Rattle.resp_tool.proofs.Scanned.{byte_fault, ends_inside, no_spelling_without_value, scanned_nothing, value_uses_some}
 use Rattle.resp_tool.proofs.ShownTrees.{page-append, shown-append, tree_is_closed, tree_is_shown}
 use Rattle.resp_print.proofs.WrittenLemmas.{Appends-append, Appends-none}
@@ -49,11 +51,11 @@ member_added : (n : ℕ) (ls : List OpenLine) → AllByRecursion (λ l. l.member
 member_added n [] h = tt
 member_added n (l ∷ ls) h = (omega (arith, h.0), more_members n ls h.1)
 
-last_closed : (n : ℕ) (ls : List OpenLine) → AllByRecursion (λ l. l.members ≤ n) ls → AllByRecursion (λ l. l.members ≤ n) (without_last ls)
+last_closed : (n : ℕ) (ls : List OpenLine) → AllByRecursion (λ l. l.members ≤ n) ls → AllByRecursion (λ l. l.members ≤ n) (drop 1 ls)
 last_closed n [] h = tt
 last_closed n (l ∷ ls) h = h.1
 
-byte_added : (n : ℕ) (t : Option OpenText) → size_of_text t ≤ n → size_of_text (with_byte t) ≤ n + 1
+byte_added : (n : ℕ) (t : Option OpenText) → size_of_text t ≤ n → size_of_text (with_bytes 1 t) ≤ n + 1
 byte_added n None h = omega arith
 byte_added n (Some t) h = omega (arith, h)
 
@@ -66,7 +68,7 @@ bounded_after_event n (e.Byte c) p h = record { members = more_members n p.open_
 bounded_after_event n e.TextEnd p h = record { members = member_added n p.open_lines h.members; size = omega arith }
 bounded_after_event n (e.Open k m) p h = record { members = (omega arith, more_members n p.open_lines h.members); size = omega (arith, h.size) }
 bounded_after_event n e.Close p h = record {
-  members = member_added n (without_last p.open_lines) (last_closed n p.open_lines h.members);
+  members = member_added n (drop 1 p.open_lines) (last_closed n p.open_lines h.members);
   size =
       omega (arith, h.size);
 }
@@ -95,7 +97,7 @@ with_member_size : (ls : List OpenLine) → length (with_member ls) ≡ length l
 with_member_size [] = refl
 with_member_size (l ∷ ls) = refl
 
-without_last_size : (ls : List OpenLine) (d : ℕ) → length ls ≡ d + 1 → length (without_last ls) ≡ d
+without_last_size : (ls : List OpenLine) (d : ℕ) → length ls ≡ d + 1 → length (drop 1 ls) ≡ d
 without_last_size [] d h = absurd (omega (arith, h))
 without_last_size (l ∷ ls) d h = omega (arith, h)
 
@@ -165,7 +167,7 @@ closed_deep given may deep =
       counts.1,
       lines_after given (e.Close ∷ []),
       without_last_size ls d some,
-      with_member_size (without_last ls),
+      with_member_size (drop 1 ls),
     )
 
 -- A printer.
@@ -393,11 +395,7 @@ part_shown : (r : Rules) (whole so_far : List ℕ) (size : ℕ) (given : Events)
     IsViable r WithinTotal (take size whole) → BeginDue (take size whole) given → Appends before now more → AppendsPart now after text →
     left_text given ≡ so_far ++ (more ++ (text ++ rest)) → WritesPart r shown_text (IsShownIn r) whole so_far before after
 part_shown r whole so_far size given before now after more text rest viable due appended part is = record {
-  values = [];
-  front = [];
-  beyond = whole;
-  split = refl;
-  spelled = refl;
+  begins = begins_none whole;
   begun = left_text given;
   is_begun = record { size = size; given = given; viable = viable; first_due = due; is_text = refl };
   more = more ++ part.part;
@@ -430,11 +428,7 @@ shows_broken {r} {since} {front} {piece} {after} {f} {taken} h =
     let given = h.told in
     let ending = end_of_line (page_after given blank).text in
     record {
-      values = [];
-      front = [];
-      beyond = front ++ piece;
-      split = refl;
-      spelled = refl;
+      begins = begins_none (front ++ piece);
       begun = left_text given;
       is_begun = record { size = taken; given = given; viable = h.viable; first_due = h.first_due; is_text = refl };
       more = w.more;

@@ -14,7 +14,6 @@ use Rattle.resp_tool.specs.Explained.{Hints, IsHeld, IsHintOf, IsNextOf, Says, r
 use Rattle.resp_tool.specs.Valid.{AreNext, GoesOn, NamesNext, next_text}
 use Rattle.resp_tool.specs.Hints.{IsHint}
 use Rattle.resp_tool.specs.declared.hint.Hint.{Hint}
-use Rattle.resp_tool.specs.declared.hint.NewType.{NewType}
 use Rattle.resp_tool.specs.declared.valid.NextBytes.{NextBytes}
 use Rattle.resp_args.specs.declared.tool_error.ToolError.{ToolError}
 use Rattle.std.proofs.Math.Seq.{drop-append_seam}
@@ -122,14 +121,14 @@ module _ (r : Rules) (front found : List ℕ) (goes_on : Bool) (byte : ℕ) (bel
       order (inr (inr above)) g = absurd (omega (arith, less, above))
 
 -- what is known of a place, when the front of its value is looked for
-module _ (r : Rules) (held : ℕ) (bytes front rest : List ℕ) (at missing : ℕ) (new_type : Option NewType) (error : ToolError) (whole : bytes ≡ front ++ rest)
+module _ (r : Rules) (held : ℕ) (bytes front rest : List ℕ) (at missing : ℕ) (after : List ℕ) (error : ToolError) (whole : bytes ≡ front ++ rest)
     (found : Option (List ℕ)) (is_front : IfSome found (λ text. text ≡ take at (drop (length front) bytes)))
     (is_found : IsHeld held bytes front at → IsSome found) where
-  pub says_reason : (next : Option NextBytes) → IsNextOf r error found next → Says r held bytes front rest at missing new_type error (reason_text r missing new_type error next)
+  pub says_reason : (next : Option NextBytes) → IsNextOf r error found next → Says r held bytes front rest at missing after error (reason_text r missing after error next)
   says_reason next known = go found refl next known
     where
       go : (o : Option (List ℕ)) → found ≡ o → (next : Option NextBytes) → IsNextOf r error o next →
-          Says r held bytes front rest at missing new_type error (reason_text r missing new_type error next)
+          Says r held bytes front rest at missing after error (reason_text r missing after error next)
       go None is (Some next) known = absurd known
       go None is None known = record {
         either = inl refl;
@@ -147,8 +146,8 @@ module _ (r : Rules) (held : ℕ) (bytes front rest : List ℕ) (at missing : �
           } in
           record { either = inr (known.0, names); named = λ syntax is_held. names }
 
-  pub hints_reason : (after : List ℕ) (hint : Option Hint) → IsHintOf error found after hint → Hints held bytes front rest at after error hint
-  hints_reason after hint known = go found refl known
+  pub hints_reason : (hint : Option Hint) → IsHintOf error found after hint → Hints held bytes front rest at after error hint
+  hints_reason hint known = go found refl known
     where
       go : (o : Option (List ℕ)) → found ≡ o → IsHintOf error o after hint → Hints held bytes front rest at after error hint
       go None is known = record {

@@ -1,25 +1,21 @@
 -- The places at which the values of a stream begin, after some of its bytes.
-use Rattle.std.specs.Prelude.{◌≡◌, ◌⊎◌, ℕ, ◌≤◌, List, ◌++◌, length}
-use Rattle.resp_value.specs.Data.{Datum}
+use Rattle.std.specs.Prelude.{◌≡◌, ◌⊎◌, ℕ, ◌≤◌, List, length}
 use Rattle.resp_value.specs.Devices.{last_count}
 use Rattle.resp_value.specs.Rules.{Rules, WithinTotal}
-use Rattle.resp_value.specs.Spellings.{AreSpellings, IsViable}
+use Rattle.resp_value.specs.Spellings.{IsViable}
 use Rattle.resp_scan.specs.Kinds.{rules_of}
 use Rattle.resp_scan.specs.Machine.Tokens.{Place}
 use Rattle.resp_scan.specs.Reading.{Events, IsFaulted}
 use Rattle.resp_scan.specs.declared.event.Fault.{Fault}
 use Rattle.resp_tool.specs.Scans.{HasScanned}
+use Rattle.resp_tool.specs.Takings.{Begins}
 use Rattle.resp_tool.specs.declared.starts.Starts.{Starts}
 
 -- The bytes begin with this many values, which have this many bytes if the number fits into 64 bits.
 pub record BeginsAt (r : Rules) (bytes : List ℕ) (count start : ℕ) : Type 0 where
-  pub values : List Datum
-  pub front : List ℕ
-  pub rest : List ℕ
-  pub spelled : AreSpellings r values front
-  pub whole : bytes ≡ front ++ rest
-  pub counted : length values ≡ count
-  pub placed : length front ≤ last_count → start ≡ length front
+  pub begins : Begins r bytes
+  pub counted : length begins.values ≡ count
+  pub placed : length begins.front ≤ last_count → start ≡ length begins.front
 
 -- a scanner has read the rest, which contains no complete value, or has rejected a byte of it
 abbrev pub HasReadOrRefused : Place → List ℕ → Type 0
@@ -28,5 +24,5 @@ HasReadOrRefused s rest = ((given : Events) × HasScanned s rest given) ⊎
 
 -- the bytes were read, up to the first one that is rejected
 pub record HavePassed (starts : Starts) (bytes : List ℕ) : Type 0 where
-  pub begins : BeginsAt (rules_of starts.scanner) bytes starts.values starts.start
-  pub come : HasReadOrRefused starts.scanner begins.rest
+  pub stands : BeginsAt (rules_of starts.scanner) bytes starts.values starts.start
+  pub come : HasReadOrRefused starts.scanner stands.begins.rest

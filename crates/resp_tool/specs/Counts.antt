@@ -1,11 +1,10 @@
 -- The text that `check` writes for a stream.
-use Rattle.std.specs.Prelude.{ℕ, ◌≤◌, List, [], ◌++◌, length, codes, decimal, Option, Result, Ok, Err}
+use Rattle.std.specs.Prelude.{◌≡◌, ℕ, ◌≤◌, List, [], ◌++◌, length, codes, decimal, Option, Result, Ok, Err}
 use Rattle.resp_value.specs.Data.{Datum}
 use Rattle.resp_value.specs.Devices.{Appends}
 use Rattle.resp_value.specs.Rules.{Rules}
 use Rattle.resp_value.specs.Spellings.{Cut}
 use Rattle.resp_tool.specs.Streams.{RendersStopped, most_values}
-use Rattle.resp_tool.specs.Scans.{IsNothing}
 use Rattle.resp_print.specs.Written.{AppendsPart}
 use Rattle.resp_args.specs.declared.tool_error.ToolError.{ToolError}
 use Rattle.resp_args.specs.declared.tool_error.ToolError.TheVariants.{Write}
@@ -21,14 +20,6 @@ pub record CountsBy (IsLine : List ℕ → Type 0) (r : Rules) (bytes : List ℕ
   pub few : length values ≤ most_values
   pub line : IsLine (counts_line (length values) (length bytes))
 
--- the line was appended
-abbrev pub CountsAll : Rules → List ℕ → Option (List ℕ) → Option (List ℕ) → Type 0
-CountsAll r bytes before after = CountsBy (Appends before after) r bytes
-
--- the first part of the line was appended
-abbrev pub CountsPart : Rules → List ℕ → Option (List ℕ) → Option (List ℕ) → Type 0
-CountsPart r bytes before after = CountsBy (AppendsPart before after) r bytes
-
 -- nothing is written for a value
 abbrev pub no_text : Datum → List ℕ
 no_text x = []
@@ -39,10 +30,10 @@ IsAny x = Unit {0}
 
 -- nothing was written for an incomplete value
 abbrev pub LeavesNothing : List ℕ → List ℕ → Type 0
-LeavesNothing front text = IsNothing text
+LeavesNothing front text = text ≡ []
 
--- the result for the bytes that were read: the line of counts, or nothing and an error
+-- the result for the bytes that were read: the line of counts or the first part of it, or nothing and an error
 abbrev pub Counts : Rules → List ℕ → Option (List ℕ) → Option (List ℕ) → Result (Unit {0}) ToolError → Type 0
-Counts r bytes before after (Ok x) = CountsAll r bytes before after
-Counts r bytes before after (Err Write) = CountsPart r bytes before after
+Counts r bytes before after (Ok x) = CountsBy (Appends before after) r bytes
+Counts r bytes before after (Err Write) = CountsBy (AppendsPart before after) r bytes
 Counts r bytes before after (Err e) = RendersStopped r no_text IsAny LeavesNothing LeavesNothing bytes before after e

@@ -6,11 +6,14 @@ use Rattle.resp_value.specs.Data.{Kind, Datum, items_of}
 use Rattle.resp_value.specs.Kinds.{kind_of}
 use Rattle.resp_value.specs.declared.version.Version.{Version}
 use Rattle.resp_encode.specs.Encodings.{head_text}
-use Rattle.resp_scan.specs.Kinds.{text_kind_of}
+use Rattle.resp_value.specs.Rules.{Rules}
+use Rattle.resp_scan.specs.Kinds.{rules_of, text_kind_of}
+use Rattle.resp_scan.specs.Machine.Tokens.{Place}
 use Rattle.resp_scan.specs.Reading.{Events}
 use Rattle.resp_scan.specs.declared.event.TextKind.{TextKind}
 use Rattle.resp_decode.specs.Builds.{Construction, Group, Text, built_from, with_events}
 use Rattle.resp_decode.specs.Fits.{MayAllCome}
+use Rattle.resp_tool.specs.Scans.{HasScanned}
 use Rattle.resp_tool.specs.declared.draft.Draft.{Draft}
 use Rattle.resp_tool.specs.declared.draft.OpenAggregate.{OpenAggregate}
 
@@ -58,6 +61,15 @@ pub record IsDraftOf (draft : Draft) (b : Construction) : Type 0 where
 -- the draft has the text, in this version, of what these events build
 abbrev pub HasDrafted : Version → Draft → Events → Type 0
 HasDrafted version draft given = (draft.version ≡ version) × IsDraftOf draft (built_from given)
+
+-- A scanner under these rules has read the beginning of a value, the draft has the text of its events, and nothing of
+-- the value was written.
+pub record HasBegunDraft (r : Rules) (s : Place) (draft : Draft) (front so_far : List ℕ) : Type 0 where
+  pub given : Events
+  pub scanned : HasScanned s front given
+  pub drafted : HasDrafted r.version draft given
+  pub same_rules : rules_of s ≡ r
+  pub nothing : so_far ≡ []
 
 -- if a call goes on, the text of its events is added
 abbrev pub DraftsWhereFit : Draft → Draft → Events → Bool → Type 0

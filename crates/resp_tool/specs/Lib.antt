@@ -6,7 +6,6 @@ pub mod Pages
 pub mod Lines
 pub mod Scans
 pub mod Printing
-pub mod Canons
 pub mod Counts
 pub mod Laws
 pub mod Runs

@@ -2,23 +2,18 @@
 use Rattle.std.specs.Prelude.{ℕ, ◌+◌, ◌-◌, ◌<◌, ◌^◌, List, [], ◌∷◌, min, reverse, map, Option, None, Some}
 use Rattle.std.specs.List.{AllByRecursion}
 use Rattle.resp_value.specs.Kinds.{kind_of}
-use Rattle.resp_tool.specs.Pages.{OpenLine, OpenText, Page}
+use Rattle.resp_tool.specs.Pages.{OpenLine, Page}
 use Rattle.resp_tool.specs.declared.lines.Lines.{Lines}
 use Rattle.resp_tool.specs.declared.lines.OpenLine as line
-use Rattle.resp_tool.specs.declared.lines.OpenText as text
+use Rattle.resp_tool.specs.declared.lines.OpenText.{OpenText}
 
 -- an open aggregate
 abbrev pub line_of : line.OpenLine → OpenLine
 line_of l = record { kind = kind_of l.kind; count = l.count; members = l.members }
 
--- a text that was begun
-abbrev pub text_of : Option text.OpenText → Option OpenText
-text_of None = None
-text_of (Some t) = Some (record { is_big = t.is_big; size = t.size })
-
 -- the open aggregates and texts
 abbrev pub page_of : Lines → Page
-page_of lines = record { open_lines = map line_of (reverse lines.aggregates.items); text = text_of lines.text }
+page_of lines = record { open_lines = map line_of (reverse lines.aggregates.items); text = lines.text }
 
 -- the innermost aggregate has one more member
 abbrev pub with_added : List line.OpenLine → List line.OpenLine
@@ -30,11 +25,7 @@ abbrev pub innermost : List line.OpenLine → Option line.OpenLine
 innermost [] = None
 innermost (l ∷ ls) = Some l
 
--- the aggregates around the innermost one
-abbrev pub around : List line.OpenLine → List line.OpenLine
-around [] = []
-around (l ∷ ls) = ls
-
+-- the number of bytes of the text that was begun
 abbrev pub size_of_text : Option OpenText → ℕ
 size_of_text None = 0
 size_of_text (Some t) = t.size

@@ -1,11 +1,12 @@
 -- The text of events as they arrive: each event adds a piece, which depends on it and on the events before it.
-use Rattle.std.specs.Prelude.{ℕ, ◌+◌, ◌==◌, Bool, true, false, cond, List, [], ◌∷◌, ◌++◌, length, codes, decimal, Option, None, Some}
+use Rattle.std.specs.Prelude.{ℕ, ◌+◌, ◌==◌, Bool, true, false, cond, List, [], ◌∷◌, ◌++◌, drop, length, codes, decimal, Option, None, Some}
 use Rattle.std.specs.Fmt.{signed_decimal}
 use Rattle.resp_value.specs.Data.{Kind, Attr, items_of}
 use Rattle.resp_value.specs.Numbers.{sign_text}
 use Rattle.resp_value.specs.Canonical.{sign_of}
 use Rattle.resp_fronts.specs.Events.{Event, TextKind}
 use Rattle.resp_fronts.specs.Events as e
+use Rattle.resp_tool.specs.declared.lines.OpenText.{OpenText}
 use Rattle.resp_print.specs.Shown.{indentation, kind_word, quoted_byte, quoted_text, truth_word}
 
 -- an aggregate whose first line was written and whose last was not: its kind, the number in its head, and the number of
@@ -14,11 +15,6 @@ pub record OpenLine : Type 0 where
   pub kind : Kind
   pub count : Option ℕ
   pub members : ℕ
-
--- a text that was begun: whether it is a big number, and the number of its bytes that were written
-pub record OpenText : Type 0 where
-  pub is_big : Bool
-  pub size : ℕ
 
 -- the open parts of the lines so far: the aggregates, the innermost first, and the text that was begun
 pub record Page : Type 0 where
@@ -94,16 +90,6 @@ abbrev pub with_member : List OpenLine → List OpenLine
 with_member [] = []
 with_member (line ∷ lines) = record line { members = line.members + 1 } ∷ lines
 
--- the innermost aggregate ended
-abbrev pub without_last : List OpenLine → List OpenLine
-without_last [] = []
-without_last (line ∷ lines) = lines
-
--- one more byte of the text was written
-abbrev pub with_byte : Option OpenText → Option OpenText
-with_byte None = None
-with_byte (Some text) = Some (record text { size = text.size + 1 })
-
 -- this many more bytes of the text were written
 abbrev pub with_bytes : ℕ → Option OpenText → Option OpenText
 with_bytes n None = None
@@ -119,12 +105,12 @@ page_after_event e.Null p = with_value p
 page_after_event (e.Bool truth) p = with_value p
 page_after_event (e.Int number) p = with_value p
 page_after_event (e.Text kind) p = record p { text = Some (record { is_big = is_big kind; size = 0 }) }
-page_after_event (e.Byte byte) p = record p { text = with_byte p.text }
+page_after_event (e.Byte byte) p = record p { text = with_bytes 1 p.text }
 page_after_event e.TextEnd p = record { open_lines = with_member p.open_lines; text = None }
 page_after_event (e.Open kind count) p = record p {
   open_lines = record { kind = kind; count = count; members = 0 } ∷ p.open_lines;
 }
-page_after_event e.Close p = record p { open_lines = with_member (without_last p.open_lines) }
+page_after_event e.Close p = record p { open_lines = with_member (drop 1 p.open_lines) }
 page_after_event e.Done p = p
 
 -- the state after some events

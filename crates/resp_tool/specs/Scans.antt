@@ -19,10 +19,6 @@ pub record HasScanned (s : Place) (front : List ℕ) (given : Events) : Type 0 w
 abbrev pub HasLookedAt : Place → List ℕ → List ℕ → Type 0
 HasLookedAt s front so_far = ((given : Events) × HasScanned s front given) × (so_far ≡ [])
 
--- nothing was written
-abbrev pub IsNothing : List ℕ → Type 0
-IsNothing text = text ≡ []
-
 -- the lines are those of these events, and as many are open as their aggregates
 pub record AreLinesOf (lines : Lines) (given : Events) : Type 0 where
   pub page : page_of lines ≡ page_after given blank

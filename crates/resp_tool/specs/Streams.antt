@@ -3,11 +3,11 @@ use Rattle.std.specs.Prelude.{◌≡◌, ◌⊎◌, ℕ, ◌+◌, ◌<◌, ◌�
 use Rattle.std.specs.List.{AllByRecursion}
 use Rattle.resp_value.specs.Data.{Datum}
 use Rattle.resp_value.specs.Rules.{Rules}
-use Rattle.resp_value.specs.Spellings.{AreSpellings, Cut, IsSpelling}
+use Rattle.resp_value.specs.Spellings.{Cut}
 use Rattle.resp_value.specs.Devices.{Appends, count_after, failures_after}
 use Rattle.resp_value.specs.declared.cause.Cause.{Cause}
 use Rattle.resp_value.specs.declared.cause.Cause.TheVariants as cause
-use Rattle.resp_tool.specs.Takings.{IsByteFault, IsEndFault}
+use Rattle.resp_tool.specs.Takings.{Begins, BeginsUnwritten, IsByteFault, IsEndFault, WritesPart}
 use Rattle.resp_tool.specs.declared.stream.Totals.{Totals}
 use Rattle.resp_args.specs.declared.tool_error.ToolError.{ToolError}
 use Rattle.resp_args.specs.declared.tool_error.ToolError.TheVariants.{Refused, OverLimits, TooManyValues, Read, Write, TooManyTurns}
@@ -31,17 +31,13 @@ abbrev pub is_of_reader : ToolError → Bool
 is_of_reader Read = true
 is_of_reader _ = false
 
--- whether a call ended with that error
-abbrev pub failed_to_read : {X : Type 0} → Result X ToolError → Bool
-failed_to_read result = stopped_by is_of_reader result
-
 -- How a call used its reader: it made at most this many reads, exactly this many if the result is that error, and a
 -- read failed if the result is that error. The counts of reads and failed reads are those before and after the call.
 pub record UsesReader {X : Type 0} (most : ℕ) (result : Result X ToolError) (calls calls' failures failures' : ℕ) :
     Type 0 where
   pub bounded : calls' ≤ calls + most
   pub used_up : IsErrOf result TooManyTurns → calls' ≡ count_after most calls
-  pub failed : failures' ≡ failures_after (failed_to_read result) failures
+  pub failed : failures' ≡ failures_after (stopped_by is_of_reader result) failures
 
 -- whether the error is a failed write
 abbrev pub is_of_writer : ToolError → Bool
@@ -80,26 +76,11 @@ pub record RendersFront (r : Rules) (text : Datum → List ℕ) (IsWritten : Dat
 -- it were appended.
 pub record RendersUpTo (r : Rules) (text : Datum → List ℕ) (IsWritten : Datum → Type 0) (bytes : List ℕ)
     (before after : Option (List ℕ)) (number : ℕ) : Type 0 where
-  pub values : List Datum
-  pub front : List ℕ
-  pub value : Datum
-  pub next : List ℕ
-  pub beyond : List ℕ
-  pub spelled : AreSpellings r values front
-  pub whole : bytes ≡ front ++ (next ++ beyond)
-  pub counted : length values + 1 ≡ number
-  pub all_written : AllByRecursion IsWritten values
-  pub spelling : IsSpelling r value next
-  pub not_written : IsWritten value → ⊥
-  pub appended : Appends before after (flat_map text values)
-
--- the bytes begin with encodings of values
-pub record Begins (r : Rules) (bytes : List ℕ) : Type 0 where
-  pub values : List Datum
-  pub front : List ℕ
-  pub rest : List ℕ
-  pub spelled : AreSpellings r values front
-  pub whole : bytes ≡ front ++ rest
+  pub begins : Begins r bytes
+  pub counted : length begins.values + 1 ≡ number
+  pub all_written : AllByRecursion IsWritten begins.values
+  pub unwritten : BeginsUnwritten r IsWritten begins.rest
+  pub appended : Appends before after (flat_map text begins.values)
 
 -- the bytes are more than the most values of one run, and the texts of these values were appended
 pub record RendersMost (r : Rules) (text : Datum → List ℕ) (IsWritten : Datum → Type 0) (bytes : List ℕ)
@@ -110,18 +91,6 @@ pub record RendersMost (r : Rules) (text : Datum → List ℕ) (IsWritten : Datu
   pub all_written : AllByRecursion IsWritten begins.values
   pub appended : Appends before after (flat_map text begins.values)
 
--- The bytes begin with values, followed by bytes for which this text may be written. The first part of the texts of the
--- values and of that text was appended.
-pub record RendersPart (r : Rules) (text : Datum → List ℕ) (IsBegun : List ℕ → List ℕ → Type 0) (bytes : List ℕ)
-    (before after : Option (List ℕ)) : Type 0 where
-  pub begins : Begins r bytes
-  pub begun : List ℕ
-  pub is_begun : IsBegun begins.rest begun
-  pub part : List ℕ
-  pub later : List ℕ
-  pub parts : flat_map text begins.values ++ begun ≡ part ++ later
-  pub appended : Appends before after part
-
 -- the text that was written for the bytes that were read, if the call ends with this error
 abbrev pub RendersStopped : Rules → (Datum → List ℕ) → (Datum → Type 0) → (List ℕ → List ℕ → Type 0) →
     (List ℕ → List ℕ → Type 0) → List ℕ → Option (List ℕ) → Option (List ℕ) → ToolError → Type 0
@@ -131,7 +100,7 @@ RendersStopped r text IsWritten IsLeft IsBegun bytes before after (OverLimits nu
     RendersUpTo r text IsWritten bytes before after number
 RendersStopped r text IsWritten IsLeft IsBegun bytes before after TooManyValues =
     RendersMost r text IsWritten bytes before after
-RendersStopped r text IsWritten IsLeft IsBegun bytes before after e = RendersPart r text IsBegun bytes before after
+RendersStopped r text IsWritten IsLeft IsBegun bytes before after e = WritesPart r text IsBegun bytes [] before after
 
 -- a fact about the end of the input: the call has read it to its end
 abbrev pub AtEnd : {X : Type 0} → Result X ToolError → Type 0 → Type 0
@@ -143,16 +112,12 @@ AtEnd (Err e) P = Unit {0}
 -- next value. After the most values of one run there are no such bytes.
 pub record HasRendered (r : Rules) (text : Datum → List ℕ) (IsWritten : Datum → Type 0)
     (HasTaken : List ℕ → List ℕ → Type 0) (bytes : List ℕ) (before after : Option (List ℕ)) (number : ℕ) : Type 0 where
-  pub values : List Datum
-  pub front : List ℕ
-  pub begun : List ℕ
+  pub begins : Begins r bytes
   pub so_far : List ℕ
-  pub spelled : AreSpellings r values front
-  pub whole : bytes ≡ front ++ begun
-  pub counted : length values ≡ number
-  pub all_written : AllByRecursion IsWritten values
-  pub takes : HasTaken begun so_far
-  pub appended : Appends before after (flat_map text values ++ so_far)
+  pub counted : length begins.values ≡ number
+  pub all_written : AllByRecursion IsWritten begins.values
+  pub takes : HasTaken begins.rest so_far
+  pub appended : Appends before after (flat_map text begins.values ++ so_far)
   pub at_most : number ≡ most_values → so_far ≡ []
 
 -- the text that was written for a stream whose bytes were read, and their counts at its end

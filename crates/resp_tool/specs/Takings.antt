@@ -12,6 +12,14 @@ use Rattle.resp_tool.specs.declared.rendering.Taken.{Taken}
 use Rattle.resp_tool.specs.declared.rendering.Stop.{Stop}
 use Rattle.resp_tool.specs.declared.rendering.Stop.TheVariants as stop
 
+-- the bytes begin with encodings of values
+pub record Begins (r : Rules) (bytes : List ℕ) : Type 0 where
+  pub values : List Datum
+  pub front : List ℕ
+  pub rest : List ℕ
+  pub spelled : AreSpellings r values front
+  pub whole : bytes ≡ front ++ rest
+
 -- this byte is the first one at which the bytes stop being viable, by the rule of this cause
 pub record IsByteFault (r : Rules) (bytes : List ℕ) (c : Cause) (at : ℕ) : Type 0 where
   pub rule : Rule
@@ -55,32 +63,25 @@ pub record LeavesRefused (r : Rules) (IsFault : List ℕ → Cause → ℕ → T
   pub appended : Appends before after more
   pub is_left : IsLeft (take at bytes) (so_far ++ more)
 
--- The bytes begin with an encoding of a value that is not written, and nothing was written for it.
-pub record Declines (r : Rules) (IsWritten : Datum → Type 0) (bytes so_far : List ℕ) (before after : Option (List ℕ)) :
-    Type 0 where
+-- the bytes begin with an encoding of a value that is not written
+pub record BeginsUnwritten (r : Rules) (IsWritten : Datum → Type 0) (bytes : List ℕ) : Type 0 where
   pub value : Datum
   pub front : List ℕ
   pub beyond : List ℕ
   pub split : bytes ≡ front ++ beyond
   pub spelling : IsSpelling r value front
   pub not_written : IsWritten value → ⊥
-  pub nothing : so_far ≡ []
-  pub appended : Appends before after []
 
 -- The bytes begin with some values, or none, followed by bytes for which this text may be written. The first part of
 -- that text was written.
 pub record WritesPart (r : Rules) (text : Datum → List ℕ) (IsBegun : List ℕ → List ℕ → Type 0) (bytes so_far : List ℕ)
     (before after : Option (List ℕ)) : Type 0 where
-  pub values : List Datum
-  pub front : List ℕ
-  pub beyond : List ℕ
-  pub split : bytes ≡ front ++ beyond
-  pub spelled : AreSpellings r values front
+  pub begins : Begins r bytes
   pub begun : List ℕ
-  pub is_begun : IsBegun beyond begun
+  pub is_begun : IsBegun begins.rest begun
   pub more : List ℕ
   pub later : List ℕ
-  pub parts : flat_map text values ++ begun ≡ so_far ++ (more ++ later)
+  pub parts : flat_map text begins.values ++ begun ≡ so_far ++ (more ++ later)
   pub appended : Appends before after more
 
 -- the result for a piece after the bytes read before
@@ -94,7 +95,7 @@ Takes r text IsWritten IsLeft IsBegun HasTaken front piece so_far before after (
 Takes r text IsWritten IsLeft IsBegun HasTaken front piece so_far before after (Err (stop.Fault fault)) =
     LeavesRefused r (IsByteFault r) IsLeft (front ++ piece) so_far before after fault.cause fault.at
 Takes r text IsWritten IsLeft IsBegun HasTaken front piece so_far before after (Err stop.OverLimits) =
-    Declines r IsWritten (front ++ piece) so_far before after
+    BeginsUnwritten r IsWritten (front ++ piece) × (so_far ≡ []) × Appends before after []
 Takes r text IsWritten IsLeft IsBegun HasTaken front piece so_far before after (Err e) =
     WritesPart r text IsBegun (front ++ piece) so_far before after
 

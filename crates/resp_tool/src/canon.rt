@@ -41,7 +41,7 @@ struct Canonical<'a> {
 }
 
 impl Rendering for Canonical<'_> {
-    ghost use Rattle.resp_tool.specs.Canons.{HasBegunDraft};
+    ghost use Rattle.resp_tool.specs.Drafts.{HasBegunDraft};
 
     ghost rules = { λ c. rules_under c.version c.limits.now };
 

@@ -1,14 +1,14 @@
 //! Explains an error in a stream: the lines of `--explain`.
 
-ghost use Rattle.std.specs.Prelude.{◌≡◌, ◌≢◌, ℕ, [], List, IfErr, IfOk, OnErr, OnOk, length, option_map, replicate};
-ghost use Rattle.resp_tool.specs.Explained.{Explains, ExplainsAt, HasWatched, IsHintOf, IsNextOf, IsTruncated, cause_text, double_text, explanation_lines, held_bytes, margin_text, place_lines, rules_watched, sentence_of, sentence_text, system_reason_line};
+ghost use Rattle.std.specs.Prelude.{◌≡◌, ◌≢◌, ◌++◌, ℕ, [], List, IfErr, IfOk, OnErr, OnOk, length, option_map, replicate};
+ghost use Rattle.resp_tool.specs.Explained.{Explains, ExplainsAt, HasWatched, IsHintOf, IsNextOf, IsRefusedBy, cause_text, double_text, held_bytes, margin_text, place_lines, rules_watched, sentence_of, sentence_text, system_reason_line};
 ghost use Rattle.resp_tool.specs.Hints.{hint_line};
 ghost use Rattle.resp_print.specs.Written.{WritesText};
 ghost use Rattle.resp_tool.specs.Streams.{failed_to_write};
 ghost use Rattle.resp_value.specs.Devices.{Appends, count_after, failures_after};
 ghost use Rattle.resp_value.specs.Rules.{rules_under};
 
-use crate::hint::{Hint, NewType, hint_of, new_type_of, write_hint, write_version};
+use crate::hint::{Hint, hint_of, write_hint, write_version};
 use crate::valid::NextBytes;
 use crate::watched::Watched;
 use resp_args::options::Options;
@@ -42,8 +42,8 @@ struct Reason<'a> {
     limits: &'a Limits,
     /// The least number of bytes that complete the value.
     missing: u64,
-    /// The type of version 3 with the byte at the place as its type byte, if there is one.
-    new_type: Option<NewType>,
+    /// The bytes from the place on.
+    after: &'a [u8],
     /// The bytes that are valid at the place, if they are known.
     next: Option<NextBytes>,
     /// A hint at the reason, if there is one.
@@ -130,7 +130,7 @@ fn explain_at<R, F: Sink>(
     faults: &mut F,
 ) -> Result<(), ToolError>
     ensures explains { (bytes : List ℕ) → HasWatched watched.old bytes →
-        (IsTruncated error.now → watched.old.fresh ≡ 0) →
+        (IsRefusedBy Cause.Truncated error.now → watched.old.fresh ≡ 0) →
         OnOk result (ExplainsAt (rules_watched watched.old)
         (rules_under options.now.version options.now.limits) (held_bytes watched.old) bytes value
         at (F.written faults.old) (F.written faults.new) error.now) }
@@ -151,11 +151,11 @@ fn explain_at<R, F: Sink>(
         version: options.version,
         limits: &options.limits,
         missing,
-        new_type: new_type_of(after),
+        after,
         next,
         hint: hint_at(error, front, after),
     };
-    write_around(alloc, place, before, after, &reason, faults)
+    write_around(alloc, place, before, &reason, faults)
 }
 
 /// Returns a hint at the reason for the byte after the front of a value, if the grammar does not
@@ -171,19 +171,18 @@ fn hint_at(error: &ToolError, front: Option<&[u8]>, after: &[u8]) -> Option<Hint
     }
 }
 
-/// Writes the lines, with the bytes before and after the place.
+/// Writes the lines, with the bytes before the place.
 fn write_around<F: Sink>(
     alloc: Global,
     place: u64,
     before: &[u8],
-    after: &[u8],
     reason: &Reason<'_>,
     faults: &mut F,
 ) -> Result<(), ToolError>
     ensures lines { OnOk result (Appends (F.written faults.old) (F.written faults.new)
-        (explanation_lines (margin_text place before.now) after.now
-        (replicate (length (margin_text place before.now)) 32) (sentence_of reason.now)
-        (hint_line reason.now.hint))) }
+        (place_lines (margin_text place before.now) reason.now.after.now
+        (replicate (length (margin_text place before.now)) 32) (sentence_of reason.now) ++
+        hint_line reason.now.hint)) }
     ensures write_failed { F.failures faults.new ≡
         failures_after (failed_to_write result) (F.failures faults.old) }
     ensures memory { IfErr result (λ error. error ≢ ToolError.Write → (error ≡ ToolError.Memory) ×
@@ -191,7 +190,7 @@ fn write_around<F: Sink>(
 {
     let margin = margin(alloc, place, before)?;
     let blank = vec![in alloc; b' '; margin.bytes().len()]?;
-    write_place(faults, margin.bytes(), after, blank.as_slice(), reason)?;
+    write_place(faults, margin.bytes(), blank.as_slice(), reason)?;
     Ok(write_hint(reason.hint, faults)?)
 }
 
@@ -230,18 +229,17 @@ fn margin(alloc: Global, place: u64, before: &[u8]) -> Result<MemorySink, AllocE
 fn write_place<F: Sink>(
     faults: &mut F,
     margin: &[u8],
-    after: &[u8],
     blank: &[u8],
     reason: &Reason<'_>,
 ) -> Result<(), DeviceFault>
     ensures lines { OnOk result (Appends (F.written faults.old) (F.written faults.new)
-        (place_lines margin.now after.now blank.now (sentence_of reason.now))) }
+        (place_lines margin.now reason.now.after.now blank.now (sentence_of reason.now))) }
     ensures all_written { OnOk result (F.failures faults.new ≡ F.failures faults.old) }
     ensures write_failed { OnErr result (F.failures faults.new ≡
         count_after 1 (F.failures faults.old)) }
 {
     write_text(faults, margin)?;
-    write_quoted(faults, after)?;
+    write_quoted(faults, reason.after)?;
     write_text(faults, b"\n")?;
     write_text(faults, blank)?;
     write_text(faults, b"^ ")?;
@@ -274,7 +272,7 @@ fn write_sentence<F: Sink>(faults: &mut F, reason: &Reason<'_>) -> Result<(), De
     ensures { WritesText (F.written faults.old) (F.written faults.new) (F.failures faults.old)
         (F.failures faults.new) result (sentence_text
         (rules_under reason.now.version reason.now.limits.now) reason.now.missing
-        reason.now.new_type reason.now.error.now) }
+        reason.now.after.now reason.now.error.now) }
 {
     match reason.error {
         ToolError::Refused { cause, .. } => write_cause(faults, *cause, reason),
@@ -301,11 +299,11 @@ fn write_cause<F: Sink>(
     ensures { WritesText (F.written faults.old) (F.written faults.new) (F.failures faults.old)
         (F.failures faults.new) result (cause_text
         (rules_under reason.now.version reason.now.limits.now) reason.now.missing
-        reason.now.new_type cause) }
+        reason.now.after.now cause) }
 {
     match cause {
         Cause::Double => write_double(faults, reason.version),
-        Cause::Version => write_version(reason.new_type, faults),
+        Cause::Version => write_version(reason.after, faults),
         Cause::NestedPush => write_text(faults, b"a push cannot be inside another value"),
         Cause::Range => write_text(faults, b"the integer doesn't fit into 64 bits"),
         Cause::Depth => write_number(faults, DEEPER, reason.limits.depth(), ALLOWED),

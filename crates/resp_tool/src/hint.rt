@@ -1,17 +1,20 @@
 //! Finds a likely reason for a byte that the grammar does not allow.
 
-ghost use Rattle.std.specs.Prelude.{◌≡◌, ◌≢◌, ◌↔◌, ◌<◌, ℕ, true, false, IfSome, IsNone};
-ghost use Rattle.resp_print.specs.Written.{WritesText};
+ghost use Rattle.std.specs.Prelude.{◌≡◌, ◌↔◌, ◌<◌, ℕ, true, false, IfSome, IsNone, get_or};
 ghost use Rattle.std.specs.Char.{is_ascii_digit};
-ghost use Rattle.resp_tool.specs.Hints.{Begins, BeginsWithLetter, Ends, EndsWithContent, EndsWithLength, EndsWithMark, EndsWithNumber, IsFirstOf, IsHint, IsMark, IsNewType, LooksLike, Shows, ShowsSlip, clues, format_line, hint_line, slip_line, type_byte, type_text, version_text};
+ghost use Rattle.std.specs.List.{AllByRecursion};
+ghost use Rattle.resp_print.specs.Written.{WritesText};
+ghost use Rattle.resp_tool.specs.Hints.{Begins, BeginsWithLetter, Ends, EndsWithContent, EndsWithLength, EndsWithMark, EndsWithNumber, IsFirstOf, IsHint, Shows, clue_line, clues, hint_line, version_text};
 
 use itoa::Buffer;
 use resp_print::text::{write_number, write_text};
 use resp_value::device::{DeviceFault, Sink};
 
-/// A format that an input may have in place of RESP.
+/// A likely reason for a byte that the grammar does not allow, unless it follows the content of a
+/// string. The first eleven are formats that an input may have in place of RESP, and the others are
+/// slips of somebody who wrote RESP.
 #[derive(Clone, Copy)]
-pub(crate) enum Format {
+pub(crate) enum Clue {
     /// A TLS handshake.
     Tls,
     /// Data compressed by gzip.
@@ -20,49 +23,30 @@ pub(crate) enum Format {
     Elf,
     /// A snapshot of Redis.
     Rdb,
-    /// An HTTP request.
-    HttpGet,
-    HttpPost,
-    HttpHead,
-    /// An HTTP response.
+    HttpRequest,
     HttpResponse,
     /// Text that begins with a byte order mark.
     Utf8Mark,
     /// UTF-16, little end first, with a byte order mark.
     Utf16,
-    /// JSON.
-    JsonObject,
-    JsonArray,
+    Json,
     /// The output of redis-cli.
-    CliText,
-    CliItem,
+    Cli,
     /// An inline command.
     Inline,
-}
-
-/// A slip of somebody who wrote RESP.
-#[derive(Clone, Copy)]
-pub(crate) enum Slip {
-    /// A backslash and an `r` in place of CR.
+    /// A backslash and an `r` in place of CR, or LF after a backslash and an `n`.
     Escaped,
-    /// LF after a backslash and an `n`.
-    EscapedEnd,
-    /// An empty line.
-    EmptyFirst,
-    EmptyFirstLine,
-    EmptyMember,
+    EmptyLine,
     /// No chunk in a streamed string.
     NoChunk,
     /// The end of a streamed aggregate, without its beginning.
     End,
-    EndInside,
     /// CR without LF after it.
     ReturnAlone,
     /// LF without CR before it.
     FeedAlone,
-    /// A negative length other than -1.
-    NegativeLength,
-    NegativeCount,
+    /// A negative length or count other than -1.
+    Negative,
     /// Bytes in a null.
     Null,
     /// Another letter in a boolean.
@@ -72,70 +56,40 @@ pub(crate) enum Slip {
     BigNumber,
     /// Not a digit in a length.
     Length,
-    ErrorLength,
-    VerbatimLength,
-    ChunkLength,
     /// Not a digit in a count.
     Count,
-    MapCount,
-    SetCount,
-    PushCount,
-    AttributeCount,
-}
-
-/// A likely reason for a byte that the grammar does not allow, unless it follows the content of a
-/// string.
-#[derive(Clone, Copy)]
-pub(crate) enum Clue {
-    /// The input is no RESP.
-    Format(Format),
-    /// The input has a slip.
-    Slip(Slip),
 }
 
 /// All clues. An earlier one has precedence.
-const CLUES: [Clue; 40] = [
-    Clue::Format(Format::Tls),
-    Clue::Format(Format::Gzip),
-    Clue::Format(Format::Elf),
-    Clue::Format(Format::Rdb),
-    Clue::Format(Format::HttpGet),
-    Clue::Format(Format::HttpPost),
-    Clue::Format(Format::HttpHead),
-    Clue::Format(Format::HttpResponse),
-    Clue::Format(Format::Utf8Mark),
-    Clue::Format(Format::Utf16),
-    Clue::Format(Format::JsonObject),
-    Clue::Format(Format::JsonArray),
-    Clue::Format(Format::CliText),
-    Clue::Format(Format::CliItem),
-    Clue::Format(Format::Inline),
-    Clue::Slip(Slip::Escaped),
-    Clue::Slip(Slip::EscapedEnd),
-    Clue::Slip(Slip::EmptyFirst),
-    Clue::Slip(Slip::EmptyFirstLine),
-    Clue::Slip(Slip::EmptyMember),
-    Clue::Slip(Slip::NoChunk),
-    Clue::Slip(Slip::End),
-    Clue::Slip(Slip::EndInside),
-    Clue::Slip(Slip::ReturnAlone),
-    Clue::Slip(Slip::FeedAlone),
-    Clue::Slip(Slip::NegativeLength),
-    Clue::Slip(Slip::NegativeCount),
-    Clue::Slip(Slip::Null),
-    Clue::Slip(Slip::Boolean),
-    Clue::Slip(Slip::Integer),
-    Clue::Slip(Slip::BigNumber),
-    Clue::Slip(Slip::Length),
-    Clue::Slip(Slip::ErrorLength),
-    Clue::Slip(Slip::VerbatimLength),
-    Clue::Slip(Slip::ChunkLength),
-    Clue::Slip(Slip::Count),
-    Clue::Slip(Slip::MapCount),
-    Clue::Slip(Slip::SetCount),
-    Clue::Slip(Slip::PushCount),
-    Clue::Slip(Slip::AttributeCount),
+const CLUES: [Clue; 24] = [
+    Clue::Tls,
+    Clue::Gzip,
+    Clue::Elf,
+    Clue::Rdb,
+    Clue::HttpRequest,
+    Clue::HttpResponse,
+    Clue::Utf8Mark,
+    Clue::Utf16,
+    Clue::Json,
+    Clue::Cli,
+    Clue::Inline,
+    Clue::Escaped,
+    Clue::EmptyLine,
+    Clue::NoChunk,
+    Clue::End,
+    Clue::ReturnAlone,
+    Clue::FeedAlone,
+    Clue::Negative,
+    Clue::Null,
+    Clue::Boolean,
+    Clue::Integer,
+    Clue::BigNumber,
+    Clue::Length,
+    Clue::Count,
 ];
+
+/// The type bytes of strings whose length is counted, and of a chunk.
+const LENGTH_MARKS: &[u8] = b"$!=;";
 
 /// A hint at the reason for a byte that the grammar does not allow.
 #[derive(Clone, Copy)]
@@ -144,21 +98,6 @@ pub(crate) enum Hint {
     Content { length: usize },
     /// Another reason.
     Clue(Clue),
-}
-
-/// A type that only version 3 has.
-#[derive(Clone, Copy)]
-pub(crate) enum NewType {
-    Null,
-    Boolean,
-    BigNumber,
-    BulkError,
-    Verbatim,
-    Map,
-    Set,
-    Attribute,
-    Push,
-    Streamed,
 }
 
 /// Returns a hint at the reason why the grammar does not allow the first byte of `from`. `before`
@@ -175,37 +114,6 @@ pub(crate) fn hint_of(before: &[u8], from: &[u8]) -> Option<Hint>
     }
 }
 
-/// Returns the type of version 3 of which `from` begins with the type byte, or with the question
-/// mark of a streamed string or aggregate.
-pub(crate) fn new_type_of(from: &[u8]) -> Option<NewType>
-    ensures { IsNewType from.now result }
-{
-    match from.split_first() {
-        Some((byte, _)) => type_with(*byte),
-        None => None,
-    }
-}
-
-/// Returns the type of version 3 with this type byte.
-fn type_with(byte: u8) -> Option<NewType>
-    ensures found { IfSome result (λ new_type. type_byte new_type ≡ byte) }
-    ensures none { IsNone result → (new_type : NewType) → type_byte new_type ≢ byte }
-{
-    match byte {
-        b'_' => Some(NewType::Null),
-        b'#' => Some(NewType::Boolean),
-        b'(' => Some(NewType::BigNumber),
-        b'!' => Some(NewType::BulkError),
-        b'=' => Some(NewType::Verbatim),
-        b'%' => Some(NewType::Map),
-        b'~' => Some(NewType::Set),
-        b'|' => Some(NewType::Attribute),
-        b'>' => Some(NewType::Push),
-        b'?' => Some(NewType::Streamed),
-        _ => None,
-    }
-}
-
 /// Writes the line with a hint. Writes nothing if there is no hint.
 pub(crate) fn write_hint<F: Sink>(hint: Option<Hint>, faults: &mut F) -> Result<(), DeviceFault>
     ensures { WritesText (F.written faults.old) (F.written faults.new) (F.failures faults.old)
@@ -218,93 +126,72 @@ pub(crate) fn write_hint<F: Sink>(hint: Option<Hint>, faults: &mut F) -> Result<
             length as u64,
             b" bytes of content\n",
         ),
-        Some(Hint::Clue(Clue::Format(format))) => write_text(faults, format_line(format)),
-        Some(Hint::Clue(Clue::Slip(slip))) => write_text(faults, slip_line(slip)),
+        Some(Hint::Clue(clue)) => write_text(faults, clue_line(clue)),
         None => write_text(faults, b""),
     }
 }
 
-/// Returns the line about an input that is no RESP.
-fn format_line(format: Format) -> &'static [u8]
-    ensures { result.now ≡ format_line format }
+/// Returns the line about a clue.
+fn clue_line(clue: Clue) -> &'static [u8]
+    ensures { result.now ≡ clue_line clue }
 {
-    match format {
-        Format::Tls => b"  this looks like TLS\n",
-        Format::Gzip => b"  this looks like gzip\n",
-        Format::Elf => b"  this looks like an ELF file\n",
-        Format::Rdb => b"  this looks like an RDB file\n",
-        Format::HttpGet | Format::HttpPost | Format::HttpHead =>
-            b"  this looks like an HTTP request\n",
-        Format::HttpResponse => b"  this looks like an HTTP response\n",
-        Format::Utf8Mark => b"  this looks like text with a byte order mark\n",
-        Format::Utf16 => b"  this looks like text in UTF-16\n",
-        Format::JsonObject | Format::JsonArray => b"  this looks like JSON\n",
-        Format::CliText | Format::CliItem => b"  this looks like the output of redis-cli\n",
-        Format::Inline => {
+    match clue {
+        Clue::Tls => b"  this looks like TLS\n",
+        Clue::Gzip => b"  this looks like gzip\n",
+        Clue::Elf => b"  this looks like an ELF file\n",
+        Clue::Rdb => b"  this looks like an RDB file\n",
+        Clue::HttpRequest => b"  this looks like an HTTP request\n",
+        Clue::HttpResponse => b"  this looks like an HTTP response\n",
+        Clue::Utf8Mark => b"  this looks like text with a byte order mark\n",
+        Clue::Utf16 => b"  this looks like text in UTF-16\n",
+        Clue::Json => b"  this looks like JSON\n",
+        Clue::Cli => b"  this looks like the output of redis-cli\n",
+        Clue::Inline => {
             b"  this looks like an inline command; a command is an array of bulk strings here\n"
         }
+        Clue::Escaped => b"  a backslash is a byte like any other; printf writes \\r\\n as CR LF\n",
+        Clue::EmptyLine => b"  an empty line; a value begins with the byte of its type\n",
+        Clue::NoChunk => b"  a streamed string consists of chunks, which begin with ;\n",
+        Clue::End => b"  a dot ends a streamed aggregate, and is not valid elsewhere\n",
+        Clue::ReturnAlone => b"  CR without LF; a line ends with CR LF\n",
+        Clue::FeedAlone => b"  LF without CR; a line ends with CR LF\n",
+        Clue::Negative => b"  the only negative length is -1\n",
+        Clue::Null => b"  a null is only _ and CR LF\n",
+        Clue::Boolean => b"  a boolean is #t or #f\n",
+        Clue::Integer => b"  an integer consists of an optional sign and digits\n",
+        Clue::BigNumber => b"  a big number consists of an optional sign and digits\n",
+        Clue::Length => b"  a length consists of digits\n",
+        Clue::Count => b"  a count consists of digits\n",
     }
 }
 
-/// Returns the line about a slip.
-fn slip_line(slip: Slip) -> &'static [u8]
-    ensures { result.now ≡ slip_line slip }
-{
-    match slip {
-        Slip::Escaped | Slip::EscapedEnd => {
-            b"  a backslash is a byte like any other; printf writes \\r\\n as CR LF\n"
-        }
-        Slip::EmptyFirst | Slip::EmptyFirstLine | Slip::EmptyMember => {
-            b"  an empty line; a value begins with the byte of its type\n"
-        }
-        Slip::NoChunk => b"  a streamed string consists of chunks, which begin with ;\n",
-        Slip::End | Slip::EndInside => {
-            b"  a dot ends a streamed aggregate, and is not valid elsewhere\n"
-        }
-        Slip::ReturnAlone => b"  CR without LF; a line ends with CR LF\n",
-        Slip::FeedAlone => b"  LF without CR; a line ends with CR LF\n",
-        Slip::NegativeLength | Slip::NegativeCount => b"  the only negative length is -1\n",
-        Slip::Null => b"  a null is only _ and CR LF\n",
-        Slip::Boolean => b"  a boolean is #t or #f\n",
-        Slip::Integer => b"  an integer consists of an optional sign and digits\n",
-        Slip::BigNumber => b"  a big number consists of an optional sign and digits\n",
-        Slip::Length | Slip::ErrorLength | Slip::VerbatimLength | Slip::ChunkLength => {
-            b"  a length consists of digits\n"
-        }
-        Slip::Count | Slip::MapCount | Slip::SetCount | Slip::PushCount | Slip::AttributeCount =>
-            b"  a count consists of digits\n",
-    }
-}
-
-/// Writes why a byte is not valid in version 2.
-pub(crate) fn write_version<F: Sink>(
-    new_type: Option<NewType>,
-    faults: &mut F,
-) -> Result<(), DeviceFault>
+/// Writes why a byte, the first of `from`, is not valid in version 2.
+pub(crate) fn write_version<F: Sink>(from: &[u8], faults: &mut F) -> Result<(), DeviceFault>
     ensures { WritesText (F.written faults.old) (F.written faults.new) (F.failures faults.old)
-        (F.failures faults.new) result (version_text new_type) }
+        (F.failures faults.new) result (version_text (get_or from.now 0 0)) }
 {
-    match new_type {
-        Some(new_type) => write_text(faults, type_text(new_type)),
-        None => write_text(faults, b"version 2 doesn't have this; use -3"),
+    match from.split_first() {
+        Some((byte, _)) => write_text(faults, version_text(*byte)),
+        None => write_text(faults, version_text(0)),
     }
 }
 
-/// Returns the sentence about a type in version 2.
-fn type_text(new_type: NewType) -> &'static [u8]
-    ensures { result.now ≡ type_text new_type }
+/// Returns the sentence about a byte in version 2.
+fn version_text(byte: u8) -> &'static [u8]
+    ensures { result.now ≡ version_text byte }
 {
-    match new_type {
-        NewType::Null => b"RESP3 null in RESP2 input; use -3",
-        NewType::Boolean => b"RESP3 boolean in RESP2 input; use -3",
-        NewType::BigNumber => b"RESP3 big number in RESP2 input; use -3",
-        NewType::BulkError => b"RESP3 bulk error in RESP2 input; use -3",
-        NewType::Verbatim => b"RESP3 verbatim string in RESP2 input; use -3",
-        NewType::Map => b"RESP3 map in RESP2 input; use -3",
-        NewType::Set => b"RESP3 set in RESP2 input; use -3",
-        NewType::Attribute => b"RESP3 attribute in RESP2 input; use -3",
-        NewType::Push => b"RESP3 push in RESP2 input; use -3",
-        NewType::Streamed => b"RESP3 streamed string or aggregate in RESP2 input; use -3",
+    match byte {
+        b'_' => b"RESP3 null in RESP2 input; use -3",
+        b'#' => b"RESP3 boolean in RESP2 input; use -3",
+        b'(' => b"RESP3 big number in RESP2 input; use -3",
+        b'!' => b"RESP3 bulk error in RESP2 input; use -3",
+        b'=' => b"RESP3 verbatim string in RESP2 input; use -3",
+        b'%' => b"RESP3 map in RESP2 input; use -3",
+        b'~' => b"RESP3 set in RESP2 input; use -3",
+        b'|' => b"RESP3 attribute in RESP2 input; use -3",
+        b'>' => b"RESP3 push in RESP2 input; use -3",
+        b'?' => b"RESP3 streamed string or aggregate in RESP2 input; use -3",
+        _ => b"version 2 doesn't have this; use -3",
     }
 }
 
@@ -326,65 +213,36 @@ fn first_clue(before: &[u8], from: &[u8]) -> Option<Clue>
 fn shows(clue: Clue, before: &[u8], from: &[u8]) -> bool
     ensures { (result ≡ true) ↔ Shows clue before.now from.now }
 {
+    let first = before.is_empty();
     match clue {
-        Clue::Format(format) => before.is_empty() && looks_like(format, from),
-        Clue::Slip(slip) => shows_slip(slip, before, from),
-    }
-}
-
-/// Returns whether an input that begins with these bytes looks like the format.
-fn looks_like(format: Format, from: &[u8]) -> bool
-    ensures { (result ≡ true) ↔ LooksLike format from.now }
-{
-    match format {
-        Format::Tls => begins(from, b"\x16\x03"),
-        Format::Gzip => begins(from, b"\x1f\x8b"),
-        Format::Elf => begins(from, b"\x7fELF"),
-        Format::Rdb => begins(from, b"REDIS0"),
-        Format::HttpGet => begins(from, b"GET /"),
-        Format::HttpPost => begins(from, b"POST /"),
-        Format::HttpHead => begins(from, b"HEAD /"),
-        Format::HttpResponse => begins(from, b"HTTP/"),
-        Format::Utf8Mark => begins(from, b"\xef\xbb\xbf"),
-        Format::Utf16 => begins(from, b"\xff\xfe"),
-        Format::JsonObject => begins(from, b"{"),
-        Format::JsonArray => begins(from, b"["),
-        Format::CliText => begins(from, b"\""),
-        Format::CliItem => begins(from, b"1) "),
-        Format::Inline => begins_with_letter(from),
-    }
-}
-
-/// Returns whether the bytes show the slip.
-fn shows_slip(slip: Slip, before: &[u8], from: &[u8]) -> bool
-    ensures { (result ≡ true) ↔ ShowsSlip slip before.now from.now }
-{
-    match slip {
-        Slip::Escaped => begins(from, b"\\r"),
-        Slip::EscapedEnd => ends(before, b"\\r\\n") && begins(from, b"\n"),
-        Slip::EmptyFirst => before.is_empty() && begins(from, b"\r"),
-        Slip::EmptyFirstLine => before.is_empty() && begins(from, b"\n"),
-        Slip::EmptyMember => ends(before, b"\n") && begins(from, b"\r"),
-        Slip::NoChunk => ends(before, b"$?\r\n"),
-        Slip::End => before.is_empty() && begins(from, b"."),
-        Slip::EndInside => ends(before, b"\n") && begins(from, b"."),
-        Slip::ReturnAlone => ends(before, b"\r"),
-        Slip::FeedAlone => begins(from, b"\n"),
-        Slip::NegativeLength => ends(before, b"$-"),
-        Slip::NegativeCount => ends(before, b"*-"),
-        Slip::Null => ends(before, b"_"),
-        Slip::Boolean => ends(before, b"#"),
-        Slip::Integer => ends_with_number(before, b':'),
-        Slip::BigNumber => ends_with_number(before, b'('),
-        Slip::Length => ends_with_number(before, b'$'),
-        Slip::ErrorLength => ends_with_number(before, b'!'),
-        Slip::VerbatimLength => ends_with_number(before, b'='),
-        Slip::ChunkLength => ends_with_number(before, b';'),
-        Slip::Count => ends_with_number(before, b'*'),
-        Slip::MapCount => ends_with_number(before, b'%'),
-        Slip::SetCount => ends_with_number(before, b'~'),
-        Slip::PushCount => ends_with_number(before, b'>'),
-        Slip::AttributeCount => ends_with_number(before, b'|'),
+        Clue::Tls => first && begins(from, b"\x16\x03"),
+        Clue::Gzip => first && begins(from, b"\x1f\x8b"),
+        Clue::Elf => first && begins(from, b"\x7fELF"),
+        Clue::Rdb => first && begins(from, b"REDIS0"),
+        Clue::HttpRequest => {
+            first && (begins(from, b"GET /") || begins(from, b"POST /") || begins(from, b"HEAD /"))
+        }
+        Clue::HttpResponse => first && begins(from, b"HTTP/"),
+        Clue::Utf8Mark => first && begins(from, b"\xef\xbb\xbf"),
+        Clue::Utf16 => first && begins(from, b"\xff\xfe"),
+        Clue::Json => first && (begins(from, b"{") || begins(from, b"[")),
+        Clue::Cli => first && (begins(from, b"\"") || begins(from, b"1) ")),
+        Clue::Inline => first && begins_with_letter(from),
+        Clue::Escaped => begins(from, b"\\r") || ends(before, b"\\r\\n") && begins(from, b"\n"),
+        Clue::EmptyLine => {
+            (first || ends(before, b"\n")) && begins(from, b"\r") || first && begins(from, b"\n")
+        }
+        Clue::NoChunk => ends(before, b"$?\r\n"),
+        Clue::End => (first || ends(before, b"\n")) && begins(from, b"."),
+        Clue::ReturnAlone => ends(before, b"\r"),
+        Clue::FeedAlone => begins(from, b"\n"),
+        Clue::Negative => ends(before, b"$-") || ends(before, b"*-"),
+        Clue::Null => ends(before, b"_"),
+        Clue::Boolean => ends(before, b"#"),
+        Clue::Integer => ends_with_number(before, b":"),
+        Clue::BigNumber => ends_with_number(before, b"("),
+        Clue::Length => ends_with_number(before, LENGTH_MARKS),
+        Clue::Count => ends_with_number(before, b"*%~>|"),
     }
 }
 
@@ -402,21 +260,17 @@ fn ends(before: &[u8], text: &[u8]) -> bool
     before.ends_with(text)
 }
 
-/// Returns whether the bytes end with this byte, which is no digit, and digits after it.
-fn ends_with_number(before: &[u8], mark: u8) -> bool
-    requires no_digit { is_ascii_digit mark ≡ false }
-    ensures { (result ≡ true) ↔ EndsWithNumber mark before.now }
+/// Returns whether the bytes end with one of these bytes, which are no digits, and digits after it.
+fn ends_with_number(before: &[u8], marks: &[u8]) -> bool
+    requires no_digits { AllByRecursion (λ b. is_ascii_digit b ≡ false) marks.now }
+    ensures { (result ≡ true) ↔ EndsWithNumber marks.now before.now }
 {
     let mut rest = before;
     while let Some((byte, front)) = rest.split_last() {
-        if *byte == mark {
-            return true;
+        if !byte.is_ascii_digit() {
+            return marks.contains(byte);
         }
-        if byte.is_ascii_digit() {
-            rest = front;
-        } else {
-            return false;
-        }
+        rest = front;
     }
     false
 }
@@ -458,26 +312,19 @@ fn ends_with_length(head: &[u8], length: usize) -> bool
     let digits = buffer.format(length as u64).as_bytes();
     match head.strip_suffix(b"\r\n") {
         Some(line) => match line.strip_suffix(digits) {
-            Some(front) => ends_with_mark(front),
+            Some(front) => ends_with_mark(front, LENGTH_MARKS),
             None => false,
         },
         None => false,
     }
 }
 
-/// Returns whether the last byte is the type byte of a string or of a chunk.
-fn ends_with_mark(front: &[u8]) -> bool
-    ensures { (result ≡ true) ↔ EndsWithMark front.now }
+/// Returns whether the last byte is one of these.
+fn ends_with_mark(before: &[u8], marks: &[u8]) -> bool
+    ensures { (result ≡ true) ↔ EndsWithMark marks.now before.now }
 {
-    match front.split_last() {
-        Some((byte, _)) => is_mark(*byte),
+    match before.split_last() {
+        Some((byte, _)) => marks.contains(byte),
         None => false,
     }
-}
-
-/// Returns whether the byte is the type byte of a string or of a chunk.
-fn is_mark(byte: u8) -> bool
-    ensures { (result ≡ true) ↔ IsMark byte }
-{
-    byte == b'$' || byte == b'!' || byte == b'=' || byte == b';'
 }

@@ -1,13 +1,13 @@
 //! The lines that `show` writes for events as they arrive.
 
-ghost use Rattle.std.specs.Prelude.{◌≡◌, ◌≤◌, ◌<◌, ◌+◌, ◌^◌, ◌==◌, ◌++◌, [], ◌∷◌, length, reverse, codes, OnOk};
+ghost use Rattle.std.specs.Prelude.{◌≡◌, ◌≤◌, ◌<◌, ◌+◌, ◌^◌, ◌==◌, ◌++◌, [], ◌∷◌, drop, length, reverse, codes, OnOk};
 ghost use Rattle.std.specs.Fmt.{signed_decimal};
 ghost use Rattle.resp_fronts.specs.Events as e;
 ghost use Rattle.resp_value.specs.Data.{items_of};
 ghost use Rattle.resp_value.specs.Kinds.{kind_of};
 ghost use Rattle.resp_scan.specs.Kinds.{content_events, text_kind_of};
 ghost use Rattle.resp_scan.specs.Listening.{whole_text_events};
-ghost use Rattle.resp_tool.specs.Lines.{size_of_text, text_of};
+ghost use Rattle.resp_tool.specs.Lines.{size_of_text};
 ghost use Rattle.resp_tool.specs.Pages.{end_of_text, is_big, last_line, of_line, text_line, text_words, with_bytes};
 ghost use Rattle.resp_print.specs.Shown.{indentation, kind_word, quoted_text, truth_word};
 ghost use Rattle.resp_print.specs.Written.{WritesText};
@@ -60,8 +60,9 @@ impl Default for OpenLine {
 }
 
 impl Lines {
-    ghost use Rattle.resp_tool.specs.Lines.{HasRoomFor, around, innermost, page_of, with_added};
-    ghost use Rattle.resp_tool.specs.Pages.{beginning, blank, end_of_line, page_after, shown_on, with_value};
+    ghost use Rattle.resp_tool.specs.Lines.{HasRoomFor, innermost, page_of, with_added};
+    ghost use Rattle.resp_tool.specs.Pages.{beginning, blank, end_of_line, shown_on, with_value};
+    ghost use Rattle.resp_tool.specs.Printing.{IsPageAfter};
 
     /// Returns the state before the first event.
     pub fn new() -> Lines
@@ -174,8 +175,7 @@ impl Lines {
         ensures written { WritesText (W.written writer.old) (W.written writer.new)
             (W.failures writer.old) (W.failures writer.new) result
             (shown_on (page_of self.old) (e.Null ∷ [])) }
-        ensures page { OnOk result (HasRoomFor 1 (page_of self.old) →
-            page_of self.new ≡ page_after (e.Null ∷ []) (page_of self.old)) }
+        ensures page { OnOk result (IsPageAfter self.old self.new (e.Null ∷ [])) }
     {
         self.begin(b"null\n", writer)?;
         self.end();
@@ -187,8 +187,7 @@ impl Lines {
         ensures written { WritesText (W.written writer.old) (W.written writer.new)
             (W.failures writer.old) (W.failures writer.new) result
             (shown_on (page_of self.old) (e.Bool truth ∷ [])) }
-        ensures page { OnOk result (HasRoomFor 1 (page_of self.old) →
-            page_of self.new ≡ page_after (e.Bool truth ∷ []) (page_of self.old)) }
+        ensures page { OnOk result (IsPageAfter self.old self.new (e.Bool truth ∷ [])) }
     {
         self.begin(truth_line(truth), writer)?;
         self.end();
@@ -200,8 +199,7 @@ impl Lines {
         ensures written { WritesText (W.written writer.old) (W.written writer.new)
             (W.failures writer.old) (W.failures writer.new) result
             (shown_on (page_of self.old) (e.Int number ∷ [])) }
-        ensures page { OnOk result (HasRoomFor 1 (page_of self.old) →
-            page_of self.new ≡ page_after (e.Int number ∷ []) (page_of self.old)) }
+        ensures page { OnOk result (IsPageAfter self.old self.new (e.Int number ∷ [])) }
     {
         self.begin_line(writer)?;
         write_int(writer, number)?;
@@ -214,8 +212,8 @@ impl Lines {
         ensures written { WritesText (W.written writer.old) (W.written writer.new)
             (W.failures writer.old) (W.failures writer.new) result
             (shown_on (page_of self.old) (e.Text (text_kind_of kind) ∷ [])) }
-        ensures page { OnOk result (page_of self.new ≡
-            page_after (e.Text (text_kind_of kind) ∷ []) (page_of self.old)) }
+        ensures page { OnOk result (IsPageAfter self.old self.new
+            (e.Text (text_kind_of kind) ∷ [])) }
     {
         self.begin_line(writer)?;
         write_head(writer, kind)?;
@@ -231,8 +229,7 @@ impl Lines {
         ensures written { WritesText (W.written writer.old) (W.written writer.new)
             (W.failures writer.old) (W.failures writer.new) result
             (shown_on (page_of self.old) (content_events part.now)) }
-        ensures page { OnOk result (HasRoomFor (length part.now) (page_of self.old) →
-            page_of self.new ≡ page_after (content_events part.now) (page_of self.old)) }
+        ensures page { OnOk result (IsPageAfter self.old self.new (content_events part.now)) }
     {
         write_quoted(writer, part)?;
         self.text = longer(self.text, part.len() as u64);
@@ -244,8 +241,7 @@ impl Lines {
         ensures written { WritesText (W.written writer.old) (W.written writer.new)
             (W.failures writer.old) (W.failures writer.new) result
             (shown_on (page_of self.old) (e.TextEnd ∷ [])) }
-        ensures page { OnOk result (HasRoomFor 1 (page_of self.old) →
-            page_of self.new ≡ page_after (e.TextEnd ∷ []) (page_of self.old)) }
+        ensures page { OnOk result (IsPageAfter self.old self.new (e.TextEnd ∷ [])) }
     {
         write_end(writer, self.text)?;
         self.text = None;
@@ -263,8 +259,8 @@ impl Lines {
         ensures written { WritesText (W.written writer.old) (W.written writer.new)
             (W.failures writer.old) (W.failures writer.new) result
             (shown_on (page_of self.old) (whole_text_events kind bytes.now)) }
-        ensures page { OnOk result (HasRoomFor 1 (page_of self.old) → page_of self.new ≡
-            page_after (whole_text_events kind bytes.now) (page_of self.old)) }
+        ensures page { OnOk result (IsPageAfter self.old self.new
+            (whole_text_events kind bytes.now)) }
     {
         self.begin_line(writer)?;
         write_text_line(writer, kind, bytes)?;
@@ -283,9 +279,8 @@ impl Lines {
         ensures written { WritesText (W.written writer.old) (W.written writer.new)
             (W.failures writer.old) (W.failures writer.new) result
             (shown_on (page_of self.old) (e.Open (kind_of kind) count ∷ [])) }
-        ensures page { OnOk result (length (page_of self.old).open_lines < 128 →
-            page_of self.new ≡
-            page_after (e.Open (kind_of kind) count ∷ []) (page_of self.old)) }
+        ensures page { OnOk result (IsPageAfter self.old self.new
+            (e.Open (kind_of kind) count ∷ [])) }
     {
         self.begin(kind_line(kind), writer)?;
         self.push(OpenLine {
@@ -308,7 +303,7 @@ impl Lines {
     /// Removes the innermost open aggregate.
     fn pop(&mut self)
         ensures items { reverse self.new.aggregates.items ≡
-            around (reverse self.old.aggregates.items) }
+            drop 1 (reverse self.old.aggregates.items) }
         ensures rest { self.new ≡ record self.old { aggregates = self.new.aggregates } }
     {
         let _ = self.aggregates.pop();
@@ -319,8 +314,7 @@ impl Lines {
         ensures written { WritesText (W.written writer.old) (W.written writer.new)
             (W.failures writer.old) (W.failures writer.new) result
             (shown_on (page_of self.old) (e.Close ∷ [])) }
-        ensures page { OnOk result (HasRoomFor 1 (page_of self.old) →
-            page_of self.new ≡ page_after (e.Close ∷ []) (page_of self.old)) }
+        ensures page { OnOk result (IsPageAfter self.old self.new (e.Close ∷ [])) }
     {
         self.write_last(writer)?;
         self.pop();
@@ -485,8 +479,7 @@ fn is_double(number: u64, half: u64) -> bool
 
 /// Returns the text with `bytes` more bytes.
 fn longer(text: Option<OpenText>, bytes: u64) -> Option<OpenText>
-    ensures { size_of_text (text_of text) + bytes < 2 ^ 64 →
-        text_of result ≡ with_bytes bytes (text_of text) }
+    ensures { size_of_text text + bytes < 2 ^ 64 → result ≡ with_bytes bytes text }
 {
     match text {
         Some(text) => Some(OpenText {
@@ -500,7 +493,7 @@ fn longer(text: Option<OpenText>, bytes: u64) -> Option<OpenText>
 /// Writes the end of a text's line.
 fn write_end<W: Sink>(writer: &mut W, text: Option<OpenText>) -> Result<(), DeviceFault>
     ensures { WritesText (W.written writer.old) (W.written writer.new) (W.failures writer.old)
-        (W.failures writer.new) result (end_of_text (text_of text)) }
+        (W.failures writer.new) result (end_of_text text) }
 {
     match text {
         Some(text) => {

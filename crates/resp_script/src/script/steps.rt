@@ -3,9 +3,10 @@
 ghost use Rattle.std.specs.Prelude.{◌≡◌, ℕ, ◌≤◌, ◌<◌, List, [], ◌∷◌, length, map, Option, Some, IfErr, IfOk, IfSome, IfNone, decimal};
 ghost use Rattle.resp_value.specs.Words.{texts_of};
 ghost use Rattle.resp_script.specs.Reasons.{IsNoStep, IsReason, WhereBad, parts_of_line};
-ghost use Rattle.resp_script.specs.ScriptSteps.{arguments_of, asked_words, step_client, clients_words, item_word, step_name, step_words, verb_of, HasRange, IsStepInRange, IsMoved};
-ghost use Rattle.resp_script.specs.Scripts.{is_passed_over, SaysNothing};
-ghost use Rattle.resp_script.specs.SaidLines.{Says};
+ghost use Rattle.resp_script.specs.ScriptSteps.{arguments_of, asked_words, clients_words, item_word, step_name, step_words, verb_of, HasRange, IsStepInRange, IsMoved};
+ghost use Rattle.resp_script.specs.Scripts.{is_passed_over, Says, SaysNothing};
+ghost use Rattle.resp_session.specs.Worlds.{client_of};
+ghost use Rattle.resp_wire.specs.Worlds.{event_of};
 
 use crate::script::reasons::BadLine;
 use crate::script::words::{LineFault, number_of, words_of};
@@ -174,8 +175,8 @@ fn event_of(
     words: &[&[u8]],
 ) -> Result<Option<Event>, AllocError>
     ensures event { IfOk result (λ found. IfSome found (λ event. (verb_of event ≡ verb) ×
-        (step_client event ≡ client) × (map (λ word. word.now) words.now ≡ arguments_of event) ×
-        HasRange event)) }
+        (client_of (event_of event) ≡ client) ×
+        (map (λ word. word.now) words.now ≡ arguments_of event) × HasRange event)) }
     ensures none { IfOk result (λ found. IfNone found ((event : Event) → verb_of event ≡ verb →
         map (λ word. word.now) words.now ≡ arguments_of event → HasRange event → ⊥)) }
 {
@@ -207,8 +208,8 @@ fn event_of(
 /// Returns the event that sends these words from this client; `None` if there is no word.
 fn sent(alloc: Global, client: usize, words: &[&[u8]]) -> Result<Option<Event>, AllocError>
     ensures event { IfOk result (λ found. IfSome found (λ event. (verb_of event ≡ Verb.Send) ×
-        (step_client event ≡ client) × (map (λ word. word.now) words.now ≡ arguments_of event) ×
-        HasRange event)) }
+        (client_of (event_of event) ≡ client) ×
+        (map (λ word. word.now) words.now ≡ arguments_of event) × HasRange event)) }
     ensures none { IfOk result (λ found. IfNone found (words.now ≡ [])) }
 {
     match Command::new(copies(alloc, words)?) {

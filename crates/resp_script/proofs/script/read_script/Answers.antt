@@ -1,6 +1,5 @@
 use Rattle.std.proofs.Common.{◌≡◌, ◌+◌, [], ◌∷◌, ◌++◌, None, cond, refl, sym, ap, subst, ◌∙◌, inl, inr}
-use Rattle.resp_script.specs.SaidLines.{Says}
-use Rattle.resp_script.specs.Scripts.{IsFirstBad}
+use Rattle.resp_script.specs.Scripts.{IsFirstBad, Says}
 use Rattle.resp_script.proofs.ScriptReading.{HaveRead, is_first_bad, is_within, passes_a_limit, read_nothing, reads_clients, reads_no_clients, reads_nothing, reads_step}
 use Rattle.resp_script.proofs.script.read_script.Goals as goal
 

@@ -2,8 +2,9 @@ use Rattle.std.proofs.Common.{◌≡◌, ℕ, List, OnOk, Option, Result, sym, s
 use Rattle.resp_args.specs.declared.tool_error.ToolError.{ToolError}
 use Rattle.resp_args.specs.declared.tool_error.ToolError.TheVariants.{Refused}
 use Rattle.resp_value.specs.declared.cause.Cause.{Cause}
+use Rattle.resp_value.specs.declared.cause.Cause.TheVariants as cause
 use Rattle.resp_value.specs.Rules.{Rules, rules_under}
-use Rattle.resp_tool.specs.Explained.{Explains, ExplainsAt, IsTruncated, held_bytes, rules_watched}
+use Rattle.resp_tool.specs.Explained.{Explains, ExplainsAt, IsRefusedBy, held_bytes, rules_watched}
 use Rattle.resp_tool.proofs.explain.explain.Goals as goal
 
 -- a refused byte is explained at its place
@@ -18,7 +19,7 @@ pub returns-in-Refused-clause-explains : goal.returns-in-Refused-clause-explains
 returns-in-Refused-clause-explains g c = λ bytes h.
     let s = c.settle_at_end.ensures in
     let explained = c.explain_at.ensures.explains bytes (s.watched bytes h)
-    (λ truncated. s.scanned (subst IsTruncated c.in-Refused.is truncated)) in
+    (λ truncated. s.scanned (subst (IsRefusedBy cause.Truncated) c.in-Refused.is truncated)) in
     at_its_place c.explain_at.result (rules_watched c.args.watched.now) (rules_under c.args.options.now.version c.args.options.now.limits)
     (held_bytes c.args.watched.now) bytes (g.F.Sink.written c.args.faults.now) (g.F.Sink.written c.explain_at.new.faults) c.in-Refused.value
     c.in-Refused.cause c.in-Refused.at c.args.error.now c.in-Refused.is (rw (s.same_rules, s.same_size) at explained)

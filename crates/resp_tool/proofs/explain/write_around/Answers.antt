@@ -1,5 +1,5 @@
-use Rattle.std.proofs.Common.{rules, ◌≡◌, ◌∙◌, length, replicate, subst}
-use Rattle.resp_tool.specs.Explained.{explanation_lines, place_lines, sentence_of}
+use Rattle.std.proofs.Common.{rules, ◌≡◌, ◌++◌, ◌∙◌, length, replicate, subst}
+use Rattle.resp_tool.specs.Explained.{place_lines, sentence_of}
 use Rattle.resp_tool.specs.Hints.{hint_line}
 use Rattle.resp_value.specs.Devices.{Appends}
 use Rattle.resp_print.proofs.WrittenLemmas.{Appends-append}
@@ -7,7 +7,7 @@ use Rattle.resp_tool.proofs.explain.write_around.Goals as goal
 
 pub returns-clause-lines : goal.returns-clause-lines
 returns-clause-lines g c =
-    let after = c.args.after.now in
+    let after = c.args.reason.now.after.now in
     let sentence = sentence_of c.args.reason.now in
     let hint = hint_line c.args.reason.now.hint in
     let said = g.F.Sink.written c.args.faults.now in
@@ -15,5 +15,5 @@ returns-clause-lines g c =
     let told = Appends-append said (g.F.Sink.written c.write_place.new.faults) said'
     (place_lines c.bytes-2.result.now after c.as_slice.result.now sentence) hint c.in_ok-write_place.ensures.lines c.in_ok-write_hint.ensures.0 in
     let blank : c.as_slice.result.now ≡ replicate (length c.bytes-2.result.now) 32 = search rules in
-    subst (λ z. Appends said said' (explanation_lines z after (replicate (length z) 32) sentence hint)) (c.bytes-2.ensures ∙ c.in_ok-margin.ensures)
-    (subst (λ z. Appends said said' (explanation_lines c.bytes-2.result.now after z sentence hint)) blank told)
+    subst (λ z. Appends said said' (place_lines z after (replicate (length z) 32) sentence ++ hint)) (c.bytes-2.ensures ∙ c.in_ok-margin.ensures)
+    (subst (λ z. Appends said said' (place_lines c.bytes-2.result.now after z sentence ++ hint)) blank told)

@@ -19,5 +19,5 @@ pub returns-in_default : goal.returns-in_default
 returns-in_default g c =
     let n = c.in_default in
     let reason = c.args.reason.now in
-    rw (other_cause (rules_under reason.version reason.limits.now) reason.missing reason.new_type c.args.cause n.not-Double n.not-Version n.not-NestedPush
+    rw (other_cause (rules_under reason.version reason.limits.now) reason.missing reason.after.now c.args.cause n.not-Double n.not-Version n.not-NestedPush
     n.not-Range n.not-Depth n.not-Length n.not-Total n.not-Truncated n.not-Streamed n.not-Items) c.write_text-in_default.ensures

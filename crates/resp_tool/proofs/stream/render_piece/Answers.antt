@@ -15,13 +15,13 @@ pub take-requires : goal.take-requires
 take-requires g c =
     let (bytes, start, h) = c.requires.stands in
     let s = c.loop-rest.invariant.stands bytes start h in
-    (s.begun, s.so_far, s.takes)
+    (s.begins.rest, s.so_far, s.takes)
 
 pub loop-rest-smaller-then-taken : goal.loop-rest-smaller-then-taken
 loop-rest-smaller-then-taken g c =
     let (bytes, start, h) = c.requires.stands in
     let s = c.loop-rest.invariant.stands bytes start h in
-    let t = rw c.if-taken.true at (c.in-Ok.ensures.takes s.begun s.so_far s.takes) in
+    let t = rw c.if-taken.true at (c.in-Ok.ensures.takes s.begins.rest s.so_far s.takes) in
     omega (arith, t.0, length_left c.in-Ok.taken.used c.loop-rest.rest.now, c.in-Ok.ensures.within_piece)
 
 pub loop-rest-preserved-then-taken : goal.loop-rest-preserved-then-taken
@@ -34,7 +34,7 @@ loop-rest-preserved-then-taken g c =
       split = done_more c.args.piece.now w.done rest c.in-Ok.taken.used w.split;
       stands = λ bytes start h.
           let s = w.stands bytes start h in
-          let t = rw (w.same_rules, c.if-taken.true) at (c.in-Ok.ensures.takes s.begun s.so_far s.takes) in
+          let t = rw (w.same_rules, c.if-taken.true) at (c.in-Ok.ensures.takes s.begins.rest s.so_far s.takes) in
           rw (sym (append_assoc bytes w.done front)) (renders_value s front t.1);
       few = omega (arith, w.few, c.if-values-eq-MOST_VALUES.false);
       same_rules = c.in-Ok.ensures.same_rules ∙ w.same_rules;
@@ -47,7 +47,7 @@ loop-rest-smaller g c =
     let s = c.loop-rest.invariant.stands bytes start h in
     let rest = c.loop-rest.rest.now in
     let some : 0 < length rest = search rules in
-    let t = rw c.if-taken.false at (c.in-Ok.ensures.takes s.begun s.so_far s.takes) in
+    let t = rw c.if-taken.false at (c.in-Ok.ensures.takes s.begins.rest s.so_far s.takes) in
     omega (arith, some, t.0, length_left c.in-Ok.taken.used rest)
 
 pub loop-rest-preserved : goal.loop-rest-preserved
@@ -59,7 +59,7 @@ loop-rest-preserved g c =
       split = done_more c.args.piece.now w.done rest c.in-Ok.taken.used w.split;
       stands = λ bytes start h.
           let s = w.stands bytes start h in
-          let t = rw (w.same_rules, c.if-taken.false) at (c.in-Ok.ensures.takes s.begun s.so_far s.takes) in
+          let t = rw (w.same_rules, c.if-taken.false) at (c.in-Ok.ensures.takes s.begins.rest s.so_far s.takes) in
           rw (t.0, take-length rest, sym (append_assoc bytes w.done rest)) (renders_on s rest c.if-values-eq-MOST_VALUES.false t.1);
       few = w.few;
       same_rules = c.in-Ok.ensures.same_rules ∙ w.same_rules;
@@ -73,8 +73,8 @@ returns-in-Err-clause-stops g c = λ bytes start h.
     let rest = c.loop-rest.rest.now in
     let s = w.stands bytes start h in
     let t = subst (λ r. Takes r (g.T.Rendering.text r) (g.T.Rendering.is_written r) (g.T.Rendering.is_left r) (g.T.Rendering.is_begun r)
-    (g.T.Rendering.has_taken c.take.new.self) s.begun rest s.so_far (g.W.Sink.written c.loop-rest.writer) (g.W.Sink.written c.take.new.writer)
-    (Err c.in-Err.stop)) w.same_rules (c.in-Err.ensures.takes s.begun s.so_far s.takes) in
+    (g.T.Rendering.has_taken c.take.new.self) s.begins.rest rest s.so_far (g.W.Sink.written c.loop-rest.writer) (g.W.Sink.written c.take.new.writer)
+    (Err c.in-Err.stop)) w.same_rules (c.in-Err.ensures.takes s.begins.rest s.so_far s.takes) in
     rw (c.of_value.ensures, sym (left_to_do bytes w.done rest w.split))
     (took_stop s (g.T.Rendering.is_left r) (g.T.Rendering.is_begun r) (g.T.Rendering.has_taken c.take.new.self) rest (g.W.Sink.written c.take.new.writer)
     c.in-Err.stop t)
@@ -86,8 +86,8 @@ returns-in-Err-clause-before_end g c =
     let s = c.loop-rest.invariant.stands bytes start h in
     rw c.of_value.ensures
     (stopped_before_end r (g.T.Rendering.text r) (g.T.Rendering.is_written r) (g.T.Rendering.is_left r) (g.T.Rendering.is_begun r)
-    (g.T.Rendering.has_taken c.take.new.self) s.begun c.loop-rest.rest.now s.so_far (g.W.Sink.written c.loop-rest.writer) (g.W.Sink.written c.take.new.writer)
-    c.loop-rest.values c.in-Err.stop (c.in-Err.ensures.takes s.begun s.so_far s.takes))
+    (g.T.Rendering.has_taken c.take.new.self) s.begins.rest c.loop-rest.rest.now s.so_far (g.W.Sink.written c.loop-rest.writer) (g.W.Sink.written c.take.new.writer)
+    c.loop-rest.values c.in-Err.stop (c.in-Err.ensures.takes s.begins.rest s.so_far s.takes))
 
 pub returns-clause-goes_on : goal.returns-clause-goes_on
 returns-clause-goes_on g c = λ bytes start h.

@@ -98,9 +98,9 @@ returns-in-Err-finish-clause-rendered g c =
       w.bytes,
       reads_none _ _ _ w.bytes _ c.in-Ok.count c.if-count-eq0.true w.read c.in-Ok.ensures.bytes,
       rw c.of_value.ensures (ended_stop s (g.T.Rendering.is_left r) (g.T.Rendering.is_begun r) (g.W.Sink.written c.finish.new.writer) c.in-Err-finish.stop
-          (subst (λ r. EndsInput r (g.T.Rendering.text r) (g.T.Rendering.is_left r) (g.T.Rendering.is_begun r) s.begun s.so_far
+          (subst (λ r. EndsInput r (g.T.Rendering.text r) (g.T.Rendering.is_left r) (g.T.Rendering.is_begun r) s.begins.rest s.so_far
           (g.W.Sink.written c.flush.new.writer) (g.W.Sink.written c.finish.new.writer) (Err c.in-Err-finish.stop)) w.same_rules
-          (c.in-Err-finish.ensures.ends s.begun s.so_far s.takes))),
+          (c.in-Err-finish.ensures.ends s.begins.rest s.so_far s.takes))),
     )
 
 pub returns-then-count-eq0-clause-rendered : goal.returns-then-count-eq0-clause-rendered
@@ -110,7 +110,7 @@ returns-then-count-eq0-clause-rendered g c =
       w.bytes,
       reads_none _ _ _ w.bytes _ c.in-Ok.count c.if-count-eq0.true w.read c.in-Ok.ensures.bytes,
       renders_counted s c.loop.totals.bytes (g.W.Sink.written c.finish.new.writer) c.no_spelling_is_empty.ensures
-          (c.in_default-finish.ensures.ends s.begun s.so_far s.takes) w.few w.size,
+          (c.in_default-finish.ensures.ends s.begins.rest s.so_far s.takes) w.few w.size,
     )
 
 pub returns-in-Err-render_piece-clause-rendered : goal.returns-in-Err-render_piece-clause-rendered

@@ -4,9 +4,8 @@ use Rattle.resp_value.specs.Rules.{rules_under}
 use Rattle.resp_scan.specs.Kinds.{rules_of}
 use Rattle.resp_scan.specs.Listening.{HearsRefusal, HearsValue, OnFault}
 use Rattle.resp_scan.specs.declared.event.ScanError.TheVariants as stop
-use Rattle.resp_tool.specs.Canons.{HasBegunDraft}
 use Rattle.resp_tool.specs.Counts.{LeavesNothing}
-use Rattle.resp_tool.specs.Drafts.{HasDrafted}
+use Rattle.resp_tool.specs.Drafts.{HasBegunDraft, HasDrafted}
 use Rattle.resp_tool.specs.Takings.{Takes}
 use Rattle.resp_tool.specs.declared.rendering.Stop.{Stop}
 use Rattle.resp_tool.specs.declared.rendering.Stop.TheVariants.{OverLimits}

@@ -1,9 +1,9 @@
 use Rattle.std.proofs.Common.{[], sym, ap, subst, append-nil, ◌∙◌}
-use Rattle.resp_tool.specs.Lines.{page_of}
+use Rattle.resp_tool.specs.Lines.{HasRoomFor, page_of}
 use Rattle.resp_tool.specs.Pages.{Page}
 use Rattle.resp_print.specs.Shown.{quoted_text}
 use Rattle.resp_value.specs.Devices.{Appends}
-use Rattle.resp_tool.proofs.PageLemmas.{content_page, content_shown, first_fails}
+use Rattle.resp_tool.proofs.PageLemmas.{content_length, content_page, content_shown, first_fails}
 use Rattle.resp_tool.proofs.lines.Lines.part.Goals as goal
 
 pub returns-in_err-write_quoted-clause-written : goal.returns-in_err-write_quoted-clause-written
@@ -21,6 +21,6 @@ returns-clause-written g c = (
 )
 
 pub returns-clause-page : goal.returns-clause-page
-returns-clause-page g c = λ room.
+returns-clause-page g c = λ room few.
     let p = page_of c.args.self.now in
-    ap (λ z. let q : Page = record p { text = z } in q) (c.longer-self.ensures room.size) ∙ sym (content_page p c.args.part.now)
+    ap (λ z. let q : Page = record p { text = z } in q) (c.longer-self.ensures (subst (λ n. HasRoomFor n p) (content_length c.args.part.now) room).size) ∙ sym (content_page p c.args.part.now)

@@ -1,8 +1,8 @@
-use Rattle.std.proofs.Common.{◌++◌, [], sym, append-nil, ap, subst, ◌∙◌}
+use Rattle.std.proofs.Common.{◌++◌, [], sym, append-nil, ap, arith, subst, ◌∙◌}
 use Rattle.resp_scan.specs.Kinds.{text_kind_of}
 use Rattle.resp_tool.specs.Lines.{page_of}
 use Rattle.resp_tool.specs.Pages.{beginning, text_line}
-use Rattle.resp_tool.proofs.PageLemmas.{first_fails, room_without_text, second_fails, whole_page, whole_shown}
+use Rattle.resp_tool.proofs.PageLemmas.{first_fails, room_for_one, room_without_text, second_fails, whole_page, whole_shown}
 use Rattle.resp_value.specs.Devices.{Appends}
 use Rattle.resp_print.proofs.WrittenLemmas.{Appends-append}
 use Rattle.resp_tool.proofs.lines.Lines.whole_text.Goals as goal
@@ -34,6 +34,6 @@ returns-clause-written g c =
     )
 
 pub returns-clause-page : goal.returns-clause-page
-returns-clause-page g c = λ room.
+returns-clause-page g c = λ room few.
     let p = page_of c.args.self.now in
-    c.end.ensures (room_without_text p room) ∙ sym (whole_page p (text_kind_of c.args.kind) c.args.bytes.now)
+    c.end.ensures (room_without_text p (room_for_one _ p (omega arith) room)) ∙ sym (whole_page p (text_kind_of c.args.kind) c.args.bytes.now)

@@ -2,7 +2,6 @@ use mir.Syntax.{w64}
 use mir.Val.{of_z, to_z}
 use Rattle.std.proofs.Common.{rules, ◌≡◌, refl, [], ◌∷◌}
 use Rattle.resp_fronts.specs.Events as e
-use Rattle.resp_tool.proofs.PageLemmas.{on_ok}
 use Rattle.resp_tool.proofs.Showing.{level_deep, prints}
 use Rattle.resp_tool.proofs.printer.PrinterListener.int.Goals as goal
 
@@ -11,5 +10,4 @@ returns g c call given had may =
     let number : to_z w64 (of_z w64 c.args.number) ≡ c.args.number = search rules in
     let written = rw number at c.int.ensures.written in
     rw c.is_ok.ensures.value (prints c.int.result call _ _ c.args.self.now.lines.now c.int.new.self _ _ _ _ given (e.Int c.args.number ∷ []) had may
-    (level_deep given (e.Int c.args.number ∷ []) (record { opens = refl; closes = refl })) (λ some. refl) written
-    (on_ok c.int.result (λ f room few. f room) c.int.ensures.page))
+    (level_deep given (e.Int c.args.number ∷ []) (record { opens = refl; closes = refl })) (λ some. refl) written c.int.ensures.page)

@@ -1,11 +1,9 @@
 use Rattle.std.proofs.Common.{refl, [], ◌∷◌}
 use Rattle.resp_fronts.specs.Events as e
-use Rattle.resp_tool.proofs.PageLemmas.{on_ok}
 use Rattle.resp_tool.proofs.Showing.{level_deep, prints}
 use Rattle.resp_tool.proofs.printer.PrinterListener.null.Goals as goal
 
 pub returns : goal.returns
 returns g c call given had may =
     rw c.is_ok.ensures.value (prints c.null.result call _ _ c.args.self.now.lines.now c.null.new.self _ _ _ _ given (e.Null ∷ []) had may
-    (level_deep given (e.Null ∷ []) (record { opens = refl; closes = refl })) (λ some. refl) c.null.ensures.written
-    (on_ok c.null.result (λ f room few. f room) c.null.ensures.page))
+    (level_deep given (e.Null ∷ []) (record { opens = refl; closes = refl })) (λ some. refl) c.null.ensures.written c.null.ensures.page)

@@ -1,7 +1,6 @@
-use Rattle.std.proofs.Common.{refl, [], ◌∷◌, arith}
+use Rattle.std.proofs.Common.{refl, [], ◌∷◌}
 use Rattle.resp_fronts.specs.Events as e
 use Rattle.resp_value.specs.Kinds.{kind_of}
-use Rattle.resp_tool.proofs.PageLemmas.{on_ok}
 use Rattle.resp_tool.proofs.Showing.{opened_deep, prints}
 use Rattle.resp_tool.proofs.printer.PrinterListener.open.Goals as goal
 
@@ -9,5 +8,4 @@ pub returns : goal.returns
 returns g c call given had may =
     rw c.is_ok.ensures.value (prints c.open.result call _ _ c.args.self.now.lines.now c.open.new.self _ _ _ _ given
     (e.Open (kind_of c.args.kind) c.args.count ∷ []) had may
-    (opened_deep given (kind_of c.args.kind) c.args.count) (λ some. refl) c.open.ensures.written
-    (on_ok c.open.result (λ f room few. f (few (omega arith))) c.open.ensures.page))
+    (opened_deep given (kind_of c.args.kind) c.args.count) (λ some. refl) c.open.ensures.written c.open.ensures.page)

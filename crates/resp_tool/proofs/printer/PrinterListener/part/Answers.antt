@@ -1,7 +1,4 @@
-use Rattle.std.proofs.Common.{subst}
 use Rattle.resp_scan.specs.Kinds.{content_events}
-use Rattle.resp_tool.specs.Lines.{HasRoomFor, page_of}
-use Rattle.resp_tool.proofs.PageLemmas.{content_length, on_ok}
 use Rattle.resp_tool.proofs.Showing.{content_level, level_deep, prints}
 use Rattle.resp_tool.proofs.printer.PrinterListener.part.Goals as goal
 
@@ -9,5 +6,4 @@ pub returns : goal.returns
 returns g c call given had may =
     rw c.is_ok.ensures.value (prints c.part.result call _ _ c.args.self.now.lines.now c.part.new.self _ _ _ _ given (content_events c.args.part.now) had may
     (level_deep given (content_events c.args.part.now) (content_level c.args.part.now)) (λ some. (content_level c.args.part.now).closes) c.part.ensures.written
-    (on_ok c.part.result (λ f room few. f (subst (λ n. HasRoomFor n (page_of c.args.self.now.lines.now)) (content_length c.args.part.now) room))
-    c.part.ensures.page))
+    c.part.ensures.page)

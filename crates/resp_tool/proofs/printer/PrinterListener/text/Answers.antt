@@ -1,7 +1,6 @@
 use Rattle.std.proofs.Common.{refl, [], ◌∷◌}
 use Rattle.resp_fronts.specs.Events as e
 use Rattle.resp_scan.specs.Kinds.{text_kind_of}
-use Rattle.resp_tool.proofs.PageLemmas.{on_ok}
 use Rattle.resp_tool.proofs.Showing.{level_deep, prints}
 use Rattle.resp_tool.proofs.printer.PrinterListener.text.Goals as goal
 
@@ -10,4 +9,4 @@ returns g c call given had may =
     rw c.is_ok.ensures.value (prints c.text.result call _ _ c.args.self.now.lines.now c.text.new.self _ _ _ _ given
     (e.Text (text_kind_of c.args.kind) ∷ []) had may
     (level_deep given (e.Text (text_kind_of c.args.kind) ∷ []) (record { opens = refl; closes = refl })) (λ some. refl) c.text.ensures.written
-    (on_ok c.text.result (λ same room few. same) c.text.ensures.page))
+    c.text.ensures.page)

@@ -12,13 +12,11 @@ use Rattle.resp_tool.proofs.watched.Watched.place_of.Goals as goal
 abbrev place_in : (r : Rules) (done bytes : List ℕ) (count start start' value at place : ℕ) → BeginsAt r done count start → done ≡ bytes →
     count + 1 ≡ value → start' ≡ start → (start' + at ≤ last_count → place ≡ start' + at) → IsPlace r bytes value at start' place
 place_in r done bytes count start start' value at place b whole counted same placed = record {
-  values = b.values;
-  front = b.front;
-  rest = b.rest;
-  spelled = b.spelled;
-  whole = sym whole ∙ b.whole;
+  begins =
+      let v = b.begins in
+      record { values = v.values; front = v.front; rest = v.rest; spelled = v.spelled; whole = sym whole ∙ v.whole };
   counted = omega (arith, b.counted, counted);
-  begins = λ fits. same ∙ b.placed fits;
+  started = λ fits. same ∙ b.placed fits;
   placed = λ fits. let is = same ∙ b.placed (omega (arith, fits)) in placed (omega (arith, fits, is)) ∙ omega (arith, is);
 }
 
@@ -50,8 +48,8 @@ returns-clause-place g c = λ bytes h.
           let none : drop gone old.held.items ≡ [] = drop_all gone old.held.items (omega (arith, w.if-self-gt0.false)) in
           let whole : s.done ≡ bytes = sym (append-nil s.done) ∙ ap (λ z. s.done ++ z) (sym none) ∙ sym s.whole in
           record {
-            is_place = place_in r s.done bytes old.starts.values old.starts.start new.start value c.args.at place s.passed.begins whole
+            is_place = place_in r s.done bytes old.starts.values old.starts.start new.start value c.args.at place s.passed.stands whole
                 (ap (λ z. z.values + 1) (sym starts) ∙ counted) (ap (λ z. z.start) starts) placed;
-            come = λ none. subst (λ z. HasReadOrRefused z.scanner s.passed.begins.rest) (sym starts) s.passed.come;
+            come = λ none. subst (λ z. HasReadOrRefused z.scanner s.passed.stands.begins.rest) (sym starts) s.passed.come;
           }
     ]

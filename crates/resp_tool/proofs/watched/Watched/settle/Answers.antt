@@ -1,4 +1,5 @@
-use Rattle.std.proofs.Common.{◌≡◌, ◌-◌, ◌++◌, length, drop, sym, ap, subst, ◌∙◌}
+use Rattle.std.proofs.Common.{◌≡◌, ◌-◌, ◌++◌, length, drop, sym, ap, subst, ◌∙◌, append-nil, arith}
+use Rattle.std.proofs.lemmas.List.{drop_all}
 use Rattle.resp_tool.specs.Begun.{HavePassed}
 use Rattle.resp_tool.specs.declared.watched.Watched.{Watched}
 use Rattle.resp_tool.proofs.watched.Watched.settle.Goals.{then-not-pass, else-not-pass}
@@ -15,4 +16,24 @@ returns-clause-gone_through g c = λ bytes h sound. elim c.if-not-pass.branch [
       c.last-fresh.ensures ∙ ap (λ z. drop (length z - c.args.self.now.fresh) z) c.as_slice.ensures in
       subst (λ z. HavePassed z bytes) (sym (ap (λ (z : Watched g.row.R.Denot). z.starts) w.self-is))
       (subst (HavePassed c.pass.new.self) (ap (λ z. s.done ++ z) fresh ∙ sym s.whole) (c.pass.ensures.passed s.done s.passed w.if-not-pass.false))
+]
+
+pub returns-clause-watched : goal.returns-clause-watched
+returns-clause-watched g c = λ bytes h sound. elim c.if-not-pass.branch [
+  | then-not-pass w ↦
+      let lost = sym (ap (λ (z : Watched g.row.R.Denot). z.is_lost) w.self-is) ∙ sound in
+      absurd (cc)
+  | else-not-pass w ↦
+      let held = c.if-not-pass.self.held.items in
+      let old = (h (sym (ap (λ (z : Watched g.row.R.Denot). z.is_lost) w.self-is) ∙ sound)).holds in
+      record {
+        done = bytes;
+        whole = sym (append-nil bytes) ∙ ap (λ z. bytes ++ z) (sym (drop_all (length held - 0) held (omega arith)));
+        passed = returns-clause-gone_through g c bytes h sound;
+        holds = record {
+          gone = old.gone;
+          held_last = old.held_last ∙ ap (λ z. old.gone ++ z) (sym (ap (λ (z : Watched g.row.R.Denot). z.held.items) w.self-is));
+          counted = λ fits. ap (λ (z : Watched g.row.R.Denot). z.read) w.self-is ∙ old.counted fits;
+        };
+      }
 ]
