@@ -1,5 +1,5 @@
 -- What each event leaves of a world.
-use Rattle.std.proofs.Common.{◌≡◌, ℕ, suc, ◌-◌, ◌<◌, ◌≤◌, false, Some, Option, List, length, get_or, set, slice_get, IfOk, IfSome, Ok, Err, Result, refl, sym, ap, subst, ◌∙◌, arith}
+use Rattle.std.proofs.Common.{◌≡◌, ℕ, suc, ◌-◌, ◌<◌, ◌≤◌, false, Some, Option, List, [], ◌∷◌, ◌++◌, length, map, get_or, set, slice_get, IfOk, IfSome, Ok, Err, Result, refl, sym, ap, subst, ◌∙◌, arith}
 use Rattle.std.proofs.lemmas.Option.{slice_get_read}
 use Rattle.resp_value.specs.Bounds.{Bounds}
 use Rattle.resp_value.specs.declared.cause.Cause.{Cause}
@@ -13,9 +13,12 @@ use Rattle.resp_session.specs.WorldLaws.{AChangeIsOfOneConnection, IsPossible}
 use Rattle.resp_session.specs.Worlds.{World, WorldEvent, after_event, connection_at, world_with}
 use Rattle.resp_session.proofs.FittingSent.{requests_that_fit_are_sent}
 use Rattle.resp_server.specs.Hubs.{HubState, seat_at}
+use Rattle.resp_client.specs.Clients as client
 use Rattle.resp_client.specs.Clients.{queued, state_of}
-use Rattle.resp_wire.specs.Ends.{Queues, TakesRequest}
+use Rattle.resp_client.specs.Sending.{MayBeSent}
+use Rattle.resp_wire.specs.Ends.{HasQueued, TakesRequest}
 use Rattle.resp_wire.specs.Happening.{Happens, IsOpenEnd}
+use Rattle.resp_wire.specs.Requests.{request_of}
 use Rattle.resp_wire.specs.Worlds.{Shows, ShowsEach, outcome_of}
 use Rattle.resp_wire.specs.declared.end.End.{End}
 use Rattle.resp_wire.specs.declared.event.Outcome.{Outcome}
@@ -56,15 +59,15 @@ found_at limits hub ends order w i e at within e_is open_end =
 -- a request that was queued
 request_done : ReadingsStay → WhatHasComeWasSent → ArrivalsStay → AChangeIsOfOneConnection → (limits : Bounds) (hub : HubState) (ends : List End)
     (order : List ℕ) (w : World) (i : ℕ) (e e' : End) (event : WorldEvent) (request : Request) → (at : ShowsEach limits hub ends order w) →
-    (a : IsAt limits hub ends order w i e) → Queues e e' request → IsPossible event →
+    (a : IsAt limits hub ends order w i e) → MayBeSent (state_of e.client) request →
+    HasQueued e e' (client.with_request request (state_of e.client)) (map request_of e.asked.items ++ request ∷ []) → IsPossible event →
     ((cause : Cause) → RefusesEvent limits (Some a.connection) event cause → RefusesRequest limits (length a.connection.requests) request cause) →
     connection_of w event ≡ Some a.connection → after_event w event ≡ world_with (with_request request) w (suc i) →
     Step limits w event runs.Done (after_event w event) × ShowsEach limits hub (set ends i e') order (after_event w event)
-request_done readings sent arrivals change limits hub ends order w i e e' event request at a q possible refusing its now =
+request_done readings sent arrivals change limits hub ends order w i e e' event request at a may q possible refusing its now =
     let c = a.connection in
     let old = at.each i e c a.here a.its in
     let s = old.stands a.is_open in
-    let may = q.may_be_sent in
     let few = may.number_left in
     let counts = s.same_count in
     let refused : (cause : Cause) → RefusesEvent limits (connection_of w event) event cause → ⊥ =
@@ -105,7 +108,7 @@ request_taken : {L : Type 0} (is_honest : L → Type 0) → ReadingsStay → Wha
     Shows is_honest (world_of hub (set ends i e') links order stopped) limits next
 request_taken {L} is_honest readings sent arrivals change limits hub ends links order stopped w i e e' event request Done shows a takes possible refusing by_it
     its now =
-    let d = request_done readings sent arrivals change limits hub ends order w i e e' event request shows.each a takes (possible refl) refusing its now in
+    let d = request_done readings sent arrivals change limits hub ends order w i e e' event request shows.each a takes.0 takes.1 (possible refl) refusing its now in
     (after_event w event, d.0, record { each = d.1; honest = shows.honest })
 request_taken {L} is_honest readings sent arrivals change limits hub ends links order stopped w i e e' event request (Refused cause) shows a takes possible
     refusing by_it its now =

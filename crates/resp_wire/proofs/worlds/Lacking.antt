@@ -1,12 +1,12 @@
 -- Memory is out only at an event that is done in the definitions, and at no drop.
-use Rattle.std.proofs.Common.{◌≡◌, ℕ, ◌-◌, ◌≤◌, false, Some, Option, List, length, get_or, slice_get, IfErr, IfSome, OnErr, Ok, Err, Result, refl, sym, ap, subst, ◌∙◌, arith}
+use Rattle.std.proofs.Common.{◌≡◌, ◌≢◌, ℕ, ◌-◌, ◌≤◌, false, Some, Option, List, length, get_or, slice_get, IfErr, IfSome, OnErr, Ok, Err, Result, refl, sym, ap, subst, ◌∙◌, arith}
 use Rattle.resp_value.specs.Bounds.{Bounds}
 use Rattle.resp_value.specs.Data.{Datum}
 use Rattle.resp_value.specs.declared.cause.Cause.{Cause}
 use Rattle.resp_session.specs.Connections.{Connection, push_message}
 use Rattle.resp_session.specs.Requests.{FitsRequest, RefusesRequest, Request}
 use Rattle.resp_session.specs.Runs.{Done, RefusesEvent, Step, connection_of, is_gone}
-use Rattle.resp_session.specs.Worlds.{Push, ToClient, ToServer, World, WorldEvent, after_event, connection_at}
+use Rattle.resp_session.specs.Worlds.{Drop, Push, ToClient, ToServer, World, WorldEvent, after_event, connection_at}
 use Rattle.resp_session.proofs.FittingSent.{requests_that_fit_are_sent}
 use Rattle.resp_client.specs.Clients.{state_of}
 use Rattle.resp_client.specs.Sending.{MayBeSent}
@@ -15,7 +15,7 @@ use Rattle.resp_server.specs.declared.error.PushError.{PushError}
 use Rattle.resp_server.specs.declared.error.PushError.TheVariants as push
 use Rattle.resp_server.specs.Hubs.{HubState, Seat, seat_at}
 use Rattle.resp_wire.specs.Ends.{outcome_of_push}
-use Rattle.resp_wire.specs.Happening.{IsNoDrop, IsOpenEnd, MayLackMemory}
+use Rattle.resp_wire.specs.Happening.{IsOpenEnd, MayLackMemory}
 use Rattle.resp_wire.specs.Worlds.{ShowsEach, WorldState}
 use Rattle.resp_wire.specs.declared.end.End.{End}
 use Rattle.resp_wire.proofs.worlds.Moves.{at_work, some_at_work}
@@ -24,7 +24,7 @@ use Rattle.resp_wire.proofs.worlds.Pushed.{push_not_refused}
 
 -- bytes of a client that was not dropped are never refused
 bytes_lack : {L : Type 0} (is_honest : L → Type 0) (hub : HubState) (ends : List End) (links : List L) (order : List ℕ) (stopped : Option Cause)
-    (number : ℕ) (event : WorldEvent) → IsNoDrop event → ((w : World) → connection_of w event ≡ connection_at w.connections number) →
+    (number : ℕ) (event : WorldEvent) → ((i : ℕ) → event ≢ Drop i) → ((w : World) → connection_of w event ≡ connection_at w.connections number) →
     ((limits : Bounds) (c : Option Connection) (cause : Cause) → RefusesEvent limits c event cause → ⊥) →
     (1 ≤ number) × (number ≤ length ends) → IsOpenEnd ends (number - 1) →
     MayLackMemory is_honest (world_of hub ends links order stopped) event
@@ -40,17 +40,17 @@ pub to_server_lacks : {L : Type 0} (is_honest : L → Type 0) (hub : HubState) (
     (stopped : Option Cause) (number count : ℕ) → (1 ≤ number) × (number ≤ length ends) → IsOpenEnd ends (number - 1) →
     MayLackMemory is_honest (world_of hub ends links order stopped) (ToServer number count)
 to_server_lacks {L} is_honest hub ends links order stopped number count =
-    bytes_lack is_honest hub ends links order stopped number (ToServer number count) tt (λ w. refl) (λ limits c cause r. r)
+    bytes_lack is_honest hub ends links order stopped number (ToServer number count) (λ i is. absurd (cc)) (λ w. refl) (λ limits c cause r. r)
 
 pub to_client_lacks : {L : Type 0} (is_honest : L → Type 0) (hub : HubState) (ends : List End) (links : List L) (order : List ℕ)
     (stopped : Option Cause) (number count : ℕ) → (1 ≤ number) × (number ≤ length ends) → IsOpenEnd ends (number - 1) →
     MayLackMemory is_honest (world_of hub ends links order stopped) (ToClient number count)
 to_client_lacks {L} is_honest hub ends links order stopped number count =
-    bytes_lack is_honest hub ends links order stopped number (ToClient number count) tt (λ w. refl) (λ limits c cause r. r)
+    bytes_lack is_honest hub ends links order stopped number (ToClient number count) (λ i is. absurd (cc)) (λ w. refl) (λ limits c cause r. r)
 
 -- nor is a request that the client may send
 pub request_lacks : {L : Type 0} (is_honest : L → Type 0) (hub : HubState) (ends : List End) (links : List L) (order : List ℕ) (stopped : Option Cause)
-    (number : ℕ) (e : End) (event : WorldEvent) (request : Request) → IsNoDrop event →
+    (number : ℕ) (e : End) (event : WorldEvent) (request : Request) → ((i : ℕ) → event ≢ Drop i) →
     ((w : World) → connection_of w event ≡ connection_at w.connections number) →
     ((limits : Bounds) (c : Connection) (cause : Cause) → RefusesEvent limits (Some c) event cause →
     RefusesRequest limits (length c.requests) request cause) →
@@ -113,15 +113,15 @@ push_lacks {L} is_honest hub ends links order stopped number items push.Double v
 push_lacks {L} is_honest hub ends links order stopped number items push.NestedPush verdict there open_end = tt
 push_lacks {L} is_honest hub ends links order stopped number items (push.OverLimits limit) verdict there open_end = tt
 push_lacks {L} is_honest hub ends links order stopped number items push.NoSession verdict there open_end = record {
-  no_drop = tt;
+  no_drop = λ i is. absurd (cc);
   done = λ limits w shows. push_done limits hub ends order w number items push.NoSession shows.each verdict there open_end;
 }
 push_lacks {L} is_honest hub ends links order stopped number items push.Closing verdict there open_end = record {
-  no_drop = tt;
+  no_drop = λ i is. absurd (cc);
   done = λ limits w shows. push_done limits hub ends order w number items push.Closing shows.each verdict there open_end;
 }
 push_lacks {L} is_honest hub ends links order stopped number items push.OutOfMemory verdict there open_end = record {
-  no_drop = tt;
+  no_drop = λ i is. absurd (cc);
   done = λ limits w shows. push_done limits hub ends order w number items push.OutOfMemory shows.each verdict there open_end;
 }
 

@@ -29,11 +29,11 @@ use Rattle.resp_server.specs.PushRefusals as server
 use Rattle.resp_server.specs.declared.error.PushError.{PushError}
 use Rattle.resp_server.specs.declared.error.PushError.TheVariants as push
 use Rattle.resp_server.specs.Hubs.{HubState, Seat, seat_at, seated, without_seat}
-use Rattle.resp_wire.specs.Carrying.{HasBrought, HearsOn, StopsCarrying, StopsShowing}
+use Rattle.resp_wire.specs.Carrying.{HasBrought, HasClosed, HearsOn, MeetsFault, StopsCarrying}
 use Rattle.resp_wire.specs.Ends.{KeepsHeard, outcome_of_push}
 use Rattle.resp_wire.specs.Happening.{Fails, Happens, IsOpenEnd}
 use Rattle.resp_wire.specs.Hearing.{pushes_in, replies_in}
-use Rattle.resp_wire.specs.Worlds.{HasFailed, Shows, ShowsEach, Stands, StopsBy, WorldState, outcome_of}
+use Rattle.resp_wire.specs.Worlds.{HasFailedIn, Shows, ShowsEach, Stands, StopsBy, WorldState, outcome_of}
 use Rattle.resp_wire.specs.declared.asked.Asked.{Asked}
 use Rattle.resp_wire.specs.declared.end.End.{End}
 use Rattle.resp_wire.specs.declared.event.Outcome.{Outcome}
@@ -121,7 +121,7 @@ its_link {L} is_honest ends links number link honest as_many there link_is =
 
 -- a link of a client whose link has failed
 failed_at : {L : Type 0} (failures : L → ℕ) (links : List L) (i : ℕ) (link link' : L) → i < length links → link ≡ get_or links i link →
-    HasRisen (failures link) (failures link') → HasFailed failures links (set links i link')
+    HasRisen (failures link) (failures link') → HasFailedIn (map failures links) (map failures (set links i link'))
 failed_at {L} failures links i link link' within is risen =
     let old : slice_get (map failures links) i ≡ Some (failures link) =
     slice_get-map failures links i ∙ ap (option_map failures) (slice_get_read links (length links) i link refl within is) in
@@ -161,7 +161,8 @@ pub stops_to_server : {L : Type 0} (is_honest : L → Type 0) (failures : L → 
     (links : List L) (order : List ℕ) (stopped : Option Cause) (number : ℕ) (e : End) (link link' : L) (cause : Cause) →
     length links ≡ length ends → (1 ≤ number) × (number ≤ length ends) → IsOpenEnd ends (number - 1) → e ≡ get_or ends (number - 1) e →
     link ≡ get_or links (number - 1) link →
-    (is_honest link → WhereOpen hub number (λ s front. StopsCarrying hub number s front (state_of e.client).out (failures link) (failures link') cause)) →
+    (is_honest link → WhereOpen hub number (λ s front.
+    StopsCarrying (λ _. HasClosed hub number s front (state_of e.client).out) (failures link) (failures link') cause)) →
     Fails is_honest failures (world_of hub ends links order stopped)
     (world_of hub ends (set links (number - 1) link') order stopped) cause
 stops_to_server {L} is_honest failures answered hub ends links order stopped number e link link' cause as_many there open_end e_is link_is
@@ -172,10 +173,10 @@ stops_to_server {L} is_honest failures answered hub ends links order stopped num
     let work = at_work limits hub ends order w number e shows.each there open_end e_is in
     let a = work.at in
     let s = work.stands in
-    let why : StopsCarrying hub (suc i) s.session s.front (state_of e.client).out (failures link) (failures link') cause =
-    at_open hub (suc i) (λ t front. StopsCarrying hub (suc i) t front (state_of e.client).out (failures link) (failures link') cause) s.session s.front
-    (subst (λ n. WhereOpen hub n (λ t front. StopsCarrying hub n t front (state_of e.client).out (failures link) (failures link') cause)) (sym work.is) (refused
-    its.honest))
+    let why : StopsCarrying (λ _. HasClosed hub (suc i) s.session s.front (state_of e.client).out) (failures link) (failures link') cause =
+    at_open hub (suc i) (λ t front. StopsCarrying (λ _. HasClosed hub (suc i) t front (state_of e.client).out) (failures link) (failures link') cause)
+    s.session s.front (subst (λ n. WhereOpen hub n (λ t front.
+    StopsCarrying (λ _. HasClosed hub n t front (state_of e.client).out) (failures link) (failures link') cause)) (sym work.is) (refused its.honest))
     s.there s.is_open s.taking in
     elim why as (λ _. StopsBy failures links (set links i link') cause) [
       | inl memory ↦ inl memory
@@ -228,7 +229,7 @@ pub stops_to_client : {L : Type 0} (is_honest : L → Type 0) (failures : L → 
     (link link' : L) (fresh heard : Asked) (cause : Cause) → length links ≡ length ends → (1 ≤ number) × (number ≤ length ends) →
     IsOpenEnd ends (number - 1) → e ≡ get_or ends (number - 1) e → link ≡ get_or links (number - 1) link →
     (is_honest link → IfSome (seat_at hub number) (λ s. WhereTaken e.client (λ front.
-    StopsShowing (state_of e.client) fresh heard front s.out (failures link) (failures link') cause))) →
+    StopsCarrying (MeetsFault (state_of e.client) fresh heard front s.out) (failures link) (failures link') cause))) →
     Fails is_honest failures (world_of hub ends links order stopped)
     (world_of hub ends (set links (number - 1) link') order stopped) cause
 stops_to_client {L} is_honest failures go_on no_fault change hub ends links order stopped number e link link' fresh heard cause as_many there
@@ -239,11 +240,12 @@ stops_to_client {L} is_honest failures go_on no_fault change hub ends links orde
     let work = at_work limits hub ends order w number e shows.each there open_end e_is in
     let a = work.at in
     let s = work.stands in
-    let why : StopsShowing (state_of e.client) fresh heard s.rest s.session.out (failures link) (failures link') cause =
-    at_there hub (suc i) (λ t. WhereTaken e.client (λ front. StopsShowing (state_of e.client) fresh heard front t.out (failures link) (failures link') cause))
-    s.session
-    s.there (subst (λ n. IfSome (seat_at hub n) (λ t. WhereTaken e.client (λ front.
-    StopsShowing (state_of e.client) fresh heard front t.out (failures link) (failures link') cause))) (sym work.is) (refused its.honest)) s.rest s.reading in
+    let why : StopsCarrying (MeetsFault (state_of e.client) fresh heard s.rest s.session.out) (failures link) (failures link') cause =
+    at_there hub (suc i) (λ t. WhereTaken e.client (λ front.
+    StopsCarrying (MeetsFault (state_of e.client) fresh heard front t.out) (failures link) (failures link') cause)) s.session s.there
+    (subst (λ n. IfSome (seat_at hub n) (λ t. WhereTaken e.client (λ front.
+    StopsCarrying (MeetsFault (state_of e.client) fresh heard front t.out) (failures link) (failures link') cause))) (sym work.is) (refused its.honest))
+    s.rest s.reading in
     elim why as (λ _. StopsBy failures links (set links i link') cause) [
       | inl memory ↦ inl memory
       | inr (inl risen) ↦ inr (failed_at failures links i link link' its.within link_is risen.0, risen.1)

@@ -1,5 +1,5 @@
 -- What an event performs: of nobody, over no link, and over the link of its client.
-use Rattle.std.proofs.Common.{◌≡◌, ℕ, ◌-◌, ◌≤◌, false, Option, List, length, get_or, map, set, slice_get, take, IfErr, IfOk, IfSome, OnErr, Ok, Result, refl, sym, ap, subst, ◌∙◌, arith}
+use Rattle.std.proofs.Common.{◌≡◌, ◌≢◌, ℕ, ◌-◌, ◌≤◌, false, Option, List, length, get_or, map, set, slice_get, take, IfErr, IfOk, IfSome, OnErr, Ok, Result, refl, sym, ap, subst, ◌∙◌, arith}
 use Rattle.std.proofs.lemmas.List.{length-set}
 use Rattle.std.proofs.lemmas.Option.{slice_get_read}
 use Rattle.resp_value.specs.Devices.{failures_after}
@@ -9,13 +9,13 @@ use Rattle.resp_session.specs.ReadingLaws.{ReadingsStay}
 use Rattle.resp_session.specs.Requests.{Request}
 use Rattle.resp_session.specs.Serving.{ArrivalsStay, WhatHasComeWasSent}
 use Rattle.resp_session.specs.WorldLaws.{AChangeIsOfOneConnection, IsPossible}
-use Rattle.resp_session.specs.Worlds.{ToClient, ToServer, WorldEvent, client_of}
+use Rattle.resp_session.specs.Worlds.{Drop, ToClient, ToServer, WorldEvent, client_of}
 use Rattle.resp_turns.specs.Turns.{stopped_by}
 use Rattle.resp_client.specs.Clients.{state_of}
 use Rattle.resp_client.specs.Sending.{MayBeSent}
 use Rattle.resp_server.specs.Hubs.{HubState, Seat, seat_at}
 use Rattle.resp_wire.specs.Ends.{TakesRequest}
-use Rattle.resp_wire.specs.Happening.{Fails, Happens, IsNoDrop, IsOpenClient, MayLackMemory, Performs}
+use Rattle.resp_wire.specs.Happening.{Fails, Happens, IsOpenClient, MayLackMemory, Performs}
 use Rattle.resp_wire.specs.Links.{Carries, Traffic, is_of_link}
 use Rattle.resp_wire.specs.Worlds.{LinkCarries, LinksAfter, WorldState, event_of}
 use Rattle.resp_wire.specs.declared.end.End.{End}
@@ -88,7 +88,7 @@ over_none {L} is_honest failures carried old new event result unused same going 
 pub of_request : {L : Type 0} (is_honest : L → Type 0) (failures : L → ℕ) (carried : L → Option Traffic) → ReadingsStay → WhatHasComeWasSent → ArrivalsStay →
     AChangeIsOfOneConnection → (hub : HubState) (ends : List End) (links : List L) (order : List ℕ) (stopped : Option Cause) (number : ℕ)
     (event : ℕ → WorldEvent) (request : Request) (e e' : End) (result : Result Outcome Cause) → Asks event request →
-    ((n : ℕ) → IfOk result (λ outcome. outcome ≡ Done → IsPossible (event n))) → IsNoDrop (event number) →
+    ((n : ℕ) → IfOk result (λ outcome. outcome ≡ Done → IsPossible (event n))) → ((i : ℕ) → event number ≢ Drop i) →
     ((outcome : Outcome) → LinksAfter carried (world_of hub ends links order stopped)
     (world_of hub (set ends (number - 1) e') links order stopped) (event number) outcome) →
     e ≡ get_or ends (number - 1) e → IfOk result (TakesRequest e e' request) → IfErr result (λ cause. cause ≡ OutOfMemory) →

@@ -6,11 +6,13 @@ use Rattle.resp_server.specs.Handling.{HasAnswered, WhereOpen}
 use Rattle.resp_server.specs.Hubs.{HubState}
 use Rattle.resp_wire.specs.Serving.{AnswersBefore, AnswersGiven, EndsAnswering, FailsServing, Serves, StopsServing, is_of_reader}
 use Rattle.resp_turns.specs.Pieces.{ReadsNothing}
+use Rattle.resp_wire.specs.declared.error.ServeError.TheVariants.{Read, TooManyTurns}
+use Rattle.resp_wire.proofs.LinkStops.{no_turn_left}
 use Rattle.resp_wire.proofs.AnsweredParts.{at_err, given_whole, may_leave, part_stops, still_few, stops_overfull}
 use Rattle.resp_turns.proofs.Pieces.{all_read, gives, none_left, only_pieces, rest_of, some_left}
 use Rattle.resp_wire.proofs.Seated.{at_open, sent_few, sent_none, where_open}
 use Rattle.resp_wire.proofs.ServedTexts.{leaves_none, nothing_before, open_is, piece_serves, sent_is_open, serves_nothing}
-use Rattle.resp_wire.proofs.ServeStops.{fails_reading, no_turn_to_read, stops_reading, stops_writing}
+use Rattle.resp_wire.proofs.ServeStops.{fails_reading, stops_reading, stops_writing}
 use Rattle.resp_turns.proofs.Turning.{end_after, spends_both, spends_nothing, spends_writes}
 use Rattle.resp_wire.proofs.serve.serve_open.Goals as goal
 
@@ -25,12 +27,12 @@ returns-in-Err-clause-served g c =
       [],
       [],
       refl,
-      leaves_none (Err c.unwritten.result),
+      leaves_none (Err c.stop.result),
       only_pieces (length c.args.buffer.now) g.R.Source.remaining g.R.Source.calls g.R.Source.failures c.args.reader.now c.args.reader.now []
-          (is_of_reader c.unwritten.result) refl c.unwritten.ensures.not_of_reader,
+          (is_of_reader c.stop.result) refl c.stop.ensures.of_reader,
       where_open old id _ (λ s here not_closing front taken. (
         tt,
-        subst (StopsServing old new id s front [] held held') (sym c.unwritten.ensures.error)
+        subst (StopsServing old new id s front [] held held') (sym c.stop.ensures.error)
             (stops_writing old old new id s front [] held held' waits c.in-Err.halt some (serves_nothing old new id s front held held' waits
             (at_open old id (λ t f. HasAnswered old old id t f 0) s front c.requires.waiting here not_closing taken) sent)),
         nothing_before old id s front held held',
@@ -122,18 +124,18 @@ returns-in-Err-read_some-clause-served g c =
       pieces,
       concat pieces,
       sym (append-nil (concat pieces)),
-      leaves_none (Err c.unread.result),
+      leaves_none (Err c.stop-in-Err-read_some.result),
       record {
         between = c.loop-count.reader;
         given = given;
-        over = subst (ReadsNothing g.R.Source.remaining g.R.Source.calls c.loop-count.reader c.read_some.new.reader) (sym c.unread.ensures.of_reader)
+        over = subst (ReadsNothing g.R.Source.remaining g.R.Source.calls c.loop-count.reader c.read_some.new.reader) (sym c.stop-in-Err-read_some.ensures.of_reader)
             c.in-Err-read_some.ensures.unread;
       },
       where_open old id _ (λ s here not_closing front taken.
           let (v, each) = at_open old id (λ t f. Serves old cur id t (f ++ concat pieces) held held' [] × AnswersBefore old id t f pieces held held') s front
           served here not_closing taken in (
             tt,
-            subst (StopsServing old cur id s front (concat pieces) held held') (sym c.unread.ensures.error)
+            subst (StopsServing old cur id s front (concat pieces) held held') (sym c.stop-in-Err-read_some.ensures.error)
                 (stops_reading old cur id s front (concat pieces) held held' c.in-Err-read_some.halt (v, open_is cur id c.loop-count.invariant.is_open)),
             each,
           )),
@@ -144,8 +146,8 @@ returns-in-Err-read_some-clause-refusal g c =
     let writes = g.W.Sink.failures c.args.writer.now in
     let writes' = g.W.Sink.failures c.loop-count.writer in
     let reads' = g.R.Source.failures c.read_some.new.reader in
-    subst (λ n. FailsServing c.args.hub.now c.args.id writes writes' n reads' c.unread.result) c.loop-count.invariant.reads
-    (subst (FailsServing c.args.hub.now c.args.id writes writes' (g.R.Source.failures c.loop-count.reader) reads') (sym c.unread.ensures.error)
+    subst (λ n. FailsServing c.args.hub.now c.args.id writes writes' n reads' c.stop-in-Err-read_some.result) c.loop-count.invariant.reads
+    (subst (FailsServing c.args.hub.now c.args.id writes writes' (g.R.Source.failures c.loop-count.reader) reads') (sym c.stop-in-Err-read_some.ensures.error)
     (fails_reading c.args.hub.now c.args.id writes writes' (g.R.Source.failures c.loop-count.reader) reads' c.read_some.new.turns
     c.in-Err-read_some.halt c.in-Err-read_some.ensures.halted))
 
@@ -158,8 +160,8 @@ returns-in-Err-read_some-clause-turns g c = spends_both (g.W.Sink.calls c.args.w
 pub returns-in-Err-read_some-clause-no_turn_left :
     goal.returns-in-Err-read_some-clause-no_turn_left
 returns-in-Err-read_some-clause-no_turn_left g c is =
-    no_turn_to_read (g.R.Source.failures c.loop-count.reader) (g.R.Source.failures c.read_some.new.reader) c.read_some.new.turns c.in-Err-read_some.halt
-    c.in-Err-read_some.ensures.halted (let z = c.unread.ensures.error in cc)
+    no_turn_left Read TooManyTurns (g.R.Source.failures c.loop-count.reader) (g.R.Source.failures c.read_some.new.reader) c.read_some.new.turns c.in-Err-read_some.halt
+    (λ same. absurd (cc)) c.in-Err-read_some.ensures.halted (let z = c.stop-in-Err-read_some.ensures.error in cc)
 
 pub returns-in-Err-end-clause-served : goal.returns-in-Err-end-clause-served
 returns-in-Err-end-clause-served g c =
