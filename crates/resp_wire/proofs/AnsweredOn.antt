@@ -1,6 +1,6 @@
 -- Texts that are answered one after another, of which nothing was written.
 use Rattle.std.specs.Option.{option_map}
-use Rattle.std.proofs.Common.{◌≡◌, ℕ, ◌+◌, Bool, true, false, Some, List, [], ◌++◌, length, min, take, drop, replicate, refl, sym, ap, subst, ◌∙◌, arith, append_assoc}
+use Rattle.std.proofs.Common.{◌≡◌, ℕ, ◌+◌, Bool, true, false, Some, List, [], ◌++◌, length, min, take, drop, replicate, sym, ap, subst, ◌∙◌, append_assoc}
 use Rattle.std.proofs.Math.Seq.{take-add}
 use Rattle.std.proofs.lemmas.List.{append-nil, drop-drop, replicate-append-replicate, take_min}
 use Rattle.resp_value.specs.declared.cause.Cause.{Cause}

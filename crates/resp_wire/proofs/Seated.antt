@@ -56,6 +56,11 @@ at_open hub id P s front w here is_open taken =
     subst (λ o. IfSome o (λ (t : Seat). t.closing ≡ false → (front : List ℕ) → HasReadFront t.decoder front → P t front)) here w in
     all is_open front taken
 
+-- what follows from what holds of an open session holds of it
+pub open_map : (hub : HubState) (id : ℕ) (P Q : Seat → List ℕ → Type 0) → ((s : Seat) (front : List ℕ) → P s front → Q s front) → WhereOpen hub id P →
+    WhereOpen hub id Q
+open_map hub id P Q f w = where_open hub id Q (λ s here not_closing front taken. f s front (at_open hub id P s front w here not_closing taken))
+
 -- there is a session with this id
 abbrev pub IsThere : HubState → ℕ → Type 0
 IsThere hub id = (s : Seat) × (seat_at hub id ≡ Some s)

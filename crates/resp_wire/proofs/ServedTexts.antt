@@ -1,5 +1,4 @@
 -- Texts that are answered and written, one after another.
-use Rattle.std.specs.Prelude.{⊤}
 use Rattle.std.proofs.Common.{◌≡◌, ℕ, ◌+◌, ◌-◌, ◌<◌, ◌^◌, IfSome, Result, Ok, Err, length, Bool, true, false, Option, Some, List, [], ◌∷◌, ◌++◌, take, refl, sym, ap, subst, ◌∙◌, arith, append_assoc}
 use Rattle.std.specs.List.{concat}
 use Rattle.std.proofs.lemmas.List.{append-nil}
@@ -350,57 +349,54 @@ stop_appends old new id s front came held held' TooManyTurns (waits, why, v) = (
 
 -- The same of every front of a session.
 
+-- the pieces received were answered and the answers written, each piece before the next one was read
+abbrev pub HasServed : HubState → HubState → ℕ → List (List ℕ) → Option (List ℕ) → Option (List ℕ) → Seat → List ℕ → Type 0
+HasServed old cur id pieces held held' s front =
+    Serves old cur id s (front ++ concat pieces) held held' [] × AnswersBefore old id s front pieces held held'
+
 -- what came was served, and this holds of the session as it then is
 came_and_went_on : (old cur : HubState) (id : ℕ) (pieces : List (List ℕ)) (held held' : Option (List ℕ)) →
-    WhereOpen old id (λ s front. Serves old cur id s (front ++ concat pieces) held held' [] × AnswersBefore old id s front pieces held held') →
+    WhereOpen old id (HasServed old cur id pieces held held') →
     (o : IsOpen cur id) → (P : Seat → List ℕ → Type 0) → WhereOpen cur id P → (s : Seat) (front : List ℕ) → (here : seat_at old id ≡ Some s) →
     s.closing ≡ false → HasReadFront s.decoder front → (v : Serves old cur id s (front ++ concat pieces) held held' []) ×
     AnswersBefore old id s front pieces held held' ×
     P (seat_of old cur id s (front ++ concat pieces) held held' (stands old cur id s (front ++ concat pieces) held held' here v o))
     (stands old cur id s (front ++ concat pieces) held held' here v o).rest
 came_and_went_on old cur id pieces held held' before o P now_holds s front here not_closing taken =
-    let served = at_open old id (λ t f. Serves old cur id t (f ++ concat pieces) held held' [] × AnswersBefore old id t f pieces held held')
-    s front before here not_closing taken in
+    let served = at_open old id (HasServed old cur id pieces held held') s front before here not_closing taken in
     let st = stands old cur id s (front ++ concat pieces) held held' here served.0 o in
     let now = seat_of old cur id s (front ++ concat pieces) held held' st in
     (served.0, served.1, at_open cur id P now st.rest now_holds (seat_given old cur id s now st.store here st.state) refl st.taken)
 
 -- what is served of a piece after what came
 pub piece_serves : AnswersGoOn → AnswersAreAdded → (old cur new : HubState) (id : ℕ) (pieces : List (List ℕ)) (piece : List ℕ)
-    (held held' held'' : Option (List ℕ)) →
-    WhereOpen old id (λ s front. Serves old cur id s (front ++ concat pieces) held held' [] × AnswersBefore old id s front pieces held held') →
-    IsOpen cur id → WhereOpen cur id (λ s front. Serves cur new id s (front ++ piece) held' held'' [] × ⊤) →
-    WhereOpen old id (λ s front. Serves old new id s (front ++ concat (pieces ++ piece ∷ [])) held held'' [] × ⊤ ×
-    AnswersBefore old id s front (pieces ++ piece ∷ []) held held'')
+    (held held' held'' : Option (List ℕ)) → WhereOpen old id (HasServed old cur id pieces held held') → IsOpen cur id →
+    WhereOpen cur id (λ s front. Serves cur new id s (front ++ piece) held' held'' []) →
+    WhereOpen old id (HasServed old new id (pieces ++ piece ∷ []) held held'')
 piece_serves go_on added old cur new id pieces piece held held' held'' before o answered =
     where_open old id _ (λ s here not_closing front taken.
-    let m = came_and_went_on old cur id pieces held held' before o (λ t f. Serves cur new id t (f ++ piece) held' held'' [] × ⊤) answered s front
+    let (v, each, now) = came_and_went_on old cur id pieces held held' before o (λ t f. Serves cur new id t (f ++ piece) held' held'' []) answered s front
     here not_closing taken in
-    let st = stands old cur id s (front ++ concat pieces) held held' here m.0 o in (
+    let st = stands old cur id s (front ++ concat pieces) held held' here v o in (
       subst (λ z. Serves old new id s (front ++ z) held held'' []) (sym (concat_more pieces piece))
-          (serves_piece go_on added old cur new id s front (concat pieces) piece held held' held'' [] here st m.2.0),
-      tt,
-      answers_before old cur id s front pieces piece held held' held'' m.2.0.sent.text m.0 o m.1 m.2.0.sent.appended,
+          (serves_piece go_on added old cur new id s front (concat pieces) piece held held' held'' [] here st now),
+      answers_before old cur id s front pieces piece held held' held'' now.sent.text v o each now.sent.appended,
     ))
 
 -- and where that stops
 pub piece_stops : AnswersGoOn → AnswersAreAdded → (old cur new : HubState) (id : ℕ) (pieces : List (List ℕ)) (piece : List ℕ)
-    (held held' held'' : Option (List ℕ)) (error : ServeError) →
-    WhereOpen old id (λ s front. Serves old cur id s (front ++ concat pieces) held held' [] × AnswersBefore old id s front pieces held held') →
-    IsOpen cur id → WhereOpen cur id (λ s front. ⊤ × StopsServing cur new id s front piece held' held'' error) →
-    WhereOpen old id (λ s front. ⊤ × StopsServing old new id s front (concat (pieces ++ piece ∷ [])) held held'' error ×
+    (held held' held'' : Option (List ℕ)) (error : ServeError) → WhereOpen old id (HasServed old cur id pieces held held') → IsOpen cur id →
+    WhereOpen cur id (λ s front. StopsServing cur new id s front piece held' held'' error) →
+    WhereOpen old id (λ s front. StopsServing old new id s front (concat pieces ++ piece) held held'' error ×
     AnswersBefore old id s front (pieces ++ piece ∷ []) held held'')
 piece_stops go_on added old cur new id pieces piece held held' held'' error before o answered =
     where_open old id _ (λ s here not_closing front taken.
-    let m = came_and_went_on old cur id pieces held held' before o (λ t f. ⊤ × StopsServing cur new id t f piece held' held'' error) answered s front
+    let (v, each, now) = came_and_went_on old cur id pieces held held' before o (λ t f. StopsServing cur new id t f piece held' held'' error) answered s front
     here not_closing taken in
-    let st = stands old cur id s (front ++ concat pieces) held held' here m.0 o in
-    let now = seat_of old cur id s (front ++ concat pieces) held held' st in
-    let (text, appended) = stop_appends cur new id now st.rest piece held' held'' error m.2.1 in (
-      tt,
-      subst (λ z. StopsServing old new id s front z held held'' error) (sym (concat_more pieces piece))
-          (stops_piece go_on added old cur new id s front (concat pieces) piece held held' held'' error here st m.2.1),
-      answers_before old cur id s front pieces piece held held' held'' text m.0 o m.1 appended,
+    let st = stands old cur id s (front ++ concat pieces) held held' here v o in
+    let (text, appended) = stop_appends cur new id (seat_of old cur id s (front ++ concat pieces) held held' st) st.rest piece held' held'' error now in (
+      stops_piece go_on added old cur new id s front (concat pieces) piece held held' held'' error here st now,
+      answers_before old cur id s front pieces piece held held' held'' text v o each appended,
     ))
 
 -- it is closing where it was

@@ -15,7 +15,7 @@ use Rattle.resp_value.specs.declared.version.Version.TheVariants.{Two}
 use Rattle.resp_session.specs.Connections.{Connection, back_text, sent_text, shown_messages, shown_pushes, shown_replies, values_of}
 use Rattle.resp_session.specs.Reading.{ReadsAs}
 use Rattle.resp_session.specs.Runs as runs
-use Rattle.resp_session.specs.Runs.{Run, Step}
+use Rattle.resp_session.specs.Runs.{Run}
 use Rattle.resp_session.specs.Serving.{IsUnfinished, clients_in}
 use Rattle.resp_session.specs.WorldLaws.{IsPossible, waiting_for}
 use Rattle.resp_session.specs.Worlds as session_worlds

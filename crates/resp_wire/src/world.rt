@@ -1,13 +1,12 @@
 //! Worlds: clients and their sessions over one store, and events that happen one after another.
 
-ghost use Rattle.std.specs.Prelude.{◌≡◌, ◌↔◌, ◌+◌, ◌<◌, ◌≤◌, ℕ, [], ◌∷◌, length, map, None, Some, Err, IfErr, IfOk, IfSome, IsErrOf, OnErr, OnOk};
+ghost use Rattle.std.specs.Prelude.{◌≡◌, ◌↔◌, ◌+◌, ◌<◌, ◌≤◌, [], length, map, None, Some, Err, IfErr, IfOk, IfSome, IsErrOf, OnOk};
 ghost use Rattle.std.specs.Bool.{OnFalse, OnTrue};
 ghost use Rattle.std.specs.List.{AllByRecursion};
-ghost use Rattle.resp_value.specs.Bounds.{AreBounds, Bounds};
+ghost use Rattle.resp_value.specs.Bounds.{Bounds};
 ghost use Rattle.resp_value.specs.Commands.{words_of};
 ghost use Rattle.resp_value.specs.Values.{datum_of, list_of};
 ghost use Rattle.resp_session.specs.Connections.{shown_pushes, shown_replies};
-ghost use Rattle.resp_session.specs.Runs.{Run};
 ghost use Rattle.resp_session.specs.Serving.{clients_in};
 ghost use Rattle.resp_session.specs.Worlds as session;
 ghost use Rattle.resp_session.specs.Worlds.{client_of, connection_at, new_world};

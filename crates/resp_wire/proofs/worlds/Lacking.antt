@@ -6,7 +6,7 @@ use Rattle.resp_value.specs.declared.cause.Cause.{Cause}
 use Rattle.resp_session.specs.Connections.{Connection, push_message}
 use Rattle.resp_session.specs.Requests.{FitsRequest, RefusesRequest, Request}
 use Rattle.resp_session.specs.Runs.{Done, RefusesEvent, Step, connection_of, is_gone}
-use Rattle.resp_session.specs.Worlds.{Drop, Push, ToClient, ToServer, World, WorldEvent, after_event, connection_at}
+use Rattle.resp_session.specs.Worlds.{Drop, Push, World, WorldEvent, after_event, connection_at}
 use Rattle.resp_session.proofs.FittingSent.{requests_that_fit_are_sent}
 use Rattle.resp_client.specs.Clients.{state_of}
 use Rattle.resp_client.specs.Sending.{MayBeSent}
@@ -23,7 +23,7 @@ use Rattle.resp_wire.proofs.worlds.Places.{world_of}
 use Rattle.resp_wire.proofs.worlds.Pushed.{push_not_refused}
 
 -- bytes of a client that was not dropped are never refused
-bytes_lack : {L : Type 0} (is_honest : L → Type 0) (hub : HubState) (ends : List End) (links : List L) (order : List ℕ) (stopped : Option Cause)
+pub bytes_lack : {L : Type 0} (is_honest : L → Type 0) (hub : HubState) (ends : List End) (links : List L) (order : List ℕ) (stopped : Option Cause)
     (number : ℕ) (event : WorldEvent) → ((i : ℕ) → event ≢ Drop i) → ((w : World) → connection_of w event ≡ connection_at w.connections number) →
     ((limits : Bounds) (c : Option Connection) (cause : Cause) → RefusesEvent limits c event cause → ⊥) →
     (1 ≤ number) × (number ≤ length ends) → IsOpenEnd ends (number - 1) →
@@ -35,18 +35,6 @@ bytes_lack {L} is_honest hub ends links order stopped number event no_drop its n
       let at : connection_of w event ≡ Some work.at.connection = its w ∙ ap (connection_at w.connections) (sym work.is) ∙ work.at.its in
       (ap is_gone at ∙ work.at.is_open, never limits (connection_of w event), refl);
 }
-
-pub to_server_lacks : {L : Type 0} (is_honest : L → Type 0) (hub : HubState) (ends : List End) (links : List L) (order : List ℕ)
-    (stopped : Option Cause) (number count : ℕ) → (1 ≤ number) × (number ≤ length ends) → IsOpenEnd ends (number - 1) →
-    MayLackMemory is_honest (world_of hub ends links order stopped) (ToServer number count)
-to_server_lacks {L} is_honest hub ends links order stopped number count =
-    bytes_lack is_honest hub ends links order stopped number (ToServer number count) (λ i is. absurd (cc)) (λ w. refl) (λ limits c cause r. r)
-
-pub to_client_lacks : {L : Type 0} (is_honest : L → Type 0) (hub : HubState) (ends : List End) (links : List L) (order : List ℕ)
-    (stopped : Option Cause) (number count : ℕ) → (1 ≤ number) × (number ≤ length ends) → IsOpenEnd ends (number - 1) →
-    MayLackMemory is_honest (world_of hub ends links order stopped) (ToClient number count)
-to_client_lacks {L} is_honest hub ends links order stopped number count =
-    bytes_lack is_honest hub ends links order stopped number (ToClient number count) (λ i is. absurd (cc)) (λ w. refl) (λ limits c cause r. r)
 
 -- nor is a request that the client may send
 pub request_lacks : {L : Type 0} (is_honest : L → Type 0) (hub : HubState) (ends : List End) (links : List L) (order : List ℕ) (stopped : Option Cause)
@@ -103,27 +91,21 @@ push_done limits hub ends order w number items error each verdict there open_end
       refl,
     )
 
+-- what an error leads to
+err_then : {T E : Type 0} (r : Result T E) (Q : Type 0) → ((e : E) → r ≡ Err e → Q) → OnErr r Q
+err_then {T} {E} (Ok x) Q f = tt
+err_then {T} {E} (Err e) Q f = f e refl
+
 pub push_lacks : {L : Type 0} (is_honest : L → Type 0) (hub : HubState) (ends : List End) (links : List L) (order : List ℕ) (stopped : Option Cause)
     (number : ℕ) (items : List Datum) (error : PushError) →
     server.IsPushVerdict hub.limits (seat_at hub number) (push_message items).value (Err error) →
     (1 ≤ number) × (number ≤ length ends) → IsOpenEnd ends (number - 1) →
     OnErr (outcome_of_push error) (MayLackMemory is_honest (world_of hub ends links order stopped) (Push number items))
-push_lacks {L} is_honest hub ends links order stopped number items push.NotInVersion verdict there open_end = tt
-push_lacks {L} is_honest hub ends links order stopped number items push.Double verdict there open_end = tt
-push_lacks {L} is_honest hub ends links order stopped number items push.NestedPush verdict there open_end = tt
-push_lacks {L} is_honest hub ends links order stopped number items (push.OverLimits limit) verdict there open_end = tt
-push_lacks {L} is_honest hub ends links order stopped number items push.NoSession verdict there open_end = record {
-  no_drop = λ i is. absurd (cc);
-  done = λ limits w shows. push_done limits hub ends order w number items push.NoSession shows.each verdict there open_end;
-}
-push_lacks {L} is_honest hub ends links order stopped number items push.Closing verdict there open_end = record {
-  no_drop = λ i is. absurd (cc);
-  done = λ limits w shows. push_done limits hub ends order w number items push.Closing shows.each verdict there open_end;
-}
-push_lacks {L} is_honest hub ends links order stopped number items push.OutOfMemory verdict there open_end = record {
-  no_drop = λ i is. absurd (cc);
-  done = λ limits w shows. push_done limits hub ends order w number items push.OutOfMemory shows.each verdict there open_end;
-}
+push_lacks {L} is_honest hub ends links order stopped number items error verdict there open_end = err_then (outcome_of_push error) _ (λ cause is. record {
+  no_drop = λ i same. absurd (cc);
+  done = λ limits w shows. subst (λ r. OnErr r (Step limits w (Push number items) Done (after_event w (Push number items)))) is
+      (push_done limits hub ends order w number items error shows.each verdict there open_end);
+})
 
 -- where memory was out at the event of an index, it may be
 pub lacks_at : {L : Type 0} (is_honest : L → Type 0) (s : WorldState L) (events : List WorldEvent) (k : ℕ) (event : WorldEvent) →

@@ -4,14 +4,14 @@ use Rattle.std.proofs.lemmas.List.{append-nil, length-take-le}
 use Rattle.std.proofs.Common.{rules, arith, ◌+◌, ◌-◌, ◌≤◌, drop, refl, Err, false, [], ◌∷◌, ◌++◌, ◌≡◌, ap, subst, sym, take, ◌∙◌, length}
 use Rattle.resp_server.specs.Handling.{HasAnswered, WhereOpen}
 use Rattle.resp_server.specs.Hubs.{HubState}
-use Rattle.resp_wire.specs.Serving.{AnswersBefore, AnswersGiven, EndsAnswering, FailsServing, Serves, StopsServing, is_of_reader}
+use Rattle.resp_wire.specs.Serving.{AnswersGiven, EndsAnswering, FailsServing, Serves, StopsServing, is_of_reader}
 use Rattle.resp_turns.specs.Pieces.{ReadsNothing}
 use Rattle.resp_wire.specs.declared.error.ServeError.TheVariants.{Read, TooManyTurns}
 use Rattle.resp_wire.proofs.LinkStops.{no_turn_left}
 use Rattle.resp_wire.proofs.AnsweredParts.{at_err, given_whole, may_leave, part_stops, still_few, stops_overfull}
 use Rattle.resp_turns.proofs.Pieces.{all_read, gives, none_left, only_pieces, rest_of, some_left}
-use Rattle.resp_wire.proofs.Seated.{at_open, sent_few, sent_none, where_open}
-use Rattle.resp_wire.proofs.ServedTexts.{leaves_none, nothing_before, open_is, piece_serves, sent_is_open, serves_nothing}
+use Rattle.resp_wire.proofs.Seated.{open_map, sent_few, sent_none}
+use Rattle.resp_wire.proofs.ServedTexts.{HasServed, leaves_none, nothing_before, open_is, piece_serves, sent_is_open, serves_nothing}
 use Rattle.resp_wire.proofs.ServeStops.{fails_reading, stops_reading, stops_writing}
 use Rattle.resp_turns.proofs.Turning.{end_after, spends_both, spends_nothing, spends_writes}
 use Rattle.resp_wire.proofs.serve.serve_open.Goals as goal
@@ -30,13 +30,12 @@ returns-in-Err-clause-served g c =
       leaves_none (Err c.stop.result),
       only_pieces (length c.args.buffer.now) g.R.Source.remaining g.R.Source.calls g.R.Source.failures c.args.reader.now c.args.reader.now []
           (is_of_reader c.stop.result) refl c.stop.ensures.of_reader,
-      where_open old id _ (λ s here not_closing front taken. (
+      open_map old id (λ s front. HasAnswered old old id s front 0) _ (λ s front h. (
         tt,
         subst (StopsServing old new id s front [] held held') (sym c.stop.ensures.error)
-            (stops_writing old old new id s front [] held held' waits c.in-Err.halt some (serves_nothing old new id s front held held' waits
-            (at_open old id (λ t f. HasAnswered old old id t f 0) s front c.requires.waiting here not_closing taken) sent)),
+            (stops_writing old old new id s front [] held held' waits c.in-Err.halt some (serves_nothing old new id s front held held' waits h sent)),
         nothing_before old id s front held held',
-      )),
+      )) c.requires.waiting,
     )
 
 pub returns-in-Err-clause-bounded : goal.returns-in-Err-clause-bounded
@@ -57,11 +56,8 @@ loop-count-init g c =
       served = (
         [],
         refl,
-        where_open old id _ (λ s here not_closing front taken. (
-          serves_nothing old new id s front held held' []
-              (at_open old id (λ t f. HasAnswered old old id t f 0) s front c.requires.waiting here not_closing taken) sent,
-          nothing_before old id s front held held',
-        )),
+        open_map old id (λ s front. HasAnswered old old id s front 0) _
+            (λ s front h. (serves_nothing old new id s front held held' [] h sent, nothing_before old id s front held held')) c.requires.waiting,
       );
       is_open = sent_is_open old new id held held' [] c.requires.is_open sent;
       none_waits = sent_none old new id held held' sent;
@@ -91,10 +87,7 @@ returns-in-Ok-eq0-clause-served g c =
         given = given;
         over = c.in-Ok-eq0.ensures.empty none;
       },
-      where_open old id _ (λ s here not_closing front taken.
-          let (v, each) = at_open old id (λ t f. Serves old cur id t (f ++ concat pieces) held held' [] × AnswersBefore old id t f pieces held held') s front
-          served here not_closing taken in
-          (v, tt, each)),
+      open_map old id (HasServed old cur id pieces held held') _ (λ s front h. (h.0, tt, h.1)) served,
     )
 
 pub returns-in-Ok-eq0-clause-end : goal.returns-in-Ok-eq0-clause-end
@@ -131,14 +124,12 @@ returns-in-Err-read_some-clause-served g c =
         over = subst (ReadsNothing g.R.Source.remaining g.R.Source.calls c.loop-count.reader c.read_some.new.reader) (sym c.stop-in-Err-read_some.ensures.of_reader)
             c.in-Err-read_some.ensures.unread;
       },
-      where_open old id _ (λ s here not_closing front taken.
-          let (v, each) = at_open old id (λ t f. Serves old cur id t (f ++ concat pieces) held held' [] × AnswersBefore old id t f pieces held held') s front
-          served here not_closing taken in (
-            tt,
-            subst (StopsServing old cur id s front (concat pieces) held held') (sym c.stop-in-Err-read_some.ensures.error)
-                (stops_reading old cur id s front (concat pieces) held held' c.in-Err-read_some.halt (v, open_is cur id c.loop-count.invariant.is_open)),
-            each,
-          )),
+      open_map old id (HasServed old cur id pieces held held') _ (λ s front h. (
+        tt,
+        subst (StopsServing old cur id s front (concat pieces) held held') (sym c.stop-in-Err-read_some.ensures.error)
+            (stops_reading old cur id s front (concat pieces) held held' c.in-Err-read_some.halt (h.0, open_is cur id c.loop-count.invariant.is_open)),
+        h.1,
+      )) served,
     )
 
 pub returns-in-Err-read_some-clause-refusal : goal.returns-in-Err-read_some-clause-refusal
@@ -225,6 +216,7 @@ returns-in-Ok-true-clause-served g c =
     let (pieces, given, served) = c.loop-count.invariant.served in
     let into = c.read_some.new.into in
     let n = c.in-Ok.count in
+    let held = g.W.Sink.written c.args.writer.now in
     let held' = g.W.Sink.written c.loop-count.writer in
     let held'' = g.W.Sink.written c.answer-answered.new.writer in
     let cur = c.loop-count.hub in
@@ -237,11 +229,12 @@ returns-in-Ok-true-clause-served g c =
       refl,
       only_pieces (length c.args.buffer.now) g.R.Source.remaining g.R.Source.calls g.R.Source.failures c.args.reader.now c.read_some.new.reader (pieces ++ take n into ∷ []) false
           given_all refl,
-      piece_serves c.answers_go_on.ensures c.answers_are_added.ensures c.args.hub.now cur new id pieces (take n into)
-          (g.W.Sink.written c.args.writer.now) held' held'' served c.loop-count.invariant.is_open
-          (subst (λ z. WhereOpen cur id (λ s front. Serves cur new id s (front ++ z) held' held'' [] × ⊤)) c.front.ensures
+      open_map c.args.hub.now id (HasServed c.args.hub.now new id (pieces ++ take n into ∷ []) held held'') _ (λ s front h. (h.0, tt, h.1))
+          (piece_serves c.answers_go_on.ensures c.answers_are_added.ensures c.args.hub.now cur new id pieces (take n into) held held' held'' served
+          c.loop-count.invariant.is_open
+          (subst (λ z. WhereOpen cur id (λ s front. Serves cur new id s (front ++ z) held' held'' [])) c.front.ensures
           (given_whole cur new id c.front.result.now c.answer-answered.result.used c.answer-answered.result.end c.in-Ok-true.field-0 held' held''
-          c.in-Ok-true.is c.answer-answered.ensures.none_left c.answer-answered.ensures.part.given)),
+          c.in-Ok-true.is c.answer-answered.ensures.none_left c.answer-answered.ensures.part.given))),
     )
 
 pub returns-in-Ok-true-clause-turns : goal.returns-in-Ok-true-clause-turns
@@ -264,7 +257,7 @@ loop-count-preserved g c =
     let new = c.answer-answered.new.hub in
     let all = piece_serves c.answers_go_on.ensures c.answers_are_added.ensures old cur new id pieces (take n into) held held' held'' served
     c.loop-count.invariant.is_open
-    (subst (λ z. WhereOpen cur id (λ s front. Serves cur new id s (front ++ z) held' held'' [] × ⊤)) c.front.ensures
+    (subst (λ z. WhereOpen cur id (λ s front. Serves cur new id s (front ++ z) held' held'' [])) c.front.ensures
     (given_whole cur new id c.front.result.now c.answer-answered.result.used c.answer-answered.result.end c.in-Ok-false.field-0 held' held''
     c.in-Ok-false.is c.answer-answered.ensures.none_left c.answer-answered.ensures.part.given)) in
     let ends = subst (λ e. EndsAnswering (c.args.held + cur.limits.total) cur new id (g.W.Sink.failures c.loop-count.writer)
@@ -275,10 +268,7 @@ loop-count-preserved g c =
         more,
         gives (length c.args.buffer.now) _ g.R.Source.remaining g.R.Source.calls g.R.Source.failures c.args.reader.now c.loop-count.reader
             c.read_some.new.reader pieces (take n into) (search rules) given (c.in-Ok.ensures.piece (search rules)),
-        where_open old id _ (λ s here not_closing front taken.
-            let (v, _, each) = at_open old id (λ t f. Serves old new id t (f ++ concat more) held held'' [] × ⊤ × AnswersBefore old id t f more held held'') s
-            front all here not_closing taken in
-            (v, each)),
+        all,
       );
       is_open = ends.is_open (search rules);
       none_waits = ends.sent;

@@ -1,4 +1,4 @@
-use Rattle.std.proofs.Common.{◌≡◌, ◌∙◌, ◌-◌, set, subst, sym, ap}
+use Rattle.std.proofs.Common.{◌≡◌, ◌∙◌, ◌-◌, refl, set, subst, sym, ap}
 use Rattle.std.proofs.lemmas.List.{length-set}
 use Rattle.resp_value.specs.Devices.{failures_after}
 use Rattle.resp_session.specs.Worlds.{ToClient}
@@ -9,7 +9,7 @@ use Rattle.resp_wire.specs.declared.event.Outcome.TheVariants.{Done}
 use Rattle.resp_wire.proofs.LinkStops.{of_no_link, stopped_by_none}
 use Rattle.resp_wire.proofs.worlds.Carried.{with_client}
 use Rattle.resp_wire.proofs.worlds.Events.{both_ok}
-use Rattle.resp_wire.proofs.worlds.Lacking.{all_errs, if_err_of, to_client_lacks}
+use Rattle.resp_wire.proofs.worlds.Lacking.{all_errs, bytes_lack, if_err_of}
 use Rattle.resp_wire.proofs.worlds.Moves.{moves_to_client, stops_for_memory, stops_to_client}
 use Rattle.resp_wire.proofs.worlds.Performed.{from_inside, over_link, session_carries}
 use Rattle.resp_wire.proofs.worlds.Places.{world_of}
@@ -43,7 +43,8 @@ returns g c = from_inside _ _ _ c.args.number _ _ _ _ _ c.self.view_is c.require
     heard.heard heard.dropped heard.link.honest kept)))
     (stops_for_memory g.L.Link.is_honest g.L.Link.failures old new result c.keep.ensures.memory)
     (if_err_of result _ _ (all_errs result _
-    (to_client_lacks g.L.Link.is_honest s.hub s.ends.items s.links.items s.order.items s.stopped n c.args.count client.there client.is_open)))
+    (bytes_lack g.L.Link.is_honest s.hub s.ends.items s.links.items s.order.items s.stopped n event (λ i is. absurd (cc)) (λ w. refl)
+    (λ limits connection cause r. r) client.there client.is_open)))
     (both_ok result (λ outcome. outcome ≡ Done) (λ outcome. outcome ≡ Done) (LinksAfter g.L.Link.traffic old new event) c.keep.ensures.done c.keep.ensures.done
     (λ outcome done same. subst (LinksAfter g.L.Link.traffic old new event) (sym done)
     (session_carries g.L.Link.traffic s.links.items s.ends.items s.hub n c.args.count link carried.link c.self.invariant client.there
@@ -57,4 +58,5 @@ returns-in-Err g c = from_inside _ _ _ c.args.number _ _ _ _ _ c.self.view_is c.
     (stops_to_client _ _ c.readings_go_on.ensures c.what_is_shown_is_read.ensures.no_fault c.a_change_is_of_one_connection.ensures s.hub s.ends.items
     s.links.items s.order.items s.stopped c.args.number c.index_mut-2.result.now c.index_mut.result.now _ c.new-heard.result _ _ c.self.invariant
     client.there client.is_open c.index_mut-2.ensures.value c.index_mut.ensures.value c.in-Err.ensures.refusal)
-    (λ memory. to_client_lacks _ s.hub s.ends.items s.links.items s.order.items s.stopped c.args.number c.args.count client.there client.is_open) tt)
+    (λ memory. bytes_lack _ s.hub s.ends.items s.links.items s.order.items s.stopped c.args.number (ToClient c.args.number c.args.count)
+    (λ i is. absurd (cc)) (λ w. refl) (λ limits connection cause r. r) client.there client.is_open) tt)

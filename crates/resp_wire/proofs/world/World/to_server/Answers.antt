@@ -1,7 +1,7 @@
-use Rattle.std.proofs.Common.{◌-◌}
+use Rattle.std.proofs.Common.{◌-◌, refl}
 use Rattle.std.proofs.lemmas.List.{length-set}
 use Rattle.resp_session.specs.Worlds.{ToServer}
-use Rattle.resp_wire.proofs.worlds.Lacking.{to_server_lacks}
+use Rattle.resp_wire.proofs.worlds.Lacking.{bytes_lack}
 use Rattle.resp_wire.proofs.worlds.Moves.{moves_to_server, stops_to_server}
 use Rattle.resp_wire.proofs.worlds.Performed.{from_inside, client_carries, over_link}
 use Rattle.resp_wire.proofs.world.World.to_server.Goals as goal
@@ -28,4 +28,5 @@ returns-in-Err g c = from_inside _ _ _ c.args.number _ _ _ _ _ c.self.view_is c.
     (stops_to_server _ _ c.what_arrives_is_answered.ensures s.hub s.ends.items s.links.items s.order.items s.stopped c.args.number
     c.index_mut-2.result.now c.index_mut.result.now _ _ c.self.invariant client.there client.is_open c.index_mut-2.ensures.value c.index_mut.ensures.value
     c.in-Err.ensures.refusal)
-    (λ memory. to_server_lacks _ s.hub s.ends.items s.links.items s.order.items s.stopped c.args.number c.args.count client.there client.is_open) tt)
+    (λ memory. bytes_lack _ s.hub s.ends.items s.links.items s.order.items s.stopped c.args.number (ToServer c.args.number c.args.count)
+    (λ i is. absurd (cc)) (λ w. refl) (λ limits connection cause r. r) client.there client.is_open) tt)
