@@ -7,7 +7,7 @@ use Rattle.std.proofs.lemmas.List.{length-append, take-append-le}
 use Rattle.resp_session.specs.AnswerLaws.{AnswersAreAdded, AnswersGoOn}
 use Rattle.resp_server.specs.Handling.{WhereOpen}
 use Rattle.resp_server.specs.Hubs.{HubState, Seat, WaitsAtMost, seat_at}
-use Rattle.resp_wire.specs.Serving.{AnswersBefore, AnswersGiven, EndsAnswering, HadAnswered, IsOpen, LeavesRest, MayLeave, Overfills, Serves, StopsAnswering, StopsOverfull, StopsServing}
+use Rattle.resp_wire.specs.Serving.{AnswersBefore, AnswersGiven, HadAnswered, IsOpen, LeavesRest, MayLeave, Overfills, Serves, StopsAnswering, StopsOverfull, StopsServing}
 use Rattle.resp_wire.specs.declared.error.ServeError.{ServeError}
 use Rattle.resp_wire.specs.declared.error.ServeError.TheVariants.{NoSession, OutOfMemory, Read, Write, TooManyTurns}
 use Rattle.resp_wire.proofs.Seated.{at_open, open_map, where_open}
@@ -50,27 +50,6 @@ part_more go_on added old cur new id piece n m closing end held held' held'' bef
     IfErr end (StopsServing cur new id t f (take m (drop n piece)) held' held'')) now st.rest after (seat_given old cur id s now st.store here st.state) refl
     st.taken in
     more_by go_on added old cur new id s front piece n m held held' held'' here st end given stopped)
-
--- and the state after it
-pub ends_more : (total : ℕ) (old cur new : HubState) (id fails fails' fails'' left left' n m : ℕ) (closing : Bool) (end : Result Bool ServeError) →
-    EndsAnswering (total + old.limits.total) old cur id fails fails' left (record { used = n; end = Ok closing }) →
-    EndsAnswering (total + cur.limits.total) cur new id fails' fails'' left' (record { used = m; end = end }) →
-    EndsAnswering (total + old.limits.total) old new id fails fails'' left' (record { used = n + m; end = end })
-ends_more total old cur new id fails fails' fails'' left left' n m closing end a b =
-    let bound : total + cur.limits.total ≡ total + old.limits.total = ap (λ l. total + l.total) a.same_limits in
-    let part : EndsAnswering (total + old.limits.total) cur new id fails fails'' left' (record { used = m; end = end }) =
-    subst (λ z. EndsAnswering (total + old.limits.total) cur new id z fails'' left' (record { used = m; end = end })) a.failures
-    (subst (λ z. EndsAnswering z cur new id fails' fails'' left' (record { used = m; end = end })) bound b) in
-    record {
-      same_limits = part.same_limits ∙ a.same_limits;
-      bounded = λ few. part.bounded (a.bounded few);
-      closing = part.closing;
-      is_open = part.is_open;
-      sent = part.sent;
-      refusal = part.refusal;
-      failures = part.failures;
-      no_read = part.no_read;
-    }
 
 -- a piece that was answered was given whole
 pub given_whole : (cur new : HubState) (id : ℕ) (piece : List ℕ) (used : ℕ) (end : Result Bool ServeError) (closing : Bool)

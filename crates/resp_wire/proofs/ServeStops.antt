@@ -16,13 +16,15 @@ use Rattle.resp_wire.specs.declared.error.ServeError.TheVariants.{OutOfMemory, R
 
 -- a write that stopped leaves the rest
 pub stops_writing : (old given new : HubState) (id : ℕ) (s : Seat) (front came : List ℕ) (held held' : Option (List ℕ)) (waits : List ℕ) (halt : Halt) →
-    0 < length waits → Serves old new id s (front ++ came) held held' waits → StopsServing old new id s front came held held' (error_of_halt Write TooManyTurns halt)
+    0 < length waits → Serves old new id s (front ++ came) held held' waits →
+    StopsServing old new id s front came held held' (error_of_halt Write TooManyTurns halt)
 stops_writing old given new id s front came held held' waits Failed some v = (waits, some, v)
 stops_writing old given new id s front came held held' waits NoTurn some v = (waits, inl some, v)
 
 -- a read that stopped leaves nothing
 pub stops_reading : (old new : HubState) (id : ℕ) (s : Seat) (front came : List ℕ) (held held' : Option (List ℕ)) (halt : Halt) →
-    Serves old new id s (front ++ came) held held' [] × IsClosing new id false → StopsServing old new id s front came held held' (error_of_halt Read TooManyTurns halt)
+    Serves old new id s (front ++ came) held held' [] × IsClosing new id false →
+    StopsServing old new id s front came held held' (error_of_halt Read TooManyTurns halt)
 stops_reading old new id s front came held held' Failed v = v
 stops_reading old new id s front came held held' NoTurn v = ([], inr v.1, v.0)
 

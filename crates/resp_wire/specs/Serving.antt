@@ -31,9 +31,9 @@ pub record Serves (old new : HubState) (id : ℕ) (s : Seat) (text : List ℕ) (
   pub answered : HasAnswered old given id s text commands
   pub sent : HasSent given new id held held' waits
 
--- The state when serving stopped. When out of memory, the first bytes received are answered. After a failed write some of
--- the answers are left. After a failed read no answer is left, and the session continues. If no turn is left, a write or
--- a read needed one.
+-- The state when serving stopped. When out of memory, the first bytes received are answered. After a failed write some
+-- of the answers are left. After a failed read no answer is left, and the session continues. If no turn is left, a
+-- write or a read needed one.
 abbrev pub StopsServing : HubState → HubState → ℕ → Seat → List ℕ → List ℕ → Option (List ℕ) → Option (List ℕ) →
     ServeError → Type 0
 StopsServing old new id s front came held held' NoSession = ⊥
@@ -162,29 +162,28 @@ AnswersGiven old new id piece held held' answered = WhereOpen old id (λ s front
     OnOk answered.end (Serves old new id s (front ++ take answered.used piece) held held' []) ×
     IfErr answered.end (StopsServing old new id s front (take answered.used piece) held held'))
 
--- The state after an answer: whether the session is closing, that no reply waits, or why a write stopped. At most this
--- many bytes wait if at most so many waited before.
-pub record EndsAnswering (most : ℕ) (old new : HubState) (id fails fails' left : ℕ) (answered : Answered) :
-    Type 0 where
-  pub closing : IfOk answered.end (IsClosing new id)
-  pub is_open : IfOk answered.end (λ closing. closing ≡ false → IsOpen new id)
-  pub sent : OnOk answered.end (WaitsAtMost 0 new id)
-  pub failures : fails' ≡ failures_after (stopped_by is_of_writer answered.end) fails
-  pub no_read : stopped_by is_of_reader answered.end ≡ false
-  pub refusal : IfErr answered.end (StopsAnswering fails fails' left)
-  pub same_limits : new.limits ≡ old.limits
-  pub bounded : WaitsAtMost most old id → WaitsAtMost most new id
+-- The state after an answer: whether the session is closing, that no reply waits, or why a write stopped.
+pub record EndsAnswering (new : HubState) (id fails fails' left : ℕ) (end : Result Bool ServeError) : Type 0 where
+  pub closing : IfOk end (IsClosing new id)
+  pub is_open : IfOk end (λ closing. closing ≡ false → IsOpen new id)
+  pub sent : OnOk end (WaitsAtMost 0 new id)
+  pub failures : fails' ≡ failures_after (stopped_by is_of_writer end) fails
+  pub no_read : stopped_by is_of_reader end ≡ false
+  pub refusal : IfErr end (StopsAnswering fails fails' left)
 
--- The session was given the first bytes of a piece, of which `used` is the number, and answered them. `most` bytes and one
--- reply wait at most.
-pub record AnswersPiece {W : Type 0} (written : W → Option (List ℕ)) (calls failures : W → ℕ) (most : ℕ) (old new : HubState)
-    (id : ℕ) (writer writer' : W) (piece : List ℕ) (turns turns' : ℕ) (answered : Answered) : Type 0 where
+-- The session was given the first bytes of a piece, of which `used` is the number, and answered them. `most` bytes and
+-- one reply wait at most, if no more waited before.
+pub record AnswersPiece {W : Type 0} (written : W → Option (List ℕ)) (calls failures : W → ℕ) (most : ℕ)
+    (old new : HubState) (id : ℕ) (writer writer' : W) (piece : List ℕ) (turns turns' : ℕ) (answered : Answered) :
+    Type 0 where
   pub within : answered.used ≤ length piece
   pub given : AnswersGiven old new id piece (written writer) (written writer') answered
   pub whole : most ≡ 2 ^ 64 - 1 → answered.used ≡ length piece
   -- when out of memory, nothing is left of the piece
   pub no_memory : IsErrOf answered.end OutOfMemory → answered.used ≡ length piece
-  pub ends : EndsAnswering (most + old.limits.total) old new id (failures writer) (failures writer') turns' answered
+  pub ends : EndsAnswering new id (failures writer) (failures writer') turns' answered.end
+  pub same_limits : new.limits ≡ old.limits
+  pub bounded : WaitsAtMost (most + old.limits.total) old id → WaitsAtMost (most + old.limits.total) new id
   pub spends : Spends (calls writer) (calls writer') turns turns'
 
 -- The parts of a piece before a part were answered and their replies were written, and this part overfilled the session.

@@ -259,7 +259,8 @@ fn hear_all<R: Source>(
     requires { 0 < length buffer.now }
     ensures heard { (pieces : List (List ℕ)) × ReadsPieces (length buffer.old) R.remaining R.calls
         R.failures reader.old reader.new pieces (stopped_by is_of_last_read result) ×
-        WhereTaken client.old (λ front. OnOk result (HearsAll (state_of client.old) client.new heard.old heard.new
+        WhereTaken client.old (λ front.
+        OnOk result (HearsAll (state_of client.old) client.new heard.old heard.new
         (front ++ concat pieces)) ×
         IfErr result (StopsListening (state_of client.old) client.new heard.old heard.new
         (front ++ concat pieces)) × WaitsBefore (state_of client.old) heard.old front pieces) }

@@ -10,12 +10,12 @@ ghost use Rattle.resp_session.specs.Connections.{shown_pushes, shown_replies};
 ghost use Rattle.resp_session.specs.Serving.{clients_in};
 ghost use Rattle.resp_session.specs.Worlds as session;
 ghost use Rattle.resp_session.specs.Worlds.{client_of, connection_at, new_world};
+ghost use Rattle.resp_turns.specs.Turns.{stopped_by};
 ghost use Rattle.resp_wire.specs.Ends.{outcome_of_push};
 ghost use Rattle.resp_wire.specs.Happening.{AreOpened, Fails, Happens, IsOpenClient, MayLackMemory, Performs, RunsTo, StopsAt};
-ghost use Rattle.resp_wire.specs.Worlds.{CountsFailures, KeepFailures, LinksAfter, OthersStay, Shows, event_of, pushes_with, values_in};
 ghost use Rattle.resp_wire.specs.Links.{is_of_link};
 ghost use Rattle.resp_wire.specs.Requests.{request_of};
-ghost use Rattle.resp_turns.specs.Turns.{stopped_by};
+ghost use Rattle.resp_wire.specs.Worlds.{CountsFailures, KeepFailures, LinksAfter, OthersStay, Shows, event_of, pushes_with, values_in};
 
 use crate::asked::{Asked, Request};
 use crate::carrying::{carry_to_client, carry_to_server};

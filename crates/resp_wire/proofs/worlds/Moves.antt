@@ -186,8 +186,8 @@ pub moves_to_client : {L : Type 0} (is_honest : L → Type 0) → ReadingsGoOn �
     replies_in fresh ≡ [] → pushes_in fresh ≡ [] → (is_honest link → IfSome (seat_at s.hub number) (λ t. WhereTaken e.client (λ front.
     HearsOn (state_of e.client) client' fresh heard (front ++ take count t.out)))) →
     IfSome (seat_at s.hub number) (λ t. hub' ≡ seated s.hub number (sent_seat count t)) → (is_honest link → is_honest link') → KeepsHeard between e' heard →
-    Happens is_honest s (world_of hub' (set (set s.ends (number - 1) (with_client e client')) (number - 1) e') (set s.links (number - 1) link') s.order s.stopped)
-    (ToClient number count) Done
+    Happens is_honest s (world_of hub' (set (set s.ends (number - 1) (with_client e client')) (number - 1) e') (set s.links (number - 1) link')
+    s.order s.stopped) (ToClient number count) Done
 moves_to_client {L} is_honest go_on nothing_else change s hub' number count e between e' client' link link' fresh heard of e_is between_is no_reply no_push on
     now stays kept limits w shows =
     let i = number - 1 in

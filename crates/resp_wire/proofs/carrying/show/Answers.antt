@@ -19,5 +19,6 @@ returns-in-Err-hear_piece-clause-refusal g c honest =
     if_there old id _ (λ s here front taken.
     subst (StopsCarrying (MeetsFault client c.args.heard.now c.hear_piece.new.heard front s.out) failures failures') (sym c.cause_of.ensures)
     (stops_showing client c.hear_piece.new.client c.args.heard.now c.hear_piece.new.heard front s.out count failures failures' e
-    c.in-Err-hear_piece.ensures.fault_or_memory (subst (λ z. StopsListening client c.hear_piece.new.client c.args.heard.now c.hear_piece.new.heard (front ++ z) e)
+    c.in-Err-hear_piece.ensures.fault_or_memory
+    (subst (λ z. StopsListening client c.hear_piece.new.client c.args.heard.now c.hear_piece.new.heard (front ++ z) e)
     (same ∙ ap (take count) (sym (waits_there old id s c.in-Ok.out.now here c.in-Ok.ensures.waiting))) (c.in-Err-hear_piece.ensures.refusal front taken))))

@@ -41,9 +41,9 @@ returns-in-Err-clause-part g c =
         failures = subst (λ error. fails ≡ failures_after (is_of_writer error) fails) (sym c.unanswered.ensures) refl;
         no_read = ap is_of_reader c.unanswered.ensures;
         refusal = subst (StopsAnswering fails fails c.args.turns.now) (sym c.unanswered.ensures) tt;
-        same_limits = ap (λ (h : HubState). h.limits) cut.state;
-        bounded = c.bytes_within.ensures.bounded;
       };
+      same_limits = ap (λ (h : HubState). h.limits) cut.state;
+      bounded = c.bytes_within.ensures.bounded;
       spends = spends_nothing (g.W.Sink.calls c.args.writer.now) c.args.turns.now;
     }
 
@@ -93,9 +93,9 @@ returns-in-Err-write_out-clause-part g c =
         no_read = c.stop.ensures.of_reader;
         refusal = subst (StopsAnswering fails fails' c.write_out.new.turns) (sym c.stop.ensures.error)
             (answering fails fails' c.write_out.new.turns c.in-Err-write_out.halt c.in-Err-write_out.ensures.halted);
-        same_limits = ap (λ (h : HubState). h.limits) sent.state ∙ ap (λ (h : HubState). h.limits) answered.state;
-        bounded = λ few. sent_few given new id held held' waits (c.args.held + old.limits.total) sent (c.bytes_within.ensures.bounded few);
       };
+      same_limits = ap (λ (h : HubState). h.limits) sent.state ∙ ap (λ (h : HubState). h.limits) answered.state;
+      bounded = λ few. sent_few given new id held held' waits (c.args.held + old.limits.total) sent (c.bytes_within.ensures.bounded few);
       spends = c.write_out.ensures.turns;
     }
 
@@ -168,8 +168,8 @@ returns-in-Ok-write_out-clause-part g c =
         failures = c.in-Ok-write_out.ensures.failures;
         no_read = refl;
         refusal = tt;
-        same_limits = ap (λ (h : HubState). h.limits) sent.state ∙ ap (λ (h : HubState). h.limits) answered.state;
-        bounded = λ few. sent_few given new id held held' [] (c.args.held + old.limits.total) sent (c.bytes_within.ensures.bounded few);
       };
+      same_limits = ap (λ (h : HubState). h.limits) sent.state ∙ ap (λ (h : HubState). h.limits) answered.state;
+      bounded = λ few. sent_few given new id held held' [] (c.args.held + old.limits.total) sent (c.bytes_within.ensures.bounded few);
       spends = c.write_out.ensures.turns;
     }

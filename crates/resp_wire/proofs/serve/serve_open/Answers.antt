@@ -121,8 +121,8 @@ returns-in-Err-read_some-clause-served g c =
       record {
         between = c.loop-count.reader;
         given = given;
-        over = subst (ReadsNothing g.R.Source.remaining g.R.Source.calls c.loop-count.reader c.read_some.new.reader) (sym c.stop-in-Err-read_some.ensures.of_reader)
-            c.in-Err-read_some.ensures.unread;
+        over = subst (ReadsNothing g.R.Source.remaining g.R.Source.calls c.loop-count.reader c.read_some.new.reader)
+            (sym c.stop-in-Err-read_some.ensures.of_reader) c.in-Err-read_some.ensures.unread;
       },
       open_map old id (HasServed old cur id pieces held held') _ (λ s front h. (
         tt,
@@ -151,8 +151,8 @@ returns-in-Err-read_some-clause-turns g c = spends_both (g.W.Sink.calls c.args.w
 pub returns-in-Err-read_some-clause-no_turn_left :
     goal.returns-in-Err-read_some-clause-no_turn_left
 returns-in-Err-read_some-clause-no_turn_left g c is =
-    no_turn_left Read TooManyTurns (g.R.Source.failures c.loop-count.reader) (g.R.Source.failures c.read_some.new.reader) c.read_some.new.turns c.in-Err-read_some.halt
-    (λ same. absurd (cc)) c.in-Err-read_some.ensures.halted (let z = c.stop-in-Err-read_some.ensures.error in cc)
+    no_turn_left Read TooManyTurns (g.R.Source.failures c.loop-count.reader) (g.R.Source.failures c.read_some.new.reader)
+    c.read_some.new.turns c.in-Err-read_some.halt (λ same. absurd (cc)) c.in-Err-read_some.ensures.halted (let z = c.stop-in-Err-read_some.ensures.error in cc)
 
 pub returns-in-Err-end-clause-served : goal.returns-in-Err-end-clause-served
 returns-in-Err-end-clause-served g c =
@@ -167,8 +167,8 @@ returns-in-Err-end-clause-served g c =
     let held'' = g.W.Sink.written c.answer-answered.new.writer in
     let cur = c.loop-count.hub in
     let new = c.answer-answered.new.hub in
-    let ends = subst (λ e. EndsAnswering (c.args.held + cur.limits.total) cur new id (g.W.Sink.failures c.loop-count.writer)
-    (g.W.Sink.failures c.answer-answered.new.writer) c.answer-answered.new.turns (record { used = used; end = e })) c.in-Err-end.is
+    let ends = subst (EndsAnswering new id (g.W.Sink.failures c.loop-count.writer) (g.W.Sink.failures c.answer-answered.new.writer)
+    c.answer-answered.new.turns) c.in-Err-end.is
     c.answer-answered.ensures.part.ends in
     let answered = subst (λ e. AnswersGiven cur new id c.front.result.now held' held'' (record { used = used; end = e })) c.in-Err-end.is
     c.answer-answered.ensures.part.given in
@@ -260,8 +260,8 @@ loop-count-preserved g c =
     (subst (λ z. WhereOpen cur id (λ s front. Serves cur new id s (front ++ z) held' held'' [])) c.front.ensures
     (given_whole cur new id c.front.result.now c.answer-answered.result.used c.answer-answered.result.end c.in-Ok-false.field-0 held' held''
     c.in-Ok-false.is c.answer-answered.ensures.none_left c.answer-answered.ensures.part.given)) in
-    let ends = subst (λ e. EndsAnswering (c.args.held + cur.limits.total) cur new id (g.W.Sink.failures c.loop-count.writer)
-    (g.W.Sink.failures c.answer-answered.new.writer) c.answer-answered.new.turns (record { used = c.answer-answered.result.used; end = e })) c.in-Ok-false.is
+    let ends = subst (EndsAnswering new id (g.W.Sink.failures c.loop-count.writer) (g.W.Sink.failures c.answer-answered.new.writer)
+    c.answer-answered.new.turns) c.in-Ok-false.is
     c.answer-answered.ensures.part.ends in
     record {
       served = (
@@ -272,8 +272,9 @@ loop-count-preserved g c =
       );
       is_open = ends.is_open (search rules);
       none_waits = ends.sent;
-      same_limits = ends.same_limits ∙ c.loop-count.invariant.same_limits;
-      bounded = still_few c.args.held old cur new id c.loop-count.invariant.same_limits c.loop-count.invariant.bounded ends.bounded;
+      same_limits = c.answer-answered.ensures.part.same_limits ∙ c.loop-count.invariant.same_limits;
+      bounded = still_few c.args.held old cur new id c.loop-count.invariant.same_limits c.loop-count.invariant.bounded
+          c.answer-answered.ensures.part.bounded;
       spends = spends_both (g.W.Sink.calls c.args.writer.now) (g.W.Sink.calls c.loop-count.writer) (g.W.Sink.calls c.answer-answered.new.writer)
           (g.R.Source.calls c.args.reader.now) (g.R.Source.calls c.loop-count.reader) (g.R.Source.calls c.read_some.new.reader) c.args.turns.now
           c.loop-count.turns c.read_some.new.turns c.answer-answered.new.turns c.loop-count.invariant.spends c.read_some.ensures.turns c.answer-answered.ensures.part.spends;

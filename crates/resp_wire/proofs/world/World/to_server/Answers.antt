@@ -26,9 +26,8 @@ returns-in-Err g c = from_inside _ _ _ c.args.number _ _ _ _ _ c.self.view_is c.
     let s = c.self.inside in
     let n = c.args.number in
     let link = c.index_mut.result.now in
-    let event = ToServer n c.args.count in
     let old = world_of s.hub s.ends.items s.links.items s.order.items s.stopped in
     let of : IsLinkOf old n link = record { as_many = c.self.invariant; client = client; is = c.index_mut.ensures.value } in
-    over_link _ _ _ old _ _ _ event link _ _ of c.in-Err.ensures.link.failures (length-set s.ends.items (n - 1) _) tt
+    over_link _ _ _ old _ _ _ (ToServer n c.args.count) link _ _ of c.in-Err.ensures.link.failures (length-set s.ends.items (n - 1) _) tt
     (stops_to_server _ _ c.what_arrives_is_answered.ensures old n c.index_mut-2.result.now link _ _ of c.index_mut-2.ensures.value c.in-Err.ensures.refusal)
-    (λ memory. bytes_lack _ old n event (λ i is. absurd (cc)) (λ w. refl) (λ limits connection cause r. r) client) tt)
+    (λ memory. bytes_lack _ old n (ToServer n c.args.count) (λ i is. absurd (cc)) (λ w. refl) (λ limits connection cause r. r) client) tt)
