@@ -1,9 +1,8 @@
 -- Texts that are answered one after another, of which nothing was written.
 use Rattle.std.specs.Option.{option_map}
-use Rattle.std.proofs.Common.{◌≡◌, inl, inr, ℕ, ◌+◌, Bool, true, false, Some, List, [], ◌++◌, length, min, take, drop, replicate, refl, sym, ap, subst, ◌∙◌, arith, append_assoc}
+use Rattle.std.proofs.Common.{◌≡◌, ℕ, ◌+◌, Bool, true, false, Some, List, [], ◌++◌, length, min, take, drop, replicate, sym, ap, subst, ◌∙◌, append_assoc}
 use Rattle.std.proofs.Math.Seq.{take-add}
 use Rattle.std.proofs.lemmas.List.{append-nil, drop-drop, replicate-append-replicate, take_min}
-use Rattle.resp_value.specs.Devices.{HasRisen}
 use Rattle.resp_value.specs.declared.cause.Cause.{Cause}
 use Rattle.resp_session.specs.AnswerLaws.{AnswersAreAdded, AnswersGoOn}
 use Rattle.resp_session.specs.Answers.{Answers}
@@ -13,8 +12,9 @@ use Rattle.resp_server.specs.Handling.{HasAnswered, WhereOpen}
 use Rattle.resp_server.specs.Hubs.{HubState, Seat, seat_at, seated, stocked}
 use Rattle.resp_wire.specs.Carrying.{HasBrought, HasClosed, StopsCarrying}
 use Rattle.resp_server.specs.Sending.{IsClosing}
+use Rattle.resp_wire.proofs.LinkStops.{stops_with}
 use Rattle.resp_wire.proofs.Seated.{at_open, seated_twice, where_open}
-use Rattle.resp_wire.proofs.ServedTexts.{seat_given, seat_with}
+use Rattle.resp_wire.proofs.ServedTexts.{answers_after, seat_given, seat_with}
 
 -- the session after an answer
 abbrev pub seat_after : (old new : HubState) (id : ℕ) (s : Seat) (text : List ℕ) (n : ℕ) → HasAnswered old new id s text n → Seat
@@ -25,16 +25,7 @@ pub answered_on : AnswersGoOn → AnswersAreAdded → (old mid new : HubState) (
     (a : HasAnswered old mid id s text n) → a.closing ≡ false → HasAnswered mid new id (seat_after old mid id s text n a) (a.rest ++ piece) m →
     HasAnswered old new id s (text ++ piece) (n + m)
 answered_on go_on added old mid new id s text piece n m a is_open b =
-    let last = state_with b.store b.version b.reply b.closing m in
-    let whole = state_with b.store b.version (a.reply ++ b.reply) b.closing (n + m) in
-    let here : Answers old.limits id (state_with a.store a.version [] false 0) (a.rest ++ piece) last b.rest =
-    subst (λ (h : HubState). Answers h.limits id (state_with h.store a.version [] false 0) (a.rest ++ piece) last b.rest) a.state b.answers in
-    let beyond = added old.limits id (state_with a.store a.version [] false 0) last (a.rest ++ piece) b.rest a.reply n here in
-    let after_text : Answers old.limits id (state_with a.store a.version a.reply false (n + 0)) (a.rest ++ piece) whole b.rest =
-    subst (λ z. Answers old.limits id (state_with a.store a.version z false (n + 0)) (a.rest ++ piece) whole b.rest) (append-nil a.reply) beyond in
-    let none : n + 0 ≡ n = omega arith in
-    let before : Answers old.limits id (state_with old.store s.version [] false 0) text (state_with a.store a.version a.reply false n) a.rest =
-    subst (λ c. Answers old.limits id (state_with old.store s.version [] false 0) text (state_with a.store a.version a.reply c n) a.rest) is_open a.answers in
+    let start = state_with old.store s.version [] false 0 in
     let now = seat_after old mid id s text n a in
     let late = seat_with b.version ((s.out ++ a.reply) ++ b.reply) b.closing b.decoder in
     record {
@@ -44,9 +35,10 @@ answered_on go_on added old mid new id s text piece n m a is_open b =
       closing = b.closing;
       decoder = b.decoder;
       rest = b.rest;
-      answers = go_on old.limits id (state_with old.store s.version [] false 0) (state_with a.store a.version a.reply false n) whole text piece a.rest b.rest
-          before refl
-          (subst (λ k. Answers old.limits id (state_with a.store a.version a.reply false k) (a.rest ++ piece) whole b.rest) none after_text);
+      answers = answers_after go_on added old.limits id start text a.rest piece b.rest a.reply b.reply a.store b.store a.version b.version b.closing n m
+          (subst (λ c. Answers old.limits id start text (state_with a.store a.version a.reply c n) a.rest) is_open a.answers)
+          (subst (λ (h : HubState). Answers h.limits id (state_with h.store a.version [] false 0) (a.rest ++ piece)
+          (state_with b.store b.version b.reply b.closing m) b.rest) a.state b.answers);
       state = b.state ∙ ap (λ g. stocked (seated g id late) b.store) a.state ∙ ap (λ g. stocked g b.store) (seated_twice old id now late) ∙
           ap (λ z. stocked (seated old id (seat_with b.version z b.closing b.decoder)) b.store) (append_assoc s.out a.reply b.reply);
       taking = b.taking;
@@ -148,22 +140,15 @@ closes_more go_on added old mid id s front out order order' number done h c =
     subst (λ z. (a : HasAnswered old c.new id s z all) × (a.closing ≡ true)) (text_on front out done c.count) (whole, c.is_closing) in
     record { count = done + c.count; new = c.new; commands = all; answered = both.0; is_closing = both.1 }
 
-stops_by : AnswersGoOn → AnswersAreAdded → (old mid : HubState) (id : ℕ) (s : Seat) (front out order order' : List ℕ)
-    (number done failures failures' failures'' : ℕ) (cause : Cause) → (h : HasBrought old mid id s (front ++ take done out) order order' number) →
-    failures' ≡ failures → StopsCarrying mid id (seat_after old mid id s (front ++ take done out) h.commands h.answered) h.answered.rest (drop done out)
-    failures' failures'' cause → StopsCarrying old id s front out failures failures'' cause
-stops_by go_on added old mid id s front out order order' number done failures failures' failures'' cause h none (inl e) = inl e
-stops_by go_on added old mid id s front out order order' number done failures failures' failures'' cause h none (inr (inl risen)) =
-    inr (inl (subst (λ n. HasRisen n failures'') none risen.0, risen.1))
-stops_by go_on added old mid id s front out order order' number done failures failures' failures'' cause h none (inr (inr c)) =
-    inr (inr (closes_more go_on added old mid id s front out order order' number done h c))
-
 pub stops_more : AnswersGoOn → AnswersAreAdded → (old mid : HubState) (id : ℕ) (s : Seat) (front out order order' : List ℕ)
     (number done failures failures' failures'' : ℕ) (cause : Cause) → seat_at old id ≡ Some s →
     HasBrought old mid id s (front ++ take done out) order order' number → failures' ≡ failures →
-    WhereOpen mid id (λ t f. StopsCarrying mid id t f (drop done out) failures' failures'' cause) →
-    StopsCarrying old id s front out failures failures'' cause
+    WhereOpen mid id (λ t f. StopsCarrying (λ _. HasClosed mid id t f (drop done out)) failures' failures'' cause) →
+    StopsCarrying (λ _. HasClosed old id s front out) failures failures'' cause
 stops_more go_on added old mid id s front out order order' number done failures failures' failures'' cause here h none more =
-    stops_by go_on added old mid id s front out order order' number done failures failures' failures'' cause h none
-    (after_brought old mid id s (front ++ take done out) order order' number (λ t f. StopsCarrying mid id t f (drop done out) failures' failures'' cause)
+    stops_with (λ _. HasClosed mid id (seat_after old mid id s (front ++ take done out) h.commands h.answered) h.answered.rest (drop done out))
+    (λ _. HasClosed old id s front out) failures failures' failures'' cause none
+    (closes_more go_on added old mid id s front out order order' number done h)
+    (after_brought old mid id s (front ++ take done out) order order' number
+    (λ t f. StopsCarrying (λ _. HasClosed mid id t f (drop done out)) failures' failures'' cause)
     here h more)

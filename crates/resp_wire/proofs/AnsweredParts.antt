@@ -7,13 +7,12 @@ use Rattle.std.proofs.lemmas.List.{length-append, take-append-le}
 use Rattle.resp_session.specs.AnswerLaws.{AnswersAreAdded, AnswersGoOn}
 use Rattle.resp_server.specs.Handling.{WhereOpen}
 use Rattle.resp_server.specs.Hubs.{HubState, Seat, WaitsAtMost, seat_at}
-use Rattle.resp_wire.specs.Serving.{AnswersBefore, AnswersGiven, EndsAnswering, HadAnswered, IsOpen, LeavesRest, MayLeave, Overfills, Serves, StopsAnswering, StopsOverfull, StopsServing}
+use Rattle.resp_wire.specs.Serving.{AnswersBefore, AnswersGiven, HadAnswered, IsOpen, LeavesRest, MayLeave, Overfills, Serves, StopsAnswering, StopsOverfull, StopsServing}
 use Rattle.resp_wire.specs.declared.error.ServeError.{ServeError}
 use Rattle.resp_wire.specs.declared.error.ServeError.TheVariants.{NoSession, OutOfMemory, Read, Write, TooManyTurns}
-use Rattle.resp_wire.proofs.Seated.{at_open, where_open}
-use Rattle.resp_turns.proofs.Pieces.{concat_more}
+use Rattle.resp_wire.proofs.Seated.{at_open, open_map, where_open}
 use Rattle.resp_turns.proofs.Turning.{on_err}
-use Rattle.resp_wire.proofs.ServedTexts.{Stands, piece_serves, piece_stops, seat_given, seat_of, serves_piece, stands, stops_piece}
+use Rattle.resp_wire.proofs.ServedTexts.{HasServed, Stands, piece_serves, piece_stops, seat_given, seat_of, serves_piece, stands, stops_piece}
 
 -- the result of a part that was answered
 pub ok_end : (end : Result Bool ServeError) → is_ok end ≡ true → (closing : Bool) × (end ≡ Ok closing)
@@ -52,36 +51,16 @@ part_more go_on added old cur new id piece n m closing end held held' held'' bef
     st.taken in
     more_by go_on added old cur new id s front piece n m held held' held'' here st end given stopped)
 
--- and the state after it
-pub ends_more : (total : ℕ) (old cur new : HubState) (id fails fails' fails'' left left' n m : ℕ) (closing : Bool) (end : Result Bool ServeError) →
-    EndsAnswering (total + old.limits.total) old cur id fails fails' left (record { used = n; end = Ok closing }) →
-    EndsAnswering (total + cur.limits.total) cur new id fails' fails'' left' (record { used = m; end = end }) →
-    EndsAnswering (total + old.limits.total) old new id fails fails'' left' (record { used = n + m; end = end })
-ends_more total old cur new id fails fails' fails'' left left' n m closing end a b =
-    let bound : total + cur.limits.total ≡ total + old.limits.total = ap (λ l. total + l.total) a.same_limits in
-    let part : EndsAnswering (total + old.limits.total) cur new id fails fails'' left' (record { used = m; end = end }) =
-    subst (λ z. EndsAnswering (total + old.limits.total) cur new id z fails'' left' (record { used = m; end = end })) a.failures
-    (subst (λ z. EndsAnswering z cur new id fails' fails'' left' (record { used = m; end = end })) bound b) in
-    record {
-      same_limits = part.same_limits ∙ a.same_limits;
-      bounded = λ few. part.bounded (a.bounded few);
-      closing = part.closing;
-      is_open = part.is_open;
-      sent = part.sent;
-      refusal = part.refusal;
-      failures = part.failures;
-      no_read = part.no_read;
-    }
-
 -- a piece that was answered was given whole
 pub given_whole : (cur new : HubState) (id : ℕ) (piece : List ℕ) (used : ℕ) (end : Result Bool ServeError) (closing : Bool)
     (held held' : Option (List ℕ)) → end ≡ Ok closing → OnOk end (used ≡ length piece) →
     AnswersGiven cur new id piece held held' (record { used = used; end = end }) →
-    WhereOpen cur id (λ s front. Serves cur new id s (front ++ piece) held held' [] × ⊤)
+    WhereOpen cur id (λ s front. Serves cur new id s (front ++ piece) held held' [])
 given_whole cur new id piece used end closing held held' is all given =
     let size : used ≡ length piece = subst (λ e. OnOk e (used ≡ length piece)) is all in
-    subst (λ z. WhereOpen cur id (λ s front. Serves cur new id s (front ++ z) held held' [] × ⊤))
-    (ap (λ n. take n piece) size ∙ take_all (length piece) piece (omega arith))
+    open_map cur id (λ s front. Serves cur new id s (front ++ take used piece) held held' [] × ⊤) _
+    (λ s front h. subst (λ z. Serves cur new id s (front ++ z) held held' [])
+    (ap (λ n. take n piece) size ∙ take_all (length piece) piece (omega arith)) h.0)
     (subst (λ e. AnswersGiven cur new id piece held held' (record { used = used; end = e })) is given)
 
 -- the pieces before the last one are the same, however long that is
@@ -103,21 +82,17 @@ may_leave fails fails' left TooManyTurns rest why memory = tt
 
 -- the pieces that were read, of which the last one was given in part
 pub part_stops : AnswersGoOn → AnswersAreAdded → (old cur new : HubState) (id : ℕ) (pieces : List (List ℕ)) (bytes : List ℕ) (count used : ℕ)
-    (held held' held'' : Option (List ℕ)) (error : ServeError) →
-    WhereOpen old id (λ s front. Serves old cur id s (front ++ concat pieces) held held' [] × AnswersBefore old id s front pieces held held') →
+    (held held' held'' : Option (List ℕ)) (error : ServeError) → WhereOpen old id (HasServed old cur id pieces held held') →
     IsOpen cur id → WhereOpen cur id (λ s front. ⊤ × StopsServing cur new id s front (take used (take count bytes)) held' held'' error) →
     WhereOpen old id (λ s front. ⊤ × StopsServing old new id s front (concat pieces ++ take used (take count bytes)) held held'' error ×
     AnswersBefore old id s front (pieces ++ take count bytes ∷ []) held held'')
 part_stops go_on added old cur new id pieces bytes count used held held' held'' error before o after =
     let part = take used (take count bytes) in
-    let all = piece_stops go_on added old cur new id pieces part held held' held'' error before o after in
-    where_open old id _ (λ s here not_closing front taken.
-    let (_, stops, each) = at_open old id (λ t f. ⊤ × StopsServing old new id t f (concat (pieces ++ part ∷ [])) held held'' error ×
-    AnswersBefore old id t f (pieces ++ part ∷ []) held held'') s front all here not_closing taken in (
-      tt,
-      subst (λ z. StopsServing old new id s front z held held'' error) (concat_more pieces part) stops,
-      before_last old id s front pieces part (take count bytes) held held'' each,
-    ))
+    open_map old id (λ s front. StopsServing old new id s front (concat pieces ++ part) held held'' error ×
+    AnswersBefore old id s front (pieces ++ part ∷ []) held held'') _
+    (λ s front h. (tt, h.0, before_last old id s front pieces part (take count bytes) held held'' h.1))
+    (piece_stops go_on added old cur new id pieces part held held' held'' error before o
+    (open_map cur id (λ s front. ⊤ × StopsServing cur new id s front part held' held'' error) _ (λ s front h. h.1) after))
 
 -- at most so many bytes wait after one more answer
 pub still_few : (held : ℕ) (old cur new : HubState) (id : ℕ) → cur.limits ≡ old.limits →
@@ -159,47 +134,39 @@ part_overfills most old cur new id piece part n m closing held held' held'' end 
       size = m;
       between = cur;
       held_between = held';
-      before = inr (where_open old id _ (λ s here not_closing front taken.
-          (at_open old id (λ t f. Serves old cur id t (f ++ take n piece) held held' [] × Unit {0}) s front before here not_closing taken).0));
+      before = inr (open_map old id (λ s front. Serves old cur id s (front ++ take n piece) held held' [] × ⊤) _ (λ s front h. h.0) before);
       overfills = subst (λ z. Overfills most cur new id (take m z) held' held'') is (overfills (omega (arith, less, left)));
     })
 
-stops_by : AnswersGoOn → AnswersAreAdded → (most : ℕ) (old cur between new : HubState) (id : ℕ) (pieces : List (List ℕ)) (piece last : List ℕ) (count : ℕ)
-    (held held' held_between held'' : Option (List ℕ)) →
-    WhereOpen old id (λ s front. Serves old cur id s (front ++ concat pieces) held held' [] × AnswersBefore old id s front pieces held held') →
-    IsOpen cur id → ((between ≡ cur) × (held_between ≡ held')) ⊎
-    WhereOpen cur id (λ s front. Serves cur between id s (front ++ take count piece) held' held_between []) →
-    Overfills most between new id last held_between held'' → WhereOpen old id (λ s front. StopsOverfull most old new id s front held held'')
-stops_by go_on added most old cur between new id pieces piece last count held held' held_between held'' served o (inl (same, same')) overfills =
-    where_open old id _ (λ s here not_closing front taken. record {
+overfull_after : (most : ℕ) (old cur new : HubState) (id : ℕ) (pieces : List (List ℕ)) (last : List ℕ) (held held' held'' : Option (List ℕ)) →
+    WhereOpen old id (HasServed old cur id pieces held held') → Overfills most cur new id last held' held'' →
+    WhereOpen old id (λ s front. StopsOverfull most old new id s front held held'')
+overfull_after most old cur new id pieces last held held' held'' served overfills = open_map old id (HasServed old cur id pieces held held') _
+    (λ s front h. record {
       before = concat pieces;
       last = last;
       between = cur;
       held_between = held';
-      served = (at_open old id (λ t f. Serves old cur id t (f ++ concat pieces) held held' [] × AnswersBefore old id t f pieces held held') s front served
-          here not_closing taken).0;
-      overfills = subst (λ h. Overfills most cur new id last h held'') same' (subst (λ h. Overfills most h new id last held_between held'') same overfills);
-    })
-stops_by go_on added most old cur between new id pieces piece last count held held' held_between held'' served o (inr given) overfills =
-    let part = take count piece in
-    let with_unit = where_open cur id (λ s front. Serves cur between id s (front ++ part) held' held_between [] × ⊤) (λ s here not_closing front taken.
-    (at_open cur id (λ t f. Serves cur between id t (f ++ part) held' held_between []) s front given here not_closing taken, tt)) in
-    let all = piece_serves go_on added old cur between id pieces part held held' held_between served o with_unit in
-    where_open old id _ (λ s here not_closing front taken. record {
-      before = concat (pieces ++ part ∷ []);
-      last = last;
-      between = between;
-      held_between = held_between;
-      served = (at_open old id (λ t f. Serves old between id t (f ++ concat (pieces ++ part ∷ [])) held held_between [] × ⊤ ×
-          AnswersBefore old id t f (pieces ++ part ∷ []) held held_between) s front all here not_closing taken).0;
+      served = h.0;
       overfills = overfills;
-    })
+    }) served
+
+stops_by : AnswersGoOn → AnswersAreAdded → (most : ℕ) (old cur between new : HubState) (id : ℕ) (pieces : List (List ℕ)) (piece last : List ℕ) (count : ℕ)
+    (held held' held_between held'' : Option (List ℕ)) → WhereOpen old id (HasServed old cur id pieces held held') → IsOpen cur id →
+    ((between ≡ cur) × (held_between ≡ held')) ⊎
+    WhereOpen cur id (λ s front. Serves cur between id s (front ++ take count piece) held' held_between []) →
+    Overfills most between new id last held_between held'' → WhereOpen old id (λ s front. StopsOverfull most old new id s front held held'')
+stops_by go_on added most old cur between new id pieces piece last count held held' held_between held'' served o (inl (same, same')) overfills =
+    overfull_after most old cur new id pieces last held held' held'' served
+    (subst (λ h. Overfills most cur new id last h held'') same' (subst (λ h. Overfills most h new id last held_between held'') same overfills))
+stops_by go_on added most old cur between new id pieces piece last count held held' held_between held'' served o (inr given) overfills =
+    overfull_after most old between new id (pieces ++ take count piece ∷ []) last held held_between held''
+    (piece_serves go_on added old cur between id pieces (take count piece) held held' held_between served o given) overfills
 
 -- pieces that were answered, and one of which bytes are left
 pub stops_overfull : AnswersGoOn → AnswersAreAdded → (most : ℕ) (old cur new : HubState) (id : ℕ) (pieces : List (List ℕ)) (piece : List ℕ)
-    (held held' held'' : Option (List ℕ)) →
-    WhereOpen old id (λ s front. Serves old cur id s (front ++ concat pieces) held held' [] × AnswersBefore old id s front pieces held held') →
-    IsOpen cur id → LeavesRest most cur new id piece held' held'' → WhereOpen old id (λ s front. StopsOverfull most old new id s front held held'')
+    (held held' held'' : Option (List ℕ)) → WhereOpen old id (HasServed old cur id pieces held held') → IsOpen cur id →
+    LeavesRest most cur new id piece held' held'' → WhereOpen old id (λ s front. StopsOverfull most old new id s front held held'')
 stops_overfull go_on added most old cur new id pieces piece held held' held'' served o left =
     stops_by go_on added most old cur left.between new id pieces piece (take left.size (drop left.count piece)) left.count held held' left.held_between held''
     served o left.before left.overfills

@@ -1,17 +1,20 @@
 -- Which stops are for a cause of links, and which links failed then.
-use Rattle.std.proofs.Common.{◌≡◌, ◌∙◌, ℕ, zero, suc, ◌<◌, Bool, true, false, List, [], ◌∷◌, length, map, set, get_or, slice_get, Some, IfErr, Result, Ok, Err, refl, sym, ap, subst, arith}
+use Rattle.std.proofs.Common.{◌≡◌, inl, inr, ◌∙◌, ℕ, zero, suc, ◌<◌, Bool, true, false, List, [], ◌∷◌, length, map, set, get_or, slice_get, Some, IfErr, Result, Ok, Err, refl, sym, ap, subst, arith}
 use Rattle.std.proofs.lemmas.List.{map-set}
 use Rattle.std.proofs.lemmas.Option.{slice_get-map, slice_get_read}
 use Rattle.std.specs.Option.{option_map}
-use Rattle.resp_value.specs.Devices.{count_after, failures_after}
+use Rattle.resp_value.specs.Devices.{HasRisen, count_after, failures_after}
 use Rattle.resp_value.specs.declared.cause.Cause.{Cause}
 use Rattle.resp_value.specs.declared.cause.Cause.TheVariants as cause
 use Rattle.resp_client.specs.Standing.{IsOfBytes}
 use Rattle.resp_server.specs.declared.error.PushError.{PushError}
 use Rattle.resp_server.specs.declared.error.PushError.TheVariants as push
+use Rattle.resp_wire.specs.Carrying.{StopsCarrying}
 use Rattle.resp_wire.specs.Ends.{outcome_of_push}
-use Rattle.resp_wire.specs.Links.{is_of_link}
-use Rattle.resp_turns.specs.Turns.{stopped_by}
+use Rattle.resp_wire.specs.Links.{error_of_halt, is_of_link}
+use Rattle.resp_turns.specs.Turns.{Halts, stopped_by}
+use Rattle.resp_turns.specs.declared.halt.Halt.{Halt}
+use Rattle.resp_turns.specs.declared.halt.Halt.TheVariants.{Failed, NoTurn}
 use Rattle.resp_wire.specs.Worlds.{CountsFailures, KeepFailures}
 
 -- a cause of bytes that come is none of a link
@@ -81,22 +84,35 @@ counts_one {L} failures client links i link link' false its within is same =
     set_back [] k e = refl
     set_back (x ∷ xs) zero e = ap (λ z. z ∷ xs) e
     set_back (x ∷ xs) (suc k) e = ap (λ l. x ∷ l) (set_back xs k e)
-counts_one {L} failures client links i link link' true its within is risen = record {
-  at = i;
-  is_its = its;
-  before = failures link;
-  there = slice_get-map failures links i ∙ ap (option_map failures) (slice_get_read links (length links) i link refl within is);
-  once = map-set failures links i link' ∙ ap (set (map failures links) i) risen;
-}
+counts_one {L} failures client links i link link' true its within is risen = (
+  i,
+  its,
+  failures link,
+  slice_get-map failures links i ∙ ap (option_map failures) (slice_get_read links (length links) i link refl within is),
+  map-set failures links i link' ∙ ap (set (map failures links) i) risen,
+)
 
 -- and no other did before
 pub counts_on : {L : Type 0} (failures : L → ℕ) (client : ℕ) (a b c : List L) (failed : Bool) → KeepFailures failures a b → CountsFailures failures client b c failed →
     CountsFailures failures client a c failed
 counts_on {L} failures client a b c false keep h = h ∙ keep
-counts_on {L} failures client a b c true keep h = record {
-  at = h.at;
-  is_its = h.is_its;
-  before = h.before;
-  there = subst (λ l. slice_get l h.at ≡ Some h.before) keep h.there;
-  once = h.once ∙ ap (λ l. set l h.at (count_after 1 h.before)) keep;
-}
+counts_on {L} failures client a b c true keep (at, its, before, there, once) = (
+  at,
+  its,
+  before,
+  subst (λ l. slice_get l at ≡ Some before) keep there,
+  once ∙ ap (λ l. set l at (count_after 1 before)) keep,
+)
+
+-- a stop after bytes that were carried without a failure of the link
+pub stops_with : (P Q : Cause → Type 0) (failures failures' failures'' : ℕ) (k : Cause) → failures' ≡ failures → (P k → Q k) →
+    StopsCarrying P failures' failures'' k → StopsCarrying Q failures failures'' k
+stops_with P Q failures failures' failures'' k none f (inl memory) = inl memory
+stops_with P Q failures failures' failures'' k none f (inr (inl risen)) = inr (inl (subst (λ n. HasRisen n failures'') none risen.0, risen.1))
+stops_with P Q failures failures' failures'' k none f (inr (inr p)) = inr (inr (f p))
+
+-- a read or a write is out of turns only where none is left
+pub no_turn_left : {E : Type 0} (failed no_turn : E) (failures failures' left : ℕ) (halt : Halt) → (failed ≡ no_turn → ⊥) →
+    Halts failures failures' left halt → error_of_halt failed no_turn halt ≡ no_turn → left ≡ 0
+no_turn_left {E} failed no_turn failures failures' left Failed other h is = absurd (other is)
+no_turn_left {E} failed no_turn failures failures' left NoTurn other h is = h

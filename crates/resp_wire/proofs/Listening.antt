@@ -20,7 +20,7 @@ use Rattle.resp_client.specs.declared.client.Client.{Client}
 use Rattle.resp_client.specs.declared.heard.What.{What}
 use Rattle.resp_client.specs.declared.heard.What.TheVariants.{Reply, Push, Shown, More}
 use Rattle.resp_wire.specs.Hearing.{Adds, AddsHeard, HearsAll, HearsFault, HearsSome, ReadsFrom, StillWaits, StopsAtFault, WaitsBefore, pushes_in, replies_in}
-use Rattle.resp_wire.specs.Stops.{FailsReading, KeepsFault, StopsClient, StopsHearing, StopsListening, error_by, error_of, is_of_last_read}
+use Rattle.resp_wire.specs.Stops.{FailsReading, KeepsFault, StopsClient, StopsListening, error_by, is_of_last_read}
 use Rattle.resp_wire.specs.declared.error.AskError.{AskError}
 use Rattle.resp_wire.specs.declared.error.AskError.TheVariants as error
 use Rattle.resp_wire.specs.declared.asked.Asked.{Asked}
@@ -231,14 +231,11 @@ hears_some s c before after front piece rest turns w = record {
 hears_fault : (s : ClientState) (c new : Client) (before after : Asked) (front piece rest : List ℕ) (turns : ℕ) (fault : Fault) →
     (w : HearsUpTo s c before after front piece rest turns) → (fault.cause ≡ cause.OutOfMemory → ⊥) → Refuses (state_of c) w.hears.rest rest fault →
     state_of new ≡ state_of c → StopsAtFault s new before after (front ++ piece) fault
+unfolding hears_some
 hears_fault s c new before after front piece rest turns fault w other (inr (asked, lacks)) same = absurd (other lacks.names)
 hears_fault s c new before after front piece rest turns fault w other (inl is) same = record {
   hears = record {
-    values = w.hears.values;
-    waiting = (state_of c).waiting;
-    rest = w.hears.rest ++ rest;
-    reads = reads_before s c before after front piece rest turns w;
-    heard = w.hears.heard;
+    some = hears_some s c before after front piece rest turns w;
     fault_of = subst (λ limits. ClientFault limits (state_of c).waiting (w.hears.rest ++ rest) fault.cause fault.at) w.hears.same_limits is;
   };
   waits = ap (λ (z : ClientState). z.waiting) same;
@@ -250,16 +247,16 @@ hears_fault s c new before after front piece rest turns fault w other (inl is) s
 -- the client stopped
 stops_by : (k : Cause) (s : ClientState) (c new : Client) (before after : Asked) (front piece rest : List ℕ) (turns : ℕ) (fault : Fault) → fault.cause ≡ k →
     (w : HearsUpTo s c before after front piece rest turns) → Refuses (state_of c) w.hears.rest rest fault → state_of new ≡ state_of c →
-    StopsHearing s new before after (front ++ piece) (error_by k fault)
+    StopsListening s new before after (front ++ piece) (error_by k fault)
 stops_by cause.OutOfMemory s c new before after front piece rest turns fault is w refused same = hears_some s c before after front piece rest turns w
 stops_by k s c new before after front piece rest turns fault is w refused same =
     hears_fault s c new before after front piece rest turns fault w (λ memory. let z : k ≡ cause.OutOfMemory = sym is ∙ memory in absurd (cc)) refused same
 
 pub stops_hearing : (s : ClientState) (c new : Client) (before after : Asked) (front piece rest : List ℕ) (turns : ℕ) (fault : Fault) (error : AskError) →
-    error ≡ error_of fault → (w : HearsUpTo s c before after front piece rest turns) → Refuses (state_of c) w.hears.rest rest fault →
-    state_of new ≡ state_of c → StopsHearing s new before after (front ++ piece) error
+    error ≡ error_by fault.cause fault → (w : HearsUpTo s c before after front piece rest turns) → Refuses (state_of c) w.hears.rest rest fault →
+    state_of new ≡ state_of c → StopsListening s new before after (front ++ piece) error
 stops_hearing s c new before after front piece rest turns fault error is w refused same =
-    subst (StopsHearing s new before after (front ++ piece)) (sym is)
+    subst (StopsListening s new before after (front ++ piece)) (sym is)
     (stops_by fault.cause s c new before after front piece rest turns fault refl w refused same)
 
 -- a fault of the client stands where it stops the call
@@ -267,7 +264,7 @@ keeps_by : (k : Cause) (c : Client) (fault : Fault) → HasFault c fault → Kee
 keeps_by cause.OutOfMemory c fault has = tt
 keeps_by k c fault has = has
 
-pub keeps_fault : (c : Client) (fault : Fault) → HasFault c fault → KeepsFault c (error_of fault)
+pub keeps_fault : (c : Client) (fault : Fault) → HasFault c fault → KeepsFault c (error_by fault.cause fault)
 keeps_fault c fault has = keeps_by fault.cause c fault has
 
 -- what isn't added stays
@@ -306,78 +303,68 @@ hears_piece go_on goes_on s c new before mid after front came piece h p = record
   same_out = p.same_out ∙ h.same_out;
 }
 
+some_in_piece : ReadingsGoOn → HearingGoesOn → (s : ClientState) (c : Client) (before mid after : Asked) (front came piece : List ℕ) →
+    (h : HearsAll s c before mid (front ++ came)) → HearsSome (state_of c) mid after (h.rest ++ piece) → HearsSome s before after (front ++ (came ++ piece))
+some_in_piece go_on goes_on s c before mid after front came piece h p = record {
+  values = h.values ++ p.values;
+  waiting = p.waiting;
+  rest = p.rest;
+  reads = reads_on go_on s c h.values p.values front came piece h.rest p.rest p.waiting h.same_limits h.reads p.reads;
+  heard = hears_values goes_on s (state_of c) before mid after h.values p.values _ _ h.answered refl refl h.heard p.heard;
+}
+
 pub fault_in_piece : ReadingsGoOn → HearingGoesOn → (s : ClientState) (c : Client) (before mid after : Asked) (front came piece : List ℕ) (fault : Fault) →
     (h : HearsAll s c before mid (front ++ came)) → HearsFault (state_of c) mid after (h.rest ++ piece) fault →
     HearsFault s before after (front ++ (came ++ piece)) fault
+unfolding some_in_piece
 fault_in_piece go_on goes_on s c before mid after front came piece fault h p = record {
-  values = h.values ++ p.values;
-  waiting = p.waiting;
-  rest = p.rest;
-  reads = reads_on go_on s c h.values p.values front came piece h.rest p.rest p.waiting h.same_limits h.reads p.reads;
-  heard = hears_values goes_on s (state_of c) before mid after h.values p.values _ _ h.answered refl refl h.heard p.heard;
-  fault_of = subst (λ limits. ClientFault limits p.waiting p.rest fault.cause fault.at) h.same_limits p.fault_of;
+  some = some_in_piece go_on goes_on s c before mid after front came piece h p.some;
+  fault_of = subst (λ limits. ClientFault limits p.some.waiting p.some.rest fault.cause fault.at) h.same_limits p.fault_of;
 }
 
 pub stops_piece : ReadingsGoOn → HearingGoesOn → (s : ClientState) (c new : Client) (before mid after : Asked) (front came piece : List ℕ) (error : AskError) →
-    (h : HearsAll s c before mid (front ++ came)) → StopsHearing (state_of c) new mid after (h.rest ++ piece) error →
-    StopsHearing s new before after (front ++ (came ++ piece)) error
-unfolding fault_in_piece
+    (h : HearsAll s c before mid (front ++ came)) → StopsListening (state_of c) new mid after (h.rest ++ piece) error →
+    StopsListening s new before after (front ++ (came ++ piece)) error
+unfolding fault_in_piece some_in_piece
 stops_piece go_on goes_on s c new before mid after front came piece (error.Fault fault) h p = record {
   hears = fault_in_piece go_on goes_on s c before mid after front came piece fault h p.hears;
   waits = p.waits;
-  answered = omega (arith, p.answered, h.answered, replies_more h.values p.hears.values);
+  answered = omega (arith, p.answered, h.answered, replies_more h.values p.hears.some.values);
   same_limits = p.same_limits ∙ h.same_limits;
   same_out = p.same_out ∙ h.same_out;
 }
-stops_piece go_on goes_on s c new before mid after front came piece error.OutOfMemory h p = record {
-  values = h.values ++ p.values;
-  waiting = p.waiting;
-  rest = p.rest;
-  reads = reads_on go_on s c h.values p.values front came piece h.rest p.rest p.waiting h.same_limits h.reads p.reads;
-  heard = hears_values goes_on s (state_of c) before mid after h.values p.values _ _ h.answered refl refl h.heard p.heard;
-}
+stops_piece go_on goes_on s c new before mid after front came piece error.OutOfMemory h p =
+    some_in_piece go_on goes_on s c before mid after front came piece h p
+stops_piece go_on goes_on s c new before mid after front came piece error.Read h p = hears_piece go_on goes_on s c new before mid after front came piece h p
+stops_piece go_on goes_on s c new before mid after front came piece error.TooManyTurns h p =
+    hears_piece go_on goes_on s c new before mid after front came piece h p
+stops_piece go_on goes_on s c new before mid after front came piece error.Ended h p = hears_piece go_on goes_on s c new before mid after front came piece h p
 stops_piece go_on goes_on s c new before mid after front came piece (error.Refused index refusal) h p = absurd p
-stops_piece go_on goes_on s c new before mid after front came piece error.Read h p = absurd p
 stops_piece go_on goes_on s c new before mid after front came piece error.Write h p = absurd p
-stops_piece go_on goes_on s c new before mid after front came piece error.TooManyTurns h p = absurd p
-stops_piece go_on goes_on s c new before mid after front came piece error.Ended h p = absurd p
-
--- what a client's stop says of all that was read
-pub stops_listening : (s : ClientState) (c : Client) (before after : Asked) (came : List ℕ) (error : AskError) → StopsHearing s c before after came error →
-    StopsListening s c before after came error
-stops_listening s c before after came (error.Fault fault) h = h
-stops_listening s c before after came error.OutOfMemory h = h
-stops_listening s c before after came (error.Refused index refusal) h = absurd h
-stops_listening s c before after came error.Read h = absurd h
-stops_listening s c before after came error.Write h = absurd h
-stops_listening s c before after came error.TooManyTurns h = absurd h
-stops_listening s c before after came error.Ended h = absurd h
 
 -- a client stops by a fault or when out of memory
 stops_client : (k : Cause) (fault : Fault) → StopsClient (error_by k fault)
 stops_client cause.OutOfMemory fault = tt
 stops_client k fault = tt
 
-pub client_stops : (fault : Fault) (error : AskError) → error ≡ error_of fault → StopsClient error
+pub client_stops : (fault : Fault) (error : AskError) → error ≡ error_by fault.cause fault → StopsClient error
 client_stops fault error is = subst StopsClient (sym is) (stops_client fault.cause fault)
 
+-- what holds of faults and where memory is out holds of each such error
+pub by_client : (P : AskError → Type 0) → ((fault : Fault) → P (error.Fault fault)) → P error.OutOfMemory → (e : AskError) → StopsClient e → P e
+by_client P faults memory (error.Fault fault) h = faults fault
+by_client P faults memory error.OutOfMemory h = memory
+by_client P faults memory (error.Refused index refusal) h = absurd h
+by_client P faults memory error.Read h = absurd h
+by_client P faults memory error.Write h = absurd h
+by_client P faults memory error.TooManyTurns h = absurd h
+by_client P faults memory error.Ended h = absurd h
+
 -- then the last read gave a piece
-pub no_last_read : (error : AskError) → StopsClient error → is_of_last_read error ≡ false
-no_last_read (error.Fault fault) h = refl
-no_last_read error.OutOfMemory h = refl
-no_last_read (error.Refused index refusal) h = absurd h
-no_last_read error.Read h = absurd h
-no_last_read error.Write h = absurd h
-no_last_read error.TooManyTurns h = absurd h
-no_last_read error.Ended h = absurd h
+pub no_last_read : (e : AskError) → StopsClient e → is_of_last_read e ≡ false
+no_last_read = by_client (λ e. is_of_last_read e ≡ false) (λ fault. refl) refl
 
 -- then there is no other reason why no more is read
-pub fails_reading : (failures failures' : ℕ) (left left' : Option (List ℕ)) (s : ClientState) (error : AskError) → StopsClient error →
-    FailsReading failures failures' left left' s error
-fails_reading failures failures' left left' s (error.Fault fault) h = tt
-fails_reading failures failures' left left' s error.OutOfMemory h = tt
-fails_reading failures failures' left left' s (error.Refused index refusal) h = absurd h
-fails_reading failures failures' left left' s error.Read h = absurd h
-fails_reading failures failures' left left' s error.Write h = absurd h
-fails_reading failures failures' left left' s error.TooManyTurns h = absurd h
-fails_reading failures failures' left left' s error.Ended h = absurd h
+pub fails_reading : (failures failures' : ℕ) (left left' : Option (List ℕ)) (s : ClientState) (e : AskError) → StopsClient e →
+    FailsReading failures failures' left left' s e
+fails_reading failures failures' left left' s = by_client (FailsReading failures failures' left left' s) (λ fault. tt) tt

@@ -7,7 +7,7 @@ use Rattle.resp_server.specs.Hubs.{HubState, Seat, WaitsAtMost, seat_at, seated,
 use Rattle.resp_server.specs.Reading.{HasReadFront}
 use Rattle.resp_server.proofs.Seats.{put_there, with_same}
 use Rattle.resp_server.specs.Sending.{HasSent, IsClosing}
-use Rattle.resp_wire.specs.Serving.{IsOpen, IsThere}
+use Rattle.resp_wire.specs.Serving.{IsOpen}
 
 -- there stands then the new session
 pub seat_here : (hub : HubState) (id : ℕ) (old new : Seat) → seat_at hub id ≡ Some old → seat_at (seated hub id new) id ≡ Some new
@@ -55,6 +55,15 @@ at_open hub id P s front w here is_open taken =
     let all : s.closing ≡ false → (front : List ℕ) → HasReadFront s.decoder front → P s front =
     subst (λ o. IfSome o (λ (t : Seat). t.closing ≡ false → (front : List ℕ) → HasReadFront t.decoder front → P t front)) here w in
     all is_open front taken
+
+-- what follows from what holds of an open session holds of it
+pub open_map : (hub : HubState) (id : ℕ) (P Q : Seat → List ℕ → Type 0) → ((s : Seat) (front : List ℕ) → P s front → Q s front) → WhereOpen hub id P →
+    WhereOpen hub id Q
+open_map hub id P Q f w = where_open hub id Q (λ s here not_closing front taken. f s front (at_open hub id P s front w here not_closing taken))
+
+-- there is a session with this id
+abbrev pub IsThere : HubState → ℕ → Type 0
+IsThere hub id = (s : Seat) × (seat_at hub id ≡ Some s)
 
 -- a session that is open is there
 pub open_is_there : (hub : HubState) (id : ℕ) → IsOpen hub id → IsThere hub id

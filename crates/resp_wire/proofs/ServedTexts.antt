@@ -1,13 +1,13 @@
 -- Texts that are answered and written, one after another.
-use Rattle.std.specs.Prelude.{⊤}
 use Rattle.std.proofs.Common.{◌≡◌, ℕ, ◌+◌, ◌-◌, ◌<◌, ◌^◌, IfSome, Result, Ok, Err, length, Bool, true, false, Option, Some, List, [], ◌∷◌, ◌++◌, take, refl, sym, ap, subst, ◌∙◌, arith, append_assoc}
 use Rattle.std.specs.List.{concat}
 use Rattle.std.proofs.lemmas.List.{append-nil}
 use Rattle.std.specs.Option.{option_map}
+use Rattle.resp_value.specs.Bounds.{Bounds}
 use Rattle.resp_value.specs.Devices.{Appends}
 use Rattle.resp_value.specs.declared.version.Version.{Version}
 use Rattle.resp_session.specs.AnswerLaws.{AnswersAreAdded, AnswersGoOn}
-use Rattle.resp_session.specs.Answers.{Answers}
+use Rattle.resp_session.specs.Answers.{Answers, SessionState}
 use Rattle.resp_session.specs.Stores.{Store}
 use Rattle.resp_server.specs.Answering.{TakesWithin, state_with}
 use Rattle.resp_server.specs.Handling.{HasAnswered, HasCutShort, WhereOpen}
@@ -15,12 +15,12 @@ use Rattle.resp_server.specs.Hubs.{HubState, Seat, seat_at, seated, stocked}
 use Rattle.resp_server.specs.Reading.{HasReadFront, Reading}
 use Rattle.resp_server.specs.Sending.{HasSent, IsClosing}
 use Rattle.resp_server.proofs.AnsweredHubs.{used_up}
-use Rattle.resp_wire.specs.Serving.{AnswersBefore, HadAnswered, IsOpen, IsThere, MayLeave, Serves, ServesFirst, StopsServing, WaitsMore}
+use Rattle.resp_wire.specs.Serving.{AnswersBefore, HadAnswered, IsOpen, MayLeave, Serves, StopsServing}
 use Rattle.resp_wire.specs.declared.error.ServeError.{ServeError}
 use Rattle.resp_wire.specs.declared.error.ServeError.TheVariants.{NoSession, OutOfMemory, Read, Write, TooManyTurns}
 use Rattle.resp_wire.specs.declared.serve.Served.{Served}
 use Rattle.resp_wire.specs.declared.serve.Served.TheVariants.{Ended, Closed}
-use Rattle.resp_wire.proofs.Seated.{at_open, where_open, one_seat, seat_here, seated_twice}
+use Rattle.resp_wire.proofs.Seated.{IsThere, at_open, where_open, one_seat, seat_here, seated_twice}
 use Rattle.resp_turns.proofs.Pieces.{before_more, concat_more}
 use Rattle.resp_turns.proofs.Turning.{appends_more, appends_nothing}
 
@@ -91,24 +91,30 @@ stands old cur id s text held held' here v o =
 abbrev pub seat_of : (old cur : HubState) (id : ℕ) (s : Seat) (text : List ℕ) (held held' : Option (List ℕ)) → Stands old cur id s text held held' → Seat
 seat_of old cur id s text held held' st = seat_with st.version [] false st.decoder
 
--- what is answered after it is answered to the whole
+-- what is answered after a text is answered to the whole
+pub answers_after : AnswersGoOn → AnswersAreAdded → (limits : Bounds) (id : ℕ) (start : SessionState) (text rest piece rest' reply reply' : List ℕ)
+    (store store' : Store) (version version' : Version) (closing : Bool) (n m : ℕ) →
+    Answers limits id start text (state_with store version reply false n) rest →
+    Answers limits id (state_with store version [] false 0) (rest ++ piece) (state_with store' version' reply' closing m) rest' →
+    Answers limits id start (text ++ piece) (state_with store' version' (reply ++ reply') closing (n + m)) rest'
+answers_after go_on added limits id start text rest piece rest' reply reply' store store' version version' closing n m before after =
+    let whole = state_with store' version' (reply ++ reply') closing (n + m) in
+    let beyond = added limits id (state_with store version [] false 0) (state_with store' version' reply' closing m) (rest ++ piece) rest' reply n after in
+    let none : n + 0 ≡ n = omega arith in
+    go_on limits id start (state_with store version reply false n) whole text piece rest rest' before refl
+    (subst (λ k. Answers limits id (state_with store version reply false k) (rest ++ piece) whole rest') none
+    (subst (λ z. Answers limits id (state_with store version z false (n + 0)) (rest ++ piece) whole rest') (append-nil reply) beyond))
+
 answers_on : AnswersGoOn → AnswersAreAdded → (old cur : HubState) (id : ℕ) (s : Seat) (text : List ℕ) (held held' : Option (List ℕ))
     (st : Stands old cur id s text held held') (piece rest reply : List ℕ) (store : Store) (version : Version) (closing : Bool) (commands : ℕ) →
     Answers cur.limits id (state_with cur.store st.version [] false 0) (st.rest ++ piece) (state_with store version reply closing commands) rest →
     Answers old.limits id (state_with old.store s.version [] false 0) (text ++ piece)
     (state_with store version (st.reply ++ reply) closing (st.commands + commands)) rest
 answers_on go_on added old cur id s text held held' st piece rest reply store version closing commands given =
-    let last = state_with store version reply closing commands in
-    let whole = state_with store version (st.reply ++ reply) closing (st.commands + commands) in
-    let here : Answers old.limits id (state_with st.store st.version [] false 0) (st.rest ++ piece) last rest =
-    subst (λ (h : HubState). Answers h.limits id (state_with h.store st.version [] false 0) (st.rest ++ piece) last rest) st.state given in
-    let beyond = added old.limits id (state_with st.store st.version [] false 0) last (st.rest ++ piece) rest st.reply st.commands here in
-    let after_text : Answers old.limits id (state_with st.store st.version st.reply false (st.commands + 0)) (st.rest ++ piece) whole rest =
-    subst (λ z. Answers old.limits id (state_with st.store st.version z false (st.commands + 0)) (st.rest ++ piece) whole rest) (append-nil st.reply) beyond in
-    let none : st.commands + 0 ≡ st.commands = omega arith in
-    go_on old.limits id (state_with old.store s.version [] false 0) (state_with st.store st.version st.reply false st.commands) whole text piece st.rest rest
-    st.answers refl
-    (subst (λ n. Answers old.limits id (state_with st.store st.version st.reply false n) (st.rest ++ piece) whole rest) none after_text)
+    answers_after go_on added old.limits id (state_with old.store s.version [] false 0) text st.rest piece rest st.reply reply st.store store st.version version
+    closing st.commands commands st.answers
+    (subst (λ (h : HubState). Answers h.limits id (state_with h.store st.version [] false 0) (st.rest ++ piece)
+    (state_with store version reply closing commands) rest) st.state given)
 
 -- what is written after it is written after the whole
 sent_on : (old cur given new : HubState) (id : ℕ) (s : Seat) (text : List ℕ) (held held' held'' : Option (List ℕ)) → seat_at old id ≡ Some s →
@@ -157,19 +163,18 @@ serves_on go_on added old cur new id s text piece held held' held'' waits here s
     }
 
 -- so is what was served of a piece for which memory was wanting
-pub serves_first_on : AnswersGoOn → AnswersAreAdded → (old cur new : HubState) (id : ℕ) (s : Seat) (front came piece : List ℕ)
-    (held held' held'' : Option (List ℕ)) (waits : List ℕ) → seat_at old id ≡ Some s → (st : Stands old cur id s (front ++ came) held held') →
-    ServesFirst cur new id (seat_of old cur id s (front ++ came) held held' st) st.rest piece held' held'' waits →
-    ServesFirst old new id s front (came ++ piece) held held'' waits
-serves_first_on go_on added old cur new id s front came piece held held' held'' waits here st v =
-    let a = v.cut_short in
+serves_first_on : AnswersGoOn → AnswersAreAdded → (old cur new : HubState) (id : ℕ) (s : Seat) (front came piece : List ℕ)
+    (held held' held'' : Option (List ℕ)) → seat_at old id ≡ Some s → (st : Stands old cur id s (front ++ came) held held') →
+    StopsServing cur new id (seat_of old cur id s (front ++ came) held held' st) st.rest piece held' held'' OutOfMemory →
+    StopsServing old new id s front (came ++ piece) held held'' OutOfMemory
+serves_first_on go_on added old cur new id s front came piece held held' held'' here st (waits, given, commands, a, sent) =
     let text = front ++ came in
     let start = state_with old.store s.version [] false 0 in
-    let last = state_with a.store a.version (st.reply ++ a.reply) false (st.commands + v.commands) in
-    record {
-      given = stocked (seated old id (seat_with a.version (s.out ++ (st.reply ++ a.reply)) true a.decoder)) a.store;
-      commands = st.commands + v.commands;
-      cut_short = record {
+    let last = state_with a.store a.version (st.reply ++ a.reply) false (st.commands + commands) in (
+      waits,
+      stocked (seated old id (seat_with a.version (s.out ++ (st.reply ++ a.reply)) true a.decoder)) a.store,
+      st.commands + commands,
+      record {
         first = record {
           bytes = came ++ a.first.bytes;
           beyond = a.first.beyond;
@@ -182,11 +187,11 @@ serves_first_on go_on added old cur new id s front came piece held held' held'' 
         decoder = a.decoder;
         rest = a.rest;
         answers = subst (λ z. Answers old.limits id start z last a.rest) (append_assoc front came a.first.bytes)
-            (answers_on go_on added old cur id s text held held' st a.first.bytes a.rest a.reply a.store a.version false v.commands a.answers);
+            (answers_on go_on added old cur id s text held held' st a.first.bytes a.rest a.reply a.store a.version false commands a.answers);
         state = refl;
-      };
-      sent = sent_on old cur v.given new id s text held held' held'' here st a.reply a.store a.version true a.decoder waits a.state v.sent;
-    }
+      },
+      sent_on old cur given new id s text held held' held'' here st a.reply a.store a.version true a.decoder waits a.state sent,
+    )
 
 serves_whole : (old new : HubState) (id : ℕ) (s : Seat) (front came piece : List ℕ) (held held' : Option (List ℕ)) (waits : List ℕ) →
     Serves old new id s ((front ++ came) ++ piece) held held' waits → Serves old new id s (front ++ (came ++ piece)) held held' waits
@@ -207,8 +212,8 @@ pub stops_piece : AnswersGoOn → AnswersAreAdded → (old cur new : HubState) (
     StopsServing cur new id (seat_of old cur id s (front ++ came) held held' st) st.rest piece held' held'' error →
     StopsServing old new id s front (came ++ piece) held held'' error
 stops_piece go_on added old cur new id s front came piece held held' held'' NoSession here st v = v
-stops_piece go_on added old cur new id s front came piece held held' held'' OutOfMemory here st (waits, v) =
-    (waits, serves_first_on go_on added old cur new id s front came piece held held' held'' waits here st v)
+stops_piece go_on added old cur new id s front came piece held held' held'' OutOfMemory here st v =
+    serves_first_on go_on added old cur new id s front came piece held held' held'' here st v
 stops_piece go_on added old cur new id s front came piece held held' held'' Read here st v =
     (serves_piece go_on added old cur new id s front came piece held held' held'' [] here st v.0, v.1)
 stops_piece go_on added old cur new id s front came piece held held' held'' Write here st (waits, some, v) =
@@ -277,23 +282,21 @@ open_is hub id o = ap (option_map (λ (t : Seat). t.closing)) o.here ∙ ap Some
 
 -- Where memory was wanting all that is answered waits.
 pub first_waits : (old new : HubState) (id : ℕ) (s : Seat) (front piece : List ℕ) (held : Option (List ℕ)) (commands : ℕ) → seat_at old id ≡ Some s →
-    HasCutShort old new id s front piece commands → (waits : List ℕ) × ServesFirst old new id s front piece held held waits
+    HasCutShort old new id s front piece commands → StopsServing old new id s front piece held held OutOfMemory
 first_waits old new id s front piece held commands here a =
     let out = s.out ++ a.reply in
     let seat = seat_with a.version out true a.decoder in (
       out,
+      new,
+      commands,
+      a,
       record {
-        given = new;
-        commands = commands;
-        cut_short = a;
-        sent = record {
-          seat = seat;
-          here = seat_given old new id s seat a.store here a.state;
-          text = [];
-          parts = refl;
-          appended = appends_nothing held;
-          state = a.state ∙ ap (λ g. stocked g a.store) (sym (seated_twice old id seat seat)) ∙ sym (ap (λ g. seated g id seat) a.state);
-        };
+        seat = seat;
+        here = seat_given old new id s seat a.store here a.state;
+        text = [];
+        parts = refl;
+        appended = appends_nothing held;
+        state = a.state ∙ ap (λ g. stocked g a.store) (sym (seated_twice old id seat seat)) ∙ sym (ap (λ g. seated g id seat) a.state);
       },
     )
 
@@ -339,64 +342,61 @@ answers_before old cur id s front pieces piece held held' held'' later v o befor
 pub stop_appends : (old new : HubState) (id : ℕ) (s : Seat) (front came : List ℕ) (held held' : Option (List ℕ)) (error : ServeError) →
     StopsServing old new id s front came held held' error → (text : List ℕ) × Appends held held' text
 stop_appends old new id s front came held held' NoSession v = absurd v
-stop_appends old new id s front came held held' OutOfMemory (waits, v) = (v.sent.text, v.sent.appended)
+stop_appends old new id s front came held held' OutOfMemory (waits, given, commands, a, sent) = (sent.text, sent.appended)
 stop_appends old new id s front came held held' Read (v, going) = (v.sent.text, v.sent.appended)
 stop_appends old new id s front came held held' Write (waits, why, v) = (v.sent.text, v.sent.appended)
 stop_appends old new id s front came held held' TooManyTurns (waits, why, v) = (v.sent.text, v.sent.appended)
 
 -- The same of every front of a session.
 
+-- the pieces received were answered and the answers written, each piece before the next one was read
+abbrev pub HasServed : HubState → HubState → ℕ → List (List ℕ) → Option (List ℕ) → Option (List ℕ) → Seat → List ℕ → Type 0
+HasServed old cur id pieces held held' s front =
+    Serves old cur id s (front ++ concat pieces) held held' [] × AnswersBefore old id s front pieces held held'
+
 -- what came was served, and this holds of the session as it then is
 came_and_went_on : (old cur : HubState) (id : ℕ) (pieces : List (List ℕ)) (held held' : Option (List ℕ)) →
-    WhereOpen old id (λ s front. Serves old cur id s (front ++ concat pieces) held held' [] × AnswersBefore old id s front pieces held held') →
+    WhereOpen old id (HasServed old cur id pieces held held') →
     (o : IsOpen cur id) → (P : Seat → List ℕ → Type 0) → WhereOpen cur id P → (s : Seat) (front : List ℕ) → (here : seat_at old id ≡ Some s) →
     s.closing ≡ false → HasReadFront s.decoder front → (v : Serves old cur id s (front ++ concat pieces) held held' []) ×
     AnswersBefore old id s front pieces held held' ×
     P (seat_of old cur id s (front ++ concat pieces) held held' (stands old cur id s (front ++ concat pieces) held held' here v o))
     (stands old cur id s (front ++ concat pieces) held held' here v o).rest
 came_and_went_on old cur id pieces held held' before o P now_holds s front here not_closing taken =
-    let served = at_open old id (λ t f. Serves old cur id t (f ++ concat pieces) held held' [] × AnswersBefore old id t f pieces held held')
-    s front before here not_closing taken in
+    let served = at_open old id (HasServed old cur id pieces held held') s front before here not_closing taken in
     let st = stands old cur id s (front ++ concat pieces) held held' here served.0 o in
     let now = seat_of old cur id s (front ++ concat pieces) held held' st in
     (served.0, served.1, at_open cur id P now st.rest now_holds (seat_given old cur id s now st.store here st.state) refl st.taken)
 
 -- what is served of a piece after what came
 pub piece_serves : AnswersGoOn → AnswersAreAdded → (old cur new : HubState) (id : ℕ) (pieces : List (List ℕ)) (piece : List ℕ)
-    (held held' held'' : Option (List ℕ)) →
-    WhereOpen old id (λ s front. Serves old cur id s (front ++ concat pieces) held held' [] × AnswersBefore old id s front pieces held held') →
-    IsOpen cur id → WhereOpen cur id (λ s front. Serves cur new id s (front ++ piece) held' held'' [] × ⊤) →
-    WhereOpen old id (λ s front. Serves old new id s (front ++ concat (pieces ++ piece ∷ [])) held held'' [] × ⊤ ×
-    AnswersBefore old id s front (pieces ++ piece ∷ []) held held'')
+    (held held' held'' : Option (List ℕ)) → WhereOpen old id (HasServed old cur id pieces held held') → IsOpen cur id →
+    WhereOpen cur id (λ s front. Serves cur new id s (front ++ piece) held' held'' []) →
+    WhereOpen old id (HasServed old new id (pieces ++ piece ∷ []) held held'')
 piece_serves go_on added old cur new id pieces piece held held' held'' before o answered =
     where_open old id _ (λ s here not_closing front taken.
-    let m = came_and_went_on old cur id pieces held held' before o (λ t f. Serves cur new id t (f ++ piece) held' held'' [] × ⊤) answered s front
+    let (v, each, now) = came_and_went_on old cur id pieces held held' before o (λ t f. Serves cur new id t (f ++ piece) held' held'' []) answered s front
     here not_closing taken in
-    let st = stands old cur id s (front ++ concat pieces) held held' here m.0 o in (
+    let st = stands old cur id s (front ++ concat pieces) held held' here v o in (
       subst (λ z. Serves old new id s (front ++ z) held held'' []) (sym (concat_more pieces piece))
-          (serves_piece go_on added old cur new id s front (concat pieces) piece held held' held'' [] here st m.2.0),
-      tt,
-      answers_before old cur id s front pieces piece held held' held'' m.2.0.sent.text m.0 o m.1 m.2.0.sent.appended,
+          (serves_piece go_on added old cur new id s front (concat pieces) piece held held' held'' [] here st now),
+      answers_before old cur id s front pieces piece held held' held'' now.sent.text v o each now.sent.appended,
     ))
 
 -- and where that stops
 pub piece_stops : AnswersGoOn → AnswersAreAdded → (old cur new : HubState) (id : ℕ) (pieces : List (List ℕ)) (piece : List ℕ)
-    (held held' held'' : Option (List ℕ)) (error : ServeError) →
-    WhereOpen old id (λ s front. Serves old cur id s (front ++ concat pieces) held held' [] × AnswersBefore old id s front pieces held held') →
-    IsOpen cur id → WhereOpen cur id (λ s front. ⊤ × StopsServing cur new id s front piece held' held'' error) →
-    WhereOpen old id (λ s front. ⊤ × StopsServing old new id s front (concat (pieces ++ piece ∷ [])) held held'' error ×
+    (held held' held'' : Option (List ℕ)) (error : ServeError) → WhereOpen old id (HasServed old cur id pieces held held') → IsOpen cur id →
+    WhereOpen cur id (λ s front. StopsServing cur new id s front piece held' held'' error) →
+    WhereOpen old id (λ s front. StopsServing old new id s front (concat pieces ++ piece) held held'' error ×
     AnswersBefore old id s front (pieces ++ piece ∷ []) held held'')
 piece_stops go_on added old cur new id pieces piece held held' held'' error before o answered =
     where_open old id _ (λ s here not_closing front taken.
-    let m = came_and_went_on old cur id pieces held held' before o (λ t f. ⊤ × StopsServing cur new id t f piece held' held'' error) answered s front
+    let (v, each, now) = came_and_went_on old cur id pieces held held' before o (λ t f. StopsServing cur new id t f piece held' held'' error) answered s front
     here not_closing taken in
-    let st = stands old cur id s (front ++ concat pieces) held held' here m.0 o in
-    let now = seat_of old cur id s (front ++ concat pieces) held held' st in
-    let (text, appended) = stop_appends cur new id now st.rest piece held' held'' error m.2.1 in (
-      tt,
-      subst (λ z. StopsServing old new id s front z held held'' error) (sym (concat_more pieces piece))
-          (stops_piece go_on added old cur new id s front (concat pieces) piece held held' held'' error here st m.2.1),
-      answers_before old cur id s front pieces piece held held' held'' text m.0 o m.1 appended,
+    let st = stands old cur id s (front ++ concat pieces) held held' here v o in
+    let (text, appended) = stop_appends cur new id (seat_of old cur id s (front ++ concat pieces) held held' st) st.rest piece held' held'' error now in (
+      stops_piece go_on added old cur new id s front (concat pieces) piece held held' held'' error here st now,
+      answers_before old cur id s front pieces piece held held' held'' text v o each appended,
     ))
 
 -- it is closing where it was
@@ -426,7 +426,7 @@ goes_on given new id most before size used held held' waits closing (t, there) t
 
 -- and more bytes wait in it than may
 pub waits_more : (given : HubState) (id most before size used : ℕ) (there : IsThere given id) →
-    TakesWithin most before (length there.0.out) there.0.closing size used → used < size → WaitsMore most given id
+    TakesWithin most before (length there.0.out) there.0.closing size used → used < size → IfSome (seat_at given id) (λ s. most < length s.out)
 waits_more given id most before size used (t, there) takes less =
     subst (λ o. IfSome o (λ (b : Seat). most < length b.out)) (sym there) (takes.stops less).1
 

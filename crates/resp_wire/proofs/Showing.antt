@@ -4,7 +4,6 @@ use Rattle.std.proofs.Common.{◌≡◌, inl, inr, ℕ, ◌+◌, ◌≤◌, Opti
 use Rattle.std.proofs.Math.Seq.{take-add}
 use Rattle.std.proofs.lemmas.List.{append-nil, drop-drop, length-drop, take_all}
 use Rattle.resp_value.specs.Data.{Datum}
-use Rattle.resp_value.specs.Devices.{HasRisen}
 use Rattle.resp_value.specs.Trees.{Spells}
 use Rattle.resp_value.specs.declared.cause.Cause.{Cause}
 use Rattle.resp_value.specs.declared.cause.Cause.TheVariants as cause
@@ -17,13 +16,13 @@ use Rattle.resp_client.specs.declared.client.Client.{Client}
 use Rattle.resp_client.specs.declared.heard.What.{What}
 use Rattle.resp_client.specs.declared.heard.What.TheVariants.{Reply, Push, Shown, More}
 use Rattle.resp_server.specs.Hubs.{HubState, Seat, seat_at, seated}
-use Rattle.resp_wire.specs.Carrying.{HearsOn, StopsShowing, cause_of}
+use Rattle.resp_wire.specs.Carrying.{HearsOn, MeetsFault, StopsCarrying, cause_of}
 use Rattle.resp_wire.specs.Hearing.{HearsAll, HearsFault}
-use Rattle.resp_wire.specs.Stops.{StopsHearing, error_by, error_of}
+use Rattle.resp_wire.specs.Stops.{StopsClient, StopsListening, error_by}
 use Rattle.resp_wire.specs.declared.asked.Asked.{Asked}
 use Rattle.resp_wire.specs.declared.error.AskError.{AskError}
-use Rattle.resp_wire.specs.declared.error.AskError.TheVariants as error
-use Rattle.resp_wire.proofs.Listening.{HearsUpTo, hears_piece, stops_hearing, fault_in_piece}
+use Rattle.resp_wire.proofs.LinkStops.{stops_with}
+use Rattle.resp_wire.proofs.Listening.{HearsUpTo, by_client, client_stops, hears_piece, stops_hearing, fault_in_piece}
 use Rattle.resp_wire.proofs.Seated.{seat_here, seated_twice}
 use Rattle.resp_wire.proofs.ServedTexts.{seat_with}
 
@@ -88,41 +87,35 @@ drops_more old cur new id done n dropped more = if_there old id _ (λ seat here.
     ap (λ h. seated h id last) state ∙ seated_twice old id (without done seat) last ∙
     ap (λ z. seated old id (seat_with seat.version z seat.closing seat.decoder)) (drop-drop n done seat.out))
 
-stops_on : ReadingsGoOn → HearingGoesOn → (s : ClientState) (c : Client) (before mid after : Asked) (front text : List ℕ)
-    (done failures failures' failures'' : ℕ) (cause : Cause) → (h : HearsAll s c before mid (front ++ take done text)) → failures' ≡ failures →
-    StopsShowing (state_of c) mid after h.rest (drop done text) failures' failures'' cause → StopsShowing s before after front text failures failures'' cause
-stops_on go_on goes_on s c before mid after front text done failures failures' failures'' cause h none (inl e) = inl e
-stops_on go_on goes_on s c before mid after front text done failures failures' failures'' cause h none (inr (inl risen)) =
-    inr (inl (subst (λ n. HasRisen n failures'') none risen.0, risen.1))
-stops_on go_on goes_on s c before mid after front text done failures failures' failures'' cause h none (inr (inr m)) = inr (inr (record {
+fault_on : ReadingsGoOn → HearingGoesOn → (s : ClientState) (c : Client) (before mid after : Asked) (front text : List ℕ) (done : ℕ) (cause : Cause) →
+    (h : HearsAll s c before mid (front ++ take done text)) → MeetsFault (state_of c) mid after h.rest (drop done text) cause →
+    MeetsFault s before after front text cause
+fault_on go_on goes_on s c before mid after front text done cause h m = record {
   count = done + m.count;
   fault = m.fault;
   met = subst (λ z. HearsFault s before after (front ++ z) m.fault) (sym (take-add done m.count text))
       (fault_in_piece go_on goes_on s c before mid after front (take done text) (take m.count (drop done text)) m.fault h m.met);
   named = m.named;
-}))
+}
 
 pub stops_more : ReadingsGoOn → HearingGoesOn → (s : ClientState) (c : Client) (before mid after : Asked) (old cur : HubState) (id : ℕ) (seat : Seat)
     (front : List ℕ) (done failures failures' failures'' : ℕ) (cause : Cause) → seat_at old id ≡ Some seat → cur ≡ seated old id (without done seat) →
     HearsAll s c before mid (front ++ take done seat.out) → failures' ≡ failures →
-    IfSome (seat_at cur id) (λ t. WhereTaken c (λ f. StopsShowing (state_of c) mid after f t.out failures' failures'' cause)) →
-    StopsShowing s before after front seat.out failures failures'' cause
+    IfSome (seat_at cur id) (λ t. WhereTaken c (λ f. StopsCarrying (MeetsFault (state_of c) mid after f t.out) failures' failures'' cause)) →
+    StopsCarrying (MeetsFault s before after front seat.out) failures failures'' cause
 stops_more go_on goes_on s c before mid after old cur id seat front done failures failures' failures'' cause here state h none more =
-    stops_on go_on goes_on s c before mid after front seat.out done failures failures' failures'' cause h none
-    (at_there cur id (λ t. WhereTaken c (λ f. StopsShowing (state_of c) mid after f t.out failures' failures'' cause)) (without done seat)
+    stops_with (MeetsFault (state_of c) mid after h.rest (drop done seat.out)) (MeetsFault s before after front seat.out) failures failures' failures'' cause
+    none (fault_on go_on goes_on s c before mid after front seat.out done cause h)
+    (at_there cur id (λ t. WhereTaken c (λ f. StopsCarrying (MeetsFault (state_of c) mid after f t.out) failures' failures'' cause)) (without done seat)
     (there_still old cur id seat done here state) more h.rest h.takes)
 
 -- a client's stop is OutOfMemory or a fault
 pub stops_showing : (s : ClientState) (c : Client) (before after : Asked) (front text : List ℕ) (n failures failures' : ℕ) (e : AskError) →
-    StopsHearing s c before after (front ++ take n text) e → StopsShowing s before after front text failures failures' (cause_of e)
-stops_showing s c before after front text n failures failures' (error.Fault fault) h =
-    inr (inr (record { count = n; fault = fault; met = h.hears; named = refl }))
-stops_showing s c before after front text n failures failures' error.OutOfMemory h = inl refl
-stops_showing s c before after front text n failures failures' (error.Refused index refusal) h = absurd h
-stops_showing s c before after front text n failures failures' error.Read h = absurd h
-stops_showing s c before after front text n failures failures' error.Write h = absurd h
-stops_showing s c before after front text n failures failures' error.TooManyTurns h = absurd h
-stops_showing s c before after front text n failures failures' error.Ended h = absurd h
+    StopsClient e → StopsListening s c before after (front ++ take n text) e →
+    StopsCarrying (MeetsFault s before after front text) failures failures' (cause_of e)
+stops_showing s c before after front text n failures failures' = by_client
+    (λ e. StopsListening s c before after (front ++ take n text) e → StopsCarrying (MeetsFault s before after front text) failures failures' (cause_of e))
+    (λ fault h. inr (inr (record { count = n; fault = fault; met = h.hears; named = refl }))) (λ h. inl refl)
 
 -- What an empty piece tells of what was taken.
 
@@ -176,10 +169,11 @@ cause_by k fault is = is
 
 pub stops_settled : (s : ClientState) (c : Client) (before after : Asked) (front text : List ℕ) (count failures failures' : ℕ) (cause : Cause) →
     (h : HearsAll s c before after (front ++ take count text)) →
-    (fault : Fault) × (fault.cause ≡ cause) × Refuses (state_of c) h.rest [] fault → StopsShowing s before after front text failures failures' cause
+    (fault : Fault) × (fault.cause ≡ cause) × Refuses (state_of c) h.rest [] fault →
+    StopsCarrying (MeetsFault s before after front text) failures failures' cause
 stops_settled s c before after front text count failures failures' cause h (fault, named, refused) =
     let came = take count text in
     let w : HearsUpTo s c before after front came [] 0 = record { done = came; parts = sym (append-nil came); few = omega arith; hears = h } in
-    subst (StopsShowing s before after front text failures failures') (cause_by fault.cause fault refl ∙ named)
-    (stops_showing s c before after front text count failures failures' (error_of fault)
-    (stops_hearing s c c before after front came [] 0 fault (error_of fault) refl w refused refl))
+    subst (StopsCarrying (MeetsFault s before after front text) failures failures') (cause_by fault.cause fault refl ∙ named)
+    (stops_showing s c before after front text count failures failures' (error_by fault.cause fault) (client_stops fault _ refl)
+    (stops_hearing s c c before after front came [] 0 fault _ refl w refused refl))

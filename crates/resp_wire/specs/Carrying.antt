@@ -1,6 +1,6 @@
 -- Carrying bytes between a client and its session.
 use Rattle.std.specs.Prelude.{◌≡◌, ◌⊎◌, ℕ, Bool, true, false, List, ◌++◌, take, replicate}
-use Rattle.resp_value.specs.Devices.{failures_after}
+use Rattle.resp_value.specs.Devices.{HasRisen, failures_after}
 use Rattle.resp_value.specs.declared.cause.Cause.{Cause}
 use Rattle.resp_value.specs.declared.cause.Cause.TheVariants.{OutOfMemory}
 use Rattle.resp_scan.specs.declared.event.Fault.{Fault}
@@ -10,7 +10,7 @@ use Rattle.resp_client.specs.declared.client.Client.{Client}
 use Rattle.resp_server.specs.Handling.{HasAnswered}
 use Rattle.resp_server.specs.Hubs.{HubState, Seat}
 use Rattle.resp_wire.specs.Hearing.{HearsAll, HearsFault}
-use Rattle.resp_wire.specs.Links.{FailsBy}
+use Rattle.resp_wire.specs.Links.{is_of_link}
 use Rattle.resp_wire.specs.declared.asked.Asked.{Asked}
 use Rattle.resp_wire.specs.declared.error.AskError.{AskError}
 use Rattle.resp_wire.specs.declared.error.AskError.TheVariants as ask
@@ -35,11 +35,6 @@ pub record LinkGoesOn {L : Type 0} (is_honest : L → Type 0) (fails : L → ℕ
   pub honest : is_honest old → is_honest new
   pub failures : fails new ≡ failures_after failed (fails old)
 
--- Why no more bytes are carried: memory was out, the link failed, or the session was closed by the bytes received.
-abbrev pub StopsCarrying : HubState → ℕ → Seat → List ℕ → List ℕ → ℕ → ℕ → Cause → Type 0
-StopsCarrying old id s front text failures failures' cause =
-    (cause ≡ OutOfMemory) ⊎ (FailsBy failures failures' cause ⊎ HasClosed old id s front text)
-
 -- all bytes received are read, and the bytes that the client has read of a value are viable
 pub record HearsOn (s : ClientState) (c : Client) (before after : Asked) (came : List ℕ) : Type 0 where
   pub hears : HearsAll s c before after came
@@ -52,10 +47,10 @@ pub record MeetsFault (s : ClientState) (before after : Asked) (front text : Lis
   pub met : HearsFault s before after (front ++ take count text) fault
   pub named : fault.cause ≡ cause
 
--- Why no more bytes are carried to a client: memory was out, the link failed, or the client has a fault.
-abbrev pub StopsShowing : ClientState → Asked → Asked → List ℕ → List ℕ → ℕ → ℕ → Cause → Type 0
-StopsShowing s before after front text failures failures' cause =
-    (cause ≡ OutOfMemory) ⊎ (FailsBy failures failures' cause ⊎ MeetsFault s before after front text cause)
+-- Why no more bytes are carried: memory was out, the link failed, or this is true of the end that receives them.
+abbrev pub StopsCarrying : (Cause → Type 0) → ℕ → ℕ → Cause → Type 0
+StopsCarrying IsRefused failures failures' cause =
+    (cause ≡ OutOfMemory) ⊎ HasRisen failures failures' × (is_of_link cause ≡ true) ⊎ IsRefused cause
 
 -- the cause of a client's error
 abbrev pub cause_of : AskError → Cause

@@ -1,12 +1,12 @@
 -- The effect of the calls of a world's client.
-use Rattle.std.specs.Prelude.{◌≡◌, ℕ, false, [], ◌∷◌, ◌++◌, map, Result, Ok, Err}
+use Rattle.std.specs.Prelude.{◌≡◌, ℕ, false, List, [], ◌∷◌, ◌++◌, map, Result, Ok, Err}
 use Rattle.resp_value.specs.Bounds.{Bounds}
 use Rattle.resp_value.specs.Data.{Datum}
 use Rattle.resp_value.specs.declared.cause.Cause.{Cause}
 use Rattle.resp_value.specs.declared.cause.Cause.TheVariants as cause
 use Rattle.resp_session.specs.Requests as session
 use Rattle.resp_session.specs.Requests.{RefusesRequest}
-use Rattle.resp_client.specs.Clients.{new_state, queued, state_of, with_request}
+use Rattle.resp_client.specs.Clients.{ClientState, new_state, queued, state_of, with_request}
 use Rattle.resp_client.specs.Hearing.{HasTaken, KeepsReading}
 use Rattle.resp_client.specs.Sending.{MayBeSent}
 use Rattle.resp_client.specs.declared.send_error.SendError.{SendError}
@@ -14,7 +14,8 @@ use Rattle.resp_client.specs.declared.send_error.SendError.TheVariants.{BadComma
 use Rattle.resp_server.specs.declared.error.PushError.{PushError}
 use Rattle.resp_server.specs.declared.error.PushError.TheVariants as push
 use Rattle.resp_wire.specs.Hearing.{pushes_in, replies_in}
-use Rattle.resp_wire.specs.Worlds.{pushes_with, requests_of, values_in}
+use Rattle.resp_wire.specs.Requests.{request_of}
+use Rattle.resp_wire.specs.Worlds.{pushes_with, values_in}
 use Rattle.resp_wire.specs.declared.asked.Asked.{Asked}
 use Rattle.resp_wire.specs.declared.end.End.{End}
 use Rattle.resp_wire.specs.declared.event.Outcome.{Outcome}
@@ -24,37 +25,27 @@ use Rattle.resp_wire.specs.declared.event.Outcome.TheVariants.{Done, Refused, Go
 pub record IsNew (limits : Bounds) (e : End) : Type 0 where
   pub state : state_of e.client ≡ new_state limits
   pub nothing_taken : HasTaken e.client []
-  pub asked : requests_of e.asked.items ≡ []
+  pub asked : map request_of e.asked.items ≡ []
   pub replies : values_in e.replies.items ≡ []
   pub pushes : pushes_with e.pushes.items ≡ []
   pub is_open : e.is_dropped ≡ false
 
--- the replies and pushes received and whether it was dropped are unchanged
-pub record HeardStays (old new : End) : Type 0 where
+-- the client has this state and these requests, and all else that it shows is unchanged
+pub record HasQueued (old new : End) (state : ClientState) (requests : List session.Request) : Type 0 where
+  pub now : state_of new.client ≡ state
+  pub asked : map request_of new.asked.items ≡ requests
+  pub same_reading : KeepsReading old.client new.client
   pub replies : values_in new.replies.items ≡ values_in old.replies.items
   pub pushes : pushes_with new.pushes.items ≡ pushes_with old.pushes.items
   pub dropped : new.is_dropped ≡ old.is_dropped
 
--- the request was queued, and added to the client's requests
-pub record Queues (old new : End) (request : session.Request) : Type 0 where
-  pub may_be_sent : MayBeSent (state_of old.client) request
-  pub queued : state_of new.client ≡ with_request request (state_of old.client)
-  pub asked : requests_of new.asked.items ≡ requests_of old.asked.items ++ request ∷ []
-  pub same_reading : KeepsReading old.client new.client
-  pub same_heard : HeardStays old new
-
--- nothing that the client shows has changed
-pub record StaysAs (old new : End) : Type 0 where
-  pub same_state : state_of new.client ≡ state_of old.client
-  pub asked : requests_of new.asked.items ≡ requests_of old.asked.items
-  pub same_reading : KeepsReading old.client new.client
-  pub same_heard : HeardStays old new
-
--- the outcome of a request
+-- the outcome of a request: it was queued and added to the client's requests, or nothing that is shown has changed
 abbrev pub TakesRequest : End → End → session.Request → Outcome → Type 0
-TakesRequest old new request Done = Queues old new request
+TakesRequest old new request Done = MayBeSent (state_of old.client) request ×
+    HasQueued old new (with_request request (state_of old.client)) (map request_of old.asked.items ++ request ∷ [])
 TakesRequest old new request (Refused cause) =
-    RefusesRequest (state_of old.client).limits (queued (state_of old.client)) request cause × StaysAs old new
+    RefusesRequest (state_of old.client).limits (queued (state_of old.client)) request cause ×
+    HasQueued old new (state_of old.client) (map request_of old.asked.items)
 TakesRequest old new request Gone = ⊥
 
 -- the outcome of a request that a client does not queue: `OutOfMemory` stops the world

@@ -1,5 +1,5 @@
 -- The effect of events on a world.
-use Rattle.std.specs.Prelude.{◌≡◌, ℕ, suc, ◌<◌, ◌≤◌, ◌-◌, false, List, [], length, take, Option, None, Some, IfErr, IfOk, IfSome, Result}
+use Rattle.std.specs.Prelude.{◌≡◌, ◌≢◌, ℕ, suc, ◌<◌, ◌≤◌, ◌-◌, false, List, [], length, take, Option, None, Some, IfErr, IfOk, IfSome, Result}
 use Rattle.std.specs.List.{slice_get}
 use Rattle.resp_value.specs.Bounds.{Bounds}
 use Rattle.resp_value.specs.declared.cause.Cause.{Cause}
@@ -37,15 +37,10 @@ abbrev pub Fails : {L : Type 0} → (L → Type 0) → (L → ℕ) → WorldStat
 Fails {L} is_honest failures old new cause = (limits : Bounds) (w : World) → Shows is_honest old limits w →
     StopsBy failures old.links new.links cause
 
--- the event is not a drop, which needs no memory
-abbrev pub IsNoDrop : WorldEvent → Type 0
-IsNoDrop (Drop i) = ⊥
-IsNoDrop _ = Unit {0}
-
--- Memory may be out at this event: it is not a drop, and in the definitions it is done, neither refused nor for a
--- client that does not exist.
+-- Memory may be out at this event: it is not a drop, which needs no memory, and in the definitions it is done, neither
+-- refused nor for a client that does not exist.
 pub record MayLackMemory {L : Type 0} (is_honest : L → Type 0) (s : WorldState L) (event : WorldEvent) : Type 0 where
-  pub no_drop : IsNoDrop event
+  pub no_drop : (i : ℕ) → event ≢ Drop i
   pub done : (limits : Bounds) (w : World) → Shows is_honest s limits w →
       Step limits w event runs.Done (after_event w event)
 

@@ -67,23 +67,6 @@ abbrev pub WaitsBefore : ClientState → Asked → List ℕ → List (List ℕ) 
 WaitsBefore s before front pieces = (k : ℕ) → k < length pieces →
     StillWaits s before (front ++ concat (take k pieces))
 
--- A byte received is rejected, and the values before it are added.
-pub record HearsFault (s : ClientState) (before after : Asked) (came : List ℕ) (fault : Fault) : Type 0 where
-  pub values : List Datum
-  pub waiting : Waiting
-  pub rest : List ℕ
-  pub reads : ReadsFrom s values came waiting rest
-  pub heard : Adds before after (numbered_replies (next_number s) values) (pushes_of values)
-  pub fault_of : ClientFault s.limits waiting rest fault.cause fault.at
-
--- The same. The client's commands up to the last reply before the rejected byte are answered, and the others still wait.
-pub record StopsAtFault (s : ClientState) (c : Client) (before after : Asked) (came : List ℕ) (fault : Fault) : Type 0 where
-  pub hears : HearsFault s before after came fault
-  pub waits : (state_of c).waiting ≡ hears.waiting
-  pub answered : (state_of c).answered ≡ s.answered + length (replies_of hears.values)
-  pub same_limits : (state_of c).limits ≡ s.limits
-  pub same_out : (state_of c).out ≡ s.out
-
 -- An allocation failed, and the first of the values are added.
 pub record HearsSome (s : ClientState) (before after : Asked) (came : List ℕ) : Type 0 where
   pub values : List Datum
@@ -91,3 +74,16 @@ pub record HearsSome (s : ClientState) (before after : Asked) (came : List ℕ) 
   pub rest : List ℕ
   pub reads : ReadsFrom s values came waiting rest
   pub heard : Adds before after (numbered_replies (next_number s) values) (pushes_of values)
+
+-- A byte received is rejected, and the values before it are added.
+pub record HearsFault (s : ClientState) (before after : Asked) (came : List ℕ) (fault : Fault) : Type 0 where
+  pub some : HearsSome s before after came
+  pub fault_of : ClientFault s.limits some.waiting some.rest fault.cause fault.at
+
+-- The same. The client's commands up to the last reply before the rejected byte are answered, and the others still wait.
+pub record StopsAtFault (s : ClientState) (c : Client) (before after : Asked) (came : List ℕ) (fault : Fault) : Type 0 where
+  pub hears : HearsFault s before after came fault
+  pub waits : (state_of c).waiting ≡ hears.some.waiting
+  pub answered : (state_of c).answered ≡ s.answered + length (replies_of hears.some.values)
+  pub same_limits : (state_of c).limits ≡ s.limits
+  pub same_out : (state_of c).out ≡ s.out

@@ -8,18 +8,12 @@ use Rattle.resp_server.specs.Reading.{HasReadFront}
 use Rattle.resp_server.specs.Sending.{HasSent, HasSentPart, IsClosing}
 use Rattle.resp_turns.specs.Pieces.{ReadsPieces}
 use Rattle.resp_turns.specs.Turns.{Spends, TellsEnd, stopped_by}
-use Rattle.resp_turns.specs.declared.halt.Halt.{Halt}
-use Rattle.resp_turns.specs.declared.halt.Halt.TheVariants.{Failed, NoTurn}
 use Rattle.resp_wire.specs.declared.error.ServeError.{ServeError}
 use Rattle.resp_wire.specs.declared.error.ServeError.TheVariants.{NoSession, OutOfMemory, Read, Write, TooManyTurns}
 use Rattle.resp_wire.specs.declared.serve.Answered.{Answered}
 use Rattle.resp_wire.specs.declared.serve.Served.{Served}
 use Rattle.resp_wire.specs.declared.serve.Served.TheVariants.{Ended, Closed}
 use Rattle.resp_wire.specs.declared.serve.Visit.{Visit}
-
--- there is a session with this id
-abbrev pub IsThere : HubState → ℕ → Type 0
-IsThere hub id = (s : Seat) × (seat_at hub id ≡ Some s)
 
 -- the session is open, and has read a front of a value
 pub record IsOpen (hub : HubState) (id : ℕ) : Type 0 where
@@ -37,21 +31,15 @@ pub record Serves (old new : HubState) (id : ℕ) (s : Seat) (text : List ℕ) (
   pub answered : HasAnswered old given id s text commands
   pub sent : HasSent given new id held held' waits
 
--- After the bytes received, when out of memory: the state of a hub that answered the first of them.
-pub record ServesFirst (old new : HubState) (id : ℕ) (s : Seat) (front came : List ℕ) (held held' : Option (List ℕ))
-    (waits : List ℕ) : Type 0 where
-  pub given : HubState
-  pub commands : ℕ
-  pub cut_short : HasCutShort old given id s front came commands
-  pub sent : HasSent given new id held held' waits
-
--- The state when serving stopped. After a failed write some of the answers are left. After a failed read no answer is
--- left, and the session continues. If no turn is left, a write or a read needed one.
+-- The state when serving stopped. When out of memory, the first bytes received are answered. After a failed write some
+-- of the answers are left. After a failed read no answer is left, and the session continues. If no turn is left, a
+-- write or a read needed one.
 abbrev pub StopsServing : HubState → HubState → ℕ → Seat → List ℕ → List ℕ → Option (List ℕ) → Option (List ℕ) →
     ServeError → Type 0
 StopsServing old new id s front came held held' NoSession = ⊥
 StopsServing old new id s front came held held' OutOfMemory =
-    (waits : List ℕ) × ServesFirst old new id s front came held held' waits
+    (waits : List ℕ) × (given : HubState) × (commands : ℕ) × HasCutShort old given id s front came commands ×
+    HasSent given new id held held' waits
 StopsServing old new id s front came held held' Read =
     Serves old new id s (front ++ came) held held' [] × IsClosing new id false
 StopsServing old new id s front came held held' Write =
@@ -83,19 +71,17 @@ EndsBy hub id left left' Closed = IsClosing hub id true
 -- the bytes that waited in a closing session were written, or the first of them
 abbrev pub ServesClosing : HubState → HubState → ℕ → Option (List ℕ) → Option (List ℕ) → Result Served ServeError →
     Type 0
-ServesClosing old new id held held' (Ok Ended) = ⊥
 ServesClosing old new id held held' (Ok Closed) = HasSent old new id held held' []
 ServesClosing old new id held held' (Err Write) = HasSentPart old new id held held'
 ServesClosing old new id held held' (Err TooManyTurns) = HasSentPart old new id held held'
-ServesClosing old new id held held' (Err error) = ⊥
+ServesClosing old new id held held' _ = ⊥
 
 -- each error says: there is no session, or the device's count of failures has risen
 abbrev pub FailsServing : HubState → ℕ → ℕ → ℕ → ℕ → ℕ → ServeError → Type 0
 FailsServing hub id writes writes' reads reads' NoSession = seat_at hub id ≡ None
-FailsServing hub id writes writes' reads reads' OutOfMemory = Unit {0}
 FailsServing hub id writes writes' reads reads' Read = HasRisen reads reads'
 FailsServing hub id writes writes' reads reads' Write = HasRisen writes writes'
-FailsServing hub id writes writes' reads reads' TooManyTurns = Unit {0}
+FailsServing hub id writes writes' reads reads' _ = Unit {0}
 
 -- whether the call stopped because a write failed
 abbrev pub is_of_writer : ServeError → Bool
@@ -137,17 +123,13 @@ ServesPieces most written remaining calls failures writer writer' reader reader'
     IfErr result (StopsServing old new id s front given (written writer) (written writer')) ×
     AnswersBefore old id s front pieces (written writer) (written writer'))
 
--- more than this many bytes wait to be written to the session's client
-abbrev pub WaitsMore : ℕ → HubState → ℕ → Type 0
-WaitsMore most hub id = IfSome (seat_at hub id) (λ s. most < length s.out)
-
 -- The session answered a text, and then more than `most` bytes waited, at most one reply more. A write stopped that left
 -- some of them.
 pub record Overfills (most : ℕ) (old new : HubState) (id : ℕ) (text : List ℕ) (held held' : Option (List ℕ)) : Type 0 where
   pub given : HubState
   pub commands : ℕ
   pub answered : WhereOpen old id (λ s front. HasAnswered old given id s (front ++ text) commands)
-  pub many : WaitsMore most given id
+  pub many : IfSome (seat_at given id) (λ s. most < length s.out)
   pub bounded : WaitsAtMost (most + old.limits.total) given id
   pub sent : HasSentPart given new id held held'
 
@@ -167,15 +149,6 @@ abbrev pub LeavesOverfull : {W : Type 0} → ℕ → (W → Option (List ℕ)) �
 LeavesOverfull most written writer writer' old new id rest = (rest ≡ [] → ⊥) →
     WhereOpen old id (λ s front. StopsOverfull most old new id s front (written writer) (written writer'))
 
--- the error of a call of which a write or a read moved no byte
-abbrev pub write_error : Halt → ServeError
-write_error Failed = Write
-write_error NoTurn = TooManyTurns
-
-abbrev pub read_error : Halt → ServeError
-read_error Failed = Read
-read_error NoTurn = TooManyTurns
-
 -- why answering stops: memory was out, or a write stopped
 abbrev pub StopsAnswering : ℕ → ℕ → ℕ → ServeError → Type 0
 StopsAnswering failures failures' left OutOfMemory = Unit {0}
@@ -189,29 +162,28 @@ AnswersGiven old new id piece held held' answered = WhereOpen old id (λ s front
     OnOk answered.end (Serves old new id s (front ++ take answered.used piece) held held' []) ×
     IfErr answered.end (StopsServing old new id s front (take answered.used piece) held held'))
 
--- The state after an answer: whether the session is closing, that no reply waits, or why a write stopped. At most this
--- many bytes wait if at most so many waited before.
-pub record EndsAnswering (most : ℕ) (old new : HubState) (id fails fails' left : ℕ) (answered : Answered) :
-    Type 0 where
-  pub closing : IfOk answered.end (IsClosing new id)
-  pub is_open : IfOk answered.end (λ closing. closing ≡ false → IsOpen new id)
-  pub sent : OnOk answered.end (WaitsAtMost 0 new id)
-  pub failures : fails' ≡ failures_after (stopped_by is_of_writer answered.end) fails
-  pub no_read : stopped_by is_of_reader answered.end ≡ false
-  pub refusal : IfErr answered.end (StopsAnswering fails fails' left)
-  pub same_limits : new.limits ≡ old.limits
-  pub bounded : WaitsAtMost most old id → WaitsAtMost most new id
+-- The state after an answer: whether the session is closing, that no reply waits, or why a write stopped.
+pub record EndsAnswering (new : HubState) (id fails fails' left : ℕ) (end : Result Bool ServeError) : Type 0 where
+  pub closing : IfOk end (IsClosing new id)
+  pub is_open : IfOk end (λ closing. closing ≡ false → IsOpen new id)
+  pub sent : OnOk end (WaitsAtMost 0 new id)
+  pub failures : fails' ≡ failures_after (stopped_by is_of_writer end) fails
+  pub no_read : stopped_by is_of_reader end ≡ false
+  pub refusal : IfErr end (StopsAnswering fails fails' left)
 
--- The session was given the first bytes of a piece, of which `used` is the number, and answered them. `most` bytes and one
--- reply wait at most.
-pub record AnswersPiece {W : Type 0} (written : W → Option (List ℕ)) (calls failures : W → ℕ) (most : ℕ) (old new : HubState)
-    (id : ℕ) (writer writer' : W) (piece : List ℕ) (turns turns' : ℕ) (answered : Answered) : Type 0 where
+-- The session was given the first bytes of a piece, of which `used` is the number, and answered them. `most` bytes and
+-- one reply wait at most, if no more waited before.
+pub record AnswersPiece {W : Type 0} (written : W → Option (List ℕ)) (calls failures : W → ℕ) (most : ℕ)
+    (old new : HubState) (id : ℕ) (writer writer' : W) (piece : List ℕ) (turns turns' : ℕ) (answered : Answered) :
+    Type 0 where
   pub within : answered.used ≤ length piece
   pub given : AnswersGiven old new id piece (written writer) (written writer') answered
   pub whole : most ≡ 2 ^ 64 - 1 → answered.used ≡ length piece
   -- when out of memory, nothing is left of the piece
   pub no_memory : IsErrOf answered.end OutOfMemory → answered.used ≡ length piece
-  pub ends : EndsAnswering (most + old.limits.total) old new id (failures writer) (failures writer') turns' answered
+  pub ends : EndsAnswering new id (failures writer) (failures writer') turns' answered.end
+  pub same_limits : new.limits ≡ old.limits
+  pub bounded : WaitsAtMost (most + old.limits.total) old id → WaitsAtMost (most + old.limits.total) new id
   pub spends : Spends (calls writer) (calls writer') turns turns'
 
 -- The parts of a piece before a part were answered and their replies were written, and this part overfilled the session.

@@ -1,5 +1,5 @@
 -- Why a client's end stops, and the replies and pushes received by then.
-use Rattle.std.specs.Prelude.{◌≡◌, ◌≢◌, ◌<◌, ◌≤◌, ℕ, Bool, true, false, List, [], ◌∷◌, length, take, drop, Option, Result, Ok, Err}
+use Rattle.std.specs.Prelude.{◌≡◌, ◌≢◌, ◌<◌, ◌≤◌, ℕ, Bool, true, false, List, [], ◌∷◌, length, take, drop, Option}
 use Rattle.resp_value.specs.Devices.{HasRisen}
 use Rattle.resp_value.specs.declared.cause.Cause.{Cause}
 use Rattle.resp_value.specs.declared.cause.Cause.TheVariants as cause
@@ -22,9 +22,6 @@ use Rattle.resp_wire.specs.declared.error.AskError.TheVariants.{Ended, Fault, Ou
 abbrev pub error_by : Cause → event.Fault.Fault → AskError
 error_by cause.OutOfMemory fault = OutOfMemory
 error_by _ fault = Fault fault
-
-abbrev pub error_of : event.Fault.Fault → AskError
-error_of fault = error_by fault.cause fault
 
 -- `OutOfMemory` has an error of its own, and the other errors of a request share one
 abbrev pub error_at : ℕ → SendError → AskError
@@ -63,12 +60,6 @@ abbrev pub KeepsFault : Client → AskError → Type 0
 KeepsFault c (Fault fault) = HasFault c fault
 KeepsFault c _ = Unit {0}
 
--- the replies and pushes received of a piece in which the client stopped
-abbrev pub StopsHearing : ClientState → Client → Asked → Asked → List ℕ → AskError → Type 0
-StopsHearing s c before after came (Fault fault) = StopsAtFault s c before after came fault
-StopsHearing s c before after came OutOfMemory = HearsSome s before after came
-StopsHearing s c before after came _ = ⊥
-
 -- whether the call stopped because a write failed
 abbrev pub is_of_writer : AskError → Bool
 is_of_writer Write = true
@@ -84,10 +75,6 @@ abbrev pub is_of_last_read : AskError → Bool
 is_of_last_read Read = true
 is_of_last_read Ended = true
 is_of_last_read _ = false
-
-abbrev pub ends_by_read : Result (Unit {0}) AskError → Bool
-ends_by_read (Ok done) = false
-ends_by_read (Err error) = is_of_last_read error
 
 -- why bytes still wait to be written: a write failed, or no turn is left
 abbrev pub FailsWriting : ℕ → ℕ → List ℕ → AskError → Type 0

@@ -1,5 +1,5 @@
 -- The state that a world shows, and how its clients and sessions relate to the world of the definitions.
-use Rattle.std.specs.Prelude.{◌≡◌, ◌⊎◌, ℕ, suc, ◌<◌, ◌-◌, ◌^◌, ◌≢◌, IfSome, Bool, true, false, Result, Ok, Err, List, ◌++◌, length, map, take, drop, Option, None, Some, set}
+use Rattle.std.specs.Prelude.{◌≡◌, ◌⊎◌, ℕ, suc, ◌<◌, ◌-◌, ◌^◌, ◌≢◌, IfSome, Bool, true, false, List, ◌++◌, length, map, take, drop, Option, None, Some, set}
 use Rattle.std.specs.List.{AllByRecursion, slice_get}
 use Rattle.resp_value.specs.Bounds.{Bounds, AreBounds}
 use Rattle.resp_value.specs.Commands.{words_of}
@@ -14,9 +14,8 @@ use Rattle.resp_value.specs.declared.value.Value.TheVariants as value
 use Rattle.resp_value.specs.declared.version.Version.TheVariants.{Two}
 use Rattle.resp_session.specs.Connections.{Connection, back_text, sent_text, shown_messages, shown_pushes, shown_replies, values_of}
 use Rattle.resp_session.specs.Reading.{ReadsAs}
-use Rattle.resp_session.specs.Requests as session
 use Rattle.resp_session.specs.Runs as runs
-use Rattle.resp_session.specs.Runs.{Run, Step}
+use Rattle.resp_session.specs.Runs.{Run}
 use Rattle.resp_session.specs.Serving.{IsUnfinished, clients_in}
 use Rattle.resp_session.specs.WorldLaws.{IsPossible, waiting_for}
 use Rattle.resp_session.specs.Worlds as session_worlds
@@ -25,17 +24,15 @@ use Rattle.resp_client.specs.Clients.{queued, state_of}
 use Rattle.resp_client.specs.Hearing.{HasTaken}
 use Rattle.resp_server.specs.Hubs.{HubState, Seat, seat_at}
 use Rattle.resp_server.specs.Reading as server
-use Rattle.resp_wire.specs.Links.{Carries, IsLinkCause, Traffic, is_of_link}
+use Rattle.resp_wire.specs.Links.{Carries, Traffic, is_of_link}
 use Rattle.resp_wire.specs.Requests.{request_of}
 use Rattle.resp_wire.specs.declared.link.Direction.{Direction}
 use Rattle.resp_wire.specs.declared.link.Direction.TheVariants.{ToServer, ToClient}
-use Rattle.resp_wire.specs.declared.asked.Request.{Request}
 use Rattle.resp_wire.specs.declared.end.End.{End}
 use Rattle.resp_wire.specs.declared.event.Event.{Event}
 use Rattle.resp_wire.specs.declared.event.Event.TheVariants as event
 use Rattle.resp_wire.specs.declared.event.Outcome.{Outcome}
 use Rattle.resp_wire.specs.declared.event.Outcome.TheVariants as outcome
-use Rattle.resp_wire.specs.declared.event.Stop.{Stop}
 
 -- an event, as in the definitions
 abbrev pub event_of : Event → WorldEvent
@@ -51,10 +48,6 @@ abbrev pub outcome_of : Outcome → runs.Outcome
 outcome_of outcome.Done = runs.Done
 outcome_of (outcome.Refused cause) = runs.Refused cause
 outcome_of outcome.Gone = runs.Gone
-
--- requests, as in the definitions
-abbrev pub requests_of : List Request → List session.Request
-requests_of requests = map request_of requests
 
 -- values, as in the definitions
 abbrev pub values_in : List Value → List Datum
@@ -87,7 +80,7 @@ pub record Stands (limits : Bounds) (seat : Option Seat) (e : End) (c : Connecti
 
 -- a client shows the state of the connection, and a client that was dropped has no session
 pub record ShowsClient (limits : Bounds) (seat : Option Seat) (e : End) (c : Connection) : Type 0 where
-  pub asked : requests_of e.asked.items ≡ c.requests
+  pub asked : map request_of e.asked.items ≡ c.requests
   pub replies : values_in e.replies.items ≡ shown_replies c
   pub pushes : pushes_with e.pushes.items ≡ shown_pushes c
   pub dropped : e.is_dropped ≡ c.dropped
@@ -128,25 +121,15 @@ abbrev pub HasFailedIn : List ℕ → List ℕ → Type 0
 HasFailedIn old new = (k : ℕ) × (before : ℕ) × (after : ℕ) × (slice_get old k ≡ Some before) ×
     (slice_get new k ≡ Some after) × HasRisen before after
 
--- a link's count of failures has risen
-abbrev pub HasFailed : {L : Type 0} → (L → ℕ) → List L → List L → Type 0
-HasFailed {L} failures old new = HasFailedIn (map failures old) (map failures new)
-
 -- no link has failed
 abbrev pub KeepFailures : {L : Type 0} → (L → ℕ) → List L → List L → Type 0
 KeepFailures {L} failures old new = map failures new ≡ map failures old
 
--- the link of this client failed once, and the others did not fail
-pub record FailsOnce {L : Type 0} (failures : L → ℕ) (client : ℕ) (old new : List L) : Type 0 where
-  pub at : ℕ
-  pub is_its : suc at ≡ client
-  pub before : ℕ
-  pub there : slice_get (map failures old) at ≡ Some before
-  pub once : map failures new ≡ set (map failures old) at (count_after 1 before)
-
 -- this client's link failed once, or no link failed
 abbrev pub CountsFailures : {L : Type 0} → (L → ℕ) → ℕ → List L → List L → Bool → Type 0
-CountsFailures {L} failures client old new true = FailsOnce failures client old new
+CountsFailures {L} failures client old new true = (at : ℕ) × (suc at ≡ client) × (before : ℕ) ×
+    (slice_get (map failures old) at ≡ Some before) ×
+    (map failures new ≡ set (map failures old) at (count_after 1 before))
 CountsFailures {L} failures client old new false = KeepFailures failures old new
 
 -- every link but this client's is unchanged
@@ -172,11 +155,7 @@ LinksAfter {L} traffic old new (session_worlds.ToClient i count) outcome.Done =
     IfSome (seat_at old.hub i) (λ s. LinkCarries traffic (i - 1) ToClient (take count s.out) old.links new.links)
 LinksAfter {L} traffic old new _ _ = new.links ≡ old.links
 
--- whether a stop has a cause of links
-abbrev pub stop_is_of_link : {X : Type 0} → Result X Stop → Bool
-stop_is_of_link (Ok x) = false
-stop_is_of_link (Err stop) = is_of_link stop.cause
-
 -- why a world stops: it is out of memory, or a link failed with a cause of links
 abbrev pub StopsBy : {L : Type 0} → (L → ℕ) → List L → List L → Cause → Type 0
-StopsBy {L} failures old new cause = (cause ≡ OutOfMemory) ⊎ HasFailed failures old new × IsLinkCause cause
+StopsBy {L} failures old new cause =
+    (cause ≡ OutOfMemory) ⊎ HasFailedIn (map failures old) (map failures new) × (is_of_link cause ≡ true)

@@ -1,6 +1,6 @@
 //! The client's end of a connection.
 
-ghost use Rattle.std.specs.Prelude.{◌≡◌, ◌⊎◌, ◌<◌, ◌≤◌, ◌++◌, ℕ, List, [], false, drop, length, take, IsErrOf, OnOk, OnErr, IfOk, IfErr};
+ghost use Rattle.std.specs.Prelude.{◌≡◌, ◌<◌, ◌≤◌, ◌++◌, ℕ, List, [], false, length, take, IsErrOf, OnOk, OnErr, IfErr};
 ghost use Rattle.resp_client.specs.Clients.{state_of, with_request, without_front};
 ghost use Rattle.resp_client.specs.Sending.{AnswersRequest};
 ghost use Rattle.resp_wire.specs.Requests.{request_of};
@@ -9,7 +9,7 @@ ghost use Rattle.resp_value.specs.Devices.{Appends, failures_after};
 ghost use Rattle.resp_wire.specs.Hearing.{HearsAll, WaitsBefore};
 ghost use Rattle.resp_wire.specs.Asking.{SendsAll, sent};
 ghost use Rattle.resp_wire.specs.Asks.{HearsPieces, StopsAsking};
-ghost use Rattle.resp_wire.specs.Stops.{FailsReading, FailsWriting, KeepsFault, QueuesFirst, StopsListening, StopsQueueing, ends_by_read, error_at, is_of_last_read, is_of_reader, is_of_writer};
+ghost use Rattle.resp_wire.specs.Stops.{FailsReading, FailsWriting, KeepsFault, QueuesFirst, StopsListening, StopsQueueing, error_at, is_of_last_read, is_of_reader, is_of_writer};
 ghost use Rattle.resp_turns.specs.Pieces.{ReadsPieces};
 ghost use Rattle.resp_turns.specs.Turns.{Halts, Spends, SpendsAtMost, has_failed, stopped_by};
 ghost use Rattle.std.specs.List.{concat};
@@ -258,8 +258,9 @@ fn hear_all<R: Source>(
 ) -> Result<(), AskError>
     requires { 0 < length buffer.now }
     ensures heard { (pieces : List (List ℕ)) × ReadsPieces (length buffer.old) R.remaining R.calls
-        R.failures reader.old reader.new pieces (ends_by_read result) × WhereTaken client.old
-        (λ front. OnOk result (HearsAll (state_of client.old) client.new heard.old heard.new
+        R.failures reader.old reader.new pieces (stopped_by is_of_last_read result) ×
+        WhereTaken client.old (λ front.
+        OnOk result (HearsAll (state_of client.old) client.new heard.old heard.new
         (front ++ concat pieces)) ×
         IfErr result (StopsListening (state_of client.old) client.new heard.old heard.new
         (front ++ concat pieces)) × WaitsBefore (state_of client.old) heard.old front pieces) }

@@ -7,7 +7,7 @@ ghost use Rattle.resp_client.specs.Clients.{state_of, without_front};
 ghost use Rattle.resp_client.specs.Hearing.{HasTaken, KeepsReading, Refuses, WhereTaken};
 ghost use Rattle.resp_server.specs.Handling.{WhereOpen};
 ghost use Rattle.resp_server.specs.Hubs.{Seat, seat_at, seated};
-ghost use Rattle.resp_wire.specs.Carrying.{HasBrought, HearsOn, LinkGoesOn, StopsCarrying, StopsShowing, cause_of};
+ghost use Rattle.resp_wire.specs.Carrying.{HasBrought, HasClosed, HearsOn, LinkGoesOn, MeetsFault, StopsCarrying, cause_of};
 ghost use Rattle.resp_wire.specs.Hearing.{HearsAll};
 ghost use Rattle.resp_wire.specs.Links.{Carries, is_of_link};
 ghost use Rattle.resp_turns.specs.Turns.{stopped_by};
@@ -41,8 +41,8 @@ pub(crate) fn carry_to_server<L: Link, S: BuildHasher>(
         (HasBrought hub.old hub.new id s (front ++ take count (state_of client.old).out)
         order.old.items order.new.items number)) }
     ensures refusal { L.is_honest link.old → WhereOpen hub.old id (λ s front. IfErr result
-        (StopsCarrying hub.old id s front (state_of client.old).out (L.failures link.old)
-        (L.failures link.new))) }
+        (StopsCarrying (λ _. HasClosed hub.old id s front (state_of client.old).out)
+        (L.failures link.old) (L.failures link.new))) }
     ensures sent { OnOk result (state_of client.new ≡ without_front count (state_of client.old)) }
     ensures traffic { OnOk result (Carries Direction.ToServer
         (take count (state_of client.old).out) (L.traffic link.old) (L.traffic link.new)) }
@@ -86,8 +86,9 @@ pub(crate) fn carry_to_client<L: Link, S: BuildHasher>(
         WhereTaken client.old (λ front. OnOk result (HearsOn (state_of client.old) client.new
         heard.old heard.new (front ++ take count s.out)))) }
     ensures refusal { L.is_honest link.old → IfSome (seat_at hub.old id) (λ (s : Seat).
-        WhereTaken client.old (λ front. IfErr result (StopsShowing (state_of client.old)
-        heard.old heard.new front s.out (L.failures link.old) (L.failures link.new)))) }
+        WhereTaken client.old (λ front. IfErr result (StopsCarrying (MeetsFault
+        (state_of client.old) heard.old heard.new front s.out) (L.failures link.old)
+        (L.failures link.new)))) }
     ensures dropped { OnOk result (IfSome (seat_at hub.old id) (λ (s : Seat).
         hub.new ≡ seated hub.old id (record s { out = drop count s.out }))) }
     ensures traffic { OnOk result (IfSome (seat_at hub.old id) (λ (s : Seat).
@@ -133,8 +134,8 @@ fn give<L: Link, S: BuildHasher>(
         (HasBrought hub.old hub.new id s (front ++ take (length room.old) (state_of client.old).out)
         order.old.items order.new.items number)) }
     ensures refusal { L.is_honest link.old → WhereOpen hub.old id (λ s front. IfErr result
-        (StopsCarrying hub.old id s front (state_of client.old).out (L.failures link.old)
-        (L.failures link.new))) }
+        (StopsCarrying (λ _. HasClosed hub.old id s front (state_of client.old).out)
+        (L.failures link.old) (L.failures link.new))) }
     ensures sent { OnOk result (state_of client.new ≡
         without_front (length room.old) (state_of client.old)) }
     ensures traffic { OnOk result (Carries Direction.ToServer (take (length room.old)
@@ -193,8 +194,9 @@ fn show<L: Link, S: BuildHasher>(
         WhereTaken client.old (λ front. OnOk result (HearsAll (state_of client.old) client.new
         heard.old heard.new (front ++ take (length room.old) s.out)))) }
     ensures refusal { L.is_honest link.old → IfSome (seat_at hub.old id) (λ (s : Seat).
-        WhereTaken client.old (λ front. IfErr result (StopsShowing (state_of client.old)
-        heard.old heard.new front s.out (L.failures link.old) (L.failures link.new)))) }
+        WhereTaken client.old (λ front. IfErr result (StopsCarrying (MeetsFault
+        (state_of client.old) heard.old heard.new front s.out) (L.failures link.old)
+        (L.failures link.new)))) }
     ensures dropped { OnOk result (IfSome (seat_at hub.old id) (λ (s : Seat).
         hub.new ≡ seated hub.old id (record s { out = drop (length room.old) s.out }))) }
     ensures traffic { OnOk result (IfSome (seat_at hub.old id) (λ (s : Seat).

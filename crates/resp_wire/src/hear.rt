@@ -7,7 +7,7 @@ ghost use Rattle.resp_client.specs.Standing.{IsOfBytes};
 ghost use Rattle.resp_wire.specs.Carrying.{cause_of};
 ghost use Rattle.resp_wire.specs.Hearing.{HearsAll};
 ghost use Rattle.resp_wire.specs.Links.{is_of_link};
-ghost use Rattle.resp_wire.specs.Stops.{KeepsFault, StopsClient, StopsHearing, error_of};
+ghost use Rattle.resp_wire.specs.Stops.{KeepsFault, StopsClient, StopsListening, error_by};
 
 use crate::asked::Asked;
 use crate::error::AskError;
@@ -21,7 +21,7 @@ use resp_value::cause::Cause;
 #[tactic(auto, using(crate::proofs::LinkStops::not_of_link))]
 fn stop(fault: Fault) -> AskError
     requires { IsOfBytes fault.cause }
-    ensures error { result ≡ error_of fault }
+    ensures error { result ≡ error_by fault.cause fault }
     ensures no_link { is_of_link (cause_of result) ≡ false }
 {
     match fault.cause {
@@ -39,7 +39,7 @@ pub(crate) fn hear_piece(
     ensures heard { WhereTaken client.old (λ front. OnOk result
         (HearsAll (state_of client.old) client.new heard.old heard.new (front ++ piece.now))) }
     ensures refusal { WhereTaken client.old (λ front. IfErr result
-        (StopsHearing (state_of client.old) client.new heard.old heard.new
+        (StopsListening (state_of client.old) client.new heard.old heard.new
         (front ++ piece.now))) }
     ensures fault_or_memory { IfErr result StopsClient }
     ensures no_link { IfErr result (λ error. is_of_link (cause_of error) ≡ false) }

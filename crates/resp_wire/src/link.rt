@@ -1,8 +1,8 @@
 //! Links, which carry bytes between a client and its session.
 
-ghost use Rattle.std.specs.Prelude.{◌≡◌, ◌≤◌, ◌+◌, ℕ, Option, length, is_err, IfErr, OnOk};
+ghost use Rattle.std.specs.Prelude.{◌≡◌, ◌≤◌, ◌+◌, ℕ, Option, length, is_err, true, IfErr, OnOk};
 ghost use Rattle.resp_value.specs.Devices.{failures_after};
-ghost use Rattle.resp_wire.specs.Links.{Carries, IsLinkCause, Traffic};
+ghost use Rattle.resp_wire.specs.Links.{Carries, Traffic, is_of_link};
 
 use resp_value::cause::Cause;
 use thiserror::Error;
@@ -63,7 +63,7 @@ pub trait Link: Drop {
         ensures traffic { OnOk result
             (Carries direction piece.now (traffic self.old) (traffic self.new)) }
         ensures honest { is_honest self.old → is_honest self.new }
-        ensures cause { IfErr result (λ fault. IsLinkCause fault.cause) }
+        ensures cause { IfErr result (λ fault. is_of_link fault.cause ≡ true) }
         ensures failures { failures self.new ≡
             failures_after (is_err result) (failures self.old) }
         ensures calls { calls self.new ≤ calls self.old + 65_536 };

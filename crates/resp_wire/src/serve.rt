@@ -1,11 +1,12 @@
 //! The server's end of a connection.
 
-ghost use Rattle.std.specs.Prelude.{◌≡◌, ◌≢◌, ◌+◌, ◌-◌, ◌<◌, ◌≤◌, ◌^◌, [], length, take, true, false, None, Err, IfSome, IfOk, IfErr, IsErrOf, OnOk, OnErr};
+ghost use Rattle.std.specs.Prelude.{◌≡◌, ◌≢◌, ◌&&◌, ◌+◌, ◌-◌, ◌<◌, ◌≤◌, ◌^◌, [], length, take, true, false, None, Some, Err, IfSome, IfOk, IfErr, IsErrOf, OnOk, OnErr};
 ghost use Rattle.resp_server.specs.Hubs.{Seat, WaitsAtMost, seat_at};
 ghost use Rattle.resp_server.specs.Handling.{HasAnswered, WhereOpen};
 ghost use Rattle.resp_server.specs.Sending.{HasSent, HasSentPart, IsClosing};
 ghost use Rattle.resp_value.specs.Devices.{failures_after};
-ghost use Rattle.resp_wire.specs.Serving.{AnswersPiece, EndsBy, FailsServing, IsOpen, IsThere, LeavesOverfull, LeavesRest, Overfills, ServesClosing, ServesPieces, is_of_reader, is_of_writer, read_error, rest_in, write_error};
+ghost use Rattle.resp_wire.specs.Links.{error_of_halt};
+ghost use Rattle.resp_wire.specs.Serving.{AnswersPiece, EndsBy, FailsServing, IsOpen, LeavesOverfull, LeavesRest, Overfills, ServesClosing, ServesPieces, is_of_reader, is_of_writer, rest_in};
 ghost use Rattle.resp_turns.specs.Turns.{Halts, Spends, SpendsAtMost, SpendsTurns, has_failed, stopped_by};
 
 use crate::error::ServeError;
@@ -190,7 +191,7 @@ pub fn serve_with<R: Source, W: Sink, S: BuildHasher>(
             rest: 0..0,
         },
         Err(halt) => Visit {
-            end: Err(unwritten(halt)),
+            end: Err(stop(halt, ServeError::Write)),
             rest: 0..0,
         },
     }
@@ -236,7 +237,7 @@ fn serve_open<R: Source, W: Sink, S: BuildHasher>(
     laws::answers_are_added();
     if let Err(halt) = write_out(writer, hub, id, turns) {
         return Visit {
-            end: Err(unwritten(halt)),
+            end: Err(stop(halt, ServeError::Write)),
             rest: 0..0,
         };
     }
@@ -248,7 +249,7 @@ fn serve_open<R: Source, W: Sink, S: BuildHasher>(
             },
             Ok(count) => count,
             Err(halt) => return Visit {
-                end: Err(unread(halt)),
+                end: Err(stop(halt, ServeError::Read)),
                 rest: 0..0,
             },
         };
@@ -343,7 +344,7 @@ fn answer_part<W: Sink, S: BuildHasher>(
         },
         Err(halt) => Answered {
             used,
-            end: Err(unwritten(halt)),
+            end: Err(stop(halt, ServeError::Write)),
         },
     }
 }
@@ -355,7 +356,7 @@ fn write_out<W: Sink, S: BuildHasher>(
     id: u64,
     turns: &mut u64,
 ) -> Result<bool, Halt>
-    requires { IsThere hub.old id }
+    requires { (s : Seat) × (seat_at hub.old id ≡ Some s) }
     ensures sent { OnOk result (HasSent hub.old hub.new id (W.written writer.old)
         (W.written writer.new) []) }
     ensures closing { IfOk result (IsClosing hub.new id) }
@@ -387,26 +388,14 @@ fn unanswered(error: HubError) -> ServeError
     }
 }
 
-/// Returns the error of the call for a read that moved no byte.
-fn unread(halt: Halt) -> ServeError
-    ensures error { result ≡ read_error halt }
-    ensures of_reader { is_of_reader result ≡ has_failed halt }
-    ensures not_of_writer { is_of_writer result ≡ false }
+/// Returns the error of the call for a read or a write that moved no byte.
+fn stop(halt: Halt, failed: ServeError) -> ServeError
+    ensures error { result ≡ error_of_halt failed ServeError.TooManyTurns halt }
+    ensures of_reader { is_of_reader result ≡ (is_of_reader failed && has_failed halt) }
+    ensures of_writer { is_of_writer result ≡ (is_of_writer failed && has_failed halt) }
 {
     match halt {
-        Halt::Failed => ServeError::Read,
-        Halt::NoTurn => ServeError::TooManyTurns,
-    }
-}
-
-/// Returns the error of the call for a write that moved no byte.
-fn unwritten(halt: Halt) -> ServeError
-    ensures error { result ≡ write_error halt }
-    ensures of_writer { is_of_writer result ≡ has_failed halt }
-    ensures not_of_reader { is_of_reader result ≡ false }
-{
-    match halt {
-        Halt::Failed => ServeError::Write,
+        Halt::Failed => failed,
         Halt::NoTurn => ServeError::TooManyTurns,
     }
 }

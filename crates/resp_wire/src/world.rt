@@ -1,19 +1,21 @@
 //! Worlds: clients and their sessions over one store, and events that happen one after another.
 
-ghost use Rattle.std.specs.Prelude.{◌≡◌, ◌↔◌, ◌+◌, ◌<◌, ◌≤◌, ℕ, [], ◌∷◌, length, map, None, Some, Err, IfErr, IfOk, IfSome, IsErrOf, OnErr, OnOk};
+ghost use Rattle.std.specs.Prelude.{◌≡◌, ◌↔◌, ◌+◌, ◌<◌, ◌≤◌, [], length, map, None, Some, Err, IfErr, IfOk, IfSome, IsErrOf, OnOk};
 ghost use Rattle.std.specs.Bool.{OnFalse, OnTrue};
 ghost use Rattle.std.specs.List.{AllByRecursion};
-ghost use Rattle.resp_value.specs.Bounds.{AreBounds, Bounds};
+ghost use Rattle.resp_value.specs.Bounds.{Bounds};
 ghost use Rattle.resp_value.specs.Commands.{words_of};
 ghost use Rattle.resp_value.specs.Values.{datum_of, list_of};
 ghost use Rattle.resp_session.specs.Connections.{shown_pushes, shown_replies};
-ghost use Rattle.resp_session.specs.Runs.{Run};
 ghost use Rattle.resp_session.specs.Serving.{clients_in};
 ghost use Rattle.resp_session.specs.Worlds as session;
 ghost use Rattle.resp_session.specs.Worlds.{client_of, connection_at, new_world};
+ghost use Rattle.resp_turns.specs.Turns.{stopped_by};
 ghost use Rattle.resp_wire.specs.Ends.{outcome_of_push};
 ghost use Rattle.resp_wire.specs.Happening.{AreOpened, Fails, Happens, IsOpenClient, MayLackMemory, Performs, RunsTo, StopsAt};
-ghost use Rattle.resp_wire.specs.Worlds.{CountsFailures, KeepFailures, LinksAfter, OthersStay, Shows, event_of, pushes_with, requests_of, stop_is_of_link, values_in};
+ghost use Rattle.resp_wire.specs.Links.{is_of_link};
+ghost use Rattle.resp_wire.specs.Requests.{request_of};
+ghost use Rattle.resp_wire.specs.Worlds.{CountsFailures, KeepFailures, LinksAfter, OthersStay, Shows, event_of, pushes_with, values_in};
 
 use crate::asked::{Asked, Request};
 use crate::carrying::{carry_to_client, carry_to_server};
@@ -174,7 +176,7 @@ impl<L: Link, S: BuildHasher + Drop> World<L, S> {
         // client has failed, once, and no other link.
         ensures links { self.old.stopped ≡ None → CountsFailures L.failures
             (client_of (event_of event.now)) self.old.links self.new.links
-            (stop_is_of_link result) }
+            (stopped_by (λ stop. is_of_link stop.cause) result) }
         // The bytes of an event go over the link of its client, and in its direction.
         ensures traffic { IfOk result
             (LinksAfter L.traffic self.old self.new (event_of event.now)) }
@@ -369,7 +371,8 @@ impl<L: Link, S: BuildHasher + Drop> World<L, S> {
     pub fn asked(&self, number: usize) -> &[Request]
         requires { (1 ≤ number) × (number ≤ length self.now.ends) }
         ensures { (limits : Bounds) (w : session.World) → Shows L.is_honest self.now limits w →
-            IfSome (connection_at w.connections number) (λ c. requests_of result.now ≡ c.requests) }
+            IfSome (connection_at w.connections number) (λ c.
+            map request_of result.now ≡ c.requests) }
     {
         self.ends[number - 1].asked.as_slice()
     }

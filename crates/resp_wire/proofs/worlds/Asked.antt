@@ -10,9 +10,11 @@ use Rattle.resp_session.specs.Requests.{Request, request_text, version_asked}
 use Rattle.resp_session.specs.Serving.{ArrivalsStay, IsUnfinished, WhatHasComeWasSent}
 use Rattle.resp_session.specs.Worlds.{World, connection_at}
 use Rattle.resp_server.specs.Hubs.{HubState, Seat, seat_at}
+use Rattle.resp_client.specs.Clients as client
 use Rattle.resp_client.specs.Clients.{ClientState, queued, state_of}
 use Rattle.resp_client.specs.Hearing.{KeepsReading}
-use Rattle.resp_wire.specs.Ends.{Queues, StaysAs}
+use Rattle.resp_wire.specs.Ends.{HasQueued}
+use Rattle.resp_wire.specs.Requests.{request_of}
 use Rattle.resp_wire.specs.Worlds.{ShowsClient, ShowsEach, Stands}
 use Rattle.resp_wire.specs.declared.end.End.{End}
 use Rattle.resp_wire.proofs.worlds.Places.{never_gone}
@@ -46,7 +48,8 @@ stands_on limits seat e e' c requests s unfinished same_limits asks counted read
 -- a client that queues a request shows what its connection shows with it
 pub with_one_more : ReadingsStay → WhatHasComeWasSent → ArrivalsStay → (limits : Bounds) (hub : HubState) (ends : List End) (order : List ℕ) (w : World)
     (at : ShowsEach limits hub ends order w) (i : ℕ) (e e' : End) (c : Connection) (request : Request) → slice_get ends i ≡ Some e →
-    connection_at w.connections (suc i) ≡ Some c → c.dropped ≡ false → Queues e e' request →
+    connection_at w.connections (suc i) ≡ Some c → c.dropped ≡ false →
+    HasQueued e e' (client.with_request request (state_of e.client)) (map request_of e.asked.items ++ request ∷ []) →
     ShowsClient limits (seat_at hub (suc i)) e' (with_request request c)
 with_one_more readings sent arrivals limits hub ends order w at i e e' c request here its is_open q =
     let old = at.each i e c here its in
@@ -65,32 +68,33 @@ with_one_more readings sent arrivals limits hub ends order w at i e e' c request
     (sym (map-append version_asked c.requests (request ∷ []))) more in
     record {
       asked = q.asked ∙ ap (λ l. l ++ request ∷ []) old.asked;
-      replies = q.same_heard.replies ∙ old.replies;
-      pushes = q.same_heard.pushes ∙ old.pushes;
-      dropped = q.same_heard.dropped ∙ old.dropped;
+      replies = q.replies ∙ old.replies;
+      pushes = q.pushes ∙ old.pushes;
+      dropped = q.dropped ∙ old.dropped;
       gone = never_gone c _ is_open;
       stands = λ _. stands_on limits (seat_at hub (suc i)) e e' c (c.requests ++ request ∷ []) s
-          (arrivals limits at.n at.events w at.run (suc i) c its request s.front s.unfinished) (ap (λ (z : ClientState). z.limits) q.queued)
-          (ap (λ (z : ClientState). z.out) q.queued ∙ ap (λ l. l ++ request_text request) s.asks ∙
+          (arrivals limits at.n at.events w at.run (suc i) c its request s.front s.unfinished) (ap (λ (z : ClientState). z.limits) q.now)
+          (ap (λ (z : ClientState). z.out) q.now ∙ ap (λ l. l ++ request_text request) s.asks ∙
           sym (drop-append-le c.arrived (sent_text c) (request_text request) within) ∙ sym (ap (drop c.arrived) (one_more_request request c)))
-          (ap queued q.queued ∙ counts)
+          (ap queued q.now ∙ counts)
           (subst (λ (z : ClientState). ReadsAs limits (record { version = Two; asks = map version_asked (c.requests ++ request ∷ []) })
-          (values_of (shown_messages c)) s.text z.waiting) (sym q.queued) asked) q.same_reading;
+          (values_of (shown_messages c)) s.text z.waiting) (sym q.now) asked) q.same_reading;
     }
 
 -- a client that refuses one shows what it showed
-pub as_before : (limits : Bounds) (seat : Option Seat) (e e' : End) (c : Connection) → ShowsClient limits seat e c → StaysAs e e' →
+pub as_before : (limits : Bounds) (seat : Option Seat) (e e' : End) (c : Connection) → ShowsClient limits seat e c →
+    HasQueued e e' (state_of e.client) (map request_of e.asked.items) →
     ShowsClient limits seat e' c
 as_before limits seat e e' c old same = record {
   asked = same.asked ∙ old.asked;
-  replies = same.same_heard.replies ∙ old.replies;
-  pushes = same.same_heard.pushes ∙ old.pushes;
-  dropped = same.same_heard.dropped ∙ old.dropped;
+  replies = same.replies ∙ old.replies;
+  pushes = same.pushes ∙ old.pushes;
+  dropped = same.dropped ∙ old.dropped;
   gone = old.gone;
   stands = λ is_open.
       let s = old.stands is_open in
-      stands_on limits seat e e' c c.requests s s.unfinished (ap (λ (z : ClientState). z.limits) same.same_state)
-      (ap (λ (z : ClientState). z.out) same.same_state ∙ s.asks) (ap queued same.same_state ∙ s.same_count)
+      stands_on limits seat e e' c c.requests s s.unfinished (ap (λ (z : ClientState). z.limits) same.now)
+      (ap (λ (z : ClientState). z.out) same.now ∙ s.asks) (ap queued same.now ∙ s.same_count)
       (subst (λ (z : ClientState). ReadsAs limits (record { version = Two; asks = map version_asked c.requests }) (values_of (shown_messages c)) s.text
-      z.waiting) (sym same.same_state) s.reads) same.same_reading;
+      z.waiting) (sym same.now) s.reads) same.same_reading;
 }

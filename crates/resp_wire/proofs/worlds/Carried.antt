@@ -27,7 +27,8 @@ use Rattle.resp_client.specs.declared.client.Client.{Client}
 use Rattle.resp_wire.specs.Carrying.{HasBrought, HasClosed, HearsOn, MeetsFault}
 use Rattle.resp_wire.specs.Ends.{KeepsHeard}
 use Rattle.resp_wire.specs.Hearing.{pushes_in, replies_in}
-use Rattle.resp_wire.specs.Worlds.{ShowsClient, ShowsEach, Stands, requests_of}
+use Rattle.resp_wire.specs.Requests.{request_of}
+use Rattle.resp_wire.specs.Worlds.{ShowsClient, ShowsEach, Stands}
 use Rattle.resp_wire.specs.declared.asked.Request.{Request as Asking}
 use Rattle.resp_wire.specs.declared.asked.Asked.{Asked}
 use Rattle.resp_wire.specs.declared.end.End.{End}
@@ -198,11 +199,12 @@ never_refused go_on no_fault change limits hub ends order w at i e c seat before
     let next = after_event w (ToClient (suc i) k) in
     let b = beyond limits hub ends order w next (ToClient (suc i) k) at (shown_step limits w i k c its is_open) tt in
     let there = (change (with_shown k) w.connections (suc i)).1 c its in
-    let r = m.met.reads in
-    let h = heard_of go_on limits w i k c e seat s m.met.values r.text m.met.rest m.met.waiting r.reads r.whole in
-    no_fault limits at.n b.events next at.bounds at.few b.possible b.run (suc i) (with_shown k c) there (values_of (shown_messages c) ++ m.met.values)
-    (s.text ++ r.text) m.met.rest m.met.waiting m.fault.cause m.fault.at h.reads h.whole
-    (subst (λ l. ClientFault l m.met.waiting m.met.rest m.fault.cause m.fault.at) s.same_limits m.met.fault_of)
+    let h = m.met.some in
+    let r = h.reads in
+    let all = heard_of go_on limits w i k c e seat s h.values r.text h.rest h.waiting r.reads r.whole in
+    no_fault limits at.n b.events next at.bounds at.few b.possible b.run (suc i) (with_shown k c) there (values_of (shown_messages c) ++ h.values)
+    (s.text ++ r.text) h.rest h.waiting m.fault.cause m.fault.at all.reads all.whole
+    (subst (λ l. ClientFault l h.waiting h.rest m.fault.cause m.fault.at) s.same_limits m.met.fault_of)
 
 pub shown_on : ReadingsGoOn → WhatIsReadIsShown → AChangeIsOfOneConnection → (limits : Bounds) (hub hub' : HubState) (ends : List End)
     (order : List ℕ) (w : World) (at : ShowsEach limits hub ends order w) (i k : ℕ) (e e' : End) (client' : Client) (fresh heard : Asked)
@@ -235,7 +237,7 @@ shown_on go_on nothing_else change limits hub hub' ends order w at i k e e' clie
     let before = s.same_count in
     let still : (state_of client').answered + length after.asks ≡ length c.requests = omega (arith, fewer, counts, before) in
     let client : ShowsClient limits (seat_at hub' (suc i)) e' (with_shown k c) = record {
-      asked = ap (λ (l : Vec Asking Global). requests_of l.items) kept.asked ∙ old.asked;
+      asked = ap (λ (l : Vec Asking Global). map request_of l.items) kept.asked ∙ old.asked;
       replies = kept.replies ∙ ap (λ l. l ++ map (λ (r : ℕ × Datum). r.1) (replies_in heard)) old.replies ∙ ap (λ l. shown_replies c ++ l) numbered ∙ sym
           (filter-append (λ x. not (is_push x)) xs ys) ∙ ap replies_of same;
       pushes = kept.pushes ∙ ap (λ l. l ++ pushes_in heard) old.pushes ∙ ap (λ l. shown_pushes c ++ l) pushed ∙ sym (filter-append is_push xs ys) ∙ ap

@@ -1,5 +1,5 @@
 -- What each event leaves of a world.
-use Rattle.std.proofs.Common.{◌≡◌, ℕ, suc, ◌-◌, ◌<◌, ◌≤◌, false, Some, Option, List, length, get_or, set, slice_get, IfOk, IfSome, Ok, Err, Result, refl, sym, ap, subst, ◌∙◌, arith}
+use Rattle.std.proofs.Common.{◌≡◌, ℕ, suc, ◌-◌, ◌<◌, ◌≤◌, false, Some, List, [], ◌∷◌, ◌++◌, length, map, get_or, set, slice_get, IfOk, IfSome, Ok, Err, Result, refl, sym, ap, subst, ◌∙◌, arith}
 use Rattle.std.proofs.lemmas.Option.{slice_get_read}
 use Rattle.resp_value.specs.Bounds.{Bounds}
 use Rattle.resp_value.specs.declared.cause.Cause.{Cause}
@@ -13,16 +13,19 @@ use Rattle.resp_session.specs.WorldLaws.{AChangeIsOfOneConnection, IsPossible}
 use Rattle.resp_session.specs.Worlds.{World, WorldEvent, after_event, connection_at, world_with}
 use Rattle.resp_session.proofs.FittingSent.{requests_that_fit_are_sent}
 use Rattle.resp_server.specs.Hubs.{HubState, seat_at}
+use Rattle.resp_client.specs.Clients as client
 use Rattle.resp_client.specs.Clients.{queued, state_of}
-use Rattle.resp_wire.specs.Ends.{Queues, TakesRequest}
-use Rattle.resp_wire.specs.Happening.{Happens, IsOpenEnd}
-use Rattle.resp_wire.specs.Worlds.{Shows, ShowsEach, outcome_of}
+use Rattle.resp_client.specs.Sending.{MayBeSent}
+use Rattle.resp_wire.specs.Ends.{HasQueued, TakesRequest}
+use Rattle.resp_wire.specs.Happening.{Happens, IsOpenClient, IsOpenEnd}
+use Rattle.resp_wire.specs.Requests.{request_of}
+use Rattle.resp_wire.specs.Worlds.{Shows, ShowsEach, WorldState, outcome_of}
 use Rattle.resp_wire.specs.declared.end.End.{End}
 use Rattle.resp_wire.specs.declared.event.Outcome.{Outcome}
 use Rattle.resp_wire.specs.declared.event.Outcome.TheVariants.{Done, Gone, Refused}
 use Rattle.resp_wire.proofs.worlds.Asked.{as_before, with_one_more}
 use Rattle.resp_wire.proofs.worlds.Frames.{Beyond, IsFramed, beyond, framed, kept}
-use Rattle.resp_wire.proofs.worlds.Places.{connection_there, world_of}
+use Rattle.resp_wire.proofs.worlds.Places.{connection_there}
 
 -- what two facts of a result come to
 pub both_ok : {T E : Type 0} (r : Result T E) (P Q R : T → Type 0) → IfOk r P → IfOk r Q → ((x : T) → P x → Q x → R x) → IfOk r R
@@ -56,15 +59,15 @@ found_at limits hub ends order w i e at within e_is open_end =
 -- a request that was queued
 request_done : ReadingsStay → WhatHasComeWasSent → ArrivalsStay → AChangeIsOfOneConnection → (limits : Bounds) (hub : HubState) (ends : List End)
     (order : List ℕ) (w : World) (i : ℕ) (e e' : End) (event : WorldEvent) (request : Request) → (at : ShowsEach limits hub ends order w) →
-    (a : IsAt limits hub ends order w i e) → Queues e e' request → IsPossible event →
+    (a : IsAt limits hub ends order w i e) → MayBeSent (state_of e.client) request →
+    HasQueued e e' (client.with_request request (state_of e.client)) (map request_of e.asked.items ++ request ∷ []) → IsPossible event →
     ((cause : Cause) → RefusesEvent limits (Some a.connection) event cause → RefusesRequest limits (length a.connection.requests) request cause) →
     connection_of w event ≡ Some a.connection → after_event w event ≡ world_with (with_request request) w (suc i) →
     Step limits w event runs.Done (after_event w event) × ShowsEach limits hub (set ends i e') order (after_event w event)
-request_done readings sent arrivals change limits hub ends order w i e e' event request at a q possible refusing its now =
+request_done readings sent arrivals change limits hub ends order w i e e' event request at a may q possible refusing its now =
     let c = a.connection in
     let old = at.each i e c a.here a.its in
     let s = old.stands a.is_open in
-    let may = q.may_be_sent in
     let few = may.number_left in
     let counts = s.same_count in
     let refused : (cause : Cause) → RefusesEvent limits (connection_of w event) event cause → ⊥ =
@@ -94,39 +97,33 @@ request_done readings sent arrivals change limits hub ends order w i e e' event 
 
 -- what came of a request
 request_taken : {L : Type 0} (is_honest : L → Type 0) → ReadingsStay → WhatHasComeWasSent → ArrivalsStay → AChangeIsOfOneConnection → (limits : Bounds)
-    (hub : HubState) (ends : List End) (links : List L) (order : List ℕ) (stopped : Option Cause) (w : World) (i : ℕ) (e e' : End)
-    (event : WorldEvent) (request : Request) (outcome : Outcome) →
-    (shows : Shows is_honest (world_of hub ends links order stopped) limits w) →
-    (a : IsAt limits hub ends order w i e) → TakesRequest e e' request outcome → (outcome ≡ Done → IsPossible event) →
+    (s : WorldState L) (w : World) (i : ℕ) (e e' : End) (event : WorldEvent) (request : Request) (outcome : Outcome) → (shows : Shows is_honest s limits w) →
+    (a : IsAt limits s.hub s.ends s.order w i e) → TakesRequest e e' request outcome → (outcome ≡ Done → IsPossible event) →
     ((cause : Cause) → RefusesEvent limits (Some a.connection) event cause → RefusesRequest limits (length a.connection.requests) request cause) →
     ((cause : Cause) → RefusesRequest limits (length a.connection.requests) request cause → RefusesEvent limits (Some a.connection) event cause) →
     connection_of w event ≡ Some a.connection → after_event w event ≡ world_with (with_request request) w (suc i) →
-    (next : World) × Step limits w event (outcome_of outcome) next ×
-    Shows is_honest (world_of hub (set ends i e') links order stopped) limits next
-request_taken {L} is_honest readings sent arrivals change limits hub ends links order stopped w i e e' event request Done shows a takes possible refusing by_it
-    its now =
-    let d = request_done readings sent arrivals change limits hub ends order w i e e' event request shows.each a takes (possible refl) refusing its now in
+    (next : World) × Step limits w event (outcome_of outcome) next × Shows is_honest (record s { ends = set s.ends i e' }) limits next
+request_taken {L} is_honest readings sent arrivals change limits s w i e e' event request Done shows a takes possible refusing by_it its now =
+    let d = request_done readings sent arrivals change limits s.hub s.ends s.order w i e e' event request shows.each a takes.0 takes.1 (possible refl) refusing
+    its now in
     (after_event w event, d.0, record { each = d.1; honest = shows.honest })
-request_taken {L} is_honest readings sent arrivals change limits hub ends links order stopped w i e e' event request (Refused cause) shows a takes possible
-    refusing by_it its now =
+request_taken {L} is_honest readings sent arrivals change limits s w i e e' event request (Refused cause) shows a takes possible refusing by_it its now =
     let c = a.connection in
     let old = shows.each.each i e c a.here a.its in
-    let s = old.stands a.is_open in
+    let st = old.stands a.is_open in
     let refused : RefusesRequest limits (length c.requests) request cause =
-    subst (λ n. RefusesRequest limits n request cause) s.same_count
-    (subst (λ l. RefusesRequest l (queued (state_of e.client)) request cause) s.same_limits takes.0) in
+    subst (λ n. RefusesRequest limits n request cause) st.same_count
+    (subst (λ l. RefusesRequest l (queued (state_of e.client)) request cause) st.same_limits takes.0) in
     let its_refusal = subst (λ o. RefusesEvent limits o event cause) (sym its) (by_it cause refused) in
-    let one = as_before limits (seat_at hub (suc i)) e e' c old takes.1 in (
+    let one = as_before limits (seat_at s.hub (suc i)) e e' c old takes.1 in (
       w,
       (ap is_gone its ∙ a.is_open, its_refusal, refl),
       record {
-        each = kept limits hub ends order w i e' c shows.each a.within a.its one;
+        each = kept limits s.hub s.ends s.order w i e' c shows.each a.within a.its one;
         honest = shows.honest;
       },
     )
-request_taken {L} is_honest readings sent arrivals change limits hub ends links order stopped w i e e' event request Gone shows a takes possible refusing by_it
-    its now =
-    absurd takes
+request_taken {L} is_honest readings sent arrivals change limits s w i e e' event request Gone shows a takes possible refusing by_it its now = absurd takes
 
 -- the number of an index
 pub numbered : (number : ℕ) → 1 ≤ number → suc (number - 1) ≡ number
@@ -141,20 +138,17 @@ Asks event request = ((limits : Bounds) (c : Connection) (n : ℕ) (cause : Caus
     (after_event w (event n) ≡ world_with (with_request request) w n))
 
 -- what came of a request of a client that was not dropped
-pub asks : {L : Type 0} (is_honest : L → Type 0) → ReadingsStay → WhatHasComeWasSent → ArrivalsStay → AChangeIsOfOneConnection → (hub : HubState)
-    (ends : List End) (links : List L) (order : List ℕ) (stopped : Option Cause) (number : ℕ) (event : ℕ → WorldEvent) (request : Request)
-    (e e' : End) (outcome : Outcome) → Asks event request → (outcome ≡ Done → (n : ℕ) → IsPossible (event n)) →
-    (1 ≤ number) × (number ≤ length ends) → IsOpenEnd ends (number - 1) → e ≡ get_or ends (number - 1) e → TakesRequest e e' request outcome →
-    Happens is_honest (world_of hub ends links order stopped)
-    (world_of hub (set ends (number - 1) e') links order stopped) (event number) outcome
-asks {L} is_honest readings sent arrivals change hub ends links order stopped number event request e e' outcome of_request possible there open_end e_is takes
-    limits w shows =
+pub asks : {L : Type 0} (is_honest : L → Type 0) → ReadingsStay → WhatHasComeWasSent → ArrivalsStay → AChangeIsOfOneConnection → (s : WorldState L)
+    (number : ℕ) (event : ℕ → WorldEvent) (request : Request) (e e' : End) (outcome : Outcome) → Asks event request →
+    (outcome ≡ Done → (n : ℕ) → IsPossible (event n)) → IsOpenClient s.ends number → e ≡ get_or s.ends (number - 1) e → TakesRequest e e' request outcome →
+    Happens is_honest s (record s { ends = set s.ends (number - 1) e' }) (event number) outcome
+asks {L} is_honest readings sent arrivals change s number event request e e' outcome of_request possible client e_is takes limits w shows =
     let i = number - 1 in
-    let (least, most) = there in
-    let a = found_at limits hub ends order w i e shows.each (omega (arith, least, most)) e_is open_end in
+    let (least, most) = client.there in
+    let a = found_at limits s.hub s.ends s.order w i e shows.each (omega (arith, least, most)) e_is client.is_open in
     let refusals = of_request.0 limits a.connection (suc i) in
     let changes = of_request.1 w (suc i) in
-    subst (λ n. (next : World) × Step limits w (event n) (outcome_of outcome) next ×
-    Shows is_honest (world_of hub (set ends i e') links order stopped) limits next) (numbered number least)
-    (request_taken is_honest readings sent arrivals change limits hub ends links order stopped w i e e' (event (suc i)) request outcome shows a takes
+    subst (λ n. (next : World) × Step limits w (event n) (outcome_of outcome) next × Shows is_honest (record s { ends = set s.ends i e' }) limits next)
+    (numbered number least)
+    (request_taken is_honest readings sent arrivals change limits s w i e e' (event (suc i)) request outcome shows a takes
     (λ done. possible done (suc i)) (λ cause. (refusals cause).0) (λ cause. (refusals cause).1) (changes.0 ∙ a.its) changes.1)

@@ -1,8 +1,8 @@
 //! A link over TCP.
 
-ghost use Rattle.std.specs.Prelude.{◌≡◌, ◌+◌, ◌<◌, ◌≤◌, None, length, is_err, IfErr, IfOk, OnOk};
+ghost use Rattle.std.specs.Prelude.{◌≡◌, ◌≢◌, ◌+◌, ◌<◌, ◌≤◌, None, length, is_err, true, IfErr, IfOk, OnOk};
 ghost use Rattle.resp_value.specs.Devices.{HasRisen, failures_after};
-ghost use Rattle.resp_wire.specs.Links.{IsLinkCause, IsOutOfTurns, StopsPassing, StopsReceiving, cause_of_halt};
+ghost use Rattle.resp_wire.specs.Links.{IsOutOfTurns, error_of_halt, is_of_link};
 ghost use Rattle.resp_wire.specs.TcpLinks.{UsesBothEnds, receiving_end, sending_end};
 ghost use Rattle.resp_turns.specs.Turns.{Spends, SpendsAtMost};
 
@@ -52,7 +52,7 @@ impl TcpLink {
 impl TcpLink {
     /// Writes a piece at one end, and reads it at the other.
     fn pass_along(&mut self, direction: Direction, piece: &[u8], into: &mut [u8]) -> Carried
-        ensures refusal { IfErr result (λ fault. IsLinkCause fault.cause) }
+        ensures refusal { IfErr result (λ fault. is_of_link fault.cause ≡ true) }
         ensures write_failed { IfErr result (λ fault. fault.cause ≡ Cause.Write →
             HasRisen (sending_end direction self.old).failures
             (sending_end direction self.new).failures) }
@@ -97,7 +97,7 @@ impl Link for TcpLink {
         requires same_length { length piece.now ≡ length into.old }
         requires short { length piece.now ≤ 1_024 }
         ensures carried { OnOk result (into.new ≡ piece.now) }
-        ensures cause { IfErr result (λ fault. IsLinkCause fault.cause) }
+        ensures cause { IfErr result (λ fault. is_of_link fault.cause ≡ true) }
 
         // A piece that is not empty is written at the end of its sender and read at the other end.
         // A failed write is one of the sender's end.
@@ -138,9 +138,9 @@ fn compare(written: &[u8], came: &[u8]) -> Carried
 
 /// Writes a piece at one end, and reads at the other end as many bytes as there is room for.
 fn pass<W: Sink, R: Source>(from: &mut W, to: &mut R, piece: &[u8], into: &mut [u8]) -> Carried
-    ensures refusal { IfErr result (λ fault. StopsPassing (W.failures from.old)
-        (W.failures from.new) (R.failures to.old) (R.failures to.new) (R.remaining to.old)
-        (R.remaining to.new) fault.cause) }
+    ensures refusal { IfErr result (λ fault. is_of_link fault.cause ≡ true) }
+    ensures write_failed { IfErr result (λ fault. fault.cause ≡ Cause.Write →
+        HasRisen (W.failures from.old) (W.failures from.new)) }
     ensures turns { SpendsAtMost (W.calls from.old) (W.calls from.new) (R.calls to.old)
         (R.calls to.new) TURNS (IsOutOfTurns result) }
     ensures used { OnOk result (0 < length piece.now → 0 < length into.old →
@@ -157,8 +157,9 @@ fn pass<W: Sink, R: Source>(from: &mut W, to: &mut R, piece: &[u8], into: &mut [
 
 /// Reads as many bytes as there is room for.
 fn receive<R: Source>(to: &mut R, into: &mut [u8], turns: &mut u64) -> Carried
-    ensures refusal { IfErr result (λ fault. StopsReceiving (R.failures to.old) (R.failures to.new)
-        (R.remaining to.old) (R.remaining to.new) turns.new fault.cause) }
+    ensures refusal { IfErr result (λ fault. is_of_link fault.cause ≡ true) }
+    ensures no_write { IfErr result (λ fault. fault.cause ≢ Cause.Write) }
+    ensures no_turn_left { IsOutOfTurns result → turns.new ≡ 0 }
     ensures turns { Spends (R.calls to.old) (R.calls to.new) turns.old turns.new }
     ensures onward { OnOk result (0 < length into.old → turns.new < turns.old) }
 {
@@ -175,7 +176,7 @@ fn receive<R: Source>(to: &mut R, into: &mut [u8], turns: &mut u64) -> Carried
 
 /// Returns the error of the link for a read or write that moved no byte.
 fn stop(halt: Halt, failed: Cause) -> LinkFault
-    ensures { result.cause ≡ cause_of_halt failed halt }
+    ensures { result.cause ≡ error_of_halt failed Cause.TooManyTurns halt }
 {
     let cause = match halt {
         Halt::Failed => failed,

@@ -2,8 +2,8 @@ use Rattle.std.specs.List.{concat}
 use Rattle.std.proofs.Common.{rules, refl, false, [], ◌≡◌, ◌∷◌, ◌++◌, take, subst, sym, length}
 use Rattle.resp_client.specs.Clients.{state_of}
 use Rattle.resp_wire.specs.Hearing.{HearsAll}
-use Rattle.resp_wire.specs.Stops.{StopsHearing, StopsListening, is_of_last_read}
-use Rattle.resp_wire.proofs.Listening.{fails_reading, hears_no_bytes, hears_piece, no_last_read, stops_listening, stops_piece, waits_for_none, waits_for_piece}
+use Rattle.resp_wire.specs.Stops.{StopsListening, is_of_last_read}
+use Rattle.resp_wire.proofs.Listening.{fails_reading, hears_no_bytes, hears_piece, no_last_read, stops_piece, waits_for_none, waits_for_piece}
 use Rattle.resp_turns.specs.Pieces.{ReadsNothing}
 use Rattle.resp_turns.specs.Turns.{has_failed}
 use Rattle.resp_turns.specs.declared.halt.Halt.TheVariants.{Failed, NoTurn}
@@ -103,11 +103,10 @@ returns-in-Err-clause-heard g c =
             tt,
             subst (λ z. StopsListening s c.hear_piece.new.client c.args.heard.now c.hear_piece.new.heard (front ++ z) error)
                 (sym (concat_more pieces (take n into)))
-                (stops_listening s c.hear_piece.new.client c.args.heard.now c.hear_piece.new.heard (front ++ (concat pieces ++ take n into)) error
                 (stops_piece c.readings_go_on.ensures c.hearing_goes_on.ensures s c.loop-reader.client c.hear_piece.new.client c.args.heard.now c.loop-reader.heard c.hear_piece.new.heard
                 front (concat pieces) (take n into) error so_far
-                (subst (λ z. StopsHearing (state_of c.loop-reader.client) c.hear_piece.new.client c.loop-reader.heard c.hear_piece.new.heard (so_far.rest ++ z) error)
-                (search rules) (c.in-Err.ensures.refusal so_far.rest so_far.takes)))),
+                (subst (λ z. StopsListening (state_of c.loop-reader.client) c.hear_piece.new.client c.loop-reader.heard c.hear_piece.new.heard (so_far.rest ++ z) error)
+                (search rules) (c.in-Err.ensures.refusal so_far.rest so_far.takes))),
             waits_for_piece s c.loop-reader.client c.args.heard.now c.loop-reader.heard front pieces (take n into) so_far (search rules) each,
           ),
     )

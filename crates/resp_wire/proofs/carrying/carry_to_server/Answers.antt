@@ -1,7 +1,7 @@
 use Rattle.std.proofs.Common.{rules, ◌≡◌, ◌++◌, ◌∙◌, ap, arith, drop, length, min, refl, subst, take}
 use Rattle.resp_client.specs.Clients.{ClientState, state_of, without_front}
 use Rattle.resp_server.specs.Handling.{HasAnswered, WhereOpen}
-use Rattle.resp_wire.specs.Carrying.{HasBrought, StopsCarrying}
+use Rattle.resp_wire.specs.Carrying.{HasBrought, HasClosed, StopsCarrying}
 use Rattle.resp_wire.proofs.AnsweredOn.{brings_more, brings_none, brings_whole, sent_twice, stops_more}
 use Rattle.resp_wire.specs.Links.{Carries}
 use Rattle.resp_wire.specs.declared.link.Direction.TheVariants.{ToServer}
@@ -46,7 +46,7 @@ returns-in-Err-clause-refusal g c honest =
     stops_more c.answers_go_on.ensures c.answers_are_added.ensures old mid id s front out order order' number done failures failures' failures'' cause here
     (at_open old id (λ t f. HasBrought old mid id t (f ++ take done out) order order' number) s front (i.brought honest) here not_closing taken)
     i.none_failed
-    (subst (λ z. WhereOpen mid id (λ t f. StopsCarrying mid id t f z failures' failures'' cause)) (ap (λ (z : ClientState). z.out) i.sent)
+    (subst (λ z. WhereOpen mid id (λ t f. StopsCarrying (λ _. HasClosed mid id t f z) failures' failures'' cause)) (ap (λ (z : ClientState). z.out) i.sent)
     (c.in-Err.ensures.refusal (i.honest honest))))
 
 pub returns-in-Err-clause-same_reading : goal.returns-in-Err-clause-same_reading

@@ -1,7 +1,7 @@
 use Rattle.std.proofs.Common.{rules, ◌≡◌, ◌++◌, length, take, sym, subst, ap, ◌∙◌}
 use Rattle.resp_client.specs.Clients.{state_of}
-use Rattle.resp_wire.specs.Carrying.{StopsShowing}
-use Rattle.resp_wire.specs.Stops.{StopsHearing}
+use Rattle.resp_wire.specs.Carrying.{MeetsFault, StopsCarrying}
+use Rattle.resp_wire.specs.Stops.{StopsListening}
 use Rattle.resp_wire.proofs.Showing.{if_there, stops_showing, waits_there}
 use Rattle.resp_wire.proofs.carrying.show.Goals as goal
 
@@ -17,7 +17,8 @@ returns-in-Err-hear_piece-clause-refusal g c honest =
     let failures = g.L.Link.failures c.args.link.now in
     let failures' = g.L.Link.failures c.carry.new.self in
     if_there old id _ (λ s here front taken.
-    subst (StopsShowing client c.args.heard.now c.hear_piece.new.heard front s.out failures failures') (sym c.cause_of.ensures)
+    subst (StopsCarrying (MeetsFault client c.args.heard.now c.hear_piece.new.heard front s.out) failures failures') (sym c.cause_of.ensures)
     (stops_showing client c.hear_piece.new.client c.args.heard.now c.hear_piece.new.heard front s.out count failures failures' e
-    (subst (λ z. StopsHearing client c.hear_piece.new.client c.args.heard.now c.hear_piece.new.heard (front ++ z) e)
+    c.in-Err-hear_piece.ensures.fault_or_memory
+    (subst (λ z. StopsListening client c.hear_piece.new.client c.args.heard.now c.hear_piece.new.heard (front ++ z) e)
     (same ∙ ap (take count) (sym (waits_there old id s c.in-Ok.out.now here c.in-Ok.ensures.waiting))) (c.in-Err-hear_piece.ensures.refusal front taken))))

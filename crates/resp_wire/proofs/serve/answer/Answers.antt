@@ -1,6 +1,6 @@
-use Rattle.std.proofs.Common.{◌≡◌, ◌+◌, false, length, sym, ap, subst, ◌∙◌, arith, length-drop}
+use Rattle.std.proofs.Common.{◌≡◌, false, length, sym, ap, subst, ◌∙◌, arith, length-drop}
 use Rattle.resp_wire.specs.Serving.{AnswersGiven, EndsAnswering}
-use Rattle.resp_wire.proofs.AnsweredParts.{ends_more, first_overfills, ok_end, part_more, part_overfills}
+use Rattle.resp_wire.proofs.AnsweredParts.{first_overfills, ok_end, part_more, part_overfills, still_few}
 use Rattle.resp_turns.proofs.Turning.{if_ok, spends_more}
 use Rattle.resp_wire.proofs.serve.answer.Goals as goal
 
@@ -16,19 +16,17 @@ loop-answered-init g c = record {
 pub answer_part-part-requires-clause-is_open : goal.answer_part-part-requires-clause-is_open
 answer_part-part-requires-clause-is_open g c =
     let i = c.loop-answered.invariant in
-    let n = c.loop-answered.answered.used in
     let (closing, is) = ok_end c.loop-answered.answered.end (sym c.is_ok.ensures.value ∙ c.if-is_ok.true) in
-    let ends = subst (λ e. EndsAnswering (c.args.held + c.args.hub.now.limits.total) c.args.hub.now c.loop-answered.hub c.args.id
-    (g.W.Sink.failures c.args.writer.now) (g.W.Sink.failures c.loop-answered.writer) c.loop-answered.turns (record { used = n; end = e })) is i.part.ends in
+    let ends = subst (EndsAnswering c.loop-answered.hub c.args.id (g.W.Sink.failures c.args.writer.now) (g.W.Sink.failures c.loop-answered.writer)
+    c.loop-answered.turns) is i.part.ends in
     ends.is_open (if_ok c.loop-answered.answered.end closing is (λ b. b ≡ false) (i.more c.loop-answered-test.true))
 
 pub answer_part-part-requires-clause-none_waits : goal.answer_part-part-requires-clause-none_waits
 answer_part-part-requires-clause-none_waits g c =
     let i = c.loop-answered.invariant in
-    let n = c.loop-answered.answered.used in
     let (closing, is) = ok_end c.loop-answered.answered.end (sym c.is_ok.ensures.value ∙ c.if-is_ok.true) in
-    (subst (λ e. EndsAnswering (c.args.held + c.args.hub.now.limits.total) c.args.hub.now c.loop-answered.hub c.args.id
-    (g.W.Sink.failures c.args.writer.now) (g.W.Sink.failures c.loop-answered.writer) c.loop-answered.turns (record { used = n; end = e })) is i.part.ends).sent
+    (subst (EndsAnswering c.loop-answered.hub c.args.id (g.W.Sink.failures c.args.writer.now) (g.W.Sink.failures c.loop-answered.writer)
+    c.loop-answered.turns) is i.part.ends).sent
 
 pub loop-answered-smaller : goal.loop-answered-smaller
 loop-answered-smaller g c =
@@ -51,8 +49,8 @@ loop-answered-preserved g c =
     let held' = g.W.Sink.written c.loop-answered.writer in
     let held'' = g.W.Sink.written c.answer_part-part.new.writer in
     let (closing, is) = ok_end c.loop-answered.answered.end (sym c.is_ok.ensures.value ∙ c.if-is_ok.true) in
-    let ends = subst (λ e. EndsAnswering (c.args.held + old.limits.total) old cur id (g.W.Sink.failures c.args.writer.now)
-    (g.W.Sink.failures c.loop-answered.writer) c.loop-answered.turns (record { used = n; end = e })) is i.part.ends in
+    let ends = subst (EndsAnswering cur id (g.W.Sink.failures c.args.writer.now) (g.W.Sink.failures c.loop-answered.writer) c.loop-answered.turns) is
+    i.part.ends in
     let before = subst (λ e. AnswersGiven old cur id piece held held' (record { used = n; end = e })) is i.part.given in
     let p = c.answer_part-part.ensures.part in
     let after = subst (λ text. AnswersGiven cur new id text held' held'' part) c.beyond.ensures p.given in
@@ -67,9 +65,9 @@ loop-answered-preserved g c =
             open_now after;
         whole = λ all. absurd (let used = i.part.whole all in omega (arith, used, test));
         no_memory = λ out. let all = p.no_memory out in omega (arith, all, left, test);
-        ends = ends_more c.args.held old cur new id (g.W.Sink.failures c.args.writer.now) (g.W.Sink.failures c.loop-answered.writer)
-            (g.W.Sink.failures c.answer_part-part.new.writer) c.loop-answered.turns c.answer_part-part.new.turns n part.used closing part.end ends
-            p.ends;
+        ends = subst (λ z. EndsAnswering new id z (g.W.Sink.failures c.answer_part-part.new.writer) c.answer_part-part.new.turns part.end) ends.failures p.ends;
+        same_limits = p.same_limits ∙ i.part.same_limits;
+        bounded = still_few c.args.held old cur new id i.part.same_limits i.part.bounded p.bounded;
         spends = spends_more (g.W.Sink.calls c.args.writer.now) (g.W.Sink.calls c.loop-answered.writer) (g.W.Sink.calls c.answer_part-part.new.writer)
             c.args.turns.now c.loop-answered.turns c.answer_part-part.new.turns i.part.spends p.spends;
       };

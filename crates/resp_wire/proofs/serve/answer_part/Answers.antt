@@ -41,9 +41,9 @@ returns-in-Err-clause-part g c =
         failures = subst (λ error. fails ≡ failures_after (is_of_writer error) fails) (sym c.unanswered.ensures) refl;
         no_read = ap is_of_reader c.unanswered.ensures;
         refusal = subst (StopsAnswering fails fails c.args.turns.now) (sym c.unanswered.ensures) tt;
-        same_limits = ap (λ (h : HubState). h.limits) cut.state;
-        bounded = c.bytes_within.ensures.bounded;
       };
+      same_limits = ap (λ (h : HubState). h.limits) cut.state;
+      bounded = c.bytes_within.ensures.bounded;
       spends = spends_nothing (g.W.Sink.calls c.args.writer.now) c.args.turns.now;
     }
 
@@ -78,24 +78,24 @@ returns-in-Err-write_out-clause-part g c =
       within = takes.within;
       given = where_open old id _ (λ s here not_closing front taken. (
         tt,
-        subst (StopsServing old new id s front piece held held') (sym c.unwritten.ensures.error)
+        subst (StopsServing old new id s front piece held held') (sym c.stop.ensures.error)
             (stops_writing old given new id s front piece held held' waits c.in-Err-write_out.halt some
             (serves_given old given new id s (front ++ piece) held held' waits c.in-Ok.taken.commands
             (answered_at old given id piece c.in-Ok.taken.commands c.in-Ok.ensures.answered s front here not_closing taken) sent)),
       ));
       whole = uses_all c.args.held (length o.seat.out) (length there.0.out) there.0.closing size used takes;
-      no_memory = λ is. absurd (not_of_memory c.in-Err-write_out.halt (let z = c.unwritten.ensures.error in cc));
+      no_memory = λ is. absurd (not_of_memory c.in-Err-write_out.halt (let z = c.stop.ensures.error in cc));
       ends = record {
         closing = tt;
         is_open = tt;
         sent = tt;
-        failures = subst (λ b. fails' ≡ failures_after b fails) (sym c.unwritten.ensures.of_writer) c.in-Err-write_out.ensures.failures;
-        no_read = c.unwritten.ensures.not_of_reader;
-        refusal = subst (StopsAnswering fails fails' c.write_out.new.turns) (sym c.unwritten.ensures.error)
+        failures = subst (λ b. fails' ≡ failures_after b fails) (sym c.stop.ensures.of_writer) c.in-Err-write_out.ensures.failures;
+        no_read = c.stop.ensures.of_reader;
+        refusal = subst (StopsAnswering fails fails' c.write_out.new.turns) (sym c.stop.ensures.error)
             (answering fails fails' c.write_out.new.turns c.in-Err-write_out.halt c.in-Err-write_out.ensures.halted);
-        same_limits = ap (λ (h : HubState). h.limits) sent.state ∙ ap (λ (h : HubState). h.limits) answered.state;
-        bounded = λ few. sent_few given new id held held' waits (c.args.held + old.limits.total) sent (c.bytes_within.ensures.bounded few);
       };
+      same_limits = ap (λ (h : HubState). h.limits) sent.state ∙ ap (λ (h : HubState). h.limits) answered.state;
+      bounded = λ few. sent_few given new id held held' waits (c.args.held + old.limits.total) sent (c.bytes_within.ensures.bounded few);
       spends = c.write_out.ensures.turns;
     }
 
@@ -168,8 +168,8 @@ returns-in-Ok-write_out-clause-part g c =
         failures = c.in-Ok-write_out.ensures.failures;
         no_read = refl;
         refusal = tt;
-        same_limits = ap (λ (h : HubState). h.limits) sent.state ∙ ap (λ (h : HubState). h.limits) answered.state;
-        bounded = λ few. sent_few given new id held held' [] (c.args.held + old.limits.total) sent (c.bytes_within.ensures.bounded few);
       };
+      same_limits = ap (λ (h : HubState). h.limits) sent.state ∙ ap (λ (h : HubState). h.limits) answered.state;
+      bounded = λ few. sent_few given new id held held' [] (c.args.held + old.limits.total) sent (c.bytes_within.ensures.bounded few);
       spends = c.write_out.ensures.turns;
     }

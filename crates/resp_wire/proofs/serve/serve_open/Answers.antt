@@ -4,13 +4,15 @@ use Rattle.std.proofs.lemmas.List.{append-nil, length-take-le}
 use Rattle.std.proofs.Common.{rules, arith, ◌+◌, ◌-◌, ◌≤◌, drop, refl, Err, false, [], ◌∷◌, ◌++◌, ◌≡◌, ap, subst, sym, take, ◌∙◌, length}
 use Rattle.resp_server.specs.Handling.{HasAnswered, WhereOpen}
 use Rattle.resp_server.specs.Hubs.{HubState}
-use Rattle.resp_wire.specs.Serving.{AnswersBefore, AnswersGiven, EndsAnswering, FailsServing, Serves, StopsServing, is_of_reader}
+use Rattle.resp_wire.specs.Serving.{AnswersGiven, EndsAnswering, FailsServing, Serves, StopsServing, is_of_reader}
 use Rattle.resp_turns.specs.Pieces.{ReadsNothing}
+use Rattle.resp_wire.specs.declared.error.ServeError.TheVariants.{Read, TooManyTurns}
+use Rattle.resp_wire.proofs.LinkStops.{no_turn_left}
 use Rattle.resp_wire.proofs.AnsweredParts.{at_err, given_whole, may_leave, part_stops, still_few, stops_overfull}
 use Rattle.resp_turns.proofs.Pieces.{all_read, gives, none_left, only_pieces, rest_of, some_left}
-use Rattle.resp_wire.proofs.Seated.{at_open, sent_few, sent_none, where_open}
-use Rattle.resp_wire.proofs.ServedTexts.{leaves_none, nothing_before, open_is, piece_serves, sent_is_open, serves_nothing}
-use Rattle.resp_wire.proofs.ServeStops.{fails_reading, no_turn_to_read, stops_reading, stops_writing}
+use Rattle.resp_wire.proofs.Seated.{open_map, sent_few, sent_none}
+use Rattle.resp_wire.proofs.ServedTexts.{HasServed, leaves_none, nothing_before, open_is, piece_serves, sent_is_open, serves_nothing}
+use Rattle.resp_wire.proofs.ServeStops.{fails_reading, stops_reading, stops_writing}
 use Rattle.resp_turns.proofs.Turning.{end_after, spends_both, spends_nothing, spends_writes}
 use Rattle.resp_wire.proofs.serve.serve_open.Goals as goal
 
@@ -25,16 +27,15 @@ returns-in-Err-clause-served g c =
       [],
       [],
       refl,
-      leaves_none (Err c.unwritten.result),
+      leaves_none (Err c.stop.result),
       only_pieces (length c.args.buffer.now) g.R.Source.remaining g.R.Source.calls g.R.Source.failures c.args.reader.now c.args.reader.now []
-          (is_of_reader c.unwritten.result) refl c.unwritten.ensures.not_of_reader,
-      where_open old id _ (λ s here not_closing front taken. (
+          (is_of_reader c.stop.result) refl c.stop.ensures.of_reader,
+      open_map old id (λ s front. HasAnswered old old id s front 0) _ (λ s front h. (
         tt,
-        subst (StopsServing old new id s front [] held held') (sym c.unwritten.ensures.error)
-            (stops_writing old old new id s front [] held held' waits c.in-Err.halt some (serves_nothing old new id s front held held' waits
-            (at_open old id (λ t f. HasAnswered old old id t f 0) s front c.requires.waiting here not_closing taken) sent)),
+        subst (StopsServing old new id s front [] held held') (sym c.stop.ensures.error)
+            (stops_writing old old new id s front [] held held' waits c.in-Err.halt some (serves_nothing old new id s front held held' waits h sent)),
         nothing_before old id s front held held',
-      )),
+      )) c.requires.waiting,
     )
 
 pub returns-in-Err-clause-bounded : goal.returns-in-Err-clause-bounded
@@ -55,11 +56,8 @@ loop-count-init g c =
       served = (
         [],
         refl,
-        where_open old id _ (λ s here not_closing front taken. (
-          serves_nothing old new id s front held held' []
-              (at_open old id (λ t f. HasAnswered old old id t f 0) s front c.requires.waiting here not_closing taken) sent,
-          nothing_before old id s front held held',
-        )),
+        open_map old id (λ s front. HasAnswered old old id s front 0) _
+            (λ s front h. (serves_nothing old new id s front held held' [] h sent, nothing_before old id s front held held')) c.requires.waiting,
       );
       is_open = sent_is_open old new id held held' [] c.requires.is_open sent;
       none_waits = sent_none old new id held held' sent;
@@ -89,10 +87,7 @@ returns-in-Ok-eq0-clause-served g c =
         given = given;
         over = c.in-Ok-eq0.ensures.empty none;
       },
-      where_open old id _ (λ s here not_closing front taken.
-          let (v, each) = at_open old id (λ t f. Serves old cur id t (f ++ concat pieces) held held' [] × AnswersBefore old id t f pieces held held') s front
-          served here not_closing taken in
-          (v, tt, each)),
+      open_map old id (HasServed old cur id pieces held held') _ (λ s front h. (h.0, tt, h.1)) served,
     )
 
 pub returns-in-Ok-eq0-clause-end : goal.returns-in-Ok-eq0-clause-end
@@ -122,21 +117,19 @@ returns-in-Err-read_some-clause-served g c =
       pieces,
       concat pieces,
       sym (append-nil (concat pieces)),
-      leaves_none (Err c.unread.result),
+      leaves_none (Err c.stop-in-Err-read_some.result),
       record {
         between = c.loop-count.reader;
         given = given;
-        over = subst (ReadsNothing g.R.Source.remaining g.R.Source.calls c.loop-count.reader c.read_some.new.reader) (sym c.unread.ensures.of_reader)
-            c.in-Err-read_some.ensures.unread;
+        over = subst (ReadsNothing g.R.Source.remaining g.R.Source.calls c.loop-count.reader c.read_some.new.reader)
+            (sym c.stop-in-Err-read_some.ensures.of_reader) c.in-Err-read_some.ensures.unread;
       },
-      where_open old id _ (λ s here not_closing front taken.
-          let (v, each) = at_open old id (λ t f. Serves old cur id t (f ++ concat pieces) held held' [] × AnswersBefore old id t f pieces held held') s front
-          served here not_closing taken in (
-            tt,
-            subst (StopsServing old cur id s front (concat pieces) held held') (sym c.unread.ensures.error)
-                (stops_reading old cur id s front (concat pieces) held held' c.in-Err-read_some.halt (v, open_is cur id c.loop-count.invariant.is_open)),
-            each,
-          )),
+      open_map old id (HasServed old cur id pieces held held') _ (λ s front h. (
+        tt,
+        subst (StopsServing old cur id s front (concat pieces) held held') (sym c.stop-in-Err-read_some.ensures.error)
+            (stops_reading old cur id s front (concat pieces) held held' c.in-Err-read_some.halt (h.0, open_is cur id c.loop-count.invariant.is_open)),
+        h.1,
+      )) served,
     )
 
 pub returns-in-Err-read_some-clause-refusal : goal.returns-in-Err-read_some-clause-refusal
@@ -144,8 +137,8 @@ returns-in-Err-read_some-clause-refusal g c =
     let writes = g.W.Sink.failures c.args.writer.now in
     let writes' = g.W.Sink.failures c.loop-count.writer in
     let reads' = g.R.Source.failures c.read_some.new.reader in
-    subst (λ n. FailsServing c.args.hub.now c.args.id writes writes' n reads' c.unread.result) c.loop-count.invariant.reads
-    (subst (FailsServing c.args.hub.now c.args.id writes writes' (g.R.Source.failures c.loop-count.reader) reads') (sym c.unread.ensures.error)
+    subst (λ n. FailsServing c.args.hub.now c.args.id writes writes' n reads' c.stop-in-Err-read_some.result) c.loop-count.invariant.reads
+    (subst (FailsServing c.args.hub.now c.args.id writes writes' (g.R.Source.failures c.loop-count.reader) reads') (sym c.stop-in-Err-read_some.ensures.error)
     (fails_reading c.args.hub.now c.args.id writes writes' (g.R.Source.failures c.loop-count.reader) reads' c.read_some.new.turns
     c.in-Err-read_some.halt c.in-Err-read_some.ensures.halted))
 
@@ -158,8 +151,8 @@ returns-in-Err-read_some-clause-turns g c = spends_both (g.W.Sink.calls c.args.w
 pub returns-in-Err-read_some-clause-no_turn_left :
     goal.returns-in-Err-read_some-clause-no_turn_left
 returns-in-Err-read_some-clause-no_turn_left g c is =
-    no_turn_to_read (g.R.Source.failures c.loop-count.reader) (g.R.Source.failures c.read_some.new.reader) c.read_some.new.turns c.in-Err-read_some.halt
-    c.in-Err-read_some.ensures.halted (let z = c.unread.ensures.error in cc)
+    no_turn_left Read TooManyTurns (g.R.Source.failures c.loop-count.reader) (g.R.Source.failures c.read_some.new.reader)
+    c.read_some.new.turns c.in-Err-read_some.halt (λ same. absurd (cc)) c.in-Err-read_some.ensures.halted (let z = c.stop-in-Err-read_some.ensures.error in cc)
 
 pub returns-in-Err-end-clause-served : goal.returns-in-Err-end-clause-served
 returns-in-Err-end-clause-served g c =
@@ -174,8 +167,8 @@ returns-in-Err-end-clause-served g c =
     let held'' = g.W.Sink.written c.answer-answered.new.writer in
     let cur = c.loop-count.hub in
     let new = c.answer-answered.new.hub in
-    let ends = subst (λ e. EndsAnswering (c.args.held + cur.limits.total) cur new id (g.W.Sink.failures c.loop-count.writer)
-    (g.W.Sink.failures c.answer-answered.new.writer) c.answer-answered.new.turns (record { used = used; end = e })) c.in-Err-end.is
+    let ends = subst (EndsAnswering new id (g.W.Sink.failures c.loop-count.writer) (g.W.Sink.failures c.answer-answered.new.writer)
+    c.answer-answered.new.turns) c.in-Err-end.is
     c.answer-answered.ensures.part.ends in
     let answered = subst (λ e. AnswersGiven cur new id c.front.result.now held' held'' (record { used = used; end = e })) c.in-Err-end.is
     c.answer-answered.ensures.part.given in
@@ -223,6 +216,7 @@ returns-in-Ok-true-clause-served g c =
     let (pieces, given, served) = c.loop-count.invariant.served in
     let into = c.read_some.new.into in
     let n = c.in-Ok.count in
+    let held = g.W.Sink.written c.args.writer.now in
     let held' = g.W.Sink.written c.loop-count.writer in
     let held'' = g.W.Sink.written c.answer-answered.new.writer in
     let cur = c.loop-count.hub in
@@ -235,11 +229,12 @@ returns-in-Ok-true-clause-served g c =
       refl,
       only_pieces (length c.args.buffer.now) g.R.Source.remaining g.R.Source.calls g.R.Source.failures c.args.reader.now c.read_some.new.reader (pieces ++ take n into ∷ []) false
           given_all refl,
-      piece_serves c.answers_go_on.ensures c.answers_are_added.ensures c.args.hub.now cur new id pieces (take n into)
-          (g.W.Sink.written c.args.writer.now) held' held'' served c.loop-count.invariant.is_open
-          (subst (λ z. WhereOpen cur id (λ s front. Serves cur new id s (front ++ z) held' held'' [] × ⊤)) c.front.ensures
+      open_map c.args.hub.now id (HasServed c.args.hub.now new id (pieces ++ take n into ∷ []) held held'') _ (λ s front h. (h.0, tt, h.1))
+          (piece_serves c.answers_go_on.ensures c.answers_are_added.ensures c.args.hub.now cur new id pieces (take n into) held held' held'' served
+          c.loop-count.invariant.is_open
+          (subst (λ z. WhereOpen cur id (λ s front. Serves cur new id s (front ++ z) held' held'' [])) c.front.ensures
           (given_whole cur new id c.front.result.now c.answer-answered.result.used c.answer-answered.result.end c.in-Ok-true.field-0 held' held''
-          c.in-Ok-true.is c.answer-answered.ensures.none_left c.answer-answered.ensures.part.given)),
+          c.in-Ok-true.is c.answer-answered.ensures.none_left c.answer-answered.ensures.part.given))),
     )
 
 pub returns-in-Ok-true-clause-turns : goal.returns-in-Ok-true-clause-turns
@@ -262,26 +257,24 @@ loop-count-preserved g c =
     let new = c.answer-answered.new.hub in
     let all = piece_serves c.answers_go_on.ensures c.answers_are_added.ensures old cur new id pieces (take n into) held held' held'' served
     c.loop-count.invariant.is_open
-    (subst (λ z. WhereOpen cur id (λ s front. Serves cur new id s (front ++ z) held' held'' [] × ⊤)) c.front.ensures
+    (subst (λ z. WhereOpen cur id (λ s front. Serves cur new id s (front ++ z) held' held'' [])) c.front.ensures
     (given_whole cur new id c.front.result.now c.answer-answered.result.used c.answer-answered.result.end c.in-Ok-false.field-0 held' held''
     c.in-Ok-false.is c.answer-answered.ensures.none_left c.answer-answered.ensures.part.given)) in
-    let ends = subst (λ e. EndsAnswering (c.args.held + cur.limits.total) cur new id (g.W.Sink.failures c.loop-count.writer)
-    (g.W.Sink.failures c.answer-answered.new.writer) c.answer-answered.new.turns (record { used = c.answer-answered.result.used; end = e })) c.in-Ok-false.is
+    let ends = subst (EndsAnswering new id (g.W.Sink.failures c.loop-count.writer) (g.W.Sink.failures c.answer-answered.new.writer)
+    c.answer-answered.new.turns) c.in-Ok-false.is
     c.answer-answered.ensures.part.ends in
     record {
       served = (
         more,
         gives (length c.args.buffer.now) _ g.R.Source.remaining g.R.Source.calls g.R.Source.failures c.args.reader.now c.loop-count.reader
             c.read_some.new.reader pieces (take n into) (search rules) given (c.in-Ok.ensures.piece (search rules)),
-        where_open old id _ (λ s here not_closing front taken.
-            let (v, _, each) = at_open old id (λ t f. Serves old new id t (f ++ concat more) held held'' [] × ⊤ × AnswersBefore old id t f more held held'') s
-            front all here not_closing taken in
-            (v, each)),
+        all,
       );
       is_open = ends.is_open (search rules);
       none_waits = ends.sent;
-      same_limits = ends.same_limits ∙ c.loop-count.invariant.same_limits;
-      bounded = still_few c.args.held old cur new id c.loop-count.invariant.same_limits c.loop-count.invariant.bounded ends.bounded;
+      same_limits = c.answer-answered.ensures.part.same_limits ∙ c.loop-count.invariant.same_limits;
+      bounded = still_few c.args.held old cur new id c.loop-count.invariant.same_limits c.loop-count.invariant.bounded
+          c.answer-answered.ensures.part.bounded;
       spends = spends_both (g.W.Sink.calls c.args.writer.now) (g.W.Sink.calls c.loop-count.writer) (g.W.Sink.calls c.answer-answered.new.writer)
           (g.R.Source.calls c.args.reader.now) (g.R.Source.calls c.loop-count.reader) (g.R.Source.calls c.read_some.new.reader) c.args.turns.now
           c.loop-count.turns c.read_some.new.turns c.answer-answered.new.turns c.loop-count.invariant.spends c.read_some.ensures.turns c.answer-answered.ensures.part.spends;

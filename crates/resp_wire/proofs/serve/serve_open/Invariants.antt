@@ -1,9 +1,9 @@
-use Rattle.std.specs.List.{concat}
-use Rattle.std.proofs.Common.{◌≡◌, ◌+◌, ◌++◌, List, ℕ, [], length}
+use Rattle.std.proofs.Common.{◌≡◌, ◌+◌, List, ℕ, length}
 use Rattle.resp_server.specs.Handling.{WhereOpen}
 use Rattle.resp_server.specs.Hubs.{WaitsAtMost}
 use Rattle.resp_turns.specs.Pieces.{GivesPieces}
-use Rattle.resp_wire.specs.Serving.{AnswersBefore, IsOpen, Serves}
+use Rattle.resp_wire.specs.Serving.{IsOpen}
+use Rattle.resp_wire.proofs.ServedTexts.{HasServed}
 use Rattle.resp_wire.proofs.serve.serve_open.Given as goal
 use Rattle.resp_turns.specs.Turns.{SpendsTurns}
 
@@ -11,8 +11,7 @@ abbrev pub invariant-loop-count : goal.invariant-loop-count
 invariant-loop-count g l = record {
   served : (pieces : List (List ℕ)) ×
       GivesPieces (length l.fn.buffer) g.R.Source.remaining g.R.Source.calls g.R.Source.failures l.fn.reader l.reader pieces ×
-      WhereOpen l.fn.hub l.fn.id (λ s front. Serves l.fn.hub l.hub l.fn.id s (front ++ concat pieces) (g.W.Sink.written l.fn.writer)
-      (g.W.Sink.written l.writer) [] × AnswersBefore l.fn.hub l.fn.id s front pieces (g.W.Sink.written l.fn.writer) (g.W.Sink.written l.writer));
+      WhereOpen l.fn.hub l.fn.id (HasServed l.fn.hub l.hub l.fn.id pieces (g.W.Sink.written l.fn.writer) (g.W.Sink.written l.writer));
   is_open : IsOpen l.hub l.fn.id;
   none_waits : WaitsAtMost 0 l.hub l.fn.id;
   same_limits : l.hub.limits ≡ l.fn.hub.limits;

@@ -31,9 +31,9 @@ returns-in-Err-clause-served g c = (
   [],
   [],
   refl,
-  leaves_none (Err c.unwritten.result),
+  leaves_none (Err c.stop.result),
   only_pieces (length c.args.buffer.now) g.R.Source.remaining g.R.Source.calls g.R.Source.failures c.args.reader.now c.args.reader.now []
-      (is_of_reader c.unwritten.result) refl c.unwritten.ensures.not_of_reader,
+      (is_of_reader c.stop.result) refl c.stop.ensures.of_reader,
   not_open c.args.hub.now c.args.id _ (subst (IsClosing c.args.hub.now c.args.id) {y = true} (search rules) c.in-Ok.ensures.closing),
 )
 
@@ -42,9 +42,9 @@ returns-in-Err-clause-turns g c = (
   c.write_out.new.turns,
   spends_writes (g.W.Sink.calls c.args.writer.now) (g.W.Sink.calls c.write_out.new.writer) (g.R.Source.calls c.args.reader.now) c.args.turns
       c.write_out.new.turns c.write_out.ensures.turns,
-  no_turn_to_answer _ _ (g.W.Sink.failures c.args.writer.now) (g.W.Sink.failures c.write_out.new.writer) c.write_out.new.turns c.unwritten.result refl
+  no_turn_to_answer _ _ (g.W.Sink.failures c.args.writer.now) (g.W.Sink.failures c.write_out.new.writer) c.write_out.new.turns c.stop.result refl
       (subst (StopsAnswering (g.W.Sink.failures c.args.writer.now) (g.W.Sink.failures c.write_out.new.writer) c.write_out.new.turns)
-      (sym c.unwritten.ensures.error)
+      (sym c.stop.ensures.error)
       (answering (g.W.Sink.failures c.args.writer.now) (g.W.Sink.failures c.write_out.new.writer) c.write_out.new.turns c.in-Err.halt c.in-Err.ensures.halted)),
 )
 

@@ -13,12 +13,12 @@ returns-in-Err g c = from_inside _ _ _ c.args.number _ _ _ _ _ c.self.view_is c.
     let s = c.self.inside in
     let old = world_of s.hub s.ends.items s.links.items s.order.items s.stopped in
     over_none _ _ _ old _ _ (Err NoSession) (λ outcome. refl) refl refl refl refl tt
-    (is_there _ _ s.hub s.ends.items s.links.items s.order.items s.stopped old c.args.number NoSession client.there client.is_open c.in-Err.ensures.none)
+    (is_there _ _ old old c.args.number NoSession client c.in-Err.ensures.none)
     (λ memory. absurd (cc)))
 
 pub returns : goal.returns
 returns g c = from_inside _ _ _ c.args.number _ _ _ _ _ c.self.view_is c.requires (λ client.
     let s = c.self.inside in
     over_none _ _ _ _ _ (Drop c.args.number) (Ok Done) (λ outcome. refl) refl refl (length-set s.ends.items (c.args.number - 1) _) tt
-    (drops _ c.a_change_is_of_one_connection.ensures s.hub c.close.new.self s.ends.items s.links.items s.order.items s.stopped c.args.number
-    c.index_mut.result.now client.there client.is_open c.index_mut.ensures.value c.in_default.ensures.closed c.in_default.ensures.gone) tt tt)
+    (drops _ c.a_change_is_of_one_connection.ensures _ c.close.new.self c.args.number c.index_mut.result.now client c.index_mut.ensures.value
+    c.in_default.ensures.closed c.in_default.ensures.gone) tt tt)

@@ -29,8 +29,7 @@ returns g c = from_inside _ _ _ c.args.number _ _ _ _ _ c.self.view_is c.require
     let value = subst (λ l. IsValue (push_message (map datum_of l)).value) c.list.ensures c.in_default.ensures.is_value in
     over_none _ _ _ _ _ (Push n (map datum_of items)) (Ok Done) (λ outcome. refl) refl refl refl tt
     (pushes _ c.what_is_shown_is_read.ensures.nothing_else c.what_is_shown_is_read.ensures.goes_on c.what_has_come_was_sent.ensures.was_sent
-    c.a_change_is_of_one_connection.ensures s.hub hub' s.ends.items s.links.items s.order.items s.stopped n items client.there client.is_open now verdict
-    value) tt tt)
+    c.a_change_is_of_one_connection.ensures _ hub' n items client now verdict value) tt tt)
 
 pub returns-in-Err : goal.returns-in-Err
 returns-in-Err g c = from_inside _ _ _ c.args.number _ _ _ _ _ c.self.view_is c.requires (λ client.
@@ -44,8 +43,7 @@ returns-in-Err g c = from_inside _ _ _ c.args.number _ _ _ _ _ c.self.view_is c.
     c.in-Err.ensures.verdict in
     over_none _ _ _ old _ (Push n (map datum_of items)) result (λ outcome. refl) refl refl refl
     (subst (λ r. IfErr r (λ cause. is_of_link cause ≡ false)) (sym is) (push_of_no_link c.in-Err.error))
-    (refuses_push _ s.hub _ s.ends.items s.links.items s.order.items s.stopped n items c.in-Err.error result is verdict c.in-Err.ensures.unchanged
-    client.there client.is_open)
-    (stops_push _ _ s.hub s.ends.items s.links.items s.order.items s.stopped old n items c.in-Err.error result is verdict client.there client.is_open)
+    (refuses_push _ old _ n items c.in-Err.error result is verdict c.in-Err.ensures.unchanged client)
+    (stops_push _ _ old old n items c.in-Err.error result is verdict client)
     (if_err_of result _ _ (subst (λ r. OnErr r (MayLackMemory g.L.Link.is_honest old (Push n (map datum_of items)))) (sym is)
-    (push_lacks _ s.hub s.ends.items s.links.items s.order.items s.stopped n (map datum_of items) c.in-Err.error verdict client.there client.is_open))))
+    (push_lacks _ old n (map datum_of items) c.in-Err.error verdict client))))
