@@ -16,7 +16,7 @@ use Rattle.resp_value.specs.declared.version.Version.TheVariants.{Two, Three}
 use Rattle.resp_value.specs.declared.kind.OpenKind as e
 use Rattle.resp_value.specs.declared.kind.OpenKind.TheVariants as v
 use Rattle.resp_value.specs.Kinds.{kind_of}
-use Rattle.resp_encode.specs.Walks.Attempts.{HasKind, HaveTypes, Suits, SuitEach, Attempt, AttemptEach, AttemptAttributePairs, FitsSpare}
+use Rattle.resp_encode.specs.Walks.Attempts.{HasKind, HaveTypes, Suits, SuitEach, Attempt, AttemptEach, AttemptInside, FitsSpare}
 use Rattle.resp_encode.specs.Walks.Writings.{Fills}
 use Rattle.resp_encode.proofs.Extended.{in_two_extended, no_double_extended, no_push_extended, values_with, greatest_depth-extended, longest_among-extended, most_items_among-extended, texts-extended}
 use Rattle.resp_encode.proofs.Texts.{Writes-none, Writes-append, aggregate_text, head_split}
@@ -157,18 +157,40 @@ suits_inside version bounds deeper k xs items kind deep few same whole each = re
 pub inside_tried : (version : Version) (bounds : Bounds) (deeper : ℕ) (k : Kind) (xs : Data) (items : ℕ) (done : Bool)
     {a b c : Filled} →
     Fills a b (kind_byte k ∷ decimal items ++ crlf []) → HasKind version k → 0 < deeper → items ≤ bounds.items →
-    items_of k (count xs) ≡ items →
-    IsWhole k (count xs) → AttemptEach version bounds (deeper - 1) xs b c done →
-    Attempt version bounds deeper (aggregate k xs) a c done
-inside_tried version bounds deeper k xs items false {a = a} {c = c} head kind deep few same whole each =
-    stopped (part_after head each.part)
-inside_tried version bounds deeper k xs items true {a = a} {c = c} head kind deep few same whole each =
-    let text = subst (Fills a c) (head_split (kind_byte k) items (texts (canonical_trees version xs)) ∙
-    sym (aggregate_text version k xs items same))
+    AttemptEach version bounds (deeper - 1) xs b c done → AttemptInside version bounds deeper k items xs a c done
+inside_tried version bounds deeper k xs items false head kind deep few each =
+    record {
+      whole = tt;
+      has_kind = tt;
+      within_items = tt;
+      within_depth = tt;
+      suits = tt;
+      part =
+          part_after head each.part;
+    }
+inside_tried version bounds deeper k xs items true {a = a} {c = c} head kind deep few each =
+    let text = subst (Fills a c) (head_split (kind_byte k) items (texts (canonical_trees version xs)))
     (Writes-append head each.whole) in
     record {
       whole = text;
-      suits = suits_inside version bounds deeper k xs items kind deep few same whole each.suits;
+      has_kind = kind;
+      within_items = few;
+      within_depth = deep;
+      suits = each.suits;
+      part =
+          (_, text);
+    }
+
+-- they are the members of an aggregate
+pub aggregate_tried : (version : Version) (bounds : Bounds) (deeper : ℕ) (k : Kind) (xs : Data) (items : ℕ) (done : Bool)
+    {a c : Filled} → items_of k (count xs) ≡ items → IsWhole k (count xs) →
+    AttemptInside version bounds deeper k items xs a c done → Attempt version bounds deeper (aggregate k xs) a c done
+aggregate_tried version bounds deeper k xs items false same whole inside = stopped inside.part
+aggregate_tried version bounds deeper k xs items true {a = a} {c = c} same whole inside =
+    let text = subst (Fills a c) (sym (aggregate_text version k xs items same)) inside.whole in
+    record {
+      whole = text;
+      suits = suits_inside version bounds deeper k xs items inside.has_kind inside.within_depth inside.within_items same whole inside.suits;
       part = (_, text);
     }
 
@@ -196,38 +218,10 @@ fits_within rules x suits total = record {
   within_total = total;
 }
 
--- the head and the pairs of an attribute were tried
-pub attribute_pairs_tried : (version : Version) (bounds : Bounds) (deeper : ℕ) (xs : Data) (items : ℕ) (done : Bool)
-    {a b c : Filled} →
-    Fills a b (124 ∷ decimal items ++ crlf []) → HasKind version Attr → 0 < deeper → items ≤ bounds.items →
-    AttemptEach version bounds (deeper - 1) xs b c done → AttemptAttributePairs version bounds deeper items xs a c done
-attribute_pairs_tried version bounds deeper xs items false head kind deep few each =
-    record {
-      whole = tt;
-      has_kind = tt;
-      within_items = tt;
-      within_depth = tt;
-      suits = tt;
-      part =
-          part_after head each.part;
-    }
-attribute_pairs_tried version bounds deeper xs items true {a = a} {c = c} head kind deep few each =
-    let text = subst (Fills a c) (head_split 124 items (texts (canonical_trees version xs)))
-    (Writes-append head each.whole) in
-    record {
-      whole = text;
-      has_kind = kind;
-      within_items = few;
-      within_depth = deep;
-      suits = each.suits;
-      part =
-          (_, text);
-    }
-
 -- they were written, and then the value that they annotate was tried
 pub annotated_tried : (version : Version) (bounds : Bounds) (deeper : ℕ) (xs : Data) (x : Datum) (items : ℕ)
     (done : Bool) {a b c : Filled} →
-    AttemptAttributePairs version bounds deeper items xs a b true → items_of Attr (count (extended xs x)) ≡ items →
+    AttemptInside version bounds deeper Attr items xs a b true → items_of Attr (count (extended xs x)) ≡ items →
     IsWhole Attr (count (extended xs x)) →
     Attempt version bounds (deeper - 1) x b c done → OnTrue done (HasNoPush x) →
     Attempt version bounds deeper (aggregate Attr (extended xs x)) a c done

@@ -14,7 +14,7 @@ ghost use Rattle.resp_value.specs.Data as d;
 ghost use Rattle.resp_value.specs.Trees.{kind_byte};
 ghost use Rattle.resp_value.specs.Canonical.{IsValue, HasNoPush, canonical_text, Fits};
 ghost use Rattle.resp_value.specs.Values.{datum_of, pair_data};
-ghost use Rattle.resp_encode.specs.Walks.Attempts.{HasKind, Attempt, AttemptEach, AttemptAttributePairs};
+ghost use Rattle.resp_encode.specs.Walks.Attempts.{HasKind, Attempt, AttemptEach, AttemptInside};
 ghost use Rattle.resp_value.specs.Kinds.{kind_of};
 ghost use Rattle.resp_encode.specs.Walks.Writings.{Fills};
 
@@ -25,10 +25,7 @@ use resp_value::kind::OpenKind;
 use resp_value::limits::Limits;
 use resp_value::value::Value;
 use resp_value::version::Version;
-use scalars::{
-    attempt_big, attempt_bool, attempt_bulk, attempt_bulk_error, attempt_double, attempt_error,
-    attempt_int, attempt_null, attempt_simple, attempt_verbatim,
-};
+use scalars::{attempt_bulk, attempt_int, attempt_null, attempt_scalar, attempt_simple};
 
 mod scalars;
 
@@ -88,15 +85,15 @@ fn attempt_value(
 {
     match value {
         Value::Null => attempt_null(version, limits, out),
-        Value::Bool(truth) => attempt_bool(*truth, version, limits, out),
         Value::Int(number) => attempt_int(number, out),
         Value::Simple(line) => attempt_simple(line, version, limits, out),
-        Value::Error(line) => attempt_error(line, version, limits, out),
-        Value::Double(text) => attempt_double(text, version, limits, out),
         Value::Bulk(content) => attempt_bulk(content, limits, out),
-        Value::BulkError(content) => attempt_bulk_error(content, version, limits, out),
-        Value::Verbatim(format, text) => attempt_verbatim(format, text, version, limits, out),
-        Value::Big(digits) => attempt_big(digits, version, limits, out),
+        Value::Bool(_)
+        | Value::Error(_)
+        | Value::Double(_)
+        | Value::BulkError(_)
+        | Value::Verbatim(_, _)
+        | Value::Big(_) => attempt_scalar(value, version, limits, out),
         Value::Array(members) => {
             attempt_group(
                 members.list(),
@@ -110,9 +107,12 @@ fn attempt_value(
         Value::Set(members) => {
             attempt_group(members.list(), OpenKind::Set, version, limits, deeper, out)
         }
-        Value::Map(pairs) => attempt_map(pairs.list(), version, limits, deeper, out),
+        Value::Map(pairs) => {
+            attempt_counted_pairs(pairs.list(), OpenKind::Map, version, limits, deeper, out)
+        }
         Value::Attr(pairs, annotated) => {
-            if !attempt_attribute_pairs(pairs.list(), version, limits, deeper, out) {
+            let pairs = pairs.list();
+            if !attempt_counted_pairs(pairs, OpenKind::Attr, version, limits, deeper, out) {
                 return false;
             }
             attempt_annotated(annotated, version, limits, deeper - 1, out)
@@ -144,56 +144,22 @@ fn attempt_group(
     attempt_members(members, version, limits, deeper - 1, out)
 }
 
-/// Appends the text of a map of the pairs, and returns true. Stops and returns false at a fault
-/// or when the room ends.
+/// Appends the head and the pairs of a map or an attribute, and returns true. Stops and returns
+/// false at a fault or when the room ends.
 #[cycle(attempt)]
 #[inline(never)]
-fn attempt_map(
+fn attempt_counted_pairs(
     pairs: &[(Value, Value)],
+    kind: OpenKind,
     version: Version,
     limits: &Limits,
     deeper: u64,
     out: &mut BytesMut,
 ) -> bool
-    ensures { Attempt version limits.now deeper
-        (aggregate d.Map (data_of_list (in_turn (map pair_data pairs.now))))
-        out.old out.new result }
-{
-    if !attempt_head(
-        pairs.len() as u64,
-        OpenKind::Map,
-        version,
-        limits,
-        deeper,
-        out,
-    ) {
-        return false;
-    }
-    attempt_pairs(pairs, version, limits, deeper - 1, out)
-}
-
-/// Appends the head and the pairs of an attribute, and returns true. Stops and returns false at a
-/// fault or when the room ends.
-#[cycle(attempt)]
-#[inline(never)]
-fn attempt_attribute_pairs(
-    pairs: &[(Value, Value)],
-    version: Version,
-    limits: &Limits,
-    deeper: u64,
-    out: &mut BytesMut,
-) -> bool
-    ensures { AttemptAttributePairs version limits.now deeper (length pairs.now)
+    ensures { AttemptInside version limits.now deeper (kind_of kind) (length pairs.now)
         (data_of_list (in_turn (map pair_data pairs.now))) out.old out.new result }
 {
-    if !attempt_head(
-        pairs.len() as u64,
-        OpenKind::Attr,
-        version,
-        limits,
-        deeper,
-        out,
-    ) {
+    if !attempt_head(pairs.len() as u64, kind, version, limits, deeper, out) {
         return false;
     }
     attempt_pairs(pairs, version, limits, deeper - 1, out)

@@ -39,7 +39,7 @@ pub(crate) fn measure_null(version: Version) -> Measure
 
 /// Returns the measure of a boolean, which version 2 does not have.
 #[inline]
-pub(crate) fn measure_bool(truth: bool) -> Measure
+fn measure_bool(truth: bool) -> Measure
     ensures { (version : Version) → Describes version (scalar (d.Bool truth)) result }
 {
     Measure::scalar(false, 0, 4)
@@ -76,7 +76,7 @@ pub(crate) fn measure_line(text: &[u8]) -> Measure
 
 /// Returns the measure of a double, which version 2 does not have.
 #[inline]
-pub(crate) fn measure_double(text: &[u8]) -> Measure
+fn measure_double(text: &[u8]) -> Measure
     ensures found { (version : Version) → Describes version (scalar (d.Double text.now)) result }
     ensures is_text { IsText text.now }
 {
@@ -123,7 +123,7 @@ pub(crate) fn measure_bulk_of(counted: u64) -> Measure
 
 /// Returns the measure of a bulk error of the given bytes, which version 2 does not have.
 #[inline]
-pub(crate) fn measure_bulk_error(bytes: &[u8]) -> Measure
+fn measure_bulk_error(bytes: &[u8]) -> Measure
     ensures found { (version : Version) →
         Describes version (scalar (d.BulkError bytes.now)) result }
     ensures is_text { IsText bytes.now }
@@ -135,7 +135,7 @@ pub(crate) fn measure_bulk_error(bytes: &[u8]) -> Measure
 /// Returns the measure of a verbatim string. Its head counts its format and the colon after the
 /// format.
 #[inline]
-pub(crate) fn measure_verbatim(format: &[u8; 3], text: &[u8]) -> Measure
+fn measure_verbatim(format: &[u8; 3], text: &[u8]) -> Measure
     ensures found { (version : Version) →
         Describes version (scalar (d.Verbatim format.now text.now)) result }
     ensures is_value { IsScalarValue (d.Verbatim format.now text.now) }
@@ -156,7 +156,7 @@ pub(crate) fn big_size(negative: bool, digits: &[u8]) -> u64
 /// Returns the measure of a big number. Its digits count for the limit of length, and its sign does
 /// not.
 #[inline]
-pub(crate) fn measure_big(negative: bool, digits: &[u8]) -> Measure
+fn measure_big(negative: bool, digits: &[u8]) -> Measure
     ensures { (version : Version) → Describes version (scalar (d.Big negative digits.now)) result }
 {
     Measure::scalar(false, digits.len() as u64, big_size(negative, digits))

@@ -1,13 +1,12 @@
 -- The result of encoding a value in one pass that writes as it goes.
 use Rattle.std.specs.Prelude.{◌≡◌, ℕ, ◌-◌, ◌<◌, ◌≤◌, Bool, false, List, ◌∷◌, ◌++◌, length}
 use Rattle.std.specs.Bool.{OnTrue}
-use Rattle.std.specs.Str.{byte}
 use Rattle.bytes.specs.Filled.{Filled}
 use Rattle.resp_value.specs.Bounds.{Bounds}
 use Rattle.resp_value.specs.Bytes.{crlf}
 use Rattle.resp_value.specs.Numbers.{decimal}
-use Rattle.resp_value.specs.Data.{Kind, Attr, Datum, Data, depth, greatest_depth, longest, longest_among, most_items, most_items_among}
-use Rattle.resp_value.specs.Trees.{texts}
+use Rattle.resp_value.specs.Data.{Kind, Datum, Data, depth, greatest_depth, longest, longest_among, most_items, most_items_among}
+use Rattle.resp_value.specs.Trees.{kind_byte, texts}
 use Rattle.resp_value.specs.Canonical.{IsValue, AreValues, IsKindInTwo, AreInTwo, HasTypes, HaveNoDouble, AllowsDoubles, HaveNoPush, HasPushAtTop, canonical_text, canonical_trees}
 use Rattle.resp_value.specs.declared.version.Version.{Version}
 use Rattle.resp_value.specs.declared.version.Version.TheVariants.{Two, Three}
@@ -57,11 +56,11 @@ pub record AttemptEach (version : Version) (bounds : Bounds) (deeper : ℕ) (xs 
   pub suits : OnTrue done (SuitEach version bounds deeper xs)
   pub part : (text : List ℕ) × Fills old new text
 
--- on success the head of an attribute with this number was appended, and the texts of its keys and values in turn
-pub record AttemptAttributePairs (version : Version) (bounds : Bounds) (deeper items : ℕ) (xs : Data) (old new : Filled)
+-- on success the head of an aggregate of this kind with this number was appended, and the texts of these members
+pub record AttemptInside (version : Version) (bounds : Bounds) (deeper : ℕ) (k : Kind) (items : ℕ) (xs : Data) (old new : Filled)
     (done : Bool) : Type 0 where
-  pub whole : OnTrue done (Fills old new (byte "|" ∷ decimal items ++ crlf (texts (canonical_trees version xs))))
-  pub has_kind : OnTrue done (HasKind version Attr)
+  pub whole : OnTrue done (Fills old new (kind_byte k ∷ decimal items ++ crlf (texts (canonical_trees version xs))))
+  pub has_kind : OnTrue done (HasKind version k)
   pub within_items : OnTrue done (items ≤ bounds.items)
   pub within_depth : OnTrue done (0 < deeper)
   pub suits : OnTrue done (SuitEach version bounds (deeper - 1) xs)

@@ -2,31 +2,26 @@
 //! buffer unchanged and returns false if the value has a fault or there is no room. The limit of
 //! total is not checked here.
 
-ghost use Rattle.std.specs.Prelude.{◌+◌, ℕ};
+ghost use Rattle.std.specs.Prelude.{◌≡◌, ◌+◌, ℕ};
 ghost use Rattle.std.specs.Bool.{OnTrue};
 ghost use Rattle.resp_value.specs.Bounds.{Bounds};
-ghost use Rattle.resp_value.specs.Data.{Datum, scalar};
+ghost use Rattle.resp_value.specs.Data.{Datum, Scalar, scalar};
 ghost use Rattle.resp_value.specs.Data as d;
 ghost use Rattle.resp_value.specs.declared.version.Version.{Version};
-ghost use Rattle.resp_value.specs.Values.{line_text, content_bytes, is_negative, digits_text};
+ghost use Rattle.resp_value.specs.Values.{line_text, content_bytes, datum_of};
 ghost use Rattle.resp_encode.specs.Walks.Attempts.{Attempt, FitsSpare};
 ghost use Rattle.resp_encode.specs.Walks.Measures.{Describes};
 
 use crate::first_fault::{are_doubles_allowed, has_types};
 use crate::measure::Measure;
-use crate::measure_value::{
-    measure_big, measure_bool, measure_bulk_error, measure_double, measure_line, measure_null,
-    measure_verbatim, string_size,
-};
+use crate::measure_value::{measure_line, measure_null, measure_value};
 use crate::room::{has_room_for_head, room};
-use crate::text::{
-    write_big, write_bool, write_int, write_line, write_null, write_string, write_verbatim,
-};
+use crate::text::{write_int, write_line, write_null, write_string, write_value};
 use bytes::BytesMut;
 use resp_value::content::Content;
-use resp_value::digits::Digits;
 use resp_value::limits::Limits;
 use resp_value::line::Line;
+use resp_value::value::Value;
 use resp_value::version::Version;
 
 /// Returns whether a value without members has no fault, apart from the limit of total, and there
@@ -59,25 +54,6 @@ pub(super) fn attempt_null(version: Version, limits: &Limits, out: &mut BytesMut
         return false;
     }
     write_null(out, version);
-    true
-}
-
-/// Appends a boolean. Leaves the buffer unchanged in version 2 or if there is no room.
-#[inline(always)]
-pub(super) fn attempt_bool(
-    truth: bool,
-    version: Version,
-    limits: &Limits,
-    out: &mut BytesMut,
-) -> bool
-    ensures { (deeper : ℕ) → Attempt version limits.now deeper (scalar (d.Bool truth)) out.old
-        out.new result }
-{
-    let found = measure_bool(truth);
-    if !suits(&found, version, limits, out) {
-        return false;
-    }
-    write_bool(out, truth);
     true
 }
 
@@ -115,48 +91,6 @@ pub(super) fn attempt_simple(
     true
 }
 
-/// Appends a simple error. Leaves the buffer unchanged if it exceeds the limit of length or there
-/// is no room.
-#[inline(always)]
-pub(super) fn attempt_error(
-    line: &Line,
-    version: Version,
-    limits: &Limits,
-    out: &mut BytesMut,
-) -> bool
-    ensures { (deeper : ℕ) → Attempt version limits.now deeper
-        (scalar (d.Error (line_text line.now))) out.old out.new result }
-{
-    let text = line.text();
-    let found = measure_line(text);
-    if !suits(&found, version, limits, out) {
-        return false;
-    }
-    write_line(out, b'-', text);
-    true
-}
-
-/// Appends a double. Leaves the buffer unchanged if doubles are not allowed, in version 2, if it
-/// exceeds the limit of length, or if there is no room.
-#[inline(never)]
-pub(super) fn attempt_double(
-    line: &Line,
-    version: Version,
-    limits: &Limits,
-    out: &mut BytesMut,
-) -> bool
-    ensures { (deeper : ℕ) → Attempt version limits.now deeper
-        (scalar (d.Double (line_text line.now))) out.old out.new result }
-{
-    let text = line.text();
-    let found = measure_double(text);
-    if !suits(&found, version, limits, out) {
-        return false;
-    }
-    write_line(out, b',', text);
-    true
-}
-
 /// Appends a bulk string. Leaves the buffer unchanged if it exceeds the limit of length or there is
 /// no room.
 #[inline(always)]
@@ -174,66 +108,22 @@ pub(super) fn attempt_bulk(content: &Content, limits: &Limits, out: &mut BytesMu
     true
 }
 
-/// Appends a bulk error. Leaves the buffer unchanged in version 2, if it exceeds the limit of
-/// length, or if there is no room.
+/// Appends a value of any type without members. Leaves the buffer unchanged if the value has a fault
+/// or there is no room.
 #[inline(never)]
-pub(super) fn attempt_bulk_error(
-    content: &Content,
+pub(super) fn attempt_scalar(
+    value: &Value,
     version: Version,
     limits: &Limits,
     out: &mut BytesMut,
 ) -> bool
-    ensures { (deeper : ℕ) → Attempt version limits.now deeper
-        (scalar (d.BulkError (content_bytes content.now))) out.old out.new result }
+    ensures { (content : Scalar) → datum_of value.now ≡ scalar content → (deeper : ℕ) →
+        Attempt version limits.now deeper (datum_of value.now) out.old out.new result }
 {
-    let bytes = content.list();
-    let found = measure_bulk_error(bytes);
+    let found = measure_value(value, version);
     if !suits(&found, version, limits, out) {
         return false;
     }
-    write_string(out, b'!', bytes);
-    true
-}
-
-/// Appends a verbatim string. Leaves the buffer unchanged in version 2, if it exceeds the limit of
-/// length, or if there is no room.
-#[inline(never)]
-pub(super) fn attempt_verbatim(
-    format: &[u8; 3],
-    text: &Content,
-    version: Version,
-    limits: &Limits,
-    out: &mut BytesMut,
-) -> bool
-    ensures { (deeper : ℕ) → Attempt version limits.now deeper
-        (scalar (d.Verbatim format.now (content_bytes text.now))) out.old out.new result }
-{
-    let bytes = text.list();
-    let found = measure_verbatim(format, bytes);
-    if !suits(&found, version, limits, out) {
-        return false;
-    }
-    write_verbatim(out, format, bytes);
-    true
-}
-
-/// Appends a big number. Leaves the buffer unchanged in version 2, if it exceeds the limit of
-/// length, or if there is no room.
-#[inline(never)]
-pub(super) fn attempt_big(
-    digits: &Digits,
-    version: Version,
-    limits: &Limits,
-    out: &mut BytesMut,
-) -> bool
-    ensures { (deeper : ℕ) → Attempt version limits.now deeper
-        (scalar (d.Big (is_negative digits.now) (digits_text digits.now))) out.old out.new result }
-{
-    let (negative, text) = (digits.is_negative(), digits.digits());
-    let found = measure_big(negative, text);
-    if !suits(&found, version, limits, out) {
-        return false;
-    }
-    write_big(out, negative, text);
+    write_value(value, version, out);
     true
 }
