@@ -545,18 +545,15 @@ both_server : (side : Side) (a b : List ℕ) → by_side side [] a ++ by_side si
 both_server Client a b = refl
 both_server Server a b = refl
 
+append-none : (bytes : List ℕ) (side : Side) → bytes ++ by_side side [] [] ≡ bytes
+append-none bytes Client = append-nil bytes
+append-none bytes Server = append-nil bytes
+
 told_none : (x : Told) (side : Side) → told_more x side [] [] [] [] ≡ x
-told_none x Client = λ i. record {
-  client = append-nil x.client i;
+told_none x side = λ i. record {
+  client = append-none x.client side i;
   commands = append-nil x.commands i;
-  server = append-nil x.server i;
-  replies = append-nil x.replies i;
-  pushes = append-nil x.pushes i;
-}
-told_none x Server = λ i. record {
-  client = append-nil x.client i;
-  commands = append-nil x.commands i;
-  server = append-nil x.server i;
+  server = append-none x.server side i;
   replies = append-nil x.replies i;
   pushes = append-nil x.pushes i;
 }

@@ -1,5 +1,5 @@
 -- What is kept of the commands that wait while a filter is used, and what is printed through it.
-use Rattle.std.specs.Prelude.{◌≡◌, ℕ, ◌-◌, ◌≤◌, Bool, true, false, ◌&&◌, List, [], ◌++◌, length, take, nat_lt, Option, None, Some, option_map, if◌then◌else◌, codes}
+use Rattle.std.specs.Prelude.{◌≡◌, ℕ, ◌-◌, ◌≤◌, Bool, true, false, ◌&&◌, List, [], ◌++◌, length, take, nat_lt, Option, None, Some, option_and_then, option_map, if◌then◌else◌, codes}
 use Rattle.resp_value.specs.Data.{Datum}
 use Rattle.resp_tap.specs.Filters.{is_by_reply, is_selective, keeps, keeps_all}
 use Rattle.resp_tap.specs.Keeping.{IsAdded, IsChosenBy, KeptBy}
@@ -63,8 +63,7 @@ abbrev pub kept_line : Bool → List ℕ → List ℕ
 kept_line is_whole text = codes " " ++ (text ++ line_end is_whole)
 
 abbrev pub stamp_on : Option ℕ → Option Stamp
-stamp_on None = None
-stamp_on (Some of_day) = Some (record { of_day = of_day; waited = None })
+stamp_on = option_map (λ of_day. record { of_day = of_day; waited = None })
 
 -- the lines of a command that waited, by what is kept of it
 abbrev pub deferred_text : ℕ → ℕ → Option Note → List ℕ
@@ -87,8 +86,7 @@ abbrev pub IsChosen : Filter → Option Note → Seen → Bool → Type 0
 IsChosen f kept what is_chosen = IsChosenBy f (chosen_by f kept) what is_chosen
 
 abbrev pub waited_in : Option Stamp → Option ℕ
-waited_in None = None
-waited_in (Some stamp) = stamp.waited
+waited_in = option_and_then (λ stamp. stamp.waited)
 
 -- The lines of a result through a filter. `note` is what is kept of the command that the next reply belongs to, and the
 -- lines of a command or of a result of the server are those of this whole value.

@@ -1,5 +1,5 @@
 -- The times of the commands that wait.
-use Rattle.std.specs.Prelude.{◌≡◌, ℕ, ◌-◌, Bool, true, false, List, [], ◌∷◌, ◌++◌, length, drop, nat_lt, slice_get, if◌then◌else◌, Option, None, Some}
+use Rattle.std.specs.Prelude.{◌≡◌, ℕ, ◌-◌, Bool, true, false, List, [], ◌∷◌, ◌++◌, length, drop, nat_lt, slice_get, if◌then◌else◌, Option, None, Some, option_map}
 use Rattle.resp_tap.specs.Lines.{asked_at}
 use Rattle.resp_tap.specs.Taps.{tap_state}
 use Rattle.resp_tap.specs.declared.moment.Moment.{Moment}
@@ -57,5 +57,5 @@ waited_of now _ _ = None
 
 -- the printed time of a result, if a moment is given
 abbrev pub stamp_of : Option Moment → Option ℕ → Seen → Option Stamp
-stamp_of None asked what = None
-stamp_of (Some now) asked what = Some (record { of_day = now.of_day; waited = waited_of now asked what })
+stamp_of now asked what =
+    option_map (λ (now : Moment). record { of_day = now.of_day; waited = waited_of now asked what }) now

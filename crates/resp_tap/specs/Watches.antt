@@ -1,5 +1,6 @@
 -- The results that a tap reports and prints for the pieces of either side.
-use Rattle.std.specs.Prelude.{◌≡◌, ℕ, Bool, true, false, List, [], ◌∷◌, length, drop, slice_get, Option, Result, Ok, Err}
+use Rattle.std.specs.Prelude.{◌≡◌, ℕ, Bool, true, false, List, [], ◌∷◌, length, drop, Option, Result, Ok}
+use Rattle.std.specs.Result.{result_and}
 use Rattle.resp_value.specs.Data.{Datum}
 use Rattle.resp_print.specs.Printed.{Prints}
 use Rattle.resp_print.specs.declared.print_error.PrintError.{PrintError}
@@ -62,11 +63,6 @@ pub record PrintsSeen (printing : Printing) (now : Option Moment) (old : TimedTa
       Prints before after failures failures' printed
       (seen_text (options_of printing old.tap) false (stamp_of now asked what) whole what) (levels_of what)
 
--- the first of two results of printing that is an error
-abbrev pub first_error : Result (Unit {0}) PrintError → Result (Unit {0}) PrintError → Result (Unit {0}) PrintError
-first_error (Ok done) next = next
-first_error (Err error) next = Err error
-
 -- A statement about one step of reading a piece: the state before and after it, the piece, what the step returns, the
 -- result that it reads, the bytes written before and after it, and the numbers of failures.
 abbrev pub StepOn : Type 0 → Type 1
@@ -82,7 +78,7 @@ WatchesAll {S} Step (what ∷ more) old new piece before after failures failures
     (next : S) × (watched : Watched) × (written : Option (List ℕ)) × (failed : ℕ) ×
     (later : Result (Unit {0}) PrintError) ×
     Step old next piece watched what before written failures failed ×
-    (told ≡ first_error watched.printed later) ×
+    (told ≡ result_and watched.printed later) ×
     WatchesAll Step more next new (drop watched.used piece) written after failed failures' later
 
 -- the first result in a piece is read and printed

@@ -21,7 +21,7 @@ use crate::seen::{Seen, Step};
 use crate::shown_part::ShownPart;
 use crate::taken::{NONE_TAKEN, Taken};
 use crate::waiting::drop_first;
-use crate::watch::{Side, Watched, first_error, stamp_of, waited_of};
+use crate::watch::{Side, Watched, stamp_of, waited_of};
 use resp_counts::{Call, Counts, name_of};
 use resp_print::print_error::PrintError;
 use resp_session::words::Words;
@@ -291,6 +291,7 @@ fn watch_counted_some<W: Sink>(
 ///
 /// The first error of printing. The tap has read the whole piece, and has tried to print all of its
 /// errors.
+#[tactic(auto, using(crate::proofs::PieceLemmas::keeps_on, crate::proofs::PieceLemmas::watched_none, crate::proofs::PieceLemmas::watched_more, crate::proofs::PieceLemmas::watched_all))]
 pub fn watch_counted<W: Sink>(
     tap: &mut CountedTap,
     counts: &mut Counts,
@@ -312,7 +313,7 @@ pub fn watch_counted<W: Sink>(
     let mut printed = Ok(());
     while !rest.is_empty() {
         let watched = watch_counted_some(tap, counts, filter, printing, side, rest, now, writer);
-        printed = first_error(printed, watched.printed);
+        printed = printed.and(watched.printed);
         // At least one byte was read.
         rest = &rest[watched.used..];
     }

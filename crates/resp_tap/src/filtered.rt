@@ -19,7 +19,7 @@ use crate::print::{Printing, TextOptions};
 use crate::seen::Seen;
 use crate::shown_part::ShownPart;
 use crate::waiting::drop_first;
-use crate::watch::{Side, Watched, first_error, stamp_of};
+use crate::watch::{Side, Watched, stamp_of};
 use resp_print::print_error::PrintError;
 use resp_session::words::Words;
 use resp_value::device::Sink;
@@ -216,6 +216,7 @@ pub fn watch_filtered_some<W: Sink>(
 /// client 1 reply 2
 ///   error "WRONGTYPE not a number" 22
 /// ```
+#[tactic(auto, using(crate::proofs::PieceLemmas::keeps_on, crate::proofs::PieceLemmas::watched_none, crate::proofs::PieceLemmas::watched_more, crate::proofs::PieceLemmas::watched_all))]
 pub fn watch_filtered<W: Sink>(
     tap: &mut FilteredTap,
     filter: &Filter,
@@ -235,7 +236,7 @@ pub fn watch_filtered<W: Sink>(
     let mut printed = Ok(());
     while !rest.is_empty() {
         let watched = watch_filtered_some(tap, filter, printing, side, rest, now, writer);
-        printed = first_error(printed, watched.printed);
+        printed = printed.and(watched.printed);
         // At least one byte was read.
         rest = &rest[watched.used..];
     }

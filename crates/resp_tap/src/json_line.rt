@@ -366,16 +366,6 @@ fn cut_place(cut: Option<Cut>) -> Segment<'static>
     }
 }
 
-/// Returns the number of bytes of the incomplete command or reply, if there is one.
-fn cut_bytes(cut: Option<Cut>) -> Option<u64>
-    ensures { result ≡ cut_bytes cut }
-{
-    match cut {
-        None => None,
-        Some(cut) => Some(cut.bytes),
-    }
-}
-
 /// Writes the line about the side of a client's connection that has ended, and the incomplete
 /// command or reply of that side, if there is one. A connection without a name has an empty one.
 ///
@@ -399,7 +389,7 @@ pub fn write_closed_json<W: Sink>(
             Segment::Text(closed_kind(side)),
             Segment::Member(b",\"name\":", name),
             cut_place(cut),
-            Segment::NumberIf(b",\"size\":", cut_bytes(cut)),
+            Segment::NumberIf(b",\"size\":", cut.map(|cut| cut.bytes)),
             Segment::JsonEnd(of_day),
         ],
         writer,

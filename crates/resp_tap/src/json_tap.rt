@@ -22,7 +22,7 @@ use crate::seen::Seen;
 use crate::shown_part::ShownPart;
 use crate::taken::{NONE_TAKEN, Taken};
 use crate::waiting::drop_first;
-use crate::watch::{Side, Watched, first_error, waited_of};
+use crate::watch::{Side, Watched, waited_of};
 use resp_print::print_error::PrintError;
 use resp_session::words::Words;
 use resp_value::device::Sink;
@@ -189,6 +189,7 @@ pub fn watch_json_some<W: Sink>(
 /// {"client":1,"kind":"command","number":1,"command":"PING","words":1,"size":14,"time":"05:36:56.123456"}
 /// {"client":1,"kind":"reply","number":1,"command":"PING","micros":120,"type":"error","size":9,"error":"ERR no","time":"05:36:56.123576"}
 /// ```
+#[tactic(auto, using(crate::proofs::PieceLemmas::keeps_on, crate::proofs::PieceLemmas::watched_none, crate::proofs::PieceLemmas::watched_more, crate::proofs::PieceLemmas::watched_all))]
 pub fn watch_json<W: Sink>(
     tap: &mut JsonTap,
     filter: &Filter,
@@ -208,7 +209,7 @@ pub fn watch_json<W: Sink>(
     let mut printed = Ok(());
     while !rest.is_empty() {
         let watched = watch_json_some(tap, filter, client, side, rest, now, writer);
-        printed = first_error(printed, watched.printed);
+        printed = printed.and(watched.printed);
         // At least one byte was read.
         rest = &rest[watched.used..];
     }

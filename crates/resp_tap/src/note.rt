@@ -7,7 +7,7 @@ ghost use Rattle.resp_value.specs.Data.{Datum};
 ghost use Rattle.resp_tap.specs.Parts.{AreKeptOf};
 ghost use Rattle.resp_tap.specs.SeenOf.{IsKeptIn};
 ghost use Rattle.resp_tap.specs.Filters.{is_by_reply};
-ghost use Rattle.resp_tap.specs.Noted.{IsChosen, IsNote, before_text, deferred_text, filtered_text, kept_line, line_end, room_behind, room_for, shown_words, stamp_on, waited_in};
+ghost use Rattle.resp_tap.specs.Noted.{IsChosen, IsNote, before_text, deferred_text, filtered_text, kept_line, line_end, room_behind, room_for, shown_words};
 ghost use Rattle.resp_tap.specs.Texts.{heading, levels_of};
 
 use crate::filter::Filter;
@@ -86,22 +86,12 @@ pub(crate) fn note_of(
     let room = filter.room_for(is_chosen, behind);
     let (text, is_whole) = first_bytes(alloc, options, words, lengths, room)?;
     Ok(Note {
-        of_day: of_day(now),
+        of_day: now.map(|now| now.of_day),
         is_line,
         is_chosen,
         is_whole,
         text,
     })
-}
-
-/// Returns the time of day of a moment.
-fn of_day(now: Option<Moment>) -> Option<u64>
-    ensures { result ≡ option_map (λ (moment : Moment). moment.of_day) now }
-{
-    match now {
-        Some(now) => Some(now.of_day),
-        None => None,
-    }
 }
 
 /// Returns the first `room` bytes of the text of a command's words, and whether they are all.
@@ -157,29 +147,6 @@ pub(crate) fn is_chosen(filter: &Filter, note: Option<&Note>, seen: &Seen) -> bo
     }
 }
 
-/// Returns how long the command of a reply waited.
-fn waited_in(stamp: Option<Stamp>) -> Option<u64>
-    ensures { result ≡ waited_in stamp }
-{
-    match stamp {
-        Some(stamp) => stamp.waited,
-        None => None,
-    }
-}
-
-/// Returns the stamp of a command that arrived at this time of day.
-fn stamp_on(of_day: Option<u64>) -> Option<Stamp>
-    ensures { result ≡ stamp_on of_day }
-{
-    match of_day {
-        Some(of_day) => Some(Stamp {
-            of_day,
-            waited: None,
-        }),
-        None => None,
-    }
-}
-
 /// Writes the lines of a result, if the filter lets it through. `is_line` says whether a command came
 /// as a line, and `is_chosen` whether the words of its command are printed. `note` is the note of the
 /// command that the next reply belongs to.
@@ -202,7 +169,8 @@ pub(crate) fn write_filtered<W: Sink>(
         (W.failures writer.new) result (filtered_text filter.now options is_line is_chosen
         (option_map (λ note. note.now) note.entry) stamp whole seen.now) (levels_of seen.now) }
 {
-    if !filter.keeps(options.client, is_chosen, waited_in(stamp), seen) {
+    let waited = stamp.and_then(|stamp| stamp.waited);
+    if !filter.keeps(options.client, is_chosen, waited, seen) {
         return Ok(());
     }
     match write_before(filter, options.client, note, seen, writer) {
@@ -246,7 +214,10 @@ fn write_if_deferred<W: Sink>(
     }
     match note {
         Some(note) => {
-            let stamp = stamp_on(note.of_day);
+            let stamp = note.of_day.map(|of_day| Stamp {
+                of_day,
+                waited: None,
+            });
             write_deferred(
                 client,
                 number,

@@ -2,7 +2,7 @@
 
 ghost use Rattle.std.specs.Prelude.{◌≡◌, ◌<◌, ◌≤◌, List, length, false};
 ghost use Rattle.resp_tap.specs.Times.{stamp_of, waited_of};
-ghost use Rattle.resp_tap.specs.Watches.{KeepsOther, SeesFirst, Watches, WatchesAll, first_error};
+ghost use Rattle.resp_tap.specs.Watches.{KeepsOther, SeesFirst, Watches, WatchesAll};
 ghost use Rattle.resp_tap.specs.declared.seen.Seen.{Seen};
 
 use crate::moment::Moment;
@@ -56,13 +56,10 @@ pub(crate) fn waited_of(now: Moment, asked: Option<u64>, seen: &Seen) -> Option<
 pub(crate) fn stamp_of(now: Option<Moment>, asked: Option<u64>, seen: &Seen) -> Option<Stamp>
     ensures { result ≡ stamp_of now asked seen.now }
 {
-    match now {
-        None => None,
-        Some(now) => Some(Stamp {
-            of_day: now.of_day,
-            waited: waited_of(now, asked, seen),
-        }),
-    }
+    now.map(|now| Stamp {
+        of_day: now.of_day,
+        waited: waited_of(now, asked, seen),
+    })
 }
 
 /// Reads bytes that one side sent, until there is a result or the piece ends, and prints the
@@ -100,19 +97,6 @@ pub fn watch_some<W: Sink>(
     Watched { used, printed }
 }
 
-/// Returns the first of two results of printing that is an error.
-pub(crate) fn first_error(
-    first: Result<(), PrintError>,
-    next: Result<(), PrintError>,
-) -> Result<(), PrintError>
-    ensures { result ≡ first_error first next }
-{
-    match first {
-        Ok(()) => next,
-        Err(error) => Err(error),
-    }
-}
-
 /// Reads a piece that one side sent, and prints all commands, replies and pushes in it, as
 /// [`watch_some`] does.
 ///
@@ -146,6 +130,7 @@ pub(crate) fn first_error(
 /// client 1 reply 1
 ///   int 7
 /// ```
+#[tactic(auto, using(crate::proofs::PieceLemmas::keeps_on, crate::proofs::PieceLemmas::watched_none, crate::proofs::PieceLemmas::watched_more, crate::proofs::PieceLemmas::watched_all))]
 pub fn watch<W: Sink>(
     tap: &mut TimedTap,
     printing: Printing,
@@ -163,7 +148,7 @@ pub fn watch<W: Sink>(
     let mut printed = Ok(());
     while !rest.is_empty() {
         let watched = watch_some(tap, printing, side, rest, now, writer);
-        printed = first_error(printed, watched.printed);
+        printed = printed.and(watched.printed);
         // At least one byte was read.
         rest = &rest[watched.used..];
     }

@@ -28,12 +28,12 @@ pub returns-in-Ok : goal.returns-in-Ok
 returns-in-Ok g c = λ whole kept_in.
     prints_same _ _ _ _ _ _ _ _
     (let_through c.args.filter.now c.args.options c.args.is_line c.args.is_chosen _ c.args.stamp _ _ whole
-    c.args.seen.now c.waited_in.ensures c.keeps.ensures (search rules))
+    c.args.seen.now (search rules) c.keeps.ensures (search rules))
     (prints_next _ _ _ _ _ _ _ _ _ _ c.in-Ok.ensures (c.write_seen.ensures whole kept_in))
 
 pub returns-in-Err : goal.returns-in-Err
 returns-in-Err g c = λ whole kept_in.
     prints_same (Err Write) _ _ _ _ _ _ 0
     (let_through c.args.filter.now c.args.options c.args.is_line c.args.is_chosen _ c.args.stamp _ _ whole
-    c.args.seen.now c.waited_in.ensures c.keeps.ensures (search rules))
+    c.args.seen.now (search rules) c.keeps.ensures (search rules))
     (failed_part _ _ _ _ _ _ 0 c.in-Err.ensures)
