@@ -84,10 +84,7 @@ impl Client {
         if let Some(fault) = self.fault {
             return Err(fault);
         }
-        let fed = match self.take(piece) {
-            Ok(fed) => fed,
-            Err(fault) => return Err(fault),
-        };
+        let fed = self.take(piece)?;
         let used = fed.used;
         let Some(value) = fed.value else {
             return Ok(Heard {
@@ -132,10 +129,7 @@ impl Client {
         ensures fault_is_final { (fault : Fault) → HasFault self.old fault → result ≡ Err fault }
     {
         let taken = self.decoder.taken();
-        let heard = match self.feed(piece) {
-            Ok(heard) => heard,
-            Err(fault) => return Err(fault),
-        };
+        let heard = self.feed(piece)?;
         let used = heard.used;
         let items = match heard.what {
             What::Push(items) => items,

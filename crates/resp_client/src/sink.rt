@@ -56,10 +56,7 @@ impl PushSink for PushList {
     ghost pushes = { list_shown };
 
     fn show(&mut self, items: Members) -> Result<(), OutOfMemory> {
-        match self.list.push(items) {
-            Ok(()) => Ok(()),
-            Err(_) => Err(OutOfMemory),
-        }
+        self.list.push(items).map_err(|_| OutOfMemory)
     }
 
     fn shown(&self) -> &[Members] {

@@ -19,19 +19,19 @@ returns-clause-heard c = λ front h.
     let known : Knows (state_of c.take.new.self) (state_of c.hear-what.new.self) (datum_of c.in-Some-value.value) c.hear-what.result =
     subst (λ x. Knows (state_of c.take.new.self) (state_of c.hear-what.new.self) (datum_of x) c.hear-what.result) c.in-Some-value.value-is
     c.hear-what.ensures.known in
-    tells c.args.self.now c.take.new.self c.hear-what.new.self front c.args.piece.now c.in-Ok.fed.used (datum_of c.in-Some-value.value) c.hear-what.result
-    (c.in-Ok.ensures.value_whole front h c.in-Some-value.value c.in-Some-value.is) c.in-Ok.ensures.same_state c.hear-what.ensures.same_reading known
+    tells c.args.self.now c.take.new.self c.hear-what.new.self front c.args.piece.now c.in_ok-fed.fed.used (datum_of c.in-Some-value.value) c.hear-what.result
+    (c.in_ok-fed.ensures.value_whole front h c.in-Some-value.value c.in-Some-value.is) c.in_ok-fed.ensures.same_state c.hear-what.ensures.same_reading known
 
 pub returns-clause-only_replies_answer : goal.returns-clause-only_replies_answer
 returns-clause-only_replies_answer c =
     unless_replied (state_of c.args.self.now) (state_of c.take.new.self) (state_of c.hear-what.new.self) _ c.hear-what.result
-    c.in-Ok.ensures.same_state c.hear-what.ensures.known
+    c.in_ok-fed.ensures.same_state c.hear-what.ensures.known
 
 pub returns-in_default-value-clause-uses_bytes : goal.returns-in_default-value-clause-uses_bytes
 returns-in_default-value-clause-uses_bytes c = λ some.
     let old = c.args.self.now in
     where_reading old.limits (state_of old).waiting old.decoder old.fault old.reading c.in_default.is le_prop (λ front h.
-    subst (λ n. 0 < n) (sym (c.in-Ok.ensures.used_up front h c.in_default-value.is).whole_piece) some)
+    subst (λ n. 0 < n) (sym (c.in_ok-fed.ensures.used_up front h c.in_default-value.is).whole_piece) some)
 
 pub returns-clause-uses_bytes : goal.returns-clause-uses_bytes
 returns-clause-uses_bytes c = λ some.
@@ -39,11 +39,11 @@ returns-clause-uses_bytes c = λ some.
     let s : ClientState = state_of old in
     let x = datum_of c.in-Some-value.value in
     where_reading old.limits s.waiting old.decoder old.fault old.reading c.in_default.is le_prop (λ front h.
-    value_uses s.limits s.waiting (waiting_after s.waiting x) old.decoder x front c.args.piece.now c.in-Ok.fed.used h.taken
-    (c.in-Ok.ensures.value_whole front h c.in-Some-value.value c.in-Some-value.is).reads)
+    value_uses s.limits s.waiting (waiting_after s.waiting x) old.decoder x front c.args.piece.now c.in_ok-fed.fed.used h.taken
+    (c.in_ok-fed.ensures.value_whole front h c.in-Some-value.value c.in-Some-value.is).reads)
 
 pub hear-what-requires : goal.hear-what-requires
 hear-what-requires c =
     let old = c.args.self.now in
     where_reading old.limits (state_of old).waiting old.decoder old.fault old.reading c.in_default.is ∥∥₁_prop (λ front h.
-    ∣ (c.in-Ok.ensures.value_whole front h c.in-Some-value.value c.in-Some-value.is).takes ∣₁)
+    ∣ (c.in_ok-fed.ensures.value_whole front h c.in-Some-value.value c.in-Some-value.is).takes ∣₁)
