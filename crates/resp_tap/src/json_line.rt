@@ -3,12 +3,12 @@
 ghost use Rattle.std.specs.Prelude.{◌≡◌, ◌++◌, ◌<◌, ℕ, Option, Some, length};
 ghost use Rattle.resp_json.specs.Json.{text_json};
 ghost use Rattle.resp_print.specs.Written.{WritesText};
-ghost use Rattle.resp_value.specs.Data.{Datum};
-ghost use Rattle.resp_tap.specs.SeenOf.{IsKeptIn};
-ghost use Rattle.resp_value.specs.Values.{datum_of};
 ghost use Rattle.resp_tap.specs.Called.{command_name};
 ghost use Rattle.resp_tap.specs.JsonLines.{answer_json, closed_json, closed_kind, command_json, continues, cut_bytes, cut_place, end_json, error_text, last_end, listening_json, member_json, place_json, push_json, refused_json, remark_json, reply_json, seen_json, shown_part, type_word, unpaired_json};
+ghost use Rattle.resp_tap.specs.SeenOf.{IsKeptIn};
 ghost use Rattle.resp_tap.specs.Segments.{segment_text};
+ghost use Rattle.resp_value.specs.Data.{Datum};
+ghost use Rattle.resp_value.specs.Values.{datum_of};
 
 use crate::called::command_name;
 use crate::end::Cut;

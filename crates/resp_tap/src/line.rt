@@ -331,10 +331,7 @@ impl Line {
         if self.is_lost {
             return Version::Three;
         }
-        match self.due.front() {
-            Some(first) => version_for(self.version, first.kind),
-            None => self.version,
-        }
+        self.due.front().map_or(self.version, |first| version_for(self.version, first.kind))
     }
 
     /// Returns the number of commands that wait.
@@ -348,10 +345,7 @@ impl Line {
     pub(crate) fn asked_at(&self) -> usize
         ensures { result ≡ asked_at (line_of self.now).due }
     {
-        match self.due.front() {
-            Some(first) => asked_by_first(first.kind),
-            None => 0,
-        }
+        self.due.front().map_or(0, |first| asked_by_first(first.kind))
     }
 
     /// Returns the place of a value that begins now.
@@ -361,10 +355,7 @@ impl Line {
         if self.is_lost {
             return Place::Value;
         }
-        match self.due.front() {
-            Some(first) => place_by_kind(first.number, first.kind),
-            None => Place::Value,
-        }
+        self.due.front().map_or(Place::Value, |first| place_by_kind(first.number, first.kind))
     }
 
     /// Records the first byte of a value, with which the piece begins.

@@ -3,12 +3,12 @@
 ghost use Rattle.std.specs.Prelude.{◌++◌, ◌≡◌, ◌≤◌, ℕ, List, [], false, true, length, take, IfOk, if◌then◌else◌, option_map};
 ghost use Rattle.resp_print.specs.Printed.{Prints};
 ghost use Rattle.resp_print.specs.Written.{WritesText};
-ghost use Rattle.resp_value.specs.Data.{Datum};
-ghost use Rattle.resp_tap.specs.Parts.{AreKeptOf};
-ghost use Rattle.resp_tap.specs.SeenOf.{IsKeptIn};
 ghost use Rattle.resp_tap.specs.Filters.{is_by_reply};
 ghost use Rattle.resp_tap.specs.Noted.{IsChosen, IsNote, before_text, deferred_text, filtered_text, kept_line, line_end, room_behind, room_for, shown_words};
+ghost use Rattle.resp_tap.specs.Parts.{AreKeptOf};
+ghost use Rattle.resp_tap.specs.SeenOf.{IsKeptIn};
 ghost use Rattle.resp_tap.specs.Texts.{heading, levels_of};
+ghost use Rattle.resp_value.specs.Data.{Datum};
 
 use crate::filter::Filter;
 use crate::moment::Moment;
