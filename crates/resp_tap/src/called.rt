@@ -42,10 +42,7 @@ pub(crate) fn command_name(words: &Words) -> ArrayVec<u8, MOST>
 pub(crate) fn name_of_called<'a>(called: Option<&'a Called>) -> &'a [u8]
     ensures { result.now ≡ name_of_called (option_map (λ called. called.now) called.entry) }
 {
-    match called {
-        Some(called) => called.name.as_slice(),
-        None => b"",
-    }
+    called.map_or(b"", |called| called.name.as_slice())
 }
 
 /// Returns whether the filter lets the words of a result's command through. `called` is the command

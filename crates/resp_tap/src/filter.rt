@@ -127,10 +127,7 @@ impl Filter {
     pub fn keeps_client(&self, client: u64) -> bool
         ensures { result ≡ keeps_client self.now client }
     {
-        match self.client {
-            None => true,
-            Some(number) => number == client,
-        }
+        self.client.map_or(true, |number| number == client)
     }
 
     /// Returns whether a command is printed only with its reply, because the reply decides.

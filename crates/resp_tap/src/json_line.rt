@@ -360,10 +360,7 @@ fn closed_kind(side: Side) -> &'static [u8]
 fn cut_place(cut: Option<Cut>) -> Segment<'static>
     ensures { segment_text result ≡ cut_place cut }
 {
-    match cut {
-        None => Segment::Text(b""),
-        Some(cut) => place_segment(cut.place),
-    }
+    cut.map_or(Segment::Text(b""), |cut| place_segment(cut.place))
 }
 
 /// Writes the line about the side of a client's connection that has ended, and the incomplete

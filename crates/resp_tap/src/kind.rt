@@ -130,10 +130,10 @@ pub(crate) fn verb_named(name: &[u8]) -> Option<Verb>
 fn kind_by_verb(verb: Option<Verb>, channels: u64) -> CommandKind
     ensures { result ≡ kind_by_verb verb channels }
 {
-    match verb {
-        Some(verb) => CommandKind::Subscribing { verb, channels },
-        None => CommandKind::Plain,
-    }
+    verb.map_or(
+        CommandKind::Plain,
+        |verb| CommandKind::Subscribing { verb, channels },
+    )
 }
 
 /// Returns how a command is answered. Its first word is its name, in upper, lower or mixed case.

@@ -237,10 +237,7 @@ fn asked_by_kind(kind: CommandKind) -> Option<Version>
 fn begins_reply(piece: &[u8]) -> bool
     ensures { result ≡ begins_reply piece.now }
 {
-    match piece.first() {
-        Some(byte) => *byte != b'>',
-        None => false,
-    }
+    piece.first().is_some_and(|byte| *byte != b'>')
 }
 
 /// Returns the place among the commands that wait of the command that the next reply belongs to, if
@@ -345,7 +342,9 @@ impl Line {
     pub(crate) fn asked_at(&self) -> usize
         ensures { result ≡ asked_at (line_of self.now).due }
     {
-        self.due.front().map_or(0, |first| asked_by_first(first.kind))
+        self.due
+            .front()
+            .map_or(0, |first| asked_by_first(first.kind))
     }
 
     /// Returns the place of a value that begins now.
@@ -355,7 +354,10 @@ impl Line {
         if self.is_lost {
             return Place::Value;
         }
-        self.due.front().map_or(Place::Value, |first| place_by_kind(first.number, first.kind))
+        self.due.front().map_or(
+            Place::Value,
+            |first| place_by_kind(first.number, first.kind),
+        )
     }
 
     /// Records the first byte of a value, with which the piece begins.

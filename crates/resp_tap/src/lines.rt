@@ -52,10 +52,7 @@ pub(crate) struct Rejected {
 fn begins_line(piece: &[u8]) -> bool
     ensures { MatchBool result (BeginsLine piece.now) (BeginsLine piece.now → ⊥) }
 {
-    match piece.first() {
-        Some(byte) => *byte != b'*',
-        None => false,
-    }
+    piece.first().is_some_and(|byte| *byte != b'*')
 }
 
 impl Lines {
