@@ -6,7 +6,7 @@ use Rattle.std.proofs.Math.Seq.{drop-nil, take-length}
 use Rattle.std.specs.List.{AllByRecursion}
 use Rattle.resp_value.specs.Rules.{Rules}
 use Rattle.resp_value.specs.Trees as tree
-use Rattle.resp_value.specs.Trees.{IsTree, Tree}
+use Rattle.resp_value.specs.Trees.{Tree}
 use Rattle.resp_fronts.specs.Events.{events, without_places}
 use Rattle.resp_fronts.specs.Events as e
 use Rattle.resp_scan.specs.declared.event.Event.{Event}
@@ -328,11 +328,9 @@ shown_so_far old s t piece rest rest' outs₀ outs index count used slot k more 
       steps = h.steps;
     }))
 
--- the bytes that a turn may use
-pub shown_within : (E : Event → Type 0) (T : TextKind → List ℕ → Type 0) (s t : Place) (rest : List ℕ) (used : ℕ) →
-    ShowsEvent E s t rest used ⊎ ShowsText T s t rest used → used ≤ length rest
-shown_within E T s t rest used (inl h) = h.steps.within_piece
-shown_within E T s t rest used (inr h) = h.steps.of_piece.within
+-- a slice to the end
+pub sliced : (used : ℕ) (rest : List ℕ) → take (length rest - used) (drop used rest) ≡ drop used rest
+sliced used rest = ap (λ n. take n (drop used rest)) (sym (length-drop used rest)) ∙ take-length (drop used rest)
 
 pub used_up_so_far : (old s t : Place) (piece rest : List ℕ) (outs₀ outs : List RespEvent) (index count : ℕ) (slot : RespEvent) →
     SoFar old s piece rest outs₀ outs index count → Steps s t rest (Ok (record { used = length rest; event = None })) →

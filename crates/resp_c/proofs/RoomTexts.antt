@@ -2,7 +2,7 @@
 use Rattle.std.proofs.Common.{◌≡◌, ℕ, ◌+◌, ◌<◌, ◌≤◌, List, [], ◌∷◌, ◌++◌, length, map, refl, sym, ap, ◌∙◌, arith, append_assoc, append-nil, length-append}
 use Rattle.resp_value.specs.Bytes.{crlf}
 use Rattle.resp_value.specs.Canonical.{canonical_text, canonical_trees}
-use Rattle.resp_value.specs.Data.{Data, Kind, aggregate, count, items_of, data_of_list}
+use Rattle.resp_value.specs.Data.{count, data_of_list}
 use Rattle.resp_value.specs.Data as d
 use Rattle.resp_value.specs.Numbers.{decimal}
 use Rattle.resp_value.specs.Trees.{texts}

@@ -6,7 +6,7 @@ use Rattle.resp_value.specs.Data.{Array, Set, Map, Attr, Push, Datum}
 use Rattle.resp_value.specs.Rules.{Keeps, WithinTotal, rules_under}
 use Rattle.resp_value.specs.Spellings.{IsSpelling}
 use Rattle.resp_value.specs.Trees as t
-use Rattle.resp_value.specs.Trees.{Tree, Leaf, leaf, node, line, numeral, null, truth, string, chunked, text, IsTree}
+use Rattle.resp_value.specs.Trees.{Tree, Leaf, leaf, node, line, numeral, null, truth, string, chunked, text}
 use Rattle.resp_value.specs.TreeValues.{value}
 use Rattle.resp_fronts.specs.Events.{Event, events, without_places}
 use Rattle.resp_fronts.specs.Events as e

@@ -19,13 +19,6 @@ fn is_subscribing(name: &[u8]) -> bool
         || is_name(name, b"sunsubscribe")
 }
 
-/// Returns whether a client does not send a command of one word.
-fn is_unsent_alone(name: &[u8]) -> bool
-    ensures { result ≡ is_unsent (name.now ∷ []) }
-{
-    is_unsent_name(name)
-}
-
 /// Returns whether a client does not send a command that begins with these words.
 fn is_unsent(name: &[u8], argument: &[u8]) -> bool
     ensures { result ≡ is_unsent (name.now ∷ argument.now ∷ []) }
@@ -46,23 +39,8 @@ fn kind_of_version(word: &[u8]) -> u32
     number::ONE_REPLY
 }
 
-/// Returns the kind of a command of one word.
-fn kind_of_name(name: &[u8]) -> u32
-    ensures { result ≡ kind_of_command (name.now ∷ []) }
-{
-    if is_name(name, b"hello") {
-        return number::ONE_REPLY;
-    }
-    if is_subscribing(name) {
-        return number::SUBSCRIBING;
-    }
-    if is_unsent_alone(name) {
-        return number::NOT_PAIRED;
-    }
-    number::ONE_REPLY
-}
-
-/// Returns the kind of a command that begins with these words.
+/// Returns the kind of a command that begins with these words. A command of one word has the kind of
+/// one whose second word is empty.
 fn kind_of_words(name: &[u8], argument: &[u8]) -> u32
     ensures { result ≡ kind_of_command (name.now ∷ argument.now ∷ []) }
 {
@@ -94,7 +72,7 @@ pub extern "C" fn resp_command_kind(count: usize, name: &[u8], argument: &[u8]) 
 {
     match count {
         0 => number::NOT_PAIRED,
-        1 => kind_of_name(name),
+        1 => kind_of_words(name, b""),
         _ => kind_of_words(name, argument),
     }
 }

@@ -1,13 +1,12 @@
 //! Events, as C receives them.
 
-ghost use Rattle.std.specs.Prelude.{◌≡◌, [], ◌∷◌, Some, length};
-ghost use Rattle.resp_c.specs.EventNumbers.{kind_form, part_number, text_form, text_number};
+ghost use Rattle.std.specs.Prelude.{◌≡◌, Some};
+ghost use Rattle.resp_c.specs.EventNumbers.{text_form, text_number};
 ghost use Rattle.resp_c.specs.Told.{Tells, TellsMore, TellsWhole, truth_number};
 
 use crate::number;
 use resp_scan::event::{Event, TextKind};
 use resp_scan::slot::Slot;
-use resp_value::kind::OpenKind;
 
 /// The result of a step.
 #[repr(C)]
@@ -69,40 +68,11 @@ fn text_form(kind: TextKind) -> u32
     }
 }
 
-/// Returns the number of a kind of aggregate.
-fn kind_form(kind: OpenKind) -> u32
-    ensures { result ≡ kind_form kind }
-{
-    match kind {
-        OpenKind::Array => number::ARRAY,
-        OpenKind::Set => number::SET,
-        OpenKind::Map => number::MAP,
-        OpenKind::Attr => number::ATTRIBUTE,
-        OpenKind::Push => number::PUSH,
-    }
-}
-
 /// Returns the number of a boolean, or of the sign of a big number.
 fn truth_number(truth: bool) -> i64
     ensures { result ≡ truth_number truth }
 {
     if truth { 1 } else { 0 }
-}
-
-/// Stores a part.
-#[inline(always)]
-fn tell_part(event: &mut RespEvent, bytes: &[u8])
-    ensures used { event.new.used ≡ event.old.used }
-    ensures kind { event.new.kind ≡ part_number }
-    ensures part { event.new.part ≡ length bytes.now }
-    ensures digit { length bytes.now ≡ 1 → bytes.now ≡ event.new.digit ∷ [] }
-{
-    event.kind = number::PART;
-    event.part = bytes.len();
-    event.digit = match bytes.first() {
-        Some(byte) => *byte,
-        None => 0,
-    };
 }
 
 /// Stores an event. Fields that it does not need are unchanged, including the number of its bytes.
@@ -122,11 +92,15 @@ pub(crate) fn tell(event: &mut RespEvent, told: Event<'_>)
             event.number = number;
         }
         Event::Text(kind) => tell_text(event, kind),
-        Event::Part(bytes) => tell_part(event, bytes),
+        Event::Part(bytes) => {
+            event.kind = number::PART;
+            event.part = bytes.len();
+            event.digit = bytes.first().copied().unwrap_or(0);
+        }
         Event::TextEnd => event.kind = number::TEXT_END,
         Event::Open(kind, members) => {
             event.kind = number::OPEN;
-            event.form = kind_form(kind);
+            event.form = kind as u32;
             event.members = members.unwrap_or(number::STREAMED);
         }
         Event::Close => event.kind = number::CLOSE,
