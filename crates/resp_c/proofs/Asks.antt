@@ -1,7 +1,6 @@
 -- What waits, as numbers of the caller's say it.
-use Rattle.std.proofs.Common.{◌≡◌, ℕ, zero, suc, ◌+◌, [], ◌∷◌, ◌++◌, length, Some, None, refl, sym, ap, ◌∙◌, arith, add-one, append_assoc, append-nil, length-append}
+use Rattle.std.proofs.Common.{◌≡◌, ℕ, zero, suc, ◌+◌, [], ◌∷◌, ◌++◌, length, None, refl, ap, ◌∙◌, arith, add-one, append_assoc, append-nil, length-append}
 use Rattle.resp_c.specs.Pairs.{ask_of, hello_asks, nones}
-use Rattle.resp_c.specs.Versions.{version_of}
 
 length-nones : (n : ℕ) → length (nones n) ≡ n
 length-nones zero = refl
@@ -25,15 +24,8 @@ nones-more n = ap nones (add-one n) ∙ nones-after n
 
 pub queued_before : (a h b hello : ℕ) → h ≡ 0 → hello ≡ 0 →
     nones (a + 1) ++ hello_asks h b ≡ (nones a ++ hello_asks h b) ++ ask_of hello ∷ []
-queued_before a zero b zero none plain = append-nil (nones (a + 1)) ∙ nones-more a ∙
-    ap (λ asks. asks ++ None ∷ []) (sym (append-nil (nones a)))
-queued_before a (suc n) b hello none plain = absurd (omega (arith, none))
-queued_before a zero b (suc n) none plain = absurd (omega (arith, plain))
+queued_before a h b hello none plain = grind (arith, nones-more, append-nil)
 
 pub queued_beyond : (a h b hello : ℕ) → (h ≡ 0 → ⊥) → hello ≡ 0 →
     nones a ++ hello_asks h (b + 1) ≡ (nones a ++ hello_asks h b) ++ ask_of hello ∷ []
-queued_beyond a zero b hello some plain = absurd (some refl)
-queued_beyond a (suc n) b (suc m) some plain = absurd (omega (arith, plain))
-queued_beyond a (suc n) b zero some plain =
-    ap (λ asks. nones a ++ Some (version_of (suc n)) ∷ asks) (nones-more b)
-    ∙ sym (append_assoc (nones a) (hello_asks (suc n) b) (None ∷ []))
+queued_beyond a h b hello some plain = grind (arith, nones-more, append_assoc)

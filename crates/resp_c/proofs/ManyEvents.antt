@@ -1,8 +1,8 @@
 -- Events told one after another, and what they say of the bytes used.
-use Rattle.std.proofs.Common.{◌≡◌, ◌⊎◌, inl, inr, ℕ, zero, suc, ◌+◌, ◌-◌, ◌<◌, ◌≤◌, List, [], ◌∷◌, ◌++◌, length, flat_map, take, drop, None, Some, Ok, Err, refl, sym, ap, subst, ◌∙◌, arith, append_assoc, append-nil}
-use Rattle.std.proofs.lemmas.List.{drop-set-lt, length-drop, take-append-drop, take-set-le, take_more_set}
+use Rattle.std.proofs.Common.{◌≡◌, ◌⊎◌, inl, inr, ℕ, ◌+◌, ◌-◌, ◌<◌, ◌≤◌, List, [], ◌∷◌, ◌++◌, length, flat_map, take, drop, None, Some, Ok, Err, refl, sym, ap, subst, ◌∙◌, arith, append_assoc, append-nil}
+use Rattle.std.proofs.lemmas.List.{drop-drop, drop-set-lt, flat_map_more, length-drop, take-append-drop, take-set-le, take_more_set}
 use Rattle.std.proofs.Math.ListN.{set}
-use Rattle.std.proofs.Math.Seq.{drop-nil, take-length}
+use Rattle.std.proofs.Math.Seq.{take-length}
 use Rattle.std.specs.List.{AllByRecursion}
 use Rattle.resp_value.specs.Rules.{Rules}
 use Rattle.resp_value.specs.Trees as tree
@@ -13,7 +13,6 @@ use Rattle.resp_scan.specs.declared.event.Event.{Event}
 use Rattle.resp_scan.specs.declared.event.Event.TheVariants as event
 use Rattle.resp_scan.specs.declared.event.Fault.{Fault}
 use Rattle.resp_scan.specs.declared.event.TextKind.{TextKind}
-use Rattle.resp_scan.specs.declared.event.TextKind.TheVariants as text
 use Rattle.resp_scan.specs.Kinds.{rules_of}
 use Rattle.resp_scan.specs.Listening.{whole_text_events}
 use Rattle.resp_scan.specs.Machine.Tokens.{Place}
@@ -25,10 +24,6 @@ use Rattle.resp_c.specs.Told.{Tells, TellsMore, TellsWhole}
 use Rattle.resp_c.specs.declared.event.RespEvent.{RespEvent}
 
 -- Trees read one after another.
-
-texts-snoc : (trees : List Tree) (last : Tree) → flat_map tree.text (trees ++ last ∷ []) ≡ flat_map tree.text trees ++ tree.text last
-texts-snoc [] last = append-nil (tree.text last)
-texts-snoc (u ∷ us) last = ap (λ z. tree.text u ++ z) (texts-snoc us last) ∙ sym (append_assoc (tree.text u) (flat_map tree.text us) (tree.text last))
 
 events-snoc : (trees : List Tree) (tree : Tree) →
     events_of_trees (trees ++ tree ∷ []) ≡ events_of_trees trees ++ (without_places (events 0 tree) ++ e.Done ∷ [])
@@ -91,7 +86,7 @@ reads_done r written told Ends Ends' w value ends =
       front = [];
       given = [];
       keep = keep-snoc r w.trees v.tree w.keep (v.spells.is_tree, v.keeps);
-      parts = w.parts ∙ ap (λ z. flat_map tree.text w.trees ++ z) (sym v.spells.spelled) ∙ sym (texts-snoc w.trees v.tree) ∙
+      parts = w.parts ∙ ap (λ z. flat_map tree.text w.trees ++ z) (sym v.spells.spelled) ∙ flat_map_more tree.text [] w.trees v.tree ∙
           sym (append-nil (flat_map tree.text (w.trees ++ v.tree ∷ [])));
       told_of = ap (λ z. z ++ e.Done ∷ []) w.told_of ∙ append_assoc (events_of_trees w.trees) w.given (e.Done ∷ []) ∙
           ap (λ z. events_of_trees w.trees ++ (z ++ e.Done ∷ [])) v.told ∙ sym (events-snoc w.trees v.tree) ∙
@@ -100,16 +95,6 @@ reads_done r written told Ends Ends' w value ends =
     }
 
 -- Events in the array.
-
-drop-drop : (n m : ℕ) (xs : List ℕ) → drop m (drop n xs) ≡ drop (n + m) xs
-drop-drop zero m xs = ap (λ k. drop k xs) (let z : m ≡ zero + m = omega arith in z)
-drop-drop (suc n) m [] = drop-nil m ∙ sym (drop-nil (suc n + m))
-drop-drop (suc n) m (x ∷ xs) = drop-drop n m xs ∙ ap (λ k. drop k (x ∷ xs)) (let z : suc (n + m) ≡ suc n + m = omega arith in z)
-
-drop-drop-events : (n m : ℕ) (xs : List RespEvent) → drop m (drop n xs) ≡ drop (n + m) xs
-drop-drop-events zero m xs = ap (λ k. drop k xs) (let z : m ≡ zero + m = omega arith in z)
-drop-drop-events (suc n) m [] = drop-nil m ∙ sym (drop-nil (suc n + m))
-drop-drop-events (suc n) m (x ∷ xs) = drop-drop-events n m xs ∙ ap (λ k. drop k (x ∷ xs)) (let z : suc (n + m) ≡ suc n + m = omega arith in z)
 
 used-snoc : (outs : List RespEvent) (out : RespEvent) → used_by (outs ++ out ∷ []) ≡ used_by outs + out.used
 used-snoc [] out = omega arith
@@ -126,7 +111,7 @@ stand-snoc piece (x ∷ xs) out told more (first, rest, is, stand, parts) one = 
   rest ++ more,
   is,
   stand-snoc (drop x.used piece) xs out rest more stand
-      (subst (λ p. StandsForOne p out more) (sym (drop-drop x.used (used_by xs) piece)) one),
+      (subst (λ p. StandsForOne p out more) (sym (drop-drop (used_by xs) x.used piece)) one),
   ap (λ z. z ++ more) parts ∙ append_assoc first rest more,
 )
 
@@ -156,22 +141,8 @@ event_reads s t rest used event.Done steps r written told rules w =
     sym (append-nil written) ∙ ap (λ n. written ++ take n rest) (sym last.no_byte) in
     subst (λ z. ReadsTo r z (told ++ e.Done ∷ []) (HasRead t)) none (reads_done r written told (HasRead s) (HasRead t) w
     (λ front given h. subst (λ z. IsValue z front given) (sym rules) (ends front given h).is_value) last.reads)
-event_reads s t rest used event.Null steps r written told rules w =
-    reads_on r written told (HasRead s) (HasRead t) (take used rest) (all_events_of event.Null) w steps.another_event
-event_reads s t rest used (event.Bool v) steps r written told rules w =
-    reads_on r written told (HasRead s) (HasRead t) (take used rest) (all_events_of (event.Bool v)) w steps.another_event
-event_reads s t rest used (event.Int v) steps r written told rules w =
-    reads_on r written told (HasRead s) (HasRead t) (take used rest) (all_events_of (event.Int v)) w steps.another_event
-event_reads s t rest used (event.Text v) steps r written told rules w =
-    reads_on r written told (HasRead s) (HasRead t) (take used rest) (all_events_of (event.Text v)) w steps.another_event
-event_reads s t rest used (event.Part v) steps r written told rules w =
-    reads_on r written told (HasRead s) (HasRead t) (take used rest) (all_events_of (event.Part v)) w steps.another_event
-event_reads s t rest used event.TextEnd steps r written told rules w =
-    reads_on r written told (HasRead s) (HasRead t) (take used rest) (all_events_of event.TextEnd) w steps.another_event
-event_reads s t rest used (event.Open k n) steps r written told rules w =
-    reads_on r written told (HasRead s) (HasRead t) (take used rest) (all_events_of (event.Open k n)) w steps.another_event
-event_reads s t rest used event.Close steps r written told rules w =
-    reads_on r written told (HasRead s) (HasRead t) (take used rest) (all_events_of event.Close) w steps.another_event
+event_reads s t rest used x steps r written told rules w =
+    reads_on r written told (HasRead s) (HasRead t) (take used rest) (all_events_of x) w steps.another_event
 
 event_turns : (s t : Place) (rest : List ℕ) (used : ℕ) (out : RespEvent) → out.used ≡ used →
     ShowsEvent (λ x. Tells out (Some x)) s t rest used → Turns s t rest out
@@ -248,12 +219,12 @@ so_far_on old s t piece rest rest' outs₀ outs index count used shown k more si
       counted = omega (arith, k.counted);
       few = omega (arith, more, size, k.counted);
       within = omega (arith, total, h.within, room, k.within);
-      rest_is = is ∙ ap (λ p. drop used p) k.rest_is ∙ drop-drop (used_by (take count outs)) used piece ∙
+      rest_is = is ∙ ap (λ p. drop used p) k.rest_is ∙ drop-drop used (used_by (take count outs)) piece ∙
           ap (λ n. drop n piece) (let z : used_by (take count outs) + used ≡ used_by (take (count + 1) (set outs index shown)) =
           omega (arith, total, by_used) in z);
       left = ap (λ n. drop (n + 1) (set outs index shown)) k.counted ∙ drop-set-lt (index + 1) outs index shown (omega arith) ∙
-          ap (λ n. drop (n + 1) outs) (sym k.counted) ∙ sym (drop-drop-events count 1 outs) ∙ ap (λ xs. drop 1 xs) k.left ∙
-          drop-drop-events count 1 outs₀;
+          ap (λ n. drop (n + 1) outs) (sym k.counted) ∙ sym (drop-drop 1 count outs) ∙ ap (λ xs. drop 1 xs) k.left ∙
+          drop-drop 1 count outs₀;
       rules = h.rules ∙ k.rules;
       scans = subst (λ xs. Scans old piece xs (used_by xs) (HasRead t)) (sym first)
           (scans_on old s t piece rest (take count outs) shown k.rest_is k.rules k.scans h);
@@ -291,25 +262,11 @@ refused_scans old s t piece rest outs fault is rules k steps = record {
 -- In the loop.
 
 tells_more : (out : RespEvent) (n : ℕ) (kind : TextKind) → TellsMore out kind → TellsMore (record out { used = n }) kind
-tells_more out n (text.Verbatim format) h = h
-tells_more out n (text.Big negative) h = h
-tells_more out n text.Simple h = h
-tells_more out n text.Error h = h
-tells_more out n text.Double h = h
-tells_more out n text.Bulk h = h
-tells_more out n text.BulkError h = h
+tells_more out n kind h = grind arith
 
 -- the number of its bytes is no part of what an event tells
 tells_used : (out : RespEvent) (n : ℕ) (x : Event) → Tells out (Some x) → Tells (record out { used = n }) (Some x)
-tells_used out n event.Null h = h
-tells_used out n (event.Bool v) h = h
-tells_used out n (event.Int v) h = h
-tells_used out n (event.Text kind) (is, form, more) = (is, form, tells_more out n kind more)
-tells_used out n (event.Part v) h = h
-tells_used out n event.TextEnd h = h
-tells_used out n (event.Open k m) h = h
-tells_used out n event.Close h = h
-tells_used out n event.Done h = h
+tells_used out n x h = grind (arith, tells_more)
 
 pub shown_so_far : (old s t : Place) (piece rest rest' : List ℕ) (outs₀ outs : List RespEvent) (index count used : ℕ) (slot : RespEvent) →
     SoFar old s piece rest outs₀ outs index count → index < length outs → length outs ≡ length outs₀ → rest' ≡ drop used rest →
