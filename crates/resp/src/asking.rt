@@ -1,18 +1,17 @@
 //! The command `ask`, which sends commands to a server.
 
-use crate::failures::{Failures, Input, Output};
-use crate::hosts::{addresses_of, refuse_server};
+use crate::failures::{Failures, Input, Output, refuse_opening};
+use crate::hosts::{addresses_of, password_of, refuse_server};
 use crate::server_stream::ServerStream;
 use resp_args::asking::Asking;
 use resp_args::tool_error::ToolError;
-use resp_args::words::refuse_file;
 use resp_ask::{Failure, Form, Greeting, Lines, RawCommands, Talk};
 use resp_print::live::LiveSink;
 use resp_print::text::{write_number, write_text};
 use resp_value::device::{Device, DeviceFault, Sink, Source};
 use std::alloc::{AllocError, Global};
+use std::io;
 use std::time::Instant;
-use std::{env, io};
 
 /// The exit status after a reply that is an error, or an error in the input.
 const ERROR: u8 = 1;
@@ -22,9 +21,6 @@ const BAD_ARGUMENTS: u8 = 2;
 
 /// The exit status after a device or an allocation failed.
 const FAILED: u8 = 3;
-
-/// The environment variable with the password.
-const PASSWORD: &str = "RESP_PASSWORD";
 
 /// Sends the command in the words, or the commands of standard input, and prints the replies.
 /// Returns the exit status.
@@ -36,8 +32,8 @@ pub fn run_ask<O: LiveSink, F: Sink>(
     faults: &mut F,
 ) -> Result<u8, AllocError> {
     let alloc = rt.alloc();
-    let password = env::var(rt, PASSWORD);
-    if asking.options.user.is_some() && password.is_err() {
+    let password = password_of(rt);
+    if asking.options.user.is_some() && password.is_none() {
         let _ = write_text(faults, b"error: --user needs the variable RESP_PASSWORD\n");
         return Ok(BAD_ARGUMENTS);
     }
@@ -47,21 +43,14 @@ pub fn run_ask<O: LiveSink, F: Sink>(
     };
     let stream = match ServerStream::connect(rt, addresses.as_slice()) {
         Ok(stream) => stream,
-        Err(error) => {
-            let why = format!(in alloc; "{error}")?;
-            return Ok(refuse_file(asking.server_text, why.as_str(), faults));
-        }
+        Err(error) => return refuse_opening(alloc, asking.server_text, &error, faults),
     };
     let mut reader = Device::new(Input::new(&stream, failures));
     let mut writer = Device::new(Output::new(&stream, failures));
-    let password = match &password {
-        Ok(password) => Some(password.as_str()),
-        Err(_) => None,
-    };
     ask_over(
         rt,
         asking,
-        password,
+        password.as_deref(),
         &mut reader,
         &mut writer,
         output,
@@ -119,7 +108,8 @@ pub fn write_why<F: Sink>(
     Ok(())
 }
 
-/// Sends AUTH and HELLO, and the commands if they were accepted.
+/// Sends AUTH and HELLO, and the commands if they were accepted. If the replies are counted, prints the
+/// numbers of replies and errors and the time.
 fn ask_with<R: Source, W: Sink, O: LiveSink>(
     rt: &HostRuntime,
     talk: &mut Talk<'_, R, W>,
@@ -143,27 +133,13 @@ fn ask_with<R: Source, W: Sink, O: LiveSink>(
         return Ok(());
     }
     talk.begin(form);
-    if form == Form::Counted {
-        return count(rt, talk, asking, failures, output);
-    }
-    send_commands(rt, talk, asking, failures, output)
-}
-
-/// Sends the commands, and prints the numbers of replies and errors and the time.
-fn count<R: Source, W: Sink, O: LiveSink>(
-    rt: &HostRuntime,
-    talk: &mut Talk<'_, R, W>,
-    asking: &Asking<'_>,
-    failures: &Failures,
-    output: &mut O,
-) -> Result<(), Failure> {
     let start = Instant::now(rt);
     send_commands(rt, talk, asking, failures, output)?;
-    let micros = micros_since(rt, start);
-    match write_totals(talk.replies(), talk.errors(), micros, output) {
-        Ok(()) => Ok(()),
-        Err(_) => Err(Failure::Output),
+    if form != Form::Counted {
+        return Ok(());
     }
+    let micros = micros_since(rt, start);
+    write_totals(talk.replies(), talk.errors(), micros, output).map_err(|_| Failure::Output)
 }
 
 /// Returns the microseconds since this instant, or 0 if the clock cannot be read.

@@ -1,11 +1,11 @@
 //! `resp proxy --check`, which asks a server for its commands and prints what the proxy would do with them.
 
 use crate::asking::write_why;
-use crate::failures::{Failures, Input, Output};
+use crate::failures::{Failures, Input, Output, refuse_opening};
+use crate::hosts::password_of;
 use crate::server_stream::ServerStream;
 use crate::survey::{Survey, SurveyError};
 use resp_args::proxying::Proxying;
-use resp_args::words::refuse_file;
 use resp_ask::talk::bytes_of;
 use resp_ask::{AskError, Failure};
 use resp_client::{Client, What};
@@ -17,7 +17,6 @@ use resp_value::device::{Device, DeviceFault, Sink, Source, write_all};
 use resp_value::limits::Limits;
 use resp_value::value::Value;
 use std::alloc::{AllocError, Global};
-use std::env;
 
 /// The exit status if the server has a command that the proxy does not know, or rejects AUTH or COMMAND.
 const UNKNOWN: u8 = 1;
@@ -27,9 +26,6 @@ const PIECE: usize = 16_384;
 
 /// The most reads.
 const MOST_READS: u64 = 4_000_000_000;
-
-/// The environment variable with the password of the server.
-const PASSWORD: &str = "RESP_PASSWORD";
 
 /// Why there is no table.
 #[derive(Drop)]
@@ -66,23 +62,16 @@ pub fn run_check<O: LiveSink, F: Sink>(
     let alloc = rt.alloc();
     let stream = match ServerStream::connect(rt, addresses) {
         Ok(stream) => stream,
-        Err(error) => {
-            let why = format!(in alloc; "{error}")?;
-            return Ok(refuse_file(server, why.as_str(), faults));
-        }
+        Err(error) => return refuse_opening(alloc, server, &error, faults),
     };
     let mut reader = Device::new(Input::new(&stream, failures));
     let mut writer = Device::new(Output::new(&stream, failures));
-    let password = env::var(rt, PASSWORD);
-    let password = match &password {
-        Ok(password) => Some(password.as_str()),
-        Err(_) => None,
-    };
+    let password = password_of(rt);
     let checked = check(
         alloc,
         proxying,
         server,
-        password,
+        password.as_deref(),
         &mut reader,
         &mut writer,
         output,

@@ -1,6 +1,7 @@
 //! The devices of the program, and why the last of their calls that failed did so.
 
 use resp_args::tool_error::ToolError;
+use resp_args::words::refuse_file;
 use resp_tool::explain::write_system_reason;
 use resp_value::device::Sink;
 use std::alloc::{AllocError, Global};
@@ -73,6 +74,17 @@ impl Failures {
         }
         Ok(())
     }
+}
+
+/// Reports that a file or an address cannot be opened, and why. Returns the exit status.
+pub fn refuse_opening<F: Sink>(
+    alloc: Global,
+    name: &str,
+    error: &io::Error,
+    faults: &mut F,
+) -> Result<u8, AllocError> {
+    let why = format!(in alloc; "{error}")?;
+    Ok(refuse_file(name, why.as_str(), faults))
 }
 
 /// A reader that records why a read failed.

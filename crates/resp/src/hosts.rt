@@ -6,8 +6,16 @@ use resp_args::words::refuse_host;
 use resp_loop::Address;
 use resp_value::device::Sink;
 use std::alloc::{AllocError, Global};
-use std::io;
 use std::net::{Net, ToSocketAddrs};
+use std::{env, io};
+
+/// The environment variable with the password of the server.
+const PASSWORD: &str = "RESP_PASSWORD";
+
+/// Returns the password of the server, if the environment has one.
+pub fn password_of(rt: &HostRuntime) -> Option<String> {
+    env::var(rt, PASSWORD).ok()
+}
 
 /// Returns the address to listen on.
 ///

@@ -18,14 +18,14 @@ mod survey;
 ghost use Rattle.std.specs.Prelude.{◌≤◌};
 
 use asking::run_ask;
-use failures::{Failures, Input, StandardOutput};
+use failures::{Failures, Input, StandardOutput, refuse_opening};
 use input::read_input;
 use listening::{run_proxy, run_serve, run_tap};
 use resp_args::asked::Asked;
 use resp_args::options::{Options, STANDARD_INPUT, Task};
 use resp_args::style::StyleOptions;
 use resp_args::tool_error::ToolError;
-use resp_args::words::{read_words, refuse_file, refuse_words, stop};
+use resp_args::words::{read_words, refuse_words, stop};
 use resp_paint::Painted;
 use resp_print::live::{Gathering, LiveSink, LiveSource};
 use resp_script::play::{PlayError, play, write_no_connection};
@@ -178,16 +178,11 @@ fn set_style<W: LiveSink, F: Sink>(
     writer: &mut Painted<W>,
     faults: &mut F,
 ) -> bool {
-    match style_of(rt, options) {
-        Ok(style) => {
-            writer.set_style(style);
-            true
-        }
-        Err(bad) => {
-            let _ = bad.write(faults);
-            false
-        }
-    }
+    let Some(style) = style_of(rt, options, faults) else {
+        return false;
+    };
+    writer.set_style(style);
+    true
 }
 
 /// Runs the command on the file named in the options, or on standard input, and returns the status.
@@ -202,14 +197,11 @@ fn run_task<W: LiveSink, F: Sink>(
 {
     let alloc = rt.alloc();
     if options.file == STANDARD_INPUT {
-        return run_stream(rt.alloc(), options, rt.stdin(), writer, failures, faults);
+        return run_stream(alloc, options, rt.stdin(), writer, failures, faults);
     }
     match File::open(rt, options.file) {
-        Ok(file) => run_stream(rt.alloc(), options, file, writer, failures, faults),
-        Err(error) => {
-            let why = format!(in alloc; "{error}")?;
-            Ok(refuse_file(options.file, why.as_str(), faults))
-        }
+        Ok(file) => run_stream(alloc, options, file, writer, failures, faults),
+        Err(error) => refuse_opening(alloc, options.file, &error, faults),
     }
 }
 
@@ -277,10 +269,7 @@ fn run_script<W: Sink, F: Sink>(
     }
     match File::open(rt, file) {
         Ok(opened) => run_loop(rt, opened, writer, failures, faults),
-        Err(error) => {
-            let why = format!(in rt.alloc(); "{error}")?;
-            Ok(refuse_file(file, why.as_str(), faults))
-        }
+        Err(error) => refuse_opening(rt.alloc(), file, &error, faults),
     }
 }
 

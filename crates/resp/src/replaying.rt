@@ -1,12 +1,12 @@
 //! `resp tap --replay`, which prints the traffic in a capture.
 
-use crate::failures::{Failures, Input};
+use crate::failures::{Failures, Input, refuse_opening};
 use crate::listening::{filter_of, tables_of};
 use resp_args::options::STANDARD_INPUT;
 use resp_args::tapping::Tapping;
 use resp_args::tool_error::ToolError;
 use resp_args::traffic::Captured;
-use resp_args::words::{refuse_file, stop};
+use resp_args::words::stop;
 use resp_print::live::LiveSink;
 use resp_tap::Filter;
 use resp_value::device::{Device, Sink};
@@ -66,10 +66,7 @@ pub fn run_replay<W: LiveSink, F: Sink>(
     }
     match File::open(rt, captured.file) {
         Ok(file) => replay(alloc, file, settings, filter, writer, failures, faults),
-        Err(error) => {
-            let why = format!(in alloc; "{error}")?;
-            Ok(refuse_file(captured.file, why.as_str(), faults))
-        }
+        Err(error) => refuse_opening(alloc, captured.file, &error, faults),
     }
 }
 
