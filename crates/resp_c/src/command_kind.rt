@@ -1,7 +1,6 @@
 //! How a command is answered, from its words.
 
 ghost use Rattle.std.specs.Prelude.{◌≡◌, ◌≤◌, [], ◌∷◌, ℕ, List};
-ghost use Rattle.resp_session.specs.Requests.{is_unsent};
 ghost use Rattle.resp_c.specs.CommandKinds.{is_subscribing, kind_of_command, kind_of_hello};
 
 use crate::number;
@@ -19,24 +18,15 @@ fn is_subscribing(name: &[u8]) -> bool
         || is_name(name, b"sunsubscribe")
 }
 
-/// Returns whether a client does not send a command that begins with these words.
-fn is_unsent(name: &[u8], argument: &[u8]) -> bool
-    ensures { result ≡ is_unsent (name.now ∷ argument.now ∷ []) }
-{
-    is_unsent_name(name) || is_name(name, b"client") && is_name(argument, b"reply")
-}
-
 /// Returns the kind of a HELLO with this version argument.
 fn kind_of_version(word: &[u8]) -> u32
     ensures { result ≡ kind_of_hello (word.now ∷ []) }
 {
-    if word == b"2".as_slice() {
-        return number::HELLO_TWO;
+    match word {
+        b"2" => number::HELLO_TWO,
+        b"3" => number::HELLO_THREE,
+        _ => number::ONE_REPLY,
     }
-    if word == b"3".as_slice() {
-        return number::HELLO_THREE;
-    }
-    number::ONE_REPLY
 }
 
 /// Returns the kind of a command that begins with these words. A command of one word has the kind of
@@ -50,7 +40,7 @@ fn kind_of_words(name: &[u8], argument: &[u8]) -> u32
     if is_subscribing(name) {
         return number::SUBSCRIBING;
     }
-    if is_unsent(name, argument) {
+    if is_unsent_name(name) || is_name(name, b"client") && is_name(argument, b"reply") {
         return number::NOT_PAIRED;
     }
     number::ONE_REPLY

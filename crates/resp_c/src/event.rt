@@ -1,8 +1,8 @@
 //! Events, as C receives them.
 
 ghost use Rattle.std.specs.Prelude.{◌≡◌, Some};
-ghost use Rattle.resp_c.specs.EventNumbers.{text_form, text_number};
-ghost use Rattle.resp_c.specs.Told.{Tells, TellsMore, TellsWhole, truth_number};
+ghost use Rattle.resp_c.specs.EventNumbers.{text_form};
+ghost use Rattle.resp_c.specs.Told.{Tells, TellsWhole};
 
 use crate::number;
 use resp_scan::event::{Event, TextKind};
@@ -35,23 +35,6 @@ pub struct RespEvent {
     pub digit: u8,
 }
 
-/// Stores a text that begins, apart from the number of its bytes.
-#[inline(always)]
-fn tell_text(event: &mut RespEvent, kind: TextKind)
-    ensures used { event.new.used ≡ event.old.used }
-    ensures kind { event.new.kind ≡ text_number }
-    ensures form { event.new.form ≡ text_form kind }
-    ensures more { TellsMore event.new kind }
-{
-    event.kind = number::TEXT;
-    event.form = text_form(kind);
-    match kind {
-        TextKind::Verbatim(format) => event.format = format,
-        TextKind::Big { negative } => event.number = truth_number(negative),
-        _ => (),
-    }
-}
-
 /// Returns the number of a kind of text.
 #[inline(always)]
 fn text_form(kind: TextKind) -> u32
@@ -68,13 +51,6 @@ fn text_form(kind: TextKind) -> u32
     }
 }
 
-/// Returns the number of a boolean, or of the sign of a big number.
-fn truth_number(truth: bool) -> i64
-    ensures { result ≡ truth_number truth }
-{
-    if truth { 1 } else { 0 }
-}
-
 /// Stores an event. Fields that it does not need are unchanged, including the number of its bytes.
 #[inline(always)]
 pub(crate) fn tell(event: &mut RespEvent, told: Event<'_>)
@@ -85,13 +61,21 @@ pub(crate) fn tell(event: &mut RespEvent, told: Event<'_>)
         Event::Null => event.kind = number::NULL,
         Event::Bool(truth) => {
             event.kind = number::BOOL;
-            event.number = truth_number(truth);
+            event.number = truth as i64;
         }
         Event::Int(number) => {
             event.kind = number::INT;
             event.number = number;
         }
-        Event::Text(kind) => tell_text(event, kind),
+        Event::Text(kind) => {
+            event.kind = number::TEXT;
+            event.form = text_form(kind);
+            match kind {
+                TextKind::Verbatim(format) => event.format = format,
+                TextKind::Big { negative } => event.number = negative as i64,
+                _ => (),
+            }
+        }
         Event::Part(bytes) => {
             event.kind = number::PART;
             event.part = bytes.len();
