@@ -1,6 +1,6 @@
 //! The command `ask`, which sends commands to a server.
 
-use crate::failures::{Failures, Input, Output, refuse_opening};
+use crate::failures::{Failures, Faults, Input, Output};
 use crate::hosts::{addresses_of, password_of, refuse_server};
 use crate::server_stream::ServerStream;
 use resp_args::asking::Asking;
@@ -24,17 +24,19 @@ const FAILED: u8 = 3;
 
 /// Sends the command in the words, or the commands of standard input, and prints the replies.
 /// Returns the exit status.
-pub fn run_ask<O: LiveSink, F: Sink>(
+pub fn run_ask<O: LiveSink>(
     rt: &HostRuntime,
     asking: &Asking<'_>,
     output: &mut O,
-    failures: &Failures,
-    faults: &mut F,
+    faults: &mut Faults<'_>,
 ) -> Result<u8, AllocError> {
     let alloc = rt.alloc();
     let password = password_of(rt);
     if asking.options.user.is_some() && password.is_none() {
-        let _ = write_text(faults, b"error: --user needs the variable RESP_PASSWORD\n");
+        let _ = write_text(
+            &mut faults.lines,
+            b"error: --user needs the variable RESP_PASSWORD\n",
+        );
         return Ok(BAD_ARGUMENTS);
     }
     let addresses = match addresses_of(rt, alloc, &asking.server) {
@@ -43,10 +45,10 @@ pub fn run_ask<O: LiveSink, F: Sink>(
     };
     let stream = match ServerStream::connect(rt, addresses.as_slice()) {
         Ok(stream) => stream,
-        Err(error) => return refuse_opening(alloc, asking.server_text, &error, faults),
+        Err(error) => return faults.refuse_opening(alloc, asking.server_text, &error),
     };
-    let mut reader = Device::new(Input::new(&stream, failures));
-    let mut writer = Device::new(Output::new(&stream, failures));
+    let mut reader = Device::new(Input::new(&stream, faults.failures));
+    let mut writer = Device::new(Output::new(&stream, faults.failures));
     ask_over(
         rt,
         asking,
@@ -54,22 +56,20 @@ pub fn run_ask<O: LiveSink, F: Sink>(
         &mut reader,
         &mut writer,
         output,
-        failures,
         faults,
     )
 }
 
 /// Sends the commands over an open connection, after AUTH and HELLO if the options ask for them.
 /// Returns the exit status.
-fn ask_over<R: Source, W: Sink, O: LiveSink, F: Sink>(
+fn ask_over<R: Source, W: Sink, O: LiveSink>(
     rt: &HostRuntime,
     asking: &Asking<'_>,
     password: Option<&str>,
     reader: &mut R,
     writer: &mut W,
     output: &mut O,
-    failures: &Failures,
-    faults: &mut F,
+    faults: &mut Faults<'_>,
 ) -> Result<u8, AllocError> {
     let form = match asking.words.is_empty() {
         _ if asking.options.counts => Form::Counted,
@@ -78,32 +78,39 @@ fn ask_over<R: Source, W: Sink, O: LiveSink, F: Sink>(
         false => Form::Alone,
     };
     let mut talk = Talk::new(rt.alloc(), &asking.options.limits, reader, writer);
-    let asked = ask_with(rt, &mut talk, asking, password, form, failures, output);
+    let asked = ask_with(
+        rt,
+        &mut talk,
+        asking,
+        password,
+        form,
+        faults.failures,
+        output,
+    );
     let (errors, next_reply) = (talk.errors(), talk.next_reply());
     drop(talk);
     match asked {
         Ok(()) if errors == 0 => Ok(0),
         Ok(()) => Ok(ERROR),
         Err(failure) => {
-            let _ = failure.write(next_reply, faults);
-            write_why(rt.alloc(), &failure, failures, faults)?;
+            let _ = failure.write(next_reply, &mut faults.lines);
+            write_why(rt.alloc(), &failure, faults)?;
             Ok(failure.status())
         }
     }
 }
 
 /// Writes why a device failed, if one did.
-pub fn write_why<F: Sink>(
+pub fn write_why(
     alloc: Global,
     failure: &Failure,
-    failures: &Failures,
-    faults: &mut F,
+    faults: &mut Faults<'_>,
 ) -> Result<(), AllocError> {
     if failure.is_of_read() {
-        return failures.write_why(alloc, &ToolError::Read, faults);
+        return faults.write_why(alloc, &ToolError::Read);
     }
     if failure.is_of_write() {
-        return failures.write_why(alloc, &ToolError::Write, faults);
+        return faults.write_why(alloc, &ToolError::Write);
     }
     Ok(())
 }

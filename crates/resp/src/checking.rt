@@ -1,7 +1,7 @@
 //! `resp proxy --check`, which asks a server for its commands and prints what the proxy would do with them.
 
 use crate::asking::write_why;
-use crate::failures::{Failures, Input, Output, refuse_opening};
+use crate::failures::{Faults, Input, Output};
 use crate::hosts::password_of;
 use crate::server_stream::ServerStream;
 use crate::survey::{Survey, SurveyError};
@@ -50,22 +50,21 @@ impl From<AllocError> for CheckError {
 
 /// Prints what the proxy would do with the commands of the server at one of these addresses. Returns the
 /// exit status.
-pub fn run_check<O: LiveSink, F: Sink>(
+pub fn run_check<O: LiveSink>(
     rt: &HostRuntime,
     proxying: &Proxying<'_>,
     server: &str,
     addresses: &[Address],
     output: &mut O,
-    failures: &Failures,
-    faults: &mut F,
+    faults: &mut Faults<'_>,
 ) -> Result<u8, AllocError> {
     let alloc = rt.alloc();
     let stream = match ServerStream::connect(rt, addresses) {
         Ok(stream) => stream,
-        Err(error) => return refuse_opening(alloc, server, &error, faults),
+        Err(error) => return faults.refuse_opening(alloc, server, &error),
     };
-    let mut reader = Device::new(Input::new(&stream, failures));
-    let mut writer = Device::new(Output::new(&stream, failures));
+    let mut reader = Device::new(Input::new(&stream, faults.failures));
+    let mut writer = Device::new(Output::new(&stream, faults.failures));
     let password = password_of(rt);
     let checked = check(
         alloc,
@@ -78,28 +77,27 @@ pub fn run_check<O: LiveSink, F: Sink>(
     );
     match checked {
         Ok(status) => Ok(status),
-        Err(error) => refuse(alloc, server, error, failures, faults),
+        Err(error) => refuse(alloc, server, error, faults),
     }
 }
 
 /// Reports why there is no table, and returns the exit status.
-fn refuse<F: Sink>(
+fn refuse(
     alloc: Global,
     server: &str,
     error: CheckError,
-    failures: &Failures,
-    faults: &mut F,
+    faults: &mut Faults<'_>,
 ) -> Result<u8, AllocError> {
     match error {
         CheckError::Reply(reply) => {
-            let _ = write_reply(server, &reply, faults);
+            let _ = write_reply(server, &reply, &mut faults.lines);
             drop(reply);
             Ok(UNKNOWN)
         }
         CheckError::Ask(error) => {
             let failure = Failure::Ask(error);
-            let _ = failure.write(1, faults);
-            write_why(alloc, &failure, failures, faults)?;
+            let _ = failure.write(1, &mut faults.lines);
+            write_why(alloc, &failure, faults)?;
             Ok(failure.status())
         }
     }

@@ -1,11 +1,11 @@
 //! The commands `serve`, `tap` and `proxy`, which listen on an address for clients.
 
 use crate::checking::run_check;
-use crate::failures::{Failures, refuse_opening};
+use crate::failures::Faults;
 use crate::hosts::{addresses_of, listening_on, name_of, password_of, refuse_server};
 use crate::most_clients::{SERVE, TAP, descriptors_of_proxy, most_clients};
 use crate::replaying::run_replay;
-use crate::style::{style_of, write_bad_value};
+use crate::style::style_of;
 use resp_args::duration::duration_of;
 use resp_args::proxying::{ProxyOptions, Proxying};
 use resp_args::serving::Serving;
@@ -73,11 +73,11 @@ impl From<ToolError> for ListenError {
 }
 
 /// Serves clients at the address in the words. Returns the status if that fails.
-pub fn run_serve<W: LiveSink, F: Sink>(
+pub fn run_serve<W: LiveSink>(
     rt: &HostRuntime,
     serving: &Serving<'_>,
     writer: &mut W,
-    faults: &mut F,
+    faults: &mut Faults<'_>,
 ) -> Result<u8, AllocError> {
     match serve(rt, serving, writer) {
         Ok(()) => Ok(0),
@@ -121,43 +121,42 @@ fn run_server<C: Drop, T: Store<C> + Drop, W: LiveSink>(
 }
 
 /// Runs the tap between clients and the server in the words. Returns the status when it has ended.
-pub fn run_tap<W: LiveSink, F: Sink>(
+pub fn run_tap<W: LiveSink>(
     rt: &HostRuntime,
     tapping: &Tapping<'_>,
     writer: &mut Painted<W>,
-    failures: &Failures,
-    faults: &mut F,
+    faults: &mut Faults<'_>,
 ) -> Result<u8, AllocError> {
     let Some(style) = style_of(rt, &tapping.style, faults) else {
         return Ok(BAD_ARGUMENTS);
     };
     let slower = tapping.filter.slower.and_then(duration_of);
     if let (Some(text), None) = (tapping.filter.slower, slower) {
-        let _ = write_bad_value(text, BAD_DURATION, faults);
+        let _ = faults.write_bad_value(text, BAD_DURATION);
         return Ok(BAD_ARGUMENTS);
     }
     if tapping.style.json && tables_of(tapping.stats).is_some() {
-        let _ = write_text(faults, NO_JSON_OF_TABLES);
+        let _ = write_text(&mut faults.lines, NO_JSON_OF_TABLES);
         return Ok(BAD_ARGUMENTS);
     }
     match &tapping.traffic {
         Traffic::Live(route) => run_window(rt, tapping, route, slower, style, writer, faults),
         Traffic::Captured(captured) => {
             writer.set_style(style);
-            run_replay(rt, tapping, captured, slower, writer, failures, faults)
+            run_replay(rt, tapping, captured, slower, writer, faults)
         }
     }
 }
 
 /// Runs the tap between clients and a server. Returns the status when it has ended.
-fn run_window<W: LiveSink, F: Sink>(
+fn run_window<W: LiveSink>(
     rt: &HostRuntime,
     tapping: &Tapping<'_>,
     route: &Route<'_>,
     slower: Option<u64>,
     style: Style,
     writer: &mut Painted<W>,
-    faults: &mut F,
+    faults: &mut Faults<'_>,
 ) -> Result<u8, AllocError> {
     let addresses = match addresses_of(rt, rt.alloc(), &route.server) {
         Ok(addresses) => addresses,
@@ -168,7 +167,7 @@ fn run_window<W: LiveSink, F: Sink>(
         // It ends this way only after a write has failed, which was reported then.
         Ok(()) => Ok(DEVICE_FAILED),
         Err(ListenError::File(error)) => {
-            refuse_opening(rt.alloc(), route.record.unwrap_or(""), &error, faults)
+            faults.refuse_opening(rt.alloc(), route.record.unwrap_or(""), &error)
         }
         Err(error) => refuse(rt.alloc(), route.address_text, &error, faults),
     }
@@ -293,12 +292,11 @@ fn record(rt: &HostRuntime, window: &mut Window, file: Option<&str>) -> Result<(
 
 /// Runs the proxy between clients and the server in the words, or checks the commands of the server.
 /// Returns the status when it has ended.
-pub fn run_proxy<W: LiveSink, F: Sink>(
+pub fn run_proxy<W: LiveSink>(
     rt: &HostRuntime,
     proxying: &Proxying<'_>,
     writer: &mut W,
-    failures: &Failures,
-    faults: &mut F,
+    faults: &mut Faults<'_>,
 ) -> Result<u8, AllocError> {
     let addresses = match addresses_of(rt, rt.alloc(), &proxying.server) {
         Ok(addresses) => addresses,
@@ -312,7 +310,6 @@ pub fn run_proxy<W: LiveSink, F: Sink>(
             name.as_str(),
             addresses.as_slice(),
             writer,
-            failures,
             faults,
         );
     }
@@ -439,16 +436,16 @@ fn write_tapping<W: Sink>(
 }
 
 /// Reports why the program cannot listen on this address, and returns the status.
-fn refuse<F: Sink>(
+fn refuse(
     alloc: Global,
     address: &str,
     error: &ListenError,
-    faults: &mut F,
+    faults: &mut Faults<'_>,
 ) -> Result<u8, AllocError> {
     match error {
         ListenError::Address(error) | ListenError::File(error) => {
-            refuse_opening(alloc, address, error, faults)
+            faults.refuse_opening(alloc, address, error)
         }
-        ListenError::Tool(error) => Ok(stop(error, faults)),
+        ListenError::Tool(error) => Ok(stop(error, &mut faults.lines)),
     }
 }

@@ -1,9 +1,8 @@
 //! The style in which text is printed, by the options and the environment.
 
+use crate::failures::Faults;
 use resp_args::style::StyleOptions;
 use resp_paint::Style;
-use resp_print::text::write_text;
-use resp_value::device::{DeviceFault, Sink};
 use std::env;
 use std::io::IsTerminal;
 
@@ -16,17 +15,17 @@ const BAD_COLOR: &[u8] = b"' for '--color <WHEN>': expected auto, always or neve
 /// Returns the style that the options ask for. Without `--color`, and with `--color auto`, text has
 /// colors if standard output is a terminal and `NO_COLOR` is not set. JSON is printed as it is. If
 /// `--color` is given with another word, reports it and returns `None`.
-pub fn style_of<F: Sink>(
+pub fn style_of(
     rt: &HostRuntime,
     options: &StyleOptions<'_>,
-    faults: &mut F,
+    faults: &mut Faults<'_>,
 ) -> Option<Style> {
     let colors = match options.color {
         None | Some("auto") => rt.stdout().is_terminal() && !forbids_color(rt),
         Some("always") => true,
         Some("never") => false,
         Some(word) => {
-            let _ = write_bad_value(word, BAD_COLOR, faults);
+            let _ = faults.write_bad_value(word, BAD_COLOR);
             return None;
         }
     };
@@ -45,16 +44,4 @@ fn forbids_color(rt: &HostRuntime) -> bool {
         Ok(value) => !value.as_str().is_empty(),
         Err(_) => false,
     }
-}
-
-/// Writes that a word is no value of an option, and then what it is not.
-pub fn write_bad_value<F: Sink>(
-    word: &str,
-    wanted: &[u8],
-    faults: &mut F,
-) -> Result<(), DeviceFault> {
-    write_text(faults, b"error: invalid value '")?;
-    write_text(faults, word.as_bytes())?;
-    write_text(faults, wanted)?;
-    write_text(faults, b"\n\nFor more information, try '--help'.\n")
 }
