@@ -89,24 +89,15 @@ fn run_with(rt: &HostRuntime, faults: &mut Faults<'_>) -> Result<u8, AllocError>
     }
 }
 
-/// Runs the command line of these words over standard output, and returns the status.
+/// Runs the command line of these words over standard output, and prints the error messages after the
+/// output. Returns the status.
 fn run_line(rt: &HostRuntime, words: &[String], faults: &mut Faults<'_>) -> Result<u8, AllocError> {
     let output = StandardOutput::new(rt.stdout(), faults.failures);
     let mut writer = Painted::new(Gathering::new(rt.alloc(), Device::new(output))?);
-    let done = run_over(rt, words, &mut writer, faults);
+    let done = run_words(rt, words, &mut writer, faults);
+    let is_written = done.is_ok() && writer.flush().is_ok();
     drop(writer);
-    done
-}
-
-/// Runs the command line of these words, and prints the error messages after the output.
-fn run_over<W: LiveSink>(
-    rt: &HostRuntime,
-    words: &[String],
-    writer: &mut Painted<W>,
-    faults: &mut Faults<'_>,
-) -> Result<u8, AllocError> {
-    let status = run_words(rt, words, writer, faults)?;
-    let is_written = writer.flush().is_ok();
+    let status = done?;
     if faults.failures.is_output_closed() {
         return Ok(DEVICE_FAILED);
     }
