@@ -1,18 +1,17 @@
 //! The command `ask`, which sends commands to a server.
 
-use crate::failures::{Failures, Input, Output};
-use crate::hosts::{addresses_of, refuse_server};
+use crate::failures::{Failures, Faults, Input, Output};
+use crate::hosts::{addresses_of, password_of, refuse_server};
 use crate::server_stream::ServerStream;
 use resp_args::asking::Asking;
 use resp_args::tool_error::ToolError;
-use resp_args::words::refuse_file;
 use resp_ask::{Failure, Form, Greeting, Lines, RawCommands, Talk};
 use resp_print::live::LiveSink;
 use resp_print::text::{write_number, write_text};
 use resp_value::device::{Device, DeviceFault, Sink, Source};
 use std::alloc::{AllocError, Global};
+use std::io;
 use std::time::Instant;
-use std::{env, io};
 
 /// The exit status after a reply that is an error, or an error in the input.
 const ERROR: u8 = 1;
@@ -23,22 +22,21 @@ const BAD_ARGUMENTS: u8 = 2;
 /// The exit status after a device or an allocation failed.
 const FAILED: u8 = 3;
 
-/// The environment variable with the password.
-const PASSWORD: &str = "RESP_PASSWORD";
-
 /// Sends the command in the words, or the commands of standard input, and prints the replies.
 /// Returns the exit status.
-pub fn run_ask<O: LiveSink, F: Sink>(
+pub fn run_ask<O: LiveSink>(
     rt: &HostRuntime,
     asking: &Asking<'_>,
     output: &mut O,
-    failures: &Failures,
-    faults: &mut F,
+    faults: &mut Faults<'_>,
 ) -> Result<u8, AllocError> {
     let alloc = rt.alloc();
-    let password = env::var(rt, PASSWORD);
-    if asking.options.user.is_some() && password.is_err() {
-        let _ = write_text(faults, b"error: --user needs the variable RESP_PASSWORD\n");
+    let password = password_of(rt);
+    if asking.options.user.is_some() && password.is_none() {
+        let _ = write_text(
+            &mut faults.lines,
+            b"error: --user needs the variable RESP_PASSWORD\n",
+        );
         return Ok(BAD_ARGUMENTS);
     }
     let addresses = match addresses_of(rt, alloc, &asking.server) {
@@ -47,40 +45,31 @@ pub fn run_ask<O: LiveSink, F: Sink>(
     };
     let stream = match ServerStream::connect(rt, addresses.as_slice()) {
         Ok(stream) => stream,
-        Err(error) => {
-            let why = format!(in alloc; "{error}")?;
-            return Ok(refuse_file(asking.server_text, why.as_str(), faults));
-        }
+        Err(error) => return faults.refuse_opening(alloc, asking.server_text, &error),
     };
-    let mut reader = Device::new(Input::new(&stream, failures));
-    let mut writer = Device::new(Output::new(&stream, failures));
-    let password = match &password {
-        Ok(password) => Some(password.as_str()),
-        Err(_) => None,
-    };
+    let mut reader = Device::new(Input::new(&stream, faults.failures));
+    let mut writer = Device::new(Output::new(&stream, faults.failures));
     ask_over(
         rt,
         asking,
-        password,
+        password.as_deref(),
         &mut reader,
         &mut writer,
         output,
-        failures,
         faults,
     )
 }
 
 /// Sends the commands over an open connection, after AUTH and HELLO if the options ask for them.
 /// Returns the exit status.
-fn ask_over<R: Source, W: Sink, O: LiveSink, F: Sink>(
+fn ask_over<R: Source, W: Sink, O: LiveSink>(
     rt: &HostRuntime,
     asking: &Asking<'_>,
     password: Option<&str>,
     reader: &mut R,
     writer: &mut W,
     output: &mut O,
-    failures: &Failures,
-    faults: &mut F,
+    faults: &mut Faults<'_>,
 ) -> Result<u8, AllocError> {
     let form = match asking.words.is_empty() {
         _ if asking.options.counts => Form::Counted,
@@ -89,37 +78,45 @@ fn ask_over<R: Source, W: Sink, O: LiveSink, F: Sink>(
         false => Form::Alone,
     };
     let mut talk = Talk::new(rt.alloc(), &asking.options.limits, reader, writer);
-    let asked = ask_with(rt, &mut talk, asking, password, form, failures, output);
+    let asked = ask_with(
+        rt,
+        &mut talk,
+        asking,
+        password,
+        form,
+        faults.failures,
+        output,
+    );
     let (errors, next_reply) = (talk.errors(), talk.next_reply());
     drop(talk);
     match asked {
         Ok(()) if errors == 0 => Ok(0),
         Ok(()) => Ok(ERROR),
         Err(failure) => {
-            let _ = failure.write(next_reply, faults);
-            write_why(rt.alloc(), &failure, failures, faults)?;
+            let _ = failure.write(next_reply, &mut faults.lines);
+            write_why(rt.alloc(), &failure, faults)?;
             Ok(failure.status())
         }
     }
 }
 
 /// Writes why a device failed, if one did.
-pub fn write_why<F: Sink>(
+pub fn write_why(
     alloc: Global,
     failure: &Failure,
-    failures: &Failures,
-    faults: &mut F,
+    faults: &mut Faults<'_>,
 ) -> Result<(), AllocError> {
     if failure.is_of_read() {
-        return failures.write_why(alloc, &ToolError::Read, faults);
+        return faults.write_why(alloc, &ToolError::Read);
     }
     if failure.is_of_write() {
-        return failures.write_why(alloc, &ToolError::Write, faults);
+        return faults.write_why(alloc, &ToolError::Write);
     }
     Ok(())
 }
 
-/// Sends AUTH and HELLO, and the commands if they were accepted.
+/// Sends AUTH and HELLO, and the commands if they were accepted. If the replies are counted, prints the
+/// numbers of replies and errors and the time.
 fn ask_with<R: Source, W: Sink, O: LiveSink>(
     rt: &HostRuntime,
     talk: &mut Talk<'_, R, W>,
@@ -143,27 +140,13 @@ fn ask_with<R: Source, W: Sink, O: LiveSink>(
         return Ok(());
     }
     talk.begin(form);
-    if form == Form::Counted {
-        return count(rt, talk, asking, failures, output);
-    }
-    send_commands(rt, talk, asking, failures, output)
-}
-
-/// Sends the commands, and prints the numbers of replies and errors and the time.
-fn count<R: Source, W: Sink, O: LiveSink>(
-    rt: &HostRuntime,
-    talk: &mut Talk<'_, R, W>,
-    asking: &Asking<'_>,
-    failures: &Failures,
-    output: &mut O,
-) -> Result<(), Failure> {
     let start = Instant::now(rt);
     send_commands(rt, talk, asking, failures, output)?;
-    let micros = micros_since(rt, start);
-    match write_totals(talk.replies(), talk.errors(), micros, output) {
-        Ok(()) => Ok(()),
-        Err(_) => Err(Failure::Output),
+    if form != Form::Counted {
+        return Ok(());
     }
+    let micros = micros_since(rt, start);
+    write_totals(talk.replies(), talk.errors(), micros, output).map_err(|_| Failure::Output)
 }
 
 /// Returns the microseconds since this instant, or 0 if the clock cannot be read.

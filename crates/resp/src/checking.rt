@@ -1,11 +1,11 @@
 //! `resp proxy --check`, which asks a server for its commands and prints what the proxy would do with them.
 
 use crate::asking::write_why;
-use crate::failures::{Failures, Input, Output};
+use crate::failures::{Faults, Input, Output};
+use crate::hosts::password_of;
 use crate::server_stream::ServerStream;
 use crate::survey::{Survey, SurveyError};
 use resp_args::proxying::Proxying;
-use resp_args::words::refuse_file;
 use resp_ask::talk::bytes_of;
 use resp_ask::{AskError, Failure};
 use resp_client::{Client, What};
@@ -17,7 +17,6 @@ use resp_value::device::{Device, DeviceFault, Sink, Source, write_all};
 use resp_value::limits::Limits;
 use resp_value::value::Value;
 use std::alloc::{AllocError, Global};
-use std::env;
 
 /// The exit status if the server has a command that the proxy does not know, or rejects AUTH or COMMAND.
 const UNKNOWN: u8 = 1;
@@ -27,9 +26,6 @@ const PIECE: usize = 16_384;
 
 /// The most reads.
 const MOST_READS: u64 = 4_000_000_000;
-
-/// The environment variable with the password of the server.
-const PASSWORD: &str = "RESP_PASSWORD";
 
 /// Why there is no table.
 #[derive(Drop)]
@@ -54,63 +50,54 @@ impl From<AllocError> for CheckError {
 
 /// Prints what the proxy would do with the commands of the server at one of these addresses. Returns the
 /// exit status.
-pub fn run_check<O: LiveSink, F: Sink>(
+pub fn run_check<O: LiveSink>(
     rt: &HostRuntime,
     proxying: &Proxying<'_>,
     server: &str,
     addresses: &[Address],
     output: &mut O,
-    failures: &Failures,
-    faults: &mut F,
+    faults: &mut Faults<'_>,
 ) -> Result<u8, AllocError> {
     let alloc = rt.alloc();
     let stream = match ServerStream::connect(rt, addresses) {
         Ok(stream) => stream,
-        Err(error) => {
-            let why = format!(in alloc; "{error}")?;
-            return Ok(refuse_file(server, why.as_str(), faults));
-        }
+        Err(error) => return faults.refuse_opening(alloc, server, &error),
     };
-    let mut reader = Device::new(Input::new(&stream, failures));
-    let mut writer = Device::new(Output::new(&stream, failures));
-    let password = env::var(rt, PASSWORD);
-    let password = match &password {
-        Ok(password) => Some(password.as_str()),
-        Err(_) => None,
-    };
+    let mut reader = Device::new(Input::new(&stream, faults.failures));
+    let mut writer = Device::new(Output::new(&stream, faults.failures));
+    let password = password_of(rt);
     let checked = check(
         alloc,
         proxying,
         server,
-        password,
+        password.as_deref(),
         &mut reader,
         &mut writer,
         output,
     );
     match checked {
         Ok(status) => Ok(status),
-        Err(error) => refuse(alloc, server, error, failures, faults),
+        Err(error) => refuse(alloc, server, error, faults),
     }
 }
 
 /// Reports why there is no table, and returns the exit status.
-fn refuse<F: Sink>(
+fn refuse(
     alloc: Global,
     server: &str,
     error: CheckError,
-    failures: &Failures,
-    faults: &mut F,
+    faults: &mut Faults<'_>,
 ) -> Result<u8, AllocError> {
     match error {
         CheckError::Reply(reply) => {
-            let _ = write_reply(server, &reply, faults);
+            let _ = write_reply(server, &reply, &mut faults.lines);
             drop(reply);
             Ok(UNKNOWN)
         }
         CheckError::Ask(error) => {
             let failure = Failure::Ask(error);
-            let _ = failure.write(1, faults);
-            write_why(alloc, &failure, failures, faults)?;
+            let _ = failure.write(1, &mut faults.lines);
+            write_why(alloc, &failure, faults)?;
             Ok(failure.status())
         }
     }

@@ -1,12 +1,17 @@
-//! The devices of the program, and why the last of their calls that failed did so.
+//! The devices of the program, why the last of their calls that failed did so, and the error messages.
 
 use resp_args::tool_error::ToolError;
+use resp_args::words::refuse_file;
+use resp_print::text::write_text;
 use resp_tool::explain::write_system_reason;
-use resp_value::device::Sink;
+use resp_value::device::{DeviceFault, MemorySink};
 use std::alloc::{AllocError, Global};
 use std::cell::Cell;
 use std::io;
 use std::io::{ErrorKind, Read, Write};
+
+/// The greatest number of bytes of error messages.
+const MOST_FAULTS: usize = 16_384;
 
 /// Why reads and writes failed.
 #[derive(Drop)]
@@ -42,36 +47,63 @@ impl Failures {
     pub fn is_output_closed(&self) -> bool {
         self.is_closed.get()
     }
+}
 
-    /// Writes why a device failed, if errors are explained and `error` says that one failed.
-    pub fn write_why<F: Sink>(
-        &self,
-        alloc: Global,
-        error: &ToolError,
-        faults: &mut F,
-    ) -> Result<(), AllocError> {
-        match error {
-            ToolError::Read => self.write_reason(alloc, self.read.get(), faults),
-            ToolError::Write => self.write_reason(alloc, self.write.get(), faults),
-            _ => Ok(()),
-        }
+/// The error messages, and why reads and writes failed.
+#[derive(Drop)]
+pub struct Faults<'a> {
+    /// The lines for standard error.
+    pub lines: MemorySink,
+    pub failures: &'a Failures,
+}
+
+impl<'a> Faults<'a> {
+    /// Returns no error messages.
+    pub fn new(alloc: Global, failures: &'a Failures) -> Result<Self, AllocError> {
+        Ok(Faults {
+            lines: MemorySink::new(alloc, MOST_FAULTS, MOST_FAULTS)?,
+            failures,
+        })
     }
 
-    /// Writes this reason, if errors are explained.
-    fn write_reason<F: Sink>(
-        &self,
-        alloc: Global,
-        reason: Option<io::Error>,
-        faults: &mut F,
-    ) -> Result<(), AllocError> {
+    /// Writes why a device failed, if errors are explained and `error` says that one failed.
+    pub fn write_why(&mut self, alloc: Global, error: &ToolError) -> Result<(), AllocError> {
+        let reason = match error {
+            ToolError::Read => self.failures.read.get(),
+            ToolError::Write => self.failures.write.get(),
+            _ => None,
+        };
         let Some(error) = reason else {
             return Ok(());
         };
-        if self.explains() {
+        if self.failures.explains() {
             let why = format!(in alloc; "{error}")?;
-            let _ = write_system_reason(why.as_str().as_bytes(), faults);
+            let _ = write_system_reason(why.as_str().as_bytes(), &mut self.lines);
         }
         Ok(())
+    }
+
+    /// Reports that a file or an address cannot be opened, and why. Returns the exit status.
+    pub fn refuse_opening(
+        &mut self,
+        alloc: Global,
+        name: &str,
+        error: &io::Error,
+    ) -> Result<u8, AllocError> {
+        let why = format!(in alloc; "{error}")?;
+        Ok(refuse_file(name, why.as_str(), &mut self.lines))
+    }
+
+    /// Writes that a word is no value of an option, and then `wanted`: which option, and what it
+    /// expects.
+    pub fn write_bad_value(&mut self, word: &str, wanted: &[u8]) -> Result<(), DeviceFault> {
+        write_text(&mut self.lines, b"error: invalid value '")?;
+        write_text(&mut self.lines, word.as_bytes())?;
+        write_text(&mut self.lines, wanted)?;
+        write_text(
+            &mut self.lines,
+            b"\n\nFor more information, try '--help'.\n",
+        )
     }
 }
 

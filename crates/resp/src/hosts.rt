@@ -1,13 +1,21 @@
 //! The addresses of listeners and of servers, which may be given by the name of a host.
 
+use crate::failures::Faults;
 use resp_args::listen_address::ListenAddress;
 use resp_args::server_address::ServerAddress;
 use resp_args::words::refuse_host;
 use resp_loop::Address;
-use resp_value::device::Sink;
 use std::alloc::{AllocError, Global};
-use std::io;
 use std::net::{Net, ToSocketAddrs};
+use std::{env, io};
+
+/// The environment variable with the password of the server.
+const PASSWORD: &str = "RESP_PASSWORD";
+
+/// Returns the password of the server, if the environment has one.
+pub fn password_of(rt: &HostRuntime) -> Option<String> {
+    env::var(rt, PASSWORD).ok()
+}
 
 /// Returns the address to listen on.
 ///
@@ -78,11 +86,11 @@ pub fn name_of(alloc: Global, server: &ServerAddress<'_>) -> Result<String, Allo
 }
 
 /// Reports that the system found no address of a server, and why. Returns the exit status.
-pub fn refuse_server<F: Sink>(
+pub fn refuse_server(
     alloc: Global,
     server: &ServerAddress<'_>,
     error: &io::Error,
-    faults: &mut F,
+    faults: &mut Faults<'_>,
 ) -> Result<u8, AllocError> {
     let why = format!(in alloc; "{error}")?;
     let host = match server {
@@ -90,5 +98,5 @@ pub fn refuse_server<F: Sink>(
         ServerAddress::Named { host, .. } => format!(in alloc; "{host}")?,
         ServerAddress::Path(path) => format!(in alloc; "{path}")?,
     };
-    Ok(refuse_host(host.as_str(), why.as_str(), faults))
+    Ok(refuse_host(host.as_str(), why.as_str(), &mut faults.lines))
 }

@@ -1,8 +1,8 @@
 //! The commands `serve`, `tap` and `proxy`, which listen on an address for clients.
 
 use crate::checking::run_check;
-use crate::failures::Failures;
-use crate::hosts::{addresses_of, listening_on, name_of, refuse_server};
+use crate::failures::Faults;
+use crate::hosts::{addresses_of, listening_on, name_of, password_of, refuse_server};
 use crate::most_clients::{SERVE, TAP, descriptors_of_proxy, most_clients};
 use crate::replaying::run_replay;
 use crate::style::style_of;
@@ -12,7 +12,7 @@ use resp_args::serving::Serving;
 use resp_args::tapping::{FilterOptions, StatsOptions, Tapping};
 use resp_args::tool_error::ToolError;
 use resp_args::traffic::{Route, Traffic};
-use resp_args::words::{refuse_file, stop};
+use resp_args::words::stop;
 use resp_loop::{Address, Backend};
 use resp_paint::{Painted, Style};
 use resp_print::live::LiveSink;
@@ -21,13 +21,12 @@ use resp_relay::{ProxyServer, ProxySettings};
 use resp_serve::{Server, Store, StoreServer, TestServer};
 use resp_tap::Filter;
 use resp_tap::json_line::write_listening_json;
-use resp_value::device::{DeviceFault, Sink};
+use resp_value::device::Sink;
 use resp_window::{AfterFailure, Settings, Tables, Window};
 use std::alloc::{AllocError, Global};
 use std::hash::RandomState;
-use std::io::ErrorKind;
+use std::io::{self, ErrorKind};
 use std::time::Duration;
-use std::{env, io};
 
 /// The exit status of a usage error.
 const BAD_ARGUMENTS: u8 = 2;
@@ -35,13 +34,14 @@ const BAD_ARGUMENTS: u8 = 2;
 /// The exit status after a failed device.
 const DEVICE_FAILED: u8 = 3;
 
-/// The environment variable with the password of the server.
-const PASSWORD: &str = "RESP_PASSWORD";
-
 /// The error of `tap` with `--json` and a table of counts.
 const NO_JSON_OF_TABLES: &[u8] =
     b"error: the argument '--json' cannot be used with '--stats' or '--stats-every <N>'\n\n\
     For more information, try '--help'.\n";
+
+/// The error of a text that is not a duration, after the text.
+const BAD_DURATION: &[u8] =
+    b"' for '--slower <DURATION>': expected a number with us, ms or s, such as 10ms";
 
 /// Why the program stops listening for clients.
 #[derive(Drop)]
@@ -73,11 +73,11 @@ impl From<ToolError> for ListenError {
 }
 
 /// Serves clients at the address in the words. Returns the status if that fails.
-pub fn run_serve<W: LiveSink, F: Sink>(
+pub fn run_serve<W: LiveSink>(
     rt: &HostRuntime,
     serving: &Serving<'_>,
     writer: &mut W,
-    faults: &mut F,
+    faults: &mut Faults<'_>,
 ) -> Result<u8, AllocError> {
     match serve(rt, serving, writer) {
         Ok(()) => Ok(0),
@@ -121,46 +121,42 @@ fn run_server<C: Drop, T: Store<C> + Drop, W: LiveSink>(
 }
 
 /// Runs the tap between clients and the server in the words. Returns the status when it has ended.
-pub fn run_tap<W: LiveSink, F: Sink>(
+pub fn run_tap<W: LiveSink>(
     rt: &HostRuntime,
     tapping: &Tapping<'_>,
     writer: &mut Painted<W>,
-    failures: &Failures,
-    faults: &mut F,
+    faults: &mut Faults<'_>,
 ) -> Result<u8, AllocError> {
-    let style = match style_of(rt, &tapping.style) {
-        Ok(style) => style,
-        Err(bad) => {
-            let _ = bad.write(faults);
-            return Ok(BAD_ARGUMENTS);
-        }
-    };
-    let Ok(slower) = slower_of(tapping.filter.slower) else {
-        let _ = write_bad_duration(tapping.filter.slower.unwrap_or(""), faults);
+    let Some(style) = style_of(rt, &tapping.style, faults) else {
         return Ok(BAD_ARGUMENTS);
     };
+    let slower = tapping.filter.slower.and_then(duration_of);
+    if let (Some(text), None) = (tapping.filter.slower, slower) {
+        let _ = faults.write_bad_value(text, BAD_DURATION);
+        return Ok(BAD_ARGUMENTS);
+    }
     if tapping.style.json && tables_of(tapping.stats).is_some() {
-        let _ = write_text(faults, NO_JSON_OF_TABLES);
+        let _ = write_text(&mut faults.lines, NO_JSON_OF_TABLES);
         return Ok(BAD_ARGUMENTS);
     }
     match &tapping.traffic {
         Traffic::Live(route) => run_window(rt, tapping, route, slower, style, writer, faults),
         Traffic::Captured(captured) => {
             writer.set_style(style);
-            run_replay(rt, tapping, captured, slower, writer, failures, faults)
+            run_replay(rt, tapping, captured, slower, writer, faults)
         }
     }
 }
 
 /// Runs the tap between clients and a server. Returns the status when it has ended.
-fn run_window<W: LiveSink, F: Sink>(
+fn run_window<W: LiveSink>(
     rt: &HostRuntime,
     tapping: &Tapping<'_>,
     route: &Route<'_>,
     slower: Option<u64>,
     style: Style,
     writer: &mut Painted<W>,
-    faults: &mut F,
+    faults: &mut Faults<'_>,
 ) -> Result<u8, AllocError> {
     let addresses = match addresses_of(rt, rt.alloc(), &route.server) {
         Ok(addresses) => addresses,
@@ -171,37 +167,10 @@ fn run_window<W: LiveSink, F: Sink>(
         // It ends this way only after a write has failed, which was reported then.
         Ok(()) => Ok(DEVICE_FAILED),
         Err(ListenError::File(error)) => {
-            let why = format!(in rt.alloc(); "{error}")?;
-            Ok(refuse_file(route.record.unwrap_or(""), why.as_str(), faults))
+            faults.refuse_opening(rt.alloc(), route.record.unwrap_or(""), &error)
         }
         Err(error) => refuse(rt.alloc(), route.address_text, &error, faults),
     }
-}
-
-/// The error of a text that is not a duration.
-#[derive(Drop)]
-struct NotDuration;
-
-/// Returns the microseconds of `--slower`, if it is given.
-fn slower_of(text: Option<&str>) -> Result<Option<u64>, NotDuration> {
-    match text {
-        None => Ok(None),
-        Some(text) => match duration_of(text) {
-            Some(micros) => Ok(Some(micros)),
-            None => Err(NotDuration),
-        },
-    }
-}
-
-/// Writes what is wrong with the duration given for `--slower`.
-fn write_bad_duration<F: Sink>(text: &str, faults: &mut F) -> Result<(), DeviceFault> {
-    write_text(faults, b"error: invalid value '")?;
-    write_text(faults, text.as_bytes())?;
-    write_text(
-        faults,
-        b"' for '--slower <DURATION>': expected a number with us, ms or s, such as 10ms\n\n",
-    )?;
-    write_text(faults, b"For more information, try '--help'.\n")
 }
 
 /// Returns the filter that the options ask for.
@@ -233,11 +202,7 @@ pub fn tables_of(stats: StatsOptions) -> Option<Tables> {
     if stats.every > 0 {
         return Some(Tables::Every(Duration::from_secs(stats.every)));
     }
-    if stats.is_on {
-        Some(Tables::AtEnd)
-    } else {
-        None
-    }
+    stats.is_on.then_some(Tables::AtEnd)
 }
 
 /// Returns what the words ask for after a failed write. `--exit-with-output` has precedence.
@@ -262,28 +227,16 @@ fn tap<W: LiveSink>(
     style: Style,
     writer: &mut Painted<W>,
 ) -> Result<(), ListenError> {
-    let mut window = window_of(rt, tapping, route, backend, slower, style)?;
-    let ended = watch(rt, tapping, route, style, &mut window, writer);
-    drop(window);
-    ended
-}
-
-/// Returns a window that listens on the address in the words.
-fn window_of(
-    rt: &HostRuntime,
-    tapping: &Tapping<'_>,
-    route: &Route<'_>,
-    backend: Backend,
-    slower: Option<u64>,
-    style: Style,
-) -> Result<Window, ListenError> {
     let alloc = rt.alloc();
     let Ok(filter) = filter_of(alloc, &tapping.filter, slower) else {
         return Err(ToolError::Memory.into());
     };
     let settings = settings_of_window(rt, tapping, slower.is_some(), style);
     let address = listening_on(alloc, &route.address)?;
-    Ok(Window::listen(rt, alloc, &address, backend, settings, filter)?)
+    let mut window = Window::listen(rt, alloc, &address, backend, settings, filter)?;
+    let ended = watch(rt, tapping, route, style, &mut window, writer);
+    drop(window);
+    ended
 }
 
 /// Returns the settings that the options of `tap` ask for.
@@ -332,20 +285,18 @@ fn record(rt: &HostRuntime, window: &mut Window, file: Option<&str>) -> Result<(
     let Some(file) = file else {
         return Ok(());
     };
-    match window.record(rt, file) {
-        Ok(()) => Ok(()),
-        Err(error) => Err(ListenError::File(error)),
-    }
+    window
+        .record(rt, file)
+        .map_err(|error| ListenError::File(error))
 }
 
 /// Runs the proxy between clients and the server in the words, or checks the commands of the server.
 /// Returns the status when it has ended.
-pub fn run_proxy<W: LiveSink, F: Sink>(
+pub fn run_proxy<W: LiveSink>(
     rt: &HostRuntime,
     proxying: &Proxying<'_>,
     writer: &mut W,
-    failures: &Failures,
-    faults: &mut F,
+    faults: &mut Faults<'_>,
 ) -> Result<u8, AllocError> {
     let addresses = match addresses_of(rt, rt.alloc(), &proxying.server) {
         Ok(addresses) => addresses,
@@ -359,7 +310,6 @@ pub fn run_proxy<W: LiveSink, F: Sink>(
             name.as_str(),
             addresses.as_slice(),
             writer,
-            failures,
             faults,
         );
     }
@@ -377,25 +327,16 @@ fn proxy<W: LiveSink>(
     backend: Backend,
     writer: &mut W,
 ) -> Result<(), ListenError> {
-    let mut server = proxy_of(rt, proxying, backend)?;
-    let ended = share(rt, proxying, &mut server, writer);
-    drop(server);
-    ended
-}
-
-/// Returns a proxy that listens on the address in the words.
-fn proxy_of(
-    rt: &HostRuntime,
-    proxying: &Proxying<'_>,
-    backend: Backend,
-) -> Result<ProxyServer, ListenError> {
     let alloc = rt.alloc();
     let settings = settings_of(rt, &proxying.options);
     let Ok(login) = login_of(rt) else {
         return Err(ToolError::Memory.into());
     };
     let address = listening_on(alloc, &proxying.address)?;
-    Ok(ProxyServer::listen(rt, alloc, &address, backend, login, settings)?)
+    let mut server = ProxyServer::listen(rt, alloc, &address, backend, login, settings)?;
+    let ended = share(rt, proxying, &mut server, writer);
+    drop(server);
+    ended
 }
 
 /// Runs a proxy until that fails.
@@ -414,10 +355,7 @@ fn share<W: LiveSink>(
 
 /// Admits the commands of these names, between commas.
 fn admit(server: &mut ProxyServer, names: Option<&str>) -> Result<(), AllocError> {
-    let Some(names) = names else {
-        return Ok(());
-    };
-    for name in names.split(',') {
+    for name in names.unwrap_or("").split(',') {
         if !name.is_empty() {
             server.admit(name.as_bytes())?;
         }
@@ -428,21 +366,12 @@ fn admit(server: &mut ProxyServer, names: Option<&str>) -> Result<(), AllocError
 /// Returns the command AUTH with the password of the environment, or no byte if there is no password.
 fn login_of(rt: &HostRuntime) -> Result<Vec<u8>, AllocError> {
     let alloc = rt.alloc();
-    let Ok(password) = env::var(rt, PASSWORD) else {
+    let Some(password) = password_of(rt) else {
         return Ok(Vec::new(alloc));
     };
     let word = password.as_str();
     let command = format!(in alloc; "*2\r\n$4\r\nAUTH\r\n${}\r\n{word}\r\n", word.len())?;
     Ok(command.into_bytes())
-}
-
-/// Returns the time between two reports of this many seconds, or `None` for 0.
-fn report_of(seconds: u64) -> Option<Duration> {
-    if seconds == 0 {
-        None
-    } else {
-        Some(Duration::from_secs(seconds))
-    }
 }
 
 /// Returns the settings that the options of `proxy` ask for.
@@ -462,7 +391,7 @@ fn settings_of(rt: &HostRuntime, options: &ProxyOptions) -> ProxySettings {
         unread: options.unread,
         lines: options.lines,
         patience: Duration::from_millis(options.patience),
-        report: report_of(options.report),
+        report: (options.report > 0).then_some(Duration::from_secs(options.report)),
         drains: options.drains,
         check_every: options.check_every,
     }
@@ -475,10 +404,7 @@ fn announce<W: LiveSink>(
     writer: &mut W,
 ) -> Result<(), ToolError> {
     write_listening(alloc, address, writer)?;
-    match writer.flush() {
-        Ok(()) => Ok(()),
-        Err(_) => Err(ToolError::Write),
-    }
+    writer.flush().map_err(|_| ToolError::Write)
 }
 
 /// Prints the address on which the program listens.
@@ -490,10 +416,7 @@ fn write_listening<W: Sink>(
     let Ok(line) = format!(in alloc; "listening on {address}\n") else {
         return Err(ToolError::Memory);
     };
-    match write_text(writer, line.as_str().as_bytes()) {
-        Ok(()) => Ok(()),
-        Err(_) => Err(ToolError::Write),
-    }
+    write_text(writer, line.as_str().as_bytes()).map_err(|_| ToolError::Write)
 }
 
 /// Prints the address on which the tap listens, as JSON or as text.
@@ -509,24 +432,20 @@ fn write_tapping<W: Sink>(
     let Ok(text) = format!(in alloc; "{address}") else {
         return Err(ToolError::Memory);
     };
-    match write_listening_json(text.as_str().as_bytes(), writer) {
-        Ok(()) => Ok(()),
-        Err(_) => Err(ToolError::Write),
-    }
+    write_listening_json(text.as_str().as_bytes(), writer).map_err(|_| ToolError::Write)
 }
 
 /// Reports why the program cannot listen on this address, and returns the status.
-fn refuse<F: Sink>(
+fn refuse(
     alloc: Global,
     address: &str,
     error: &ListenError,
-    faults: &mut F,
+    faults: &mut Faults<'_>,
 ) -> Result<u8, AllocError> {
     match error {
         ListenError::Address(error) | ListenError::File(error) => {
-            let why = format!(in alloc; "{error}")?;
-            Ok(refuse_file(address, why.as_str(), faults))
+            faults.refuse_opening(alloc, address, error)
         }
-        ListenError::Tool(error) => Ok(stop(error, faults)),
+        ListenError::Tool(error) => Ok(stop(error, &mut faults.lines)),
     }
 }

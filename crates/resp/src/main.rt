@@ -18,14 +18,14 @@ mod survey;
 ghost use Rattle.std.specs.Prelude.{◌≤◌};
 
 use asking::run_ask;
-use failures::{Failures, Input, StandardOutput};
+use failures::{Failures, Faults, Input, StandardOutput};
 use input::read_input;
 use listening::{run_proxy, run_serve, run_tap};
 use resp_args::asked::Asked;
 use resp_args::options::{Options, STANDARD_INPUT, Task};
 use resp_args::style::StyleOptions;
 use resp_args::tool_error::ToolError;
-use resp_args::words::{read_words, refuse_file, refuse_words, stop};
+use resp_args::words::{read_words, refuse_words, stop};
 use resp_paint::Painted;
 use resp_print::live::{Gathering, LiveSink, LiveSource};
 use resp_script::play::{PlayError, play, write_no_connection};
@@ -33,7 +33,7 @@ use resp_script::script::{Script, read_script};
 use resp_tool::command_line::{perform, run_options};
 use resp_tool::explain::explain;
 use resp_tool::watched::Watched;
-use resp_value::device::{Device, MemorySink, Sink};
+use resp_value::device::{Device, Sink};
 use resp_value::limits::Limits;
 use resp_wire::{TcpLink, World};
 use std::alloc::{AllocError, Global};
@@ -50,9 +50,6 @@ const BAD_ARGUMENTS: u8 = 2;
 /// The exit status after a failed device or when out of memory.
 const DEVICE_FAILED: u8 = 3;
 
-/// The greatest number of bytes of error messages.
-const MOST_FAULTS: usize = 16_384;
-
 /// Runs the program and exits with its status. When out of memory it reports that and exits with
 /// status 3.
 fn main(rt: HostRuntime) -> ExitCode {
@@ -68,14 +65,15 @@ fn main(rt: HostRuntime) -> ExitCode {
 /// Runs the command line and returns the status. Error messages are printed after the output, and
 /// not printed if the reader of the output has closed it.
 fn run(rt: &HostRuntime) -> Result<u8, AllocError> {
-    let mut faults = MemorySink::new(rt.alloc(), MOST_FAULTS, MOST_FAULTS)?;
+    let failures = Failures::new();
+    let mut faults = Faults::new(rt.alloc(), &failures)?;
     let done = run_with(rt, &mut faults);
     drop(faults);
     done
 }
 
 /// Runs the command line and returns the status. Error messages are collected in `faults`.
-fn run_with(rt: &HostRuntime, faults: &mut MemorySink) -> Result<u8, AllocError> {
+fn run_with(rt: &HostRuntime, faults: &mut Faults<'_>) -> Result<u8, AllocError> {
     match env::args(rt) {
         Ok(words) => {
             let words: Vec<String> = words.collect(rt.alloc())?;
@@ -84,68 +82,57 @@ fn run_with(rt: &HostRuntime, faults: &mut MemorySink) -> Result<u8, AllocError>
             done
         }
         Err(error) => {
-            let status = refuse_words(error.kind(), faults);
-            let _ = rt.stderr().write_all(faults.bytes());
+            let status = refuse_words(error.kind(), &mut faults.lines);
+            let _ = rt.stderr().write_all(faults.lines.bytes());
             Ok(status)
         }
     }
 }
 
-/// Runs the command line of these words over standard output, and returns the status.
-fn run_line(rt: &HostRuntime, words: &[String], faults: &mut MemorySink) -> Result<u8, AllocError> {
-    let failures = Failures::new();
-    let output = StandardOutput::new(rt.stdout(), &failures);
+/// Runs the command line of these words over standard output, and prints the error messages after the
+/// output. Returns the status.
+fn run_line(rt: &HostRuntime, words: &[String], faults: &mut Faults<'_>) -> Result<u8, AllocError> {
+    let output = StandardOutput::new(rt.stdout(), faults.failures);
     let mut writer = Painted::new(Gathering::new(rt.alloc(), Device::new(output))?);
-    let done = run_over(rt, words, &mut writer, &failures, faults);
+    let done = run_words(rt, words, &mut writer, faults);
+    let is_written = done.is_ok() && writer.flush().is_ok();
     drop(writer);
-    done
-}
-
-/// Runs the command line of these words, and prints the error messages after the output.
-fn run_over<W: LiveSink>(
-    rt: &HostRuntime,
-    words: &[String],
-    writer: &mut Painted<W>,
-    failures: &Failures,
-    faults: &mut MemorySink,
-) -> Result<u8, AllocError> {
-    let status = run_words(rt, words, writer, failures, faults)?;
-    let is_written = writer.flush().is_ok();
-    if failures.is_output_closed() {
+    let status = done?;
+    if faults.failures.is_output_closed() {
         return Ok(DEVICE_FAILED);
     }
     // If a device failed before, that was already reported.
     if !is_written && status != DEVICE_FAILED {
-        return refuse_output(rt, failures);
+        return refuse_output(rt, faults.failures);
     }
-    let _ = rt.stderr().write_all(faults.bytes());
+    let _ = rt.stderr().write_all(faults.lines.bytes());
     Ok(status)
 }
 
 /// Reports that the output failed, and nothing else. Returns the status.
 fn refuse_output(rt: &HostRuntime, failures: &Failures) -> Result<u8, AllocError> {
-    let mut faults = MemorySink::new(rt.alloc(), MOST_FAULTS, MOST_FAULTS)?;
-    let status = stop(&ToolError::Write, &mut faults);
-    failures.write_why(rt.alloc(), &ToolError::Write, &mut faults)?;
-    let _ = rt.stderr().write_all(faults.bytes());
+    let mut faults = Faults::new(rt.alloc(), failures)?;
+    let status = stop(&ToolError::Write, &mut faults.lines);
+    faults.write_why(rt.alloc(), &ToolError::Write)?;
+    let _ = rt.stderr().write_all(faults.lines.bytes());
     Ok(status)
 }
 
 /// Runs the command line and returns the status.
-fn run_words<W: LiveSink, F: Sink>(
+fn run_words<W: LiveSink>(
     rt: &HostRuntime,
     words: &[String],
     writer: &mut Painted<W>,
-    failures: &Failures,
-    faults: &mut F,
+    faults: &mut Faults<'_>,
 ) -> Result<u8, AllocError> {
-    match read_words(rt.alloc(), words, writer, faults) {
+    let failures = faults.failures;
+    match read_words(rt.alloc(), words, writer, &mut faults.lines) {
         Ok(Asked::Stream(options)) => {
             if options.task == Task::Show && !set_style(rt, &options.style, writer, faults) {
                 return Ok(BAD_ARGUMENTS);
             }
             failures.set_explains(is_explained(rt, options.explains, options.never_explains));
-            run_task(rt, &options, writer, failures, faults)
+            run_task(rt, &options, writer, faults)
         }
         Ok(
             Asked::Play {
@@ -155,61 +142,52 @@ fn run_words<W: LiveSink, F: Sink>(
             },
         ) => {
             failures.set_explains(is_explained(rt, explains, never_explains));
-            run_script(rt, file, writer, failures, faults)
+            run_script(rt, file, writer, faults)
         }
         Ok(Asked::Serve(serving)) => run_serve(rt, &serving, writer, faults),
-        Ok(Asked::Tap(tapping)) => run_tap(rt, &tapping, writer, failures, faults),
-        Ok(Asked::Proxy(proxying)) => run_proxy(rt, &proxying, writer, failures, faults),
+        Ok(Asked::Tap(tapping)) => run_tap(rt, &tapping, writer, faults),
+        Ok(Asked::Proxy(proxying)) => run_proxy(rt, &proxying, writer, faults),
         Ok(Asked::Ask(asking)) => {
             if !set_style(rt, &asking.options.style, writer, faults) {
                 return Ok(BAD_ARGUMENTS);
             }
             failures.set_explains(is_explained(rt, false, false));
-            run_ask(rt, &asking, writer, failures, faults)
+            run_ask(rt, &asking, writer, faults)
         }
         Err(status) => Ok(status),
     }
 }
 
 /// Sets the style that the options ask for. If a word is wrong, reports it and returns false.
-fn set_style<W: LiveSink, F: Sink>(
+fn set_style<W: LiveSink>(
     rt: &HostRuntime,
     options: &StyleOptions<'_>,
     writer: &mut Painted<W>,
-    faults: &mut F,
+    faults: &mut Faults<'_>,
 ) -> bool {
-    match style_of(rt, options) {
-        Ok(style) => {
-            writer.set_style(style);
-            true
-        }
-        Err(bad) => {
-            let _ = bad.write(faults);
-            false
-        }
-    }
+    let Some(style) = style_of(rt, options, faults) else {
+        return false;
+    };
+    writer.set_style(style);
+    true
 }
 
 /// Runs the command on the file named in the options, or on standard input, and returns the status.
-fn run_task<W: LiveSink, F: Sink>(
+fn run_task<W: LiveSink>(
     rt: &HostRuntime,
     options: &Options<'_>,
     writer: &mut W,
-    failures: &Failures,
-    faults: &mut F,
+    faults: &mut Faults<'_>,
 ) -> Result<u8, AllocError>
     requires { (1 ≤ options.now.piece) × (options.now.piece ≤ 65536) }
 {
     let alloc = rt.alloc();
     if options.file == STANDARD_INPUT {
-        return run_stream(rt.alloc(), options, rt.stdin(), writer, failures, faults);
+        return run_stream(alloc, options, rt.stdin(), writer, faults);
     }
     match File::open(rt, options.file) {
-        Ok(file) => run_stream(rt.alloc(), options, file, writer, failures, faults),
-        Err(error) => {
-            let why = format!(in alloc; "{error}")?;
-            Ok(refuse_file(options.file, why.as_str(), faults))
-        }
+        Ok(file) => run_stream(alloc, options, file, writer, faults),
+        Err(error) => faults.refuse_opening(alloc, options.file, &error),
     }
 }
 
@@ -221,138 +199,129 @@ fn is_explained(rt: &HostRuntime, explains: bool, never_explains: bool) -> bool 
 
 /// Runs the command on a stream and returns the status. If errors are explained, prints an
 /// explanation after the line of a fault.
-fn run_stream<R: Read + Drop, W: LiveSink, F: Sink>(
+fn run_stream<R: Read + Drop, W: LiveSink>(
     alloc: Global,
     options: &Options<'_>,
     stream: R,
     writer: &mut W,
-    failures: &Failures,
-    faults: &mut F,
+    faults: &mut Faults<'_>,
 ) -> Result<u8, AllocError>
     requires { (1 ≤ options.now.piece) × (options.now.piece ≤ 65536) }
 {
-    let mut reader = Device::new(Input::new(stream, failures));
-    if !failures.explains() {
-        return Ok(run_options(alloc, options, &mut reader, writer, faults));
+    let mut reader = Device::new(Input::new(stream, faults.failures));
+    if !faults.failures.explains() {
+        return Ok(run_options(alloc, options, &mut reader, writer, &mut faults.lines));
     }
     let mut watched = Watched::new(alloc, reader, options.version, &options.limits);
-    let done = run_watched(alloc, options, &mut watched, writer, failures, faults);
+    let done = run_watched(alloc, options, &mut watched, writer, faults);
     drop(watched);
     done
 }
 
 /// Runs the command on a stream and returns the status. Prints an explanation after the line of a
 /// fault.
-fn run_watched<R: LiveSource<W>, W: LiveSink, F: Sink>(
+fn run_watched<R: LiveSource<W>, W: LiveSink>(
     alloc: Global,
     options: &Options<'_>,
     watched: &mut Watched<R>,
     writer: &mut W,
-    failures: &Failures,
-    faults: &mut F,
+    faults: &mut Faults<'_>,
 ) -> Result<u8, AllocError>
     requires { (1 ≤ options.now.piece) × (options.now.piece ≤ 65536) }
 {
     match perform(alloc, options, watched, writer) {
         Ok(()) => Ok(0),
         Err(error) => {
-            let status = stop(&error, faults);
-            let _ = explain(alloc, &error, options, watched, faults);
-            failures.write_why(alloc, &error, faults)?;
+            let status = stop(&error, &mut faults.lines);
+            let _ = explain(alloc, &error, options, watched, &mut faults.lines);
+            faults.write_why(alloc, &error)?;
             Ok(status)
         }
     }
 }
 
 /// Plays the script in this file, or on standard input, and returns the status.
-fn run_script<W: Sink, F: Sink>(
+fn run_script<W: Sink>(
     rt: &HostRuntime,
     file: &str,
     writer: &mut W,
-    failures: &Failures,
-    faults: &mut F,
+    faults: &mut Faults<'_>,
 ) -> Result<u8, AllocError> {
     if file == STANDARD_INPUT {
-        return run_loop(rt, rt.stdin(), writer, failures, faults);
+        return run_loop(rt, rt.stdin(), writer, faults);
     }
     match File::open(rt, file) {
-        Ok(opened) => run_loop(rt, opened, writer, failures, faults),
-        Err(error) => {
-            let why = format!(in rt.alloc(); "{error}")?;
-            Ok(refuse_file(file, why.as_str(), faults))
-        }
+        Ok(opened) => run_loop(rt, opened, writer, faults),
+        Err(error) => faults.refuse_opening(rt.alloc(), file, &error),
     }
 }
 
 /// Plays the script in the input over TCP and returns the status. If requested, prints after the
 /// line of a bad line why it is bad.
-fn run_loop<R: Read + Drop, W: Sink, F: Sink>(
+fn run_loop<R: Read + Drop, W: Sink>(
     rt: &HostRuntime,
     input: R,
     writer: &mut W,
-    failures: &Failures,
-    faults: &mut F,
+    faults: &mut Faults<'_>,
 ) -> Result<u8, AllocError> {
     let alloc = rt.alloc();
-    let bytes = match read_input(alloc, &mut Device::new(Input::new(input, failures))) {
+    let bytes = match read_input(alloc, &mut Device::new(Input::new(input, faults.failures))) {
         Ok(bytes) => bytes,
         Err(error) => {
-            let status = stop(&error, faults);
-            failures.write_why(alloc, &error, faults)?;
+            let status = stop(&error, &mut faults.lines);
+            faults.write_why(alloc, &error)?;
             return Ok(status);
         }
     };
     let script = match read_script(alloc, bytes.as_slice()) {
         Ok(script) => script,
         Err(error) => {
-            let _ = error.line(faults);
-            if failures.explains() {
-                let _ = error.explain(faults);
+            let _ = error.line(&mut faults.lines);
+            if faults.failures.explains() {
+                let _ = error.explain(&mut faults.lines);
             }
             return Ok(error.status());
         }
     };
-    play_script(rt, &script, writer, failures, faults)
+    play_script(rt, &script, writer, faults)
 }
 
 /// Plays a script over TCP and returns the status.
-fn play_script<W: Sink, F: Sink>(
+fn play_script<W: Sink>(
     rt: &HostRuntime,
     script: &Script,
     writer: &mut W,
-    failures: &Failures,
-    faults: &mut F,
+    faults: &mut Faults<'_>,
 ) -> Result<u8, AllocError> {
     let alloc = rt.alloc();
     let mut links = Vec::new(alloc);
-    if let Some(status) = connect(rt, script, &mut links, failures, faults)? {
+    if let Some(status) = connect(rt, script, &mut links, faults)? {
         return Ok(status);
     }
     let Ok(hasher) = RandomState::new(rt) else {
-        return Ok(stop(&ToolError::Read, faults));
+        return Ok(stop(&ToolError::Read, &mut faults.lines));
     };
     let Ok(mut world) = World::over(alloc, links, Limits::standard(), hasher) else {
         return Err(AllocError);
     };
-    let done = play_in(alloc, script, &mut world, writer, failures, faults);
+    let done = play_in(alloc, script, &mut world, writer, faults);
     drop(world);
     done
 }
 
 /// Opens the connections of a script. Returns the status if one of them cannot be opened.
-fn connect<F: Sink>(
+fn connect(
     rt: &HostRuntime,
     script: &Script,
     links: &mut Vec<TcpLink>,
-    failures: &Failures,
-    faults: &mut F,
+    faults: &mut Faults<'_>,
 ) -> Result<Option<u8>, AllocError> {
     for index in 0..script.clients {
         match TcpLink::connect(rt) {
             Ok(link) => links.push(link)?,
             Err(error) => {
                 let client = index as u64 + 1;
-                let status = refuse_connection(rt.alloc(), client, &error, failures, faults)?;
+                let status = refuse_connection(rt.alloc(), client, &error, faults)?;
                 return Ok(Some(status));
             }
         }
@@ -361,20 +330,19 @@ fn connect<F: Sink>(
 }
 
 /// Plays a script in a world and returns the status.
-fn play_in<W: Sink, F: Sink>(
+fn play_in<W: Sink>(
     alloc: Global,
     script: &Script,
     world: &mut World<TcpLink, RandomState>,
     writer: &mut W,
-    failures: &Failures,
-    faults: &mut F,
+    faults: &mut Faults<'_>,
 ) -> Result<u8, AllocError> {
     match play(alloc, script, world, writer) {
         Ok(()) => Ok(0),
         Err(error) => {
-            let _ = error.line(faults);
+            let _ = error.line(&mut faults.lines);
             if let PlayError::Write = error {
-                failures.write_why(alloc, &ToolError::Write, faults)?;
+                faults.write_why(alloc, &ToolError::Write)?;
             }
             Ok(error.status())
         }
@@ -383,17 +351,16 @@ fn play_in<W: Sink, F: Sink>(
 
 /// Writes the line of a connection of the loop that cannot be opened, and the reason if that is
 /// asked for. Returns the exit status.
-fn refuse_connection<F: Sink>(
+fn refuse_connection(
     alloc: Global,
     client: u64,
     error: &io::Error,
-    failures: &Failures,
-    faults: &mut F,
+    faults: &mut Faults<'_>,
 ) -> Result<u8, AllocError> {
-    let status = stop(&ToolError::Read, faults);
-    if failures.explains() {
+    let status = stop(&ToolError::Read, &mut faults.lines);
+    if faults.failures.explains() {
         let why = format!(in alloc; "{error}")?;
-        let _ = write_no_connection(faults, client, why.as_str().as_bytes());
+        let _ = write_no_connection(&mut faults.lines, client, why.as_str().as_bytes());
     }
     Ok(status)
 }

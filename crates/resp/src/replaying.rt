@@ -1,12 +1,12 @@
 //! `resp tap --replay`, which prints the traffic in a capture.
 
-use crate::failures::{Failures, Input};
+use crate::failures::{Faults, Input};
 use crate::listening::{filter_of, tables_of};
 use resp_args::options::STANDARD_INPUT;
 use resp_args::tapping::Tapping;
 use resp_args::tool_error::ToolError;
 use resp_args::traffic::Captured;
-use resp_args::words::{refuse_file, stop};
+use resp_args::words::stop;
 use resp_print::live::LiveSink;
 use resp_tap::Filter;
 use resp_value::device::{Device, Sink};
@@ -41,49 +41,36 @@ fn port_of(port: u64) -> Option<u16> {
 }
 
 /// Prints the traffic in a capture, and returns the status.
-pub fn run_replay<W: LiveSink, F: Sink>(
+pub fn run_replay<W: LiveSink>(
     rt: &HostRuntime,
     tapping: &Tapping<'_>,
     captured: &Captured<'_>,
     slower: Option<u64>,
     writer: &mut W,
-    failures: &Failures,
-    faults: &mut F,
+    faults: &mut Faults<'_>,
 ) -> Result<u8, AllocError> {
     let alloc = rt.alloc();
     let filter = filter_of(alloc, &tapping.filter, slower)?;
     let settings = settings_of(tapping, captured, slower.is_some());
     if captured.file == STANDARD_INPUT {
-        return replay(
-            alloc,
-            rt.stdin(),
-            settings,
-            filter,
-            writer,
-            failures,
-            faults,
-        );
+        return replay(alloc, rt.stdin(), settings, filter, writer, faults);
     }
     match File::open(rt, captured.file) {
-        Ok(file) => replay(alloc, file, settings, filter, writer, failures, faults),
-        Err(error) => {
-            let why = format!(in alloc; "{error}")?;
-            Ok(refuse_file(captured.file, why.as_str(), faults))
-        }
+        Ok(file) => replay(alloc, file, settings, filter, writer, faults),
+        Err(error) => faults.refuse_opening(alloc, captured.file, &error),
     }
 }
 
 /// Prints the traffic in a capture that is read from a stream, and returns the status.
-fn replay<R: Read + Drop, W: LiveSink, F: Sink>(
+fn replay<R: Read + Drop, W: LiveSink>(
     alloc: Global,
     stream: R,
     settings: ReplaySettings,
     filter: Filter,
     writer: &mut W,
-    failures: &Failures,
-    faults: &mut F,
+    faults: &mut Faults<'_>,
 ) -> Result<u8, AllocError> {
-    let mut reader = Device::new(Input::new(stream, failures));
+    let mut reader = Device::new(Input::new(stream, faults.failures));
     let Ok(mut replay) = Replay::new(alloc, settings, filter) else {
         return Err(AllocError);
     };
@@ -94,25 +81,25 @@ fn replay<R: Read + Drop, W: LiveSink, F: Sink>(
 }
 
 /// Reports how a replay has ended, and returns the status.
-fn status_of<F: Sink>(
+fn status_of(
     alloc: Global,
     ended: Result<(), ReplayError>,
     fragments: u64,
-    faults: &mut F,
+    faults: &mut Faults<'_>,
 ) -> Result<u8, AllocError> {
     if fragments > 0 {
         let line = format!(in alloc; "fragments of packets that are not read: {fragments}\n")?;
-        let _ = faults.write(line.as_str().as_bytes());
+        let _ = faults.lines.write(line.as_str().as_bytes());
     }
     match ended {
         Ok(()) => Ok(0),
         Err(ReplayError::Capture(error)) => {
             let line = format!(in alloc; "capture: {error}\n")?;
-            let _ = faults.write(line.as_str().as_bytes());
+            let _ = faults.lines.write(line.as_str().as_bytes());
             Ok(WRONG_CAPTURE)
         }
-        Err(ReplayError::Read) => Ok(stop(&ToolError::Read, faults)),
-        Err(ReplayError::Write) => Ok(stop(&ToolError::Write, faults)),
+        Err(ReplayError::Read) => Ok(stop(&ToolError::Read, &mut faults.lines)),
+        Err(ReplayError::Write) => Ok(stop(&ToolError::Write, &mut faults.lines)),
         Err(ReplayError::OutOfMemory) => Err(AllocError),
     }
 }

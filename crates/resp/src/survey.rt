@@ -177,10 +177,7 @@ impl Survey {
             name,
             is_admissible,
         };
-        match self.listed.push(listed) {
-            Ok(()) => Ok(()),
-            Err(_) => Err(SurveyError::Memory),
-        }
+        self.listed.push(listed).map_err(|_| SurveyError::Memory)
     }
 
     /// Returns whether the server has a command that the proxy does not know.
@@ -343,13 +340,12 @@ fn is_doubtful(flags: Option<&Value>) -> bool {
     let Some(Ok(flags)) = flags.map(members_of) else {
         return true;
     };
-    for flag in flags {
-        match text_of(flag) {
-            Ok(b"blocking" | b"pubsub" | b"admin") | Err(_) => return true,
-            Ok(_) => {}
-        }
-    }
-    false
+    flags.iter().any(|flag| {
+        matches!(
+            text_of(flag),
+            Ok(b"blocking" | b"pubsub" | b"admin") | Err(_)
+        )
+    })
 }
 
 /// Returns a name as it is printed: in upper case, with a space before the subcommand, and with `?` in place
@@ -362,9 +358,7 @@ fn printed(alloc: Global, full_name: &[u8]) -> Result<Vec<u8>, AllocError> {
             b'!'..=b'~' => byte.to_ascii_uppercase(),
             _ => b'?',
         };
-        if name.push(byte).is_err() {
-            return Err(AllocError);
-        }
+        name.push(byte)?;
     }
     Ok(name)
 }

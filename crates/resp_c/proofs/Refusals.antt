@@ -5,9 +5,9 @@ use Rattle.resp_value.specs.Data.{Array, Set, Map, Attr, Push, Datum, scalar}
 use Rattle.resp_value.specs.Data as d
 use Rattle.resp_value.specs.Numbers.{is_below_zero, significant_digits}
 use Rattle.resp_value.specs.Trees as t
-use Rattle.resp_value.specs.Trees.{Tree, Trees, leaf, node, none, more, Leaf, line, numeral, null, truth, string, chunked, Chunk, Form, Counted, Streamed, IsTree, AreTrees, HasMembers, leaf_text, text, form_line, count}
+use Rattle.resp_value.specs.Trees.{Tree, Trees, leaf, node, none, more, Leaf, line, numeral, null, truth, string, chunked, Chunk, Form, Counted, Streamed, IsTree, AreTrees, leaf_text, text, form_line, count}
 use Rattle.resp_value.specs.TreeValues.{value, values, leaf_value}
-use Rattle.resp_fronts.specs.Events.{Timed, TextKind, big_events, bytes_from, chunk_events, events, events_each, last_of, leaf_events, open_event, close_event, text_events, without_places}
+use Rattle.resp_fronts.specs.Events.{Timed, TextKind, big_events, bytes_from, chunk_events, events, events_each, last_of, leaf_events, close_event, text_events, without_places}
 use Rattle.resp_fronts.specs.Events as e
 use Rattle.resp_session.specs.Reading.{is_error, is_refusal}
 use Rattle.resp_c.specs.Pairs.{ValueLook, after_events, is_error_kind, new_look, seen}

@@ -2,7 +2,7 @@
 use Rattle.std.proofs.Common.{◌≡◌, ℕ, ◌+◌, ◌<◌, ◌≤◌, List, [], ◌∷◌, ◌++◌, length, map, refl, sym, ap, ◌∙◌, arith, append_assoc, append-nil, length-append}
 use Rattle.resp_value.specs.Bytes.{crlf}
 use Rattle.resp_value.specs.Canonical.{canonical_text, canonical_trees}
-use Rattle.resp_value.specs.Data.{Data, Kind, aggregate, count, items_of, data_of_list}
+use Rattle.resp_value.specs.Data.{count, data_of_list}
 use Rattle.resp_value.specs.Data as d
 use Rattle.resp_value.specs.Numbers.{decimal}
 use Rattle.resp_value.specs.Trees.{texts}
@@ -19,34 +19,17 @@ stands_none old = record { place = refl; filled = refl }
 -- a text that stands there was written
 pub writes_whole : (old text new : List ℕ) (size at : ℕ) → StandsInRoom old text new at → size ≡ at → size ≤ length old →
     Writes old new text size 0
-writes_whole old text new size at stands last room = record {
-  size_told = last ∙ stands.place;
-  written = λ _. stands.filled;
-  has_room = λ _. omega (arith, last, stands.place, room);
-  too_short = λ wrong. absurd (wrong refl);
-  nothing_written = λ wrong. absurd (wrong refl);
-  cause = λ wrong. absurd (wrong refl);
-}
+writes_whole old text new size at stands last room = grind arith
 
 -- a text that has no room was not
 pub writes_nothing : (old text : List ℕ) (size : ℕ) → size ≡ length text → length old < size →
     Writes old old text size 65
-writes_nothing old text size told short = record {
-  size_told = told;
-  written = λ wrong. absurd (cc);
-  has_room = λ wrong. absurd (cc);
-  too_short = λ _. omega (arith, told, short);
-  nothing_written = λ _. refl;
-  cause = λ _. refl;
-}
+writes_nothing old text size told short = grind arith
 
 -- a head, a prefix, the bytes and the end of the line
 pub string_parts : (head line prefix bytes end : List ℕ) →
     (((head ++ line) ++ prefix) ++ bytes) ++ end ≡ head ++ (line ++ (prefix ++ (bytes ++ end)))
-string_parts head line prefix bytes end =
-    append_assoc ((head ++ line) ++ prefix) bytes end
-    ∙ append_assoc (head ++ line) prefix (bytes ++ end)
-    ∙ append_assoc head line (prefix ++ (bytes ++ end))
+string_parts head line prefix bytes end = grind (arith, append_assoc)
 
 -- how long they are
 pub length-string : (byte : ℕ) (digits prefix bytes : List ℕ) →

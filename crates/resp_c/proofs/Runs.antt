@@ -1,19 +1,16 @@
 -- A run of the calls that pair values is a client's reading.
-use Rattle.std.proofs.Common.{◌≡◌, inl, inr, ℕ, zero, suc, ◌+◌, ◌<◌, ◌≤◌, ◌^◌, Bool, true, false, cond, eqb, List, [], ◌∷◌, ◌++◌, length, flat_map, map, refl, sym, ap, subst, ◌∙◌, arith, length-append}
-use Rattle.std.proofs.lemmas.Bool.Decides.{eqb_tells}
+use Rattle.std.proofs.Common.{◌≡◌, inl, inr, ℕ, ◌+◌, ◌<◌, ◌≤◌, ◌^◌, Bool, false, cond, eqb, List, [], ◌∷◌, ◌++◌, length, flat_map, map, refl, sym, ap, subst, ◌∙◌, arith, length-append}
 use Rattle.resp_value.specs.Bounds.{Bounds}
 use Rattle.resp_value.specs.Data.{Array, Set, Map, Attr, Push, Datum}
 use Rattle.resp_value.specs.Rules.{Keeps, WithinTotal, rules_under}
 use Rattle.resp_value.specs.Spellings.{IsSpelling}
-use Rattle.resp_value.specs.Trees as t
-use Rattle.resp_value.specs.Trees.{Tree, Leaf, leaf, node, line, numeral, null, truth, string, chunked, text, IsTree}
+use Rattle.resp_value.specs.Trees.{Tree, Leaf, leaf, node, text}
 use Rattle.resp_value.specs.TreeValues.{value}
 use Rattle.resp_fronts.specs.Events.{Event, events, without_places}
-use Rattle.resp_fronts.specs.Events as e
 use Rattle.resp_scan.specs.Reading.{Events}
 use Rattle.resp_session.specs.Heard.{is_push, numbered_replies}
 use Rattle.resp_session.specs.Reading.{IsUnasked, MayBeRead, ReadsAs, Waiting, is_refusal, reading_rules, waiting_after}
-use Rattle.resp_c.specs.Pairs.{ValueLook, after_events, look_after_event, look_of, opened, closed, reads_push, waiting_of}
+use Rattle.resp_c.specs.Pairs.{ValueLook, after_events, look_after_event, look_of, reads_push, waiting_of}
 use Rattle.resp_c.specs.Runs.{CallsReadAsAClient, PairsValue, Shows, StandsFor, TakesAll, replies_told, trees_of}
 use Rattle.resp_c.specs.declared.event.RespEvent.{RespEvent}
 use Rattle.resp_c.specs.declared.pairing.RespPairing.{RespPairing}
@@ -25,28 +22,8 @@ after-append : (look : ValueLook) (a b : Events) → after_events look (a ++ b) 
 after-append look [] b = refl
 after-append look (x ∷ xs) b = after-append (look_after_event look x) xs b
 
-opened-bound : (n : ℕ) (k : _) → opened n k ≤ n + 1
-opened-bound zero Array = omega arith
-opened-bound zero Set = omega arith
-opened-bound zero Map = omega arith
-opened-bound zero Attr = omega arith
-opened-bound zero Push = omega arith
-opened-bound (suc n) k = omega arith
-
-closed-bound : (n : ℕ) → closed n ≤ n + 1
-closed-bound zero = omega arith
-closed-bound (suc n) = omega arith
-
 event-bound : (look : ValueLook) (x : Event) → (look_after_event look x).nested ≤ look.nested + 1
-event-bound look e.Null = omega arith
-event-bound look (e.Bool b) = omega arith
-event-bound look (e.Int n) = omega arith
-event-bound look (e.Text k) = omega arith
-event-bound look (e.Open k n) = opened-bound look.nested k
-event-bound look e.Close = closed-bound look.nested
-event-bound look (e.Byte b) = omega arith
-event-bound look e.TextEnd = omega arith
-event-bound look e.Done = omega arith
+event-bound look x = grind arith
 
 events-bound : (look : ValueLook) (xs : Events) → (after_events look xs).nested ≤ look.nested + length xs
 events-bound look [] = omega arith
@@ -90,20 +67,7 @@ taken number p q (out ∷ outs) told (between, first, rest, stands, parts, shows
 -- The first byte.
 
 leaf-first : (l : Leaf) (byte : ℕ) (beyond : List ℕ) → text (leaf l) ≡ byte ∷ beyond → eqb byte 62 ≡ false
-leaf-first (line t.Simple s) byte beyond is = cc
-leaf-first (line t.Error s) byte beyond is = cc
-leaf-first (line t.Double s) byte beyond is = cc
-leaf-first (numeral t.Int sign digits) byte beyond is = cc
-leaf-first (numeral t.Big sign digits) byte beyond is = cc
-leaf-first (null t.BulkNull) byte beyond is = cc
-leaf-first (null t.ArrayNull) byte beyond is = cc
-leaf-first (null t.PlainNull) byte beyond is = cc
-leaf-first (truth true) byte beyond is = cc
-leaf-first (truth false) byte beyond is = cc
-leaf-first (string t.Bulk digits s) byte beyond is = cc
-leaf-first (string t.BulkError digits s) byte beyond is = cc
-leaf-first (string (t.Verbatim format) digits s) byte beyond is = cc
-leaf-first (chunked chunks zeros) byte beyond is = cc
+leaf-first l byte beyond is = grind arith
 
 -- a value is a push if its first byte is that of a push
 push-first : (u : Tree) (byte : ℕ) (beyond : List ℕ) → text u ≡ byte ∷ beyond → is_push (value u) ≡ eqb byte 62
@@ -117,10 +81,7 @@ push-first (node Push form us) byte beyond is = cc
 -- what was asked for, or is a push, may be read
 may : (w : Waiting) (u : Tree) (byte : ℕ) (beyond : List ℕ) → text u ≡ byte ∷ beyond → (IsUnasked w (byte ∷ beyond) → ⊥) →
     MayBeRead w (value u)
-may w u byte beyond is asked none = elim (eqb_tells byte 62) as (λ _. is_push (value u) ≡ true) [
-  | inl p ↦ push-first u byte beyond is ∙ p.0
-  | inr p ↦ absurd (asked (none, (byte, beyond, p.1, refl)))
-]
+may w u byte beyond is asked none = grind (arith, push-first)
 
 -- one value
 record IsRead (limits : Bounds) (old new : RespPairing) (u : Tree) (number : ℕ) : Type 0 where
@@ -161,22 +122,10 @@ is_read limits old new u number few w =
 one_number : (b : Bool) (n a m : ℕ) (u : Tree) (rest : List (ℕ × Tree)) (xs : List Datum) → is_push (value u) ≡ b →
     n ≡ cond b 0 (a + 1) → m ≡ a + cond b 0 1 → replies_told rest ≡ numbered_replies (m + 1) xs →
     replies_told ((n, u) ∷ rest) ≡ numbered_replies (a + 1) (value u ∷ xs)
-one_number true n a m u rest xs push number after later =
-    let same : m + 1 ≡ a + 1 = omega (arith, after) in
-    ap (λ k. cond (eqb k 0) (replies_told rest) ((k, value u) ∷ replies_told rest)) number ∙ later ∙
-    ap (λ k. numbered_replies k xs) same ∙ (rw push refl)
-one_number false n a m u rest xs push number after later =
-    let some : eqb (a + 1) 0 ≡ false = elim (eqb_tells (a + 1) 0) as (λ _. eqb (a + 1) 0 ≡ false) [
-      | inl p ↦ absurd (let q : a + 1 ≡ 0 = p.1 in omega (arith, q))
-      | inr p ↦ p.0
-    ] in
-    ap (λ k. cond (eqb k 0) (replies_told rest) ((k, value u) ∷ replies_told rest)) number ∙
-    ap (λ b. cond b (replies_told rest) ((a + 1, value u) ∷ replies_told rest)) some ∙
-    ap (λ z. (a + 1, value u) ∷ z) (later ∙ ap (λ k. numbered_replies (k + 1) xs) after) ∙ (rw push refl)
+one_number b n a m u rest xs push number after later = grind arith
 
 push-most : (b : Bool) → cond b 0 1 ≤ 1
-push-most true = omega arith
-push-most false = omega arith
+push-most b = grind arith
 
 pub calls_read : CallsReadAsAClient
 calls_read limits old new [] few same = ((refl, ap waiting_of same), refl)

@@ -24,15 +24,11 @@ abbrev pub where_seen : ℕ → Bool → Bool → Bool
 where_seen zero before now = now
 where_seen (suc n) before now = before
 
-abbrev pub opened : ℕ → Kind → ℕ
-opened zero Attr = zero
-opened zero _ = suc zero
-opened (suc n) _ = suc (suc n)
-
-abbrev pub refuses_at_open : ℕ → Kind → Bool → Bool
-refuses_at_open zero Attr before = before
-refuses_at_open zero _ before = false
-refuses_at_open (suc n) _ before = before
+-- an attribute that is inside nothing changes nothing, and another aggregate is no error
+abbrev pub opened : ℕ → Bool → Kind → ValueLook
+opened zero before Attr = record { nested = zero; refuses = before }
+opened zero before _ = record { nested = suc zero; refuses = false }
+opened (suc n) before _ = record { nested = suc (suc n); refuses = before }
 
 abbrev pub closed : ℕ → ℕ
 closed zero = zero
@@ -52,10 +48,7 @@ look_after_event look e.Null = seen look false
 look_after_event look (e.Bool truth) = seen look false
 look_after_event look (e.Int number) = seen look false
 look_after_event look (e.Text kind) = seen look (is_error_kind kind)
-look_after_event look (e.Open kind members) = record {
-  nested = opened look.nested kind;
-  refuses = refuses_at_open look.nested kind look.refuses;
-}
+look_after_event look (e.Open kind members) = opened look.nested look.refuses kind
 look_after_event look e.Close = record { nested = closed look.nested; refuses = look.refuses }
 look_after_event look (e.Byte byte) = look
 look_after_event look e.TextEnd = look

@@ -1,6 +1,6 @@
 //! The size of a command's text.
 
-ghost use Rattle.std.specs.Prelude.{◌≡◌, false, ◌↔◌, ℕ, List, length};
+ghost use Rattle.std.specs.Prelude.{◌≡◌, ◌↔◌, ℕ, List, length};
 ghost use Rattle.resp_encode.specs.Lengths.{HaveLengths};
 ghost use Rattle.resp_value.specs.Bounds.{AreBounds};
 ghost use Rattle.resp_value.specs.Canonical.{Fits, IsFirstOver, canonical_text};
@@ -29,14 +29,6 @@ fn limit_number(limit: Limit) -> u32
     }
 }
 
-/// Returns whether C passed a number of lengths that no array in memory has. A slice in Rust never
-/// has one.
-fn are_too_many(lengths: &[usize]) -> bool
-    ensures { result ≡ false }
-{
-    lengths.len() > isize::MAX as usize
-}
-
 /// Sets `size` to the number of bytes of a command's text, computed from the lengths of its words.
 ///
 /// Returns 0, or 63 for a limit outside its range, or the number of the first limit that a command
@@ -59,7 +51,8 @@ pub extern "C" fn resp_command_size(limits: &RespLimits, lengths: &[usize], size
         Ok(limits) => limits,
         Err(_) => return Cause::BadLimits.number(),
     };
-    if are_too_many(lengths) {
+    // C may pass a number of lengths that no array in memory has.
+    if lengths.len() > isize::MAX as usize {
         return Cause::Items.number();
     }
     match words_size(&limits, lengths) {

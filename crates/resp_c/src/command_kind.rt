@@ -1,7 +1,6 @@
 //! How a command is answered, from its words.
 
 ghost use Rattle.std.specs.Prelude.{◌≡◌, ◌≤◌, [], ◌∷◌, ℕ, List};
-ghost use Rattle.resp_session.specs.Requests.{is_unsent};
 ghost use Rattle.resp_c.specs.CommandKinds.{is_subscribing, kind_of_command, kind_of_hello};
 
 use crate::number;
@@ -19,50 +18,19 @@ fn is_subscribing(name: &[u8]) -> bool
         || is_name(name, b"sunsubscribe")
 }
 
-/// Returns whether a client does not send a command of one word.
-fn is_unsent_alone(name: &[u8]) -> bool
-    ensures { result ≡ is_unsent (name.now ∷ []) }
-{
-    is_unsent_name(name)
-}
-
-/// Returns whether a client does not send a command that begins with these words.
-fn is_unsent(name: &[u8], argument: &[u8]) -> bool
-    ensures { result ≡ is_unsent (name.now ∷ argument.now ∷ []) }
-{
-    is_unsent_name(name) || is_name(name, b"client") && is_name(argument, b"reply")
-}
-
 /// Returns the kind of a HELLO with this version argument.
 fn kind_of_version(word: &[u8]) -> u32
     ensures { result ≡ kind_of_hello (word.now ∷ []) }
 {
-    if word == b"2".as_slice() {
-        return number::HELLO_TWO;
+    match word {
+        b"2" => number::HELLO_TWO,
+        b"3" => number::HELLO_THREE,
+        _ => number::ONE_REPLY,
     }
-    if word == b"3".as_slice() {
-        return number::HELLO_THREE;
-    }
-    number::ONE_REPLY
 }
 
-/// Returns the kind of a command of one word.
-fn kind_of_name(name: &[u8]) -> u32
-    ensures { result ≡ kind_of_command (name.now ∷ []) }
-{
-    if is_name(name, b"hello") {
-        return number::ONE_REPLY;
-    }
-    if is_subscribing(name) {
-        return number::SUBSCRIBING;
-    }
-    if is_unsent_alone(name) {
-        return number::NOT_PAIRED;
-    }
-    number::ONE_REPLY
-}
-
-/// Returns the kind of a command that begins with these words.
+/// Returns the kind of a command that begins with these words. A command of one word has the kind of
+/// one whose second word is empty.
 fn kind_of_words(name: &[u8], argument: &[u8]) -> u32
     ensures { result ≡ kind_of_command (name.now ∷ argument.now ∷ []) }
 {
@@ -72,7 +40,7 @@ fn kind_of_words(name: &[u8], argument: &[u8]) -> u32
     if is_subscribing(name) {
         return number::SUBSCRIBING;
     }
-    if is_unsent(name, argument) {
+    if is_unsent_name(name) || is_name(name, b"client") && is_name(argument, b"reply") {
         return number::NOT_PAIRED;
     }
     number::ONE_REPLY
@@ -94,7 +62,7 @@ pub extern "C" fn resp_command_kind(count: usize, name: &[u8], argument: &[u8]) 
 {
     match count {
         0 => number::NOT_PAIRED,
-        1 => kind_of_name(name),
+        1 => kind_of_words(name, b""),
         _ => kind_of_words(name, argument),
     }
 }

@@ -1,13 +1,12 @@
 //! Events, as C receives them.
 
-ghost use Rattle.std.specs.Prelude.{◌≡◌, [], ◌∷◌, Some, length};
-ghost use Rattle.resp_c.specs.EventNumbers.{kind_form, part_number, text_form, text_number};
-ghost use Rattle.resp_c.specs.Told.{Tells, TellsMore, TellsWhole, truth_number};
+ghost use Rattle.std.specs.Prelude.{◌≡◌, Some};
+ghost use Rattle.resp_c.specs.EventNumbers.{text_form};
+ghost use Rattle.resp_c.specs.Told.{Tells, TellsWhole};
 
 use crate::number;
 use resp_scan::event::{Event, TextKind};
 use resp_scan::slot::Slot;
-use resp_value::kind::OpenKind;
 
 /// The result of a step.
 #[repr(C)]
@@ -36,23 +35,6 @@ pub struct RespEvent {
     pub digit: u8,
 }
 
-/// Stores a text that begins, apart from the number of its bytes.
-#[inline(always)]
-fn tell_text(event: &mut RespEvent, kind: TextKind)
-    ensures used { event.new.used ≡ event.old.used }
-    ensures kind { event.new.kind ≡ text_number }
-    ensures form { event.new.form ≡ text_form kind }
-    ensures more { TellsMore event.new kind }
-{
-    event.kind = number::TEXT;
-    event.form = text_form(kind);
-    match kind {
-        TextKind::Verbatim(format) => event.format = format,
-        TextKind::Big { negative } => event.number = truth_number(negative),
-        _ => (),
-    }
-}
-
 /// Returns the number of a kind of text.
 #[inline(always)]
 fn text_form(kind: TextKind) -> u32
@@ -69,42 +51,6 @@ fn text_form(kind: TextKind) -> u32
     }
 }
 
-/// Returns the number of a kind of aggregate.
-fn kind_form(kind: OpenKind) -> u32
-    ensures { result ≡ kind_form kind }
-{
-    match kind {
-        OpenKind::Array => number::ARRAY,
-        OpenKind::Set => number::SET,
-        OpenKind::Map => number::MAP,
-        OpenKind::Attr => number::ATTRIBUTE,
-        OpenKind::Push => number::PUSH,
-    }
-}
-
-/// Returns the number of a boolean, or of the sign of a big number.
-fn truth_number(truth: bool) -> i64
-    ensures { result ≡ truth_number truth }
-{
-    if truth { 1 } else { 0 }
-}
-
-/// Stores a part.
-#[inline(always)]
-fn tell_part(event: &mut RespEvent, bytes: &[u8])
-    ensures used { event.new.used ≡ event.old.used }
-    ensures kind { event.new.kind ≡ part_number }
-    ensures part { event.new.part ≡ length bytes.now }
-    ensures digit { length bytes.now ≡ 1 → bytes.now ≡ event.new.digit ∷ [] }
-{
-    event.kind = number::PART;
-    event.part = bytes.len();
-    event.digit = match bytes.first() {
-        Some(byte) => *byte,
-        None => 0,
-    };
-}
-
 /// Stores an event. Fields that it does not need are unchanged, including the number of its bytes.
 #[inline(always)]
 pub(crate) fn tell(event: &mut RespEvent, told: Event<'_>)
@@ -115,18 +61,30 @@ pub(crate) fn tell(event: &mut RespEvent, told: Event<'_>)
         Event::Null => event.kind = number::NULL,
         Event::Bool(truth) => {
             event.kind = number::BOOL;
-            event.number = truth_number(truth);
+            event.number = truth as i64;
         }
         Event::Int(number) => {
             event.kind = number::INT;
             event.number = number;
         }
-        Event::Text(kind) => tell_text(event, kind),
-        Event::Part(bytes) => tell_part(event, bytes),
+        Event::Text(kind) => {
+            event.kind = number::TEXT;
+            event.form = text_form(kind);
+            match kind {
+                TextKind::Verbatim(format) => event.format = format,
+                TextKind::Big { negative } => event.number = negative as i64,
+                _ => (),
+            }
+        }
+        Event::Part(bytes) => {
+            event.kind = number::PART;
+            event.part = bytes.len();
+            event.digit = bytes.first().copied().unwrap_or(0);
+        }
         Event::TextEnd => event.kind = number::TEXT_END,
         Event::Open(kind, members) => {
             event.kind = number::OPEN;
-            event.form = kind_form(kind);
+            event.form = kind as u32;
             event.members = members.unwrap_or(number::STREAMED);
         }
         Event::Close => event.kind = number::CLOSE,

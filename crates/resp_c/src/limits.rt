@@ -1,6 +1,6 @@
 //! Limits, as C passes them.
 
-ghost use Rattle.std.specs.Prelude.{◌≡◌, ◌↔◌, true, false, IsOk, IfOk};
+ghost use Rattle.std.specs.Prelude.{◌≡◌, ◌↔◌, true, IsOk, IfOk};
 ghost use Rattle.resp_value.specs.Bounds.{AreBounds};
 ghost use Rattle.resp_c.specs.Limits.{bounds_of};
 

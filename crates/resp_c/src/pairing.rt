@@ -5,24 +5,19 @@
 //! HELLO with a version, that version, and the number of commands that wait after the HELLO. At
 //! most one such HELLO waits.
 
-ghost use Rattle.std.specs.Prelude.{◌≡◌, ◌↔◌, ◌⊎◌, ℕ, ◌+◌, ◌-◌, ◌<◌, ◌≤◌, ◌^◌, true, false, List, [], ◌∷◌, length, min, eqb, None, Some};
+ghost use Rattle.std.specs.Prelude.{◌≡◌, ◌↔◌, ◌⊎◌, ℕ, ◌+◌, ◌-◌, ◌<◌, ◌≤◌, ◌^◌, true, false, List, [], ◌∷◌, length, min, eqb, None};
 ghost use Rattle.resp_value.specs.Data.{Datum};
 ghost use Rattle.resp_value.specs.Causes.{number_of};
 ghost use Rattle.resp_value.specs.declared.cause.Cause.TheVariants as cause;
 ghost use Rattle.resp_value.specs.declared.version.Version.TheVariants.{Two};
-ghost use Rattle.resp_scan.specs.Reading.{events_of};
-ghost use Rattle.resp_scan.specs.Listening.{whole_text_events};
-ghost use Rattle.resp_scan.specs.declared.event.Event.{Event};
-ghost use Rattle.resp_scan.specs.declared.event.TextKind.{TextKind};
 ghost use Rattle.resp_session.specs.Heard.{is_push};
-ghost use Rattle.resp_session.specs.Reading.{IsUnasked, is_refusal, reading_version, waiting_after};
+ghost use Rattle.resp_session.specs.Reading.{IsUnasked, is_refusal, waiting_after};
 ghost use Rattle.resp_c.specs.Answers.{bad_version, hello_waits, pushes_wait, unpaired};
 ghost use Rattle.resp_c.specs.CommandKinds.{IsUnpaired};
 ghost use Rattle.resp_c.specs.EventNumbers.{done_number};
-ghost use Rattle.resp_c.specs.Told.{Tells, TellsWhole};
-ghost use Rattle.resp_c.specs.Versions.{IsVersion, version_of};
+ghost use Rattle.resp_c.specs.Versions.{IsVersion};
 ghost use Rattle.resp_c.specs.Runs.{Begins, Ends, Shows};
-ghost use Rattle.resp_c.specs.Pairs.{HasNoPushes, HasVersions, IsAsk, after_events, ask_of, before_pushes_after, hello_asks, is_last_push, look_of, nested_by, new_look, number_of_reply, pushes_after, reads_push, refuses_by, waiting_of, with_ask_queued};
+ghost use Rattle.resp_c.specs.Pairs.{HasNoPushes, HasVersions, IsAsk, ask_of, before_pushes_after, is_last_push, look_of, nested_by, number_of_reply, pushes_after, reads_push, refuses_by, waiting_of, with_ask_queued};
 
 use crate::answer::{BAD_VERSION, HELLO_WAITS, PUSHES_WAIT, UNPAIRED};
 use crate::event::RespEvent;
@@ -83,23 +78,15 @@ pub extern "C" fn resp_pairing_init(pairing: &mut RespPairing)
     };
 }
 
-/// Returns the number of commands that wait from the HELLO on, at most the greatest number of the
-/// type.
-fn from_hello(pairing: &RespPairing) -> u64
-    ensures { result ≡
-        min (length (hello_asks pairing.now.hello pairing.now.beyond)) (2 ^ 64 - 1) }
-{
-    if pairing.hello == 0 {
-        return 0;
-    }
-    pairing.beyond.saturating_add(1)
-}
-
 /// Returns the number of commands that wait, at most the greatest number of the type.
 fn waits(pairing: &RespPairing) -> u64
     ensures { result ≡ min (length (waiting_of pairing.now).asks) (2 ^ 64 - 1) }
 {
-    pairing.before.saturating_add(from_hello(pairing))
+    if pairing.hello == 0 {
+        return pairing.before;
+    }
+    let others = pairing.before.saturating_add(pairing.beyond);
+    others.saturating_add(1)
 }
 
 /// Queues a command of this kind, which [`crate::command_kind::resp_command_kind`] returns. Call it
@@ -246,13 +233,8 @@ fn nested_after(nested: u64, event: &RespEvent) -> u64
     ensures { nested < 2 ^ 64 - 1 → result ≡ nested_by nested event.now.kind event.now.form }
 {
     match event.kind {
-        number::OPEN => {
-            if nested == 0 && event.form == number::ATTRIBUTE {
-                0
-            } else {
-                nested.saturating_add(1)
-            }
-        }
+        number::OPEN if nested == 0 && event.form == number::ATTRIBUTE => 0,
+        number::OPEN => nested.saturating_add(1),
         number::CLOSE => nested.saturating_sub(1),
         _ => nested,
     }
@@ -266,22 +248,11 @@ fn refuses_after(nested: u64, refuses: u32, event: &RespEvent) -> u32
     if nested != 0 {
         return refuses;
     }
-    match event.kind {
-        number::OPEN => {
-            if event.form == number::ATTRIBUTE {
-                refuses
-            } else {
-                0
-            }
-        }
-        number::TEXT | number::WHOLE => {
-            if event.form == number::TEXT_ERROR || event.form == number::TEXT_BULK_ERROR {
-                1
-            } else {
-                0
-            }
-        }
-        number::NULL | number::BOOL | number::INT => 0,
+    match (event.kind, event.form) {
+        (number::OPEN, number::ATTRIBUTE) => refuses,
+        (number::TEXT | number::WHOLE, number::TEXT_ERROR | number::TEXT_BULK_ERROR) => 1,
+        (number::OPEN | number::TEXT | number::WHOLE, _) => 0,
+        (number::NULL | number::BOOL | number::INT, _) => 0,
         _ => refuses,
     }
 }
@@ -310,13 +281,6 @@ fn answer(pairing: &mut RespPairing)
         pairing.before = pairing.beyond;
         pairing.hello = 0;
     }
-}
-
-/// Returns whether the value is the last push that answers the command which waits first.
-fn is_last_push(pairing: &RespPairing) -> bool
-    ensures { result ≡ is_last_push pairing.now }
-{
-    pairing.first == u32::from(PUSH_BYTE) && (pairing.pushes == 1 && pairing.before_pushes == 0)
 }
 
 /// Counts the value that ends for the command that pushes answer.
@@ -372,7 +336,7 @@ pub extern "C" fn resp_pairing_take(pairing: &mut RespPairing, event: &RespEvent
         pairing.answered.saturating_add(1)
     };
     if event.kind == number::DONE {
-        let is_last = is_last_push(pairing);
+        let is_last = is_push && pairing.pushes == 1 && pairing.before_pushes == 0;
         count_for_pushes(pairing);
         if !is_push || is_last {
             answer(pairing);

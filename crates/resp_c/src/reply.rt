@@ -31,13 +31,8 @@ fn stop_number(stop: Stop, left: usize) -> u32
     ensures { result ≡ stop_number stop left }
 {
     match stop {
-        Stop::Incomplete => {
-            if left == 0 {
-                0
-            } else {
-                Cause::Truncated.number()
-            }
-        }
+        Stop::Incomplete if left == 0 => 0,
+        Stop::Incomplete => Cause::Truncated.number(),
         Stop::NoNodes => NO_ROOM,
         Stop::NotPlain => NOT_PLAIN,
         Stop::Refused(fault) => fault.cause.number(),

@@ -10,7 +10,6 @@ ghost use Rattle.resp_value.specs.Causes.{number_of};
 
 use crate::event::RespEvent;
 use crate::memory::RespScanner;
-use resp_scan::scanner::Scanner;
 
 /// The result of a call over a piece.
 #[repr(C)]
@@ -20,73 +19,6 @@ pub struct RespScanned {
     pub count: usize,
     /// The number of bytes of the piece that were used.
     pub used: usize,
-}
-
-/// The number of events stored, the number of bytes used, and 0 or the number of the cause of a
-/// fault.
-#[derive(Clone, Copy)]
-struct Scan {
-    count: usize,
-    used: usize,
-    cause: u32,
-}
-
-/// Stores the events of the piece, until the array is full, the piece is used up or a byte is
-/// rejected.
-fn tell_events(scanner: &mut Scanner, piece: &[u8], events: &mut [RespEvent]) -> Scan
-    ensures full { result.cause ≡ 0 → result.count ≡ length events.old →
-        (result.used ≡ used_by (take result.count events.new)) × Scans scanner.old piece.now
-        (take result.count events.new) result.used (HasRead scanner.new) }
-    ensures used_up { result.cause ≡ 0 → result.count < length events.old →
-        (result.used ≡ length piece.now) × Scans scanner.old piece.now
-        (take result.count events.new) result.used (IsUsedUp scanner.new) }
-    ensures refused { (result.cause ≡ 0 → ⊥) → (fault : Fault) ×
-        (result.cause ≡ number_of fault.cause) × IsFaulted scanner.new fault ×
-        (result.used ≡ used_by (take result.count events.new)) × Scans scanner.old piece.now
-        (take result.count events.new) result.used (λ front given.
-        IsRefused (rules_of scanner.old) front given (drop result.used piece.now) fault) }
-    ensures within { result.used ≤ length piece.now }
-    ensures few { result.count ≤ length events.old }
-    ensures left { drop result.count events.new ≡ drop result.count events.old }
-    ensures same_rules { rules_of scanner.new ≡ rules_of scanner.old }
-    ensures fault_is_final { (fault : Fault) → IsFaulted scanner.old fault →
-        0 < length events.old → (result.cause ≡ number_of fault.cause) × (result.count ≡ 0) ×
-        (scanner.new ≡ scanner.old) }
-{
-    let mut rest = piece;
-    let mut count = 0;
-    for event in events.iter_mut() {
-        match scanner.step_into(rest, event) {
-            Ok(Some(used)) => {
-                event.used = used;
-                rest = beyond(rest, used);
-            }
-            Ok(None) => return told(count, piece.len(), 0),
-            Err(fault) => {
-                let cause = fault.cause.number();
-                return told(count, piece.len() - rest.len(), cause);
-            }
-        }
-        count += 1;
-    }
-    told(count, piece.len() - rest.len(), 0)
-}
-
-/// Returns this result.
-#[inline(always)]
-fn told(count: usize, used: usize, cause: u32) -> Scan
-    ensures { result ≡ record { count = count; used = used; cause = cause } }
-{
-    Scan { count, used, cause }
-}
-
-/// Returns the bytes from this index on.
-#[inline(always)]
-fn beyond(piece: &[u8], from: usize) -> &[u8]
-    requires { from ≤ length piece.now }
-    ensures { result.now ≡ drop from piece.now }
-{
-    &piece[from..]
 }
 
 /// Stores the events of the piece, as repeated calls of [`crate::scanner::resp_scanner_step`] do,
@@ -134,10 +66,21 @@ pub extern "C" fn resp_scanner_scan(
         IsFaulted old fault → 0 < length events.old → (result ≡ number_of fault.cause) ×
         (scanned.new.count ≡ 0) × (scanner.new.scanner ≡ scanner.old.scanner)) }
 {
-    let told = tell_events(scanner.scanner(), piece, events);
-    *scanned = RespScanned {
-        count: told.count,
-        used: told.used,
-    };
-    told.cause
+    let scanner = scanner.scanner();
+    *scanned = RespScanned { count: 0, used: 0 };
+    for event in events.iter_mut() {
+        match scanner.step_into(&piece[scanned.used..], event) {
+            Ok(Some(used)) => {
+                event.used = used;
+                scanned.used += used;
+                scanned.count += 1;
+            }
+            Ok(None) => {
+                scanned.used = piece.len();
+                return 0;
+            }
+            Err(fault) => return fault.cause.number(),
+        }
+    }
+    0
 }

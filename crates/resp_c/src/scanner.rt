@@ -1,6 +1,6 @@
 //! The functions of the scanner for C.
 
-ghost use Rattle.std.specs.Prelude.{◌≡◌, ◌↔◌, ◌≤◌, ◌+◌, ◌⊎◌, [], length, Option, Some, IfSome, Result, Ok, Err};
+ghost use Rattle.std.specs.Prelude.{◌≡◌, ◌↔◌, ◌≤◌, ◌+◌, ◌⊎◌, [], length, Option, Some, IfSome, Ok, Err};
 ghost use Rattle.resp_c.specs.Answers.{bad_version};
 ghost use Rattle.resp_c.specs.Limits.{bounds_of};
 ghost use Rattle.resp_c.specs.Memory.{scanner_alignment, scanner_size};

@@ -98,12 +98,8 @@ pub extern "C" fn resp_write_int(room: &mut [u8], number: i64, size: &mut usize)
     ensures { (version : Version) → Writes room.old room.new
         (canonical_text version (scalar (d.Int number))) size.new result }
 {
-    let magnitude = number.unsigned_abs();
-    if number < 0 {
-        write_number(room, b":-", magnitude, size)
-    } else {
-        write_number(room, b":", magnitude, size)
-    }
+    let front: &[u8] = if number < 0 { b":-" } else { b":" };
+    write_number(room, front, number.unsigned_abs(), size)
 }
 
 /// Writes a null in the form of version 2 or 3. Returns 64 for another version.
@@ -127,11 +123,7 @@ pub extern "C" fn resp_write_bool(room: &mut [u8], truth: bool, size: &mut usize
     ensures { (version : Version) → Writes room.old room.new
         (canonical_text version (scalar (d.Bool truth))) size.new result }
 {
-    if truth {
-        write_line(room, b"#t", b"", size)
-    } else {
-        write_line(room, b"#f", b"", size)
-    }
+    write_line(room, if truth { b"#t" } else { b"#f" }, b"", size)
 }
 
 /// Returns whether the bytes contain neither CR nor LF.
@@ -201,16 +193,7 @@ fn are_digits(text: &[u8]) -> bool
 fn is_kept(negative: bool, digits: &[u8]) -> bool
     ensures { IsTrue result ↔ IsKept negative digits.now }
 {
-    if !are_digits(digits) {
-        return false;
-    }
-    if digits[0] != b'0' {
-        return true;
-    }
-    if negative {
-        return false;
-    }
-    digits.len() == 1
+    are_digits(digits) && (digits[0] != b'0' || !negative && digits.len() == 1)
 }
 
 /// Writes a big number, given as its sign and its digits. Version 2 does not have big numbers.
@@ -231,9 +214,6 @@ pub extern "C" fn resp_write_big(
     if !is_too_long(digits) && !is_kept(negative, digits) {
         return Cause::BadDigits.number();
     }
-    if negative {
-        write_line(room, b"(-", digits, size)
-    } else {
-        write_line(room, b"(", digits, size)
-    }
+    let front: &[u8] = if negative { b"(-" } else { b"(" };
+    write_line(room, front, digits, size)
 }
