@@ -104,12 +104,9 @@ impl<S: BuildHasher + Drop> World<MemoryLink, S> {
         if count > MOST_CLIENTS {
             return Err(OpenError::TooManySessions);
         }
-        let mut links = Vec::new(alloc);
-        for _ in 0..count {
-            if links.push(MemoryLink).is_err() {
-                return Err(OpenError::OutOfMemory);
-            }
-        }
+        let Ok(links) = vec![in alloc; MemoryLink; count] else {
+            return Err(OpenError::OutOfMemory);
+        };
         World::over(alloc, links, limits, hasher)
     }
 }
