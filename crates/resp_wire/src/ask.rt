@@ -11,7 +11,7 @@ ghost use Rattle.resp_wire.specs.Asking.{SendsAll, sent};
 ghost use Rattle.resp_wire.specs.Asks.{HearsPieces, StopsAsking};
 ghost use Rattle.resp_wire.specs.Stops.{FailsReading, FailsWriting, KeepsFault, QueuesFirst, StopsListening, StopsQueueing, error_at, is_of_last_read, is_of_reader, is_of_writer};
 ghost use Rattle.resp_turns.specs.Pieces.{ReadsPieces};
-ghost use Rattle.resp_turns.specs.Turns.{Halts, Spends, SpendsAtMost, has_failed, stopped_by};
+ghost use Rattle.resp_turns.specs.Turns.{Spends, SpendsAtMost, stopped_by};
 ghost use Rattle.std.specs.List.{concat};
 
 use crate::asked::{Asked, Request};
@@ -229,22 +229,8 @@ fn send_all<W: Sink>(writer: &mut W, client: &mut Client, turns: &mut u64) -> Re
     client.sent(written.count);
     match written.end {
         Ok(()) => Ok(()),
-        Err(halt) => Err(unwritten(halt)),
-    }
-}
-
-/// Returns the error of the call for a write that moved no byte.
-fn unwritten(halt: Halt) -> AskError
-    ensures reason { (failures failures' left : ℕ) (waits : List ℕ) → 0 < length waits →
-        Halts failures failures' left halt → FailsWriting failures failures' waits result }
-    ensures no_turn_left { (failures failures' left : ℕ) → Halts failures failures' left halt →
-        result ≡ AskError.TooManyTurns → left ≡ 0 }
-    ensures of_writer { is_of_writer result ≡ has_failed halt }
-    ensures not_of_reader { is_of_reader result ≡ false }
-{
-    match halt {
-        Halt::Failed => AskError::Write,
-        Halt::NoTurn => AskError::TooManyTurns,
+        Err(Halt::Failed) => Err(AskError::Write),
+        Err(Halt::NoTurn) => Err(AskError::TooManyTurns),
     }
 }
 

@@ -6,13 +6,12 @@ use Rattle.resp_server.specs.Handling.{HasAnswered, WhereOpen}
 use Rattle.resp_server.specs.Hubs.{HubState}
 use Rattle.resp_wire.specs.Serving.{AnswersGiven, EndsAnswering, FailsServing, Serves, StopsServing, is_of_reader}
 use Rattle.resp_turns.specs.Pieces.{ReadsNothing}
-use Rattle.resp_wire.specs.declared.error.ServeError.TheVariants.{Read, TooManyTurns}
-use Rattle.resp_wire.proofs.LinkStops.{no_turn_left}
+use Rattle.resp_turns.specs.Turns.{stopped_by}
 use Rattle.resp_wire.proofs.AnsweredParts.{at_err, given_whole, may_leave, part_stops, still_few, stops_overfull}
 use Rattle.resp_turns.proofs.Pieces.{all_read, gives, none_left, only_pieces, rest_of, some_left}
 use Rattle.resp_wire.proofs.Seated.{open_map, sent_few, sent_none}
 use Rattle.resp_wire.proofs.ServedTexts.{HasServed, leaves_none, nothing_before, open_is, piece_serves, sent_is_open, serves_nothing}
-use Rattle.resp_wire.proofs.ServeStops.{fails_reading, stops_reading, stops_writing}
+use Rattle.resp_wire.proofs.ServeStops.{fails_reading, no_turn_to_read, stops_reading, stops_writing}
 use Rattle.resp_turns.proofs.Turning.{end_after, spends_both, spends_nothing, spends_writes}
 use Rattle.resp_wire.proofs.serve.serve_open.Goals as goal
 
@@ -27,13 +26,14 @@ returns-in-Err-clause-served g c =
       [],
       [],
       refl,
-      leaves_none (Err c.stop.result),
+      leaves_none (Err c.in-Err.error),
       only_pieces (length c.args.buffer.now) g.R.Source.remaining g.R.Source.calls g.R.Source.failures c.args.reader.now c.args.reader.now []
-          (is_of_reader c.stop.result) refl c.stop.ensures.of_reader,
+          (is_of_reader c.in-Err.error) refl (subst (λ r. stopped_by is_of_reader r ≡ false) c.in-Err.is c.write_out.ensures.no_read),
       open_map old id (λ s front. HasAnswered old old id s front 0) _ (λ s front h. (
         tt,
-        subst (StopsServing old new id s front [] held held') (sym c.stop.ensures.error)
-            (stops_writing old old new id s front [] held held' waits c.in-Err.halt some (serves_nothing old new id s front held held' waits h sent)),
+        stops_writing old new id s front [] held held' waits (g.W.Sink.failures c.args.writer.now) (g.W.Sink.failures c.write_out.new.writer)
+            c.write_out.new.turns c.in-Err.error c.in-Err.ensures.refusal (λ is. c.write_out.ensures.no_memory (c.in-Err.is ∙ ap Err is)) some
+            (serves_nothing old new id s front held held' waits h sent),
         nothing_before old id s front held held',
       )) c.requires.waiting,
     )
@@ -117,16 +117,16 @@ returns-in-Err-read_some-clause-served g c =
       pieces,
       concat pieces,
       sym (append-nil (concat pieces)),
-      leaves_none (Err c.stop-in-Err-read_some.result),
+      leaves_none (Err c.unread.result),
       record {
         between = c.loop-count.reader;
         given = given;
         over = subst (ReadsNothing g.R.Source.remaining g.R.Source.calls c.loop-count.reader c.read_some.new.reader)
-            (sym c.stop-in-Err-read_some.ensures.of_reader) c.in-Err-read_some.ensures.unread;
+            (sym c.unread.ensures.of_reader) c.in-Err-read_some.ensures.unread;
       },
       open_map old id (HasServed old cur id pieces held held') _ (λ s front h. (
         tt,
-        subst (StopsServing old cur id s front (concat pieces) held held') (sym c.stop-in-Err-read_some.ensures.error)
+        subst (StopsServing old cur id s front (concat pieces) held held') (sym c.unread.ensures.error)
             (stops_reading old cur id s front (concat pieces) held held' c.in-Err-read_some.halt (h.0, open_is cur id c.loop-count.invariant.is_open)),
         h.1,
       )) served,
@@ -137,8 +137,8 @@ returns-in-Err-read_some-clause-refusal g c =
     let writes = g.W.Sink.failures c.args.writer.now in
     let writes' = g.W.Sink.failures c.loop-count.writer in
     let reads' = g.R.Source.failures c.read_some.new.reader in
-    subst (λ n. FailsServing c.args.hub.now c.args.id writes writes' n reads' c.stop-in-Err-read_some.result) c.loop-count.invariant.reads
-    (subst (FailsServing c.args.hub.now c.args.id writes writes' (g.R.Source.failures c.loop-count.reader) reads') (sym c.stop-in-Err-read_some.ensures.error)
+    subst (λ n. FailsServing c.args.hub.now c.args.id writes writes' n reads' c.unread.result) c.loop-count.invariant.reads
+    (subst (FailsServing c.args.hub.now c.args.id writes writes' (g.R.Source.failures c.loop-count.reader) reads') (sym c.unread.ensures.error)
     (fails_reading c.args.hub.now c.args.id writes writes' (g.R.Source.failures c.loop-count.reader) reads' c.read_some.new.turns
     c.in-Err-read_some.halt c.in-Err-read_some.ensures.halted))
 
@@ -151,8 +151,8 @@ returns-in-Err-read_some-clause-turns g c = spends_both (g.W.Sink.calls c.args.w
 pub returns-in-Err-read_some-clause-no_turn_left :
     goal.returns-in-Err-read_some-clause-no_turn_left
 returns-in-Err-read_some-clause-no_turn_left g c is =
-    no_turn_left Read TooManyTurns (g.R.Source.failures c.loop-count.reader) (g.R.Source.failures c.read_some.new.reader)
-    c.read_some.new.turns c.in-Err-read_some.halt (λ same. absurd (cc)) c.in-Err-read_some.ensures.halted (let z = c.stop-in-Err-read_some.ensures.error in cc)
+    no_turn_to_read (g.R.Source.failures c.loop-count.reader) (g.R.Source.failures c.read_some.new.reader) c.read_some.new.turns
+    c.in-Err-read_some.halt c.in-Err-read_some.ensures.halted (let z = c.unread.ensures.error in cc)
 
 pub returns-in-Err-end-clause-served : goal.returns-in-Err-end-clause-served
 returns-in-Err-end-clause-served g c =
