@@ -154,9 +154,7 @@ fn give<L: Link, S: BuildHasher>(
         Err(HubError::OutOfMemory { .. }) => return Err(Cause::OutOfMemory),
     };
     client.sent(length);
-    if let Err(cause) = add(order, number, commands) {
-        return Err(cause);
-    }
+    add(order, number, commands)?;
     let Ok(closing) = hub.is_closing(id) else {
         return Err(Cause::NoSession);
     };

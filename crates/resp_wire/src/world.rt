@@ -132,10 +132,7 @@ impl<L: Link, S: BuildHasher + Drop> World<L, S> {
         }
         limits.are_in_range();
         let mut hub = Hub::new(alloc, limits, hasher);
-        let ends = match open_each(alloc, &mut hub, &limits, links.len()) {
-            Ok(ends) => ends,
-            Err(error) => return Err(error),
-        };
+        let ends = open_each(alloc, &mut hub, &limits, links.len())?;
         Ok(World {
             alloc,
             hub,

@@ -40,7 +40,11 @@ impl TcpLink {
         ensures unused { IfOk result (λ link. link.client_end.calls + link.server_end.calls ≡ 0) }
         ensures none_failed { IfOk result (λ link. link.failures ≡ 0) }
     {
-        let (client_end, server_end) = connect(net)?;
+        let listener = TcpListener::bind(net, ("127.0.0.1", 0))?;
+        let client_end = TcpStream::connect(net, listener.local_addr()?)?;
+        let (server_end, _) = listener.accept()?;
+        client_end.set_nodelay(true)?;
+        server_end.set_nodelay(true)?;
         Ok(TcpLink {
             client_end: Device::new(client_end),
             server_end: Device::new(server_end),
@@ -75,18 +79,6 @@ impl TcpLink {
         }
         pass(&mut self.server_end, &mut self.client_end, piece, into)
     }
-}
-
-/// Returns the end that connects and the end that accepts.
-fn connect(
-    net: &impl Net<Listener = TcpListener, Stream = TcpStream>,
-) -> io::Result<(TcpStream, TcpStream)> {
-    let listener = TcpListener::bind(net, ("127.0.0.1", 0))?;
-    let client_end = TcpStream::connect(net, listener.local_addr()?)?;
-    let (server_end, _) = listener.accept()?;
-    client_end.set_nodelay(true)?;
-    server_end.set_nodelay(true)?;
-    Ok((client_end, server_end))
 }
 
 impl Link for TcpLink {
