@@ -17,7 +17,7 @@ ghost use Rattle.std.specs.List.{concat};
 use crate::asked::{Asked, Request};
 use crate::error::AskError;
 use crate::hear::hear_piece;
-use crate::pieces::{PIECE, front};
+use crate::pieces::PIECE;
 use resp_client::{Client, SendError};
 use resp_session::laws;
 use resp_turns::{Halt, read_some, write_text};
@@ -269,7 +269,7 @@ fn hear_all<R: Source>(
             Err(Halt::Failed) => return Err(AskError::Read),
             Err(Halt::NoTurn) => return Err(AskError::TooManyTurns),
         };
-        if let Err(error) = hear_piece(client, front(buffer, count), heard) {
+        if let Err(error) = hear_piece(client, &buffer[..count], heard) {
             return Err(error);
         }
     }

@@ -16,7 +16,6 @@ use crate::asked::Asked;
 use crate::error::AskError;
 use crate::hear::hear_piece;
 use crate::link::{Direction, Link};
-use crate::pieces::front;
 use resp_client::Client;
 use resp_server::{Hub, HubError};
 use resp_session::laws;
@@ -145,7 +144,7 @@ fn give<L: Link, S: BuildHasher>(
         (stopped_by is_of_link result) }
 {
     let length = room.len();
-    if let Err(fault) = link.carry(Direction::ToServer, front(client.out(), length), room) {
+    if let Err(fault) = link.carry(Direction::ToServer, &client.out()[..length], room) {
         return Err(fault.cause);
     }
     let commands = match hub.bytes(id, room) {
@@ -207,7 +206,7 @@ fn show<L: Link, S: BuildHasher>(
     let Ok(out) = hub.out(id) else {
         return Err(Cause::NoSession);
     };
-    if let Err(fault) = link.carry(Direction::ToClient, front(out, length), room) {
+    if let Err(fault) = link.carry(Direction::ToClient, &out[..length], room) {
         return Err(fault.cause);
     }
     let Ok(()) = hub.sent(id, length) else {

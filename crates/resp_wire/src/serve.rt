@@ -9,7 +9,7 @@ ghost use Rattle.resp_wire.specs.Serving.{AnswersPiece, EndsBy, FailsServing, Is
 ghost use Rattle.resp_turns.specs.Turns.{Spends, SpendsAtMost, SpendsTurns, has_failed, stopped_by};
 
 use crate::error::ServeError;
-use crate::pieces::{PIECE, beyond, front};
+use crate::pieces::{PIECE, beyond};
 use resp_server::Hub;
 use resp_session::laws;
 use resp_turns::{Halt, read_some};
@@ -252,7 +252,7 @@ fn serve_open<R: Source, W: Sink, S: BuildHasher>(
                 rest: 0..0,
             },
         };
-        let answered = answer(writer, hub, id, front(buffer, count), turns, held);
+        let answered = answer(writer, hub, id, &buffer[..count], turns, held);
         match answered.end {
             Ok(false) => {}
             Ok(true) => return Visit {

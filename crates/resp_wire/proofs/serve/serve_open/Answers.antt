@@ -1,10 +1,9 @@
-use Rattle.std.specs.Prelude.{⊤}
 use Rattle.std.specs.List.{concat}
 use Rattle.std.proofs.lemmas.List.{append-nil, length-take-le}
 use Rattle.std.proofs.Common.{rules, arith, ◌+◌, ◌-◌, ◌≤◌, drop, refl, Err, false, [], ◌∷◌, ◌++◌, ◌≡◌, ap, subst, sym, take, ◌∙◌, length}
-use Rattle.resp_server.specs.Handling.{HasAnswered, WhereOpen}
+use Rattle.resp_server.specs.Handling.{HasAnswered}
 use Rattle.resp_server.specs.Hubs.{HubState}
-use Rattle.resp_wire.specs.Serving.{AnswersGiven, EndsAnswering, FailsServing, Serves, StopsServing, is_of_reader}
+use Rattle.resp_wire.specs.Serving.{AnswersGiven, EndsAnswering, FailsServing, StopsServing, is_of_reader}
 use Rattle.resp_turns.specs.Pieces.{ReadsNothing}
 use Rattle.resp_turns.specs.Turns.{stopped_by}
 use Rattle.resp_wire.proofs.AnsweredParts.{at_err, given_whole, may_leave, part_stops, still_few, stops_overfull}
@@ -170,9 +169,9 @@ returns-in-Err-end-clause-served g c =
     let ends = subst (EndsAnswering new id (g.W.Sink.failures c.loop-count.writer) (g.W.Sink.failures c.answer-answered.new.writer)
     c.answer-answered.new.turns) c.in-Err-end.is
     c.answer-answered.ensures.part.ends in
-    let answered = subst (λ e. AnswersGiven cur new id c.front.result.now held' held'' (record { used = used; end = e })) c.in-Err-end.is
+    let answered = subst (λ e. AnswersGiven cur new id (take n into) held' held'' (record { used = used; end = e })) c.in-Err-end.is
     c.answer-answered.ensures.part.given in
-    let size : length c.front.result.now ≡ n = ap length c.front.ensures ∙ length-take-le n into c.in-Ok.ensures.within in
+    let size : length (take n into) ≡ n = length-take-le n into c.in-Ok.ensures.within in
     let within : used ≤ n = omega (arith, c.answer-answered.ensures.part.within, size) in
     let given_all = gives (length c.args.buffer.now) _ g.R.Source.remaining g.R.Source.calls g.R.Source.failures c.args.reader.now c.loop-count.reader
     c.read_some.new.reader pieces (take n into) (search rules) given (c.in-Ok.ensures.piece (search rules)) in (
@@ -186,7 +185,7 @@ returns-in-Err-end-clause-served g c =
           (is_of_reader error) given_all ends.no_read,
       part_stops c.answers_go_on.ensures c.answers_are_added.ensures c.args.hub.now cur new id pieces into n used held held' held'' error served
           c.loop-count.invariant.is_open
-          (subst (λ z. WhereOpen cur id (λ s front. ⊤ × StopsServing cur new id s front (take used z) held' held'' error)) c.front.ensures answered),
+          answered,
     )
 
 pub returns-in-Err-end-clause-full : goal.returns-in-Err-end-clause-full
@@ -199,10 +198,10 @@ returns-in-Err-end-clause-full g c some =
     let held'' = g.W.Sink.written c.answer-answered.new.writer in
     let cur = c.loop-count.hub in
     let new = c.answer-answered.new.hub in
-    let size : length c.front.result.now ≡ n = ap length c.front.ensures ∙ length-take-le n into c.in-Ok.ensures.within in
+    let size : length (take n into) ≡ n = length-take-le n into c.in-Ok.ensures.within in
     let left = at_err c.answer-answered.result.end c.in-Err-end.error c.in-Err-end.is _ c.answer-answered.ensures.full
     (let less = some_left n used into some in omega (arith, less, size)) in
-    stops_overfull c.answers_go_on.ensures c.answers_are_added.ensures c.args.held c.args.hub.now cur new c.args.id pieces c.front.result.now
+    stops_overfull c.answers_go_on.ensures c.answers_are_added.ensures c.args.held c.args.hub.now cur new c.args.id pieces (take n into)
     (g.W.Sink.written c.args.writer.now) held' held'' served c.loop-count.invariant.is_open left
 
 pub returns-in-Err-end-clause-turns : goal.returns-in-Err-end-clause-turns
@@ -232,9 +231,8 @@ returns-in-Ok-true-clause-served g c =
       open_map c.args.hub.now id (HasServed c.args.hub.now new id (pieces ++ take n into ∷ []) held held'') _ (λ s front h. (h.0, tt, h.1))
           (piece_serves c.answers_go_on.ensures c.answers_are_added.ensures c.args.hub.now cur new id pieces (take n into) held held' held'' served
           c.loop-count.invariant.is_open
-          (subst (λ z. WhereOpen cur id (λ s front. Serves cur new id s (front ++ z) held' held'' [])) c.front.ensures
-          (given_whole cur new id c.front.result.now c.answer-answered.result.used c.answer-answered.result.end c.in-Ok-true.field-0 held' held''
-          c.in-Ok-true.is c.answer-answered.ensures.none_left c.answer-answered.ensures.part.given))),
+          (given_whole cur new id (take n into) c.answer-answered.result.used c.answer-answered.result.end c.in-Ok-true.field-0 held' held''
+          c.in-Ok-true.is c.answer-answered.ensures.none_left c.answer-answered.ensures.part.given)),
     )
 
 pub returns-in-Ok-true-clause-turns : goal.returns-in-Ok-true-clause-turns
@@ -257,9 +255,8 @@ loop-count-preserved g c =
     let new = c.answer-answered.new.hub in
     let all = piece_serves c.answers_go_on.ensures c.answers_are_added.ensures old cur new id pieces (take n into) held held' held'' served
     c.loop-count.invariant.is_open
-    (subst (λ z. WhereOpen cur id (λ s front. Serves cur new id s (front ++ z) held' held'' [])) c.front.ensures
-    (given_whole cur new id c.front.result.now c.answer-answered.result.used c.answer-answered.result.end c.in-Ok-false.field-0 held' held''
-    c.in-Ok-false.is c.answer-answered.ensures.none_left c.answer-answered.ensures.part.given)) in
+    (given_whole cur new id (take n into) c.answer-answered.result.used c.answer-answered.result.end c.in-Ok-false.field-0 held' held''
+    c.in-Ok-false.is c.answer-answered.ensures.none_left c.answer-answered.ensures.part.given) in
     let ends = subst (EndsAnswering new id (g.W.Sink.failures c.loop-count.writer) (g.W.Sink.failures c.answer-answered.new.writer)
     c.answer-answered.new.turns) c.in-Ok-false.is
     c.answer-answered.ensures.part.ends in
