@@ -11,10 +11,8 @@ use Rattle.resp_server.specs.declared.error.PushError.{PushError}
 use Rattle.resp_server.specs.declared.error.PushError.TheVariants as push
 use Rattle.resp_wire.specs.Carrying.{StopsCarrying}
 use Rattle.resp_wire.specs.Ends.{outcome_of_push}
-use Rattle.resp_wire.specs.Links.{error_of_halt, is_of_link}
-use Rattle.resp_turns.specs.Turns.{Halts, stopped_by}
-use Rattle.resp_turns.specs.declared.halt.Halt.{Halt}
-use Rattle.resp_turns.specs.declared.halt.Halt.TheVariants.{Failed, NoTurn}
+use Rattle.resp_wire.specs.Links.{is_of_link}
+use Rattle.resp_turns.specs.Turns.{stopped_by}
 use Rattle.resp_wire.specs.Worlds.{CountsFailures, KeepFailures}
 
 -- a cause of bytes that come is none of a link
@@ -110,9 +108,3 @@ pub stops_with : (P Q : Cause → Type 0) (failures failures' failures'' : ℕ) 
 stops_with P Q failures failures' failures'' k none f (inl memory) = inl memory
 stops_with P Q failures failures' failures'' k none f (inr (inl risen)) = inr (inl (subst (λ n. HasRisen n failures'') none risen.0, risen.1))
 stops_with P Q failures failures' failures'' k none f (inr (inr p)) = inr (inr (f p))
-
--- a read or a write is out of turns only where none is left
-pub no_turn_left : {E : Type 0} (failed no_turn : E) (failures failures' left : ℕ) (halt : Halt) → (failed ≡ no_turn → ⊥) →
-    Halts failures failures' left halt → error_of_halt failed no_turn halt ≡ no_turn → left ≡ 0
-no_turn_left {E} failed no_turn failures failures' left Failed other h is = absurd (other is)
-no_turn_left {E} failed no_turn failures failures' left NoTurn other h is = h

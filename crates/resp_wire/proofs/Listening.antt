@@ -1,8 +1,8 @@
 -- What has been heard of a piece, a value at a time.
 use Rattle.std.specs.Prelude.{not}
 use Rattle.std.specs.List.{concat}
-use Rattle.std.proofs.Common.{◌≡◌, inl, inr, ℕ, ◌+◌, ◌<◌, ◌≤◌, Bool, true, false, List, [], ◌∷◌, ◌++◌, length, take, drop, Option, refl, sym, ap, subst, ◌∙◌, arith, append_assoc}
-use Rattle.std.proofs.lemmas.List.{append-nil, length-append, length-take, take-append-drop, take_all}
+use Rattle.std.proofs.Common.{◌≡◌, inl, inr, ℕ, ◌+◌, ◌<◌, Bool, true, false, List, [], ◌∷◌, ◌++◌, length, take, drop, Option, refl, sym, ap, subst, ◌∙◌, arith, append_assoc}
+use Rattle.std.proofs.lemmas.List.{append-nil, length-append, take-append-drop, take_all}
 use Rattle.std.proofs.lemmas.List.Elements.{filter-append}
 use Rattle.resp_value.specs.Bounds.{Bounds}
 use Rattle.resp_value.specs.Data.{Datum}
@@ -26,11 +26,10 @@ use Rattle.resp_wire.specs.declared.error.AskError.TheVariants as error
 use Rattle.resp_wire.specs.declared.asked.Asked.{Asked}
 use Rattle.resp_turns.proofs.Pieces.{before_more}
 
--- What has been heard after this many turns: the bytes before the rest, of which each turn used one at least.
-pub record HearsUpTo (s : ClientState) (c : Client) (before after : Asked) (front piece rest : List ℕ) (turns : ℕ) : Type 0 where
+-- What has been heard: the bytes before the rest.
+pub record HearsUpTo (s : ClientState) (c : Client) (before after : Asked) (front piece rest : List ℕ) : Type 0 where
   pub done : List ℕ
   pub parts : piece ≡ done ++ rest
-  pub few : turns ≤ length done
   pub hears : HearsAll s c before after (front ++ done)
 
 -- nothing is added
@@ -66,8 +65,8 @@ waits_for_piece s c before mid front pieces piece heard waits each =
       waits = λ none. let same = ap length none in omega (arith, waits, same);
     })
 
-pub hears_nothing : (c : Client) (before : Asked) (front piece : List ℕ) → HasTaken c front → HearsUpTo (state_of c) c before before front piece piece 0
-hears_nothing c before front piece h = record { done = []; parts = refl; few = omega arith; hears = hears_no_bytes c before front h }
+pub hears_nothing : (c : Client) (before : Asked) (front piece : List ℕ) → HasTaken c front → HearsUpTo (state_of c) c before before front piece piece
+hears_nothing c before front piece h = record { done = []; parts = refl; hears = hears_no_bytes c before front h }
 
 -- The bytes of one turn after those of the turns before.
 bytes_on : (front done piece rest : List ℕ) (used : ℕ) → piece ≡ done ++ rest → piece ≡ (done ++ take used rest) ++ drop used rest
@@ -183,59 +182,52 @@ hears_on go_on goes_on s c new before mid after front done rest used More h give
 
 -- a turn more
 pub hears_more : ReadingsGoOn → HearingGoesOn → (s : ClientState) (c new : Client) (before mid after : Asked) (front piece rest beyond : List ℕ)
-    (turns used : ℕ) (what : What) → (w : HearsUpTo s c before mid front piece rest turns) → Hears c new w.hears.rest rest used what →
-    UnlessReplied what (state_of new ≡ state_of c) → 0 < used → used ≤ length rest → AddsHeard mid after what → beyond ≡ drop used rest →
-    HearsUpTo s new before after front piece beyond (turns + 1)
-hears_more go_on goes_on s c new before mid after front piece rest beyond turns used what w given stays some within added left = record {
+    (used : ℕ) (what : What) → (w : HearsUpTo s c before mid front piece rest) → Hears c new w.hears.rest rest used what →
+    UnlessReplied what (state_of new ≡ state_of c) → AddsHeard mid after what → beyond ≡ drop used rest →
+    HearsUpTo s new before after front piece beyond
+hears_more go_on goes_on s c new before mid after front piece rest beyond used what w given stays added left = record {
   done = w.done ++ take used rest;
   parts = bytes_on front w.done piece rest used w.parts ∙ ap (λ z. (w.done ++ take used rest) ++ z) (sym left);
-  few = omega (arith, w.few, some, within, length-append w.done (take used rest), length-take used rest);
   hears = hears_on go_on goes_on s c new before mid after front w.done rest used what w.hears given stays added;
 }
 
 -- nothing is left of the piece
-pub hears_whole : (s : ClientState) (c : Client) (before after : Asked) (front piece rest : List ℕ) (turns : ℕ) →
-    HearsUpTo s c before after front piece rest turns → length rest ≡ 0 → HearsAll s c before after (front ++ piece)
-hears_whole s c before after front piece [] turns w none =
+pub hears_whole : (s : ClientState) (c : Client) (before after : Asked) (front piece rest : List ℕ) →
+    HearsUpTo s c before after front piece rest → length rest ≡ 0 → HearsAll s c before after (front ++ piece)
+hears_whole s c before after front piece [] w none =
     subst (λ z. HearsAll s c before after (front ++ z)) (sym (w.parts ∙ append-nil w.done)) w.hears
-hears_whole s c before after front piece (byte ∷ rest) turns w none = absurd (omega (arith, none))
-
--- as many turns as there are bytes leave nothing
-pub hears_in_turns : (s : ClientState) (c : Client) (before after : Asked) (front piece rest : List ℕ) (turns : ℕ) →
-    HearsUpTo s c before after front piece rest turns → length piece ≤ turns → length rest ≡ 0
-hears_in_turns s c before after front piece rest turns w all =
-    omega (arith, w.few, all, ap length w.parts, length-append w.done rest)
+hears_whole s c before after front piece (byte ∷ rest) w none = absurd (omega (arith, none))
 
 -- all that came is the values, and after them what was taken and the rest
-reads_before : (s : ClientState) (c : Client) (before after : Asked) (front piece rest : List ℕ) (turns : ℕ) →
-    (w : HearsUpTo s c before after front piece rest turns) →
+reads_before : (s : ClientState) (c : Client) (before after : Asked) (front piece rest : List ℕ) →
+    (w : HearsUpTo s c before after front piece rest) →
     ReadsFrom s w.hears.values (front ++ piece) (state_of c).waiting (w.hears.rest ++ rest)
-reads_before s c before after front piece rest turns w = record {
+reads_before s c before after front piece rest w = record {
   text = w.hears.reads.text;
   reads = w.hears.reads.reads;
   whole = ap (λ z. front ++ z) w.parts ∙ read_on front w.done w.hears.reads.text w.hears.rest rest w.hears.reads.whole;
 }
 
 -- no memory was found
-pub hears_some : (s : ClientState) (c : Client) (before after : Asked) (front piece rest : List ℕ) (turns : ℕ) →
-    HearsUpTo s c before after front piece rest turns → HearsSome s before after (front ++ piece)
-hears_some s c before after front piece rest turns w = record {
+pub hears_some : (s : ClientState) (c : Client) (before after : Asked) (front piece rest : List ℕ) →
+    HearsUpTo s c before after front piece rest → HearsSome s before after (front ++ piece)
+hears_some s c before after front piece rest w = record {
   values = w.hears.values;
   waiting = (state_of c).waiting;
   rest = w.hears.rest ++ rest;
-  reads = reads_before s c before after front piece rest turns w;
+  reads = reads_before s c before after front piece rest w;
   heard = w.hears.heard;
 }
 
 -- a byte is refused
-hears_fault : (s : ClientState) (c new : Client) (before after : Asked) (front piece rest : List ℕ) (turns : ℕ) (fault : Fault) →
-    (w : HearsUpTo s c before after front piece rest turns) → (fault.cause ≡ cause.OutOfMemory → ⊥) → Refuses (state_of c) w.hears.rest rest fault →
+hears_fault : (s : ClientState) (c new : Client) (before after : Asked) (front piece rest : List ℕ) (fault : Fault) →
+    (w : HearsUpTo s c before after front piece rest) → (fault.cause ≡ cause.OutOfMemory → ⊥) → Refuses (state_of c) w.hears.rest rest fault →
     state_of new ≡ state_of c → StopsAtFault s new before after (front ++ piece) fault
 unfolding hears_some
-hears_fault s c new before after front piece rest turns fault w other (inr (asked, lacks)) same = absurd (other lacks.names)
-hears_fault s c new before after front piece rest turns fault w other (inl is) same = record {
+hears_fault s c new before after front piece rest fault w other (inr (asked, lacks)) same = absurd (other lacks.names)
+hears_fault s c new before after front piece rest fault w other (inl is) same = record {
   hears = record {
-    some = hears_some s c before after front piece rest turns w;
+    some = hears_some s c before after front piece rest w;
     fault_of = subst (λ limits. ClientFault limits (state_of c).waiting (w.hears.rest ++ rest) fault.cause fault.at) w.hears.same_limits is;
   };
   waits = ap (λ (z : ClientState). z.waiting) same;
@@ -245,19 +237,19 @@ hears_fault s c new before after front piece rest turns fault w other (inl is) s
 }
 
 -- the client stopped
-stops_by : (k : Cause) (s : ClientState) (c new : Client) (before after : Asked) (front piece rest : List ℕ) (turns : ℕ) (fault : Fault) → fault.cause ≡ k →
-    (w : HearsUpTo s c before after front piece rest turns) → Refuses (state_of c) w.hears.rest rest fault → state_of new ≡ state_of c →
+stops_by : (k : Cause) (s : ClientState) (c new : Client) (before after : Asked) (front piece rest : List ℕ) (fault : Fault) → fault.cause ≡ k →
+    (w : HearsUpTo s c before after front piece rest) → Refuses (state_of c) w.hears.rest rest fault → state_of new ≡ state_of c →
     StopsListening s new before after (front ++ piece) (error_by k fault)
-stops_by cause.OutOfMemory s c new before after front piece rest turns fault is w refused same = hears_some s c before after front piece rest turns w
-stops_by k s c new before after front piece rest turns fault is w refused same =
-    hears_fault s c new before after front piece rest turns fault w (λ memory. let z : k ≡ cause.OutOfMemory = sym is ∙ memory in absurd (cc)) refused same
+stops_by cause.OutOfMemory s c new before after front piece rest fault is w refused same = hears_some s c before after front piece rest w
+stops_by k s c new before after front piece rest fault is w refused same =
+    hears_fault s c new before after front piece rest fault w (λ memory. let z : k ≡ cause.OutOfMemory = sym is ∙ memory in absurd (cc)) refused same
 
-pub stops_hearing : (s : ClientState) (c new : Client) (before after : Asked) (front piece rest : List ℕ) (turns : ℕ) (fault : Fault) (error : AskError) →
-    error ≡ error_by fault.cause fault → (w : HearsUpTo s c before after front piece rest turns) → Refuses (state_of c) w.hears.rest rest fault →
+pub stops_hearing : (s : ClientState) (c new : Client) (before after : Asked) (front piece rest : List ℕ) (fault : Fault) (error : AskError) →
+    error ≡ error_by fault.cause fault → (w : HearsUpTo s c before after front piece rest) → Refuses (state_of c) w.hears.rest rest fault →
     state_of new ≡ state_of c → StopsListening s new before after (front ++ piece) error
-stops_hearing s c new before after front piece rest turns fault error is w refused same =
+stops_hearing s c new before after front piece rest fault error is w refused same =
     subst (StopsListening s new before after (front ++ piece)) (sym is)
-    (stops_by fault.cause s c new before after front piece rest turns fault refl w refused same)
+    (stops_by fault.cause s c new before after front piece rest fault refl w refused same)
 
 -- a fault of the client stands where it stops the call
 keeps_by : (k : Cause) (c : Client) (fault : Fault) → HasFault c fault → KeepsFault c (error_by k fault)
@@ -268,11 +260,11 @@ pub keeps_fault : (c : Client) (fault : Fault) → HasFault c fault → KeepsFau
 keeps_fault c fault has = keeps_by fault.cause c fault has
 
 -- what isn't added stays
-pub hears_none_more : (s : ClientState) (c : Client) (before mid after : Asked) (front piece rest : List ℕ) (turns : ℕ) →
-    HearsUpTo s c before mid front piece rest turns → replies_in after ≡ replies_in mid → pushes_in after ≡ pushes_in mid →
+pub hears_none_more : (s : ClientState) (c : Client) (before mid after : Asked) (front piece rest : List ℕ) →
+    HearsUpTo s c before mid front piece rest → replies_in after ≡ replies_in mid → pushes_in after ≡ pushes_in mid →
     HearsSome s before after (front ++ piece)
-hears_none_more s c before mid after front piece rest turns w replies pushes =
-    let some = hears_some s c before mid front piece rest turns w in
+hears_none_more s c before mid after front piece rest w replies pushes =
+    let some = hears_some s c before mid front piece rest w in
     record {
       values = some.values;
       waiting = some.waiting;

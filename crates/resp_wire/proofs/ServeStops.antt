@@ -9,36 +9,38 @@ use Rattle.resp_server.specs.Sending.{IsClosing}
 use Rattle.resp_turns.specs.Turns.{Halts}
 use Rattle.resp_turns.specs.declared.halt.Halt.{Halt}
 use Rattle.resp_turns.specs.declared.halt.Halt.TheVariants.{Failed, NoTurn}
-use Rattle.resp_wire.specs.Links.{error_of_halt}
-use Rattle.resp_wire.specs.Serving.{FailsServing, Serves, StopsAnswering, StopsServing}
+use Rattle.resp_wire.specs.Serving.{FailsServing, Serves, StopsAnswering, StopsServing, read_error}
 use Rattle.resp_wire.specs.declared.error.ServeError.{ServeError}
-use Rattle.resp_wire.specs.declared.error.ServeError.TheVariants.{OutOfMemory, Read, TooManyTurns, Write}
+use Rattle.resp_wire.specs.declared.error.ServeError.TheVariants.{NoSession, OutOfMemory, Read, TooManyTurns, Write}
 
 -- a write that stopped leaves the rest
-pub stops_writing : (old given new : HubState) (id : ℕ) (s : Seat) (front came : List ℕ) (held held' : Option (List ℕ)) (waits : List ℕ) (halt : Halt) →
-    0 < length waits → Serves old new id s (front ++ came) held held' waits →
-    StopsServing old new id s front came held held' (error_of_halt Write TooManyTurns halt)
-stops_writing old given new id s front came held held' waits Failed some v = (waits, some, v)
-stops_writing old given new id s front came held held' waits NoTurn some v = (waits, inl some, v)
+pub stops_writing : (old new : HubState) (id : ℕ) (s : Seat) (front came : List ℕ) (held held' : Option (List ℕ)) (waits : List ℕ)
+    (failures failures' left : ℕ) (error : ServeError) → StopsAnswering failures failures' left error → (error ≡ OutOfMemory → ⊥) → 0 < length waits →
+    Serves old new id s (front ++ came) held held' waits → StopsServing old new id s front came held held' error
+stops_writing old new id s front came held held' waits failures failures' left Write stops other some v = (waits, some, v)
+stops_writing old new id s front came held held' waits failures failures' left TooManyTurns stops other some v = (waits, inl some, v)
+stops_writing old new id s front came held held' waits failures failures' left OutOfMemory stops other some v = absurd (other refl)
+stops_writing old new id s front came held held' waits failures failures' left Read stops other some v = absurd stops
+stops_writing old new id s front came held held' waits failures failures' left NoSession stops other some v = absurd stops
 
 -- a read that stopped leaves nothing
 pub stops_reading : (old new : HubState) (id : ℕ) (s : Seat) (front came : List ℕ) (held held' : Option (List ℕ)) (halt : Halt) →
     Serves old new id s (front ++ came) held held' [] × IsClosing new id false →
-    StopsServing old new id s front came held held' (error_of_halt Read TooManyTurns halt)
+    StopsServing old new id s front came held held' (read_error halt)
 stops_reading old new id s front came held held' Failed v = v
 stops_reading old new id s front came held held' NoTurn v = ([], inr v.1, v.0)
 
-pub answering : (failures failures' left : ℕ) (halt : Halt) → Halts failures failures' left halt →
-    StopsAnswering failures failures' left (error_of_halt Write TooManyTurns halt)
-answering failures failures' left Failed h = h
-answering failures failures' left NoTurn h = h
-
 pub fails_reading : (old : HubState) (id writes writes' reads reads' left : ℕ) (halt : Halt) → Halts reads reads' left halt →
-    FailsServing old id writes writes' reads reads' (error_of_halt Read TooManyTurns halt)
+    FailsServing old id writes writes' reads reads' (read_error halt)
 fails_reading old id writes writes' reads reads' left Failed h = h
 fails_reading old id writes writes' reads reads' left NoTurn h = tt
 
 -- Turns are too many only where none is left.
+
+pub no_turn_to_read : (failures failures' left : ℕ) (halt : Halt) → Halts failures failures' left halt → read_error halt ≡ TooManyTurns → left ≡ 0
+no_turn_to_read failures failures' left Failed h is = absurd (cc)
+no_turn_to_read failures failures' left NoTurn h is = h
+
 pub no_turn_to_answer : (A : Type 0) (answer : Result A ServeError) (failures failures' left : ℕ) (error : ServeError) → answer ≡ Err error →
     StopsAnswering failures failures' left error → IsErrOf answer TooManyTurns → left ≡ 0
 no_turn_to_answer A answer failures failures' left error here h is =
@@ -49,8 +51,3 @@ no_turn_to_answer A answer failures failures' left error here h is =
 pub memory_was_wanting : (error : HubError) → (error ≡ hub.NoSession → ⊥) → (P : ℕ → Type 0) → IfOutOfMemory error P → (commands : ℕ) × P commands
 memory_was_wanting hub.NoSession other P p = absurd (other refl)
 memory_was_wanting (hub.OutOfMemory commands) other P p = (commands, p)
-
--- a write does not stop when out of memory
-pub not_of_memory : (halt : Halt) → error_of_halt Write TooManyTurns halt ≡ OutOfMemory → ⊥
-not_of_memory Failed is = cc
-not_of_memory NoTurn is = cc

@@ -173,7 +173,7 @@ pub stops_settled : (s : ClientState) (c : Client) (before after : Asked) (front
     StopsCarrying (MeetsFault s before after front text) failures failures' cause
 stops_settled s c before after front text count failures failures' cause h (fault, named, refused) =
     let came = take count text in
-    let w : HearsUpTo s c before after front came [] 0 = record { done = came; parts = sym (append-nil came); few = omega arith; hears = h } in
+    let w : HearsUpTo s c before after front came [] = record { done = came; parts = sym (append-nil came); hears = h } in
     subst (StopsCarrying (MeetsFault s before after front text) failures failures') (cause_by fault.cause fault refl ∙ named)
     (stops_showing s c before after front text count failures failures' (error_by fault.cause fault) (client_stops fault _ refl)
-    (stops_hearing s c c before after front came [] 0 fault _ refl w refused refl))
+    (stops_hearing s c c before after front came [] fault _ refl w refused refl))

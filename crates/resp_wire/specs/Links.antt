@@ -1,12 +1,12 @@
 -- The errors of links.
-use Rattle.std.specs.Prelude.{◌≡◌, ℕ, List, ◌++◌, Bool, true, false, Option, None, Some, Result, Ok, Err}
+use Rattle.std.specs.Prelude.{◌≡◌, ◌⊎◌, ℕ, List, ◌++◌, Bool, true, false, Option, None, Some, Result, Ok, Err}
+use Rattle.resp_value.specs.Devices.{HasRisen}
 use Rattle.resp_value.specs.declared.cause.Cause.{Cause}
 use Rattle.resp_value.specs.declared.cause.Cause.TheVariants.{Read, Write, TooManyTurns}
+use Rattle.resp_turns.specs.Turns.{TellsEnd}
 use Rattle.resp_wire.specs.declared.link.Direction.{Direction}
 use Rattle.resp_wire.specs.declared.link.Direction.TheVariants.{ToServer, ToClient}
 use Rattle.resp_wire.specs.declared.link.LinkFault.{LinkFault}
-use Rattle.resp_turns.specs.declared.halt.Halt.{Halt}
-use Rattle.resp_turns.specs.declared.halt.Halt.TheVariants as halt
 
 -- the bytes that a link has carried in each direction
 pub record Traffic : Type 0 where
@@ -23,10 +23,20 @@ abbrev pub Carries : Direction → List ℕ → Option Traffic → Option Traffi
 Carries way bytes None after = Unit {0}
 Carries way bytes (Some t) after = after ≡ Some (with_carried way bytes t)
 
--- the error for a read or a write that moved no byte: the first if the device failed, the second if no turn was left
-abbrev pub error_of_halt : {E : Type 0} → E → E → Halt → E
-error_of_halt {E} failed no_turn halt.Failed = failed
-error_of_halt {E} failed no_turn halt.NoTurn = no_turn
+-- Why a piece is not received: a read failed, the input ended, or no turn is left. The numbers are counts of failed
+-- reads.
+abbrev pub StopsReceiving : ℕ → ℕ → Option (List ℕ) → Option (List ℕ) → ℕ → Cause → Type 0
+StopsReceiving failures failures' left left' turns Read = HasRisen failures failures' ⊎ TellsEnd left left'
+StopsReceiving failures failures' left left' turns TooManyTurns = turns ≡ 0
+StopsReceiving failures failures' left left' turns _ = ⊥
+
+-- Why a piece is not passed along: a write failed, a read failed, the input ended, or no turn is left. The numbers are
+-- counts of failed writes, and of failed reads.
+abbrev pub StopsPassing : ℕ → ℕ → ℕ → ℕ → Option (List ℕ) → Option (List ℕ) → Cause → Type 0
+StopsPassing writes writes' reads reads' left left' Write = HasRisen writes writes'
+StopsPassing writes writes' reads reads' left left' Read = HasRisen reads reads' ⊎ TellsEnd left left'
+StopsPassing writes writes' reads reads' left left' TooManyTurns = Unit {0}
+StopsPassing writes writes' reads reads' left left' _ = ⊥
 
 -- whether a carry was out of turns
 abbrev pub IsOutOfTurns : Result (Unit {0}) LinkFault → Type 0

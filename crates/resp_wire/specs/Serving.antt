@@ -8,6 +8,8 @@ use Rattle.resp_server.specs.Reading.{HasReadFront}
 use Rattle.resp_server.specs.Sending.{HasSent, HasSentPart, IsClosing}
 use Rattle.resp_turns.specs.Pieces.{ReadsPieces}
 use Rattle.resp_turns.specs.Turns.{Spends, TellsEnd, stopped_by}
+use Rattle.resp_turns.specs.declared.halt.Halt.{Halt}
+use Rattle.resp_turns.specs.declared.halt.Halt.TheVariants.{Failed, NoTurn}
 use Rattle.resp_wire.specs.declared.error.ServeError.{ServeError}
 use Rattle.resp_wire.specs.declared.error.ServeError.TheVariants.{NoSession, OutOfMemory, Read, Write, TooManyTurns}
 use Rattle.resp_wire.specs.declared.serve.Answered.{Answered}
@@ -148,6 +150,11 @@ pub record StopsOverfull (most : ℕ) (old new : HubState) (id : ℕ) (s : Seat)
 abbrev pub LeavesOverfull : {W : Type 0} → ℕ → (W → Option (List ℕ)) → W → W → HubState → HubState → ℕ → List ℕ → Type 0
 LeavesOverfull most written writer writer' old new id rest = (rest ≡ [] → ⊥) →
     WhereOpen old id (λ s front. StopsOverfull most old new id s front (written writer) (written writer'))
+
+-- the error of a call of which a read moved no byte
+abbrev pub read_error : Halt → ServeError
+read_error Failed = Read
+read_error NoTurn = TooManyTurns
 
 -- why answering stops: memory was out, or a write stopped
 abbrev pub StopsAnswering : ℕ → ℕ → ℕ → ServeError → Type 0

@@ -11,13 +11,13 @@ ghost use Rattle.resp_wire.specs.Asking.{SendsAll, sent};
 ghost use Rattle.resp_wire.specs.Asks.{HearsPieces, StopsAsking};
 ghost use Rattle.resp_wire.specs.Stops.{FailsReading, FailsWriting, KeepsFault, QueuesFirst, StopsListening, StopsQueueing, error_at, is_of_last_read, is_of_reader, is_of_writer};
 ghost use Rattle.resp_turns.specs.Pieces.{ReadsPieces};
-ghost use Rattle.resp_turns.specs.Turns.{Halts, Spends, SpendsAtMost, has_failed, stopped_by};
+ghost use Rattle.resp_turns.specs.Turns.{Spends, SpendsAtMost, stopped_by};
 ghost use Rattle.std.specs.List.{concat};
 
 use crate::asked::{Asked, Request};
 use crate::error::AskError;
 use crate::hear::hear_piece;
-use crate::pieces::{PIECE, front};
+use crate::pieces::PIECE;
 use resp_client::{Client, SendError};
 use resp_session::laws;
 use resp_turns::{Halt, read_some, write_text};
@@ -229,22 +229,8 @@ fn send_all<W: Sink>(writer: &mut W, client: &mut Client, turns: &mut u64) -> Re
     client.sent(written.count);
     match written.end {
         Ok(()) => Ok(()),
-        Err(halt) => Err(unwritten(halt)),
-    }
-}
-
-/// Returns the error of the call for a write that moved no byte.
-fn unwritten(halt: Halt) -> AskError
-    ensures reason { (failures failures' left : ℕ) (waits : List ℕ) → 0 < length waits →
-        Halts failures failures' left halt → FailsWriting failures failures' waits result }
-    ensures no_turn_left { (failures failures' left : ℕ) → Halts failures failures' left halt →
-        result ≡ AskError.TooManyTurns → left ≡ 0 }
-    ensures of_writer { is_of_writer result ≡ has_failed halt }
-    ensures not_of_reader { is_of_reader result ≡ false }
-{
-    match halt {
-        Halt::Failed => AskError::Write,
-        Halt::NoTurn => AskError::TooManyTurns,
+        Err(Halt::Failed) => Err(AskError::Write),
+        Err(Halt::NoTurn) => Err(AskError::TooManyTurns),
     }
 }
 
@@ -283,7 +269,7 @@ fn hear_all<R: Source>(
             Err(Halt::Failed) => return Err(AskError::Read),
             Err(Halt::NoTurn) => return Err(AskError::TooManyTurns),
         };
-        if let Err(error) = hear_piece(client, front(buffer, count), heard) {
+        if let Err(error) = hear_piece(client, &buffer[..count], heard) {
             return Err(error);
         }
     }

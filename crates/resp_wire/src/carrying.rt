@@ -1,13 +1,13 @@
 //! Carrying bytes between a client and its session.
 
-ghost use Rattle.std.specs.Prelude.{◌≡◌, ◌≤◌, ◌++◌, [], length, take, drop, min, replicate, false, IfSome, IfErr, OnOk};
+ghost use Rattle.std.specs.Prelude.{◌≡◌, ◌≤◌, ◌++◌, [], length, take, drop, replicate, false, IfSome, IfErr, OnOk};
 ghost use Rattle.resp_scan.specs.declared.event.Fault.{Fault};
 ghost use Rattle.resp_session.specs.Reading.{MayGoOn};
 ghost use Rattle.resp_client.specs.Clients.{state_of, without_front};
 ghost use Rattle.resp_client.specs.Hearing.{HasTaken, KeepsReading, Refuses, WhereTaken};
 ghost use Rattle.resp_server.specs.Handling.{WhereOpen};
 ghost use Rattle.resp_server.specs.Hubs.{Seat, seat_at, seated};
-ghost use Rattle.resp_wire.specs.Carrying.{HasBrought, HasClosed, HearsOn, LinkGoesOn, MeetsFault, StopsCarrying, cause_of};
+ghost use Rattle.resp_wire.specs.Carrying.{HasBrought, HasClosed, HearsOn, LinkGoesOn, MeetsFault, StopsCarrying};
 ghost use Rattle.resp_wire.specs.Hearing.{HearsAll};
 ghost use Rattle.resp_wire.specs.Links.{Carries, is_of_link};
 ghost use Rattle.resp_turns.specs.Turns.{stopped_by};
@@ -16,7 +16,6 @@ use crate::asked::Asked;
 use crate::error::AskError;
 use crate::hear::hear_piece;
 use crate::link::{Direction, Link};
-use crate::pieces::front;
 use resp_client::Client;
 use resp_server::{Hub, HubError};
 use resp_session::laws;
@@ -58,7 +57,7 @@ pub(crate) fn carry_to_server<L: Link, S: BuildHasher>(
     if closing {
         return Err(Cause::Closing);
     }
-    let total = at_most(client.out().len(), count);
+    let total = count.min(client.out().len() as u64) as usize;
     let mut into = [0; PIECE];
     let mut done = 0;
     while done < total {
@@ -101,7 +100,7 @@ pub(crate) fn carry_to_client<L: Link, S: BuildHasher>(
     let Ok(out) = hub.out(id) else {
         return Err(Cause::NoSession);
     };
-    let total = at_most(out.len(), count);
+    let total = count.min(out.len() as u64) as usize;
     let mut into = [0; PIECE];
     let mut done = 0;
     while done < total {
@@ -145,7 +144,7 @@ fn give<L: Link, S: BuildHasher>(
         (stopped_by is_of_link result) }
 {
     let length = room.len();
-    if let Err(fault) = link.carry(Direction::ToServer, front(client.out(), length), room) {
+    if let Err(fault) = link.carry(Direction::ToServer, &client.out()[..length], room) {
         return Err(fault.cause);
     }
     let commands = match hub.bytes(id, room) {
@@ -154,9 +153,7 @@ fn give<L: Link, S: BuildHasher>(
         Err(HubError::OutOfMemory { .. }) => return Err(Cause::OutOfMemory),
     };
     client.sent(length);
-    if let Err(cause) = add(order, number, commands) {
-        return Err(cause);
-    }
+    add(order, number, commands)?;
     let Ok(closing) = hub.is_closing(id) else {
         return Err(Cause::NoSession);
     };
@@ -209,7 +206,7 @@ fn show<L: Link, S: BuildHasher>(
     let Ok(out) = hub.out(id) else {
         return Err(Cause::NoSession);
     };
-    if let Err(fault) = link.carry(Direction::ToClient, front(out, length), room) {
+    if let Err(fault) = link.carry(Direction::ToClient, &out[..length], room) {
         return Err(fault.cause);
     }
     let Ok(()) = hub.sent(id, length) else {
@@ -217,17 +214,8 @@ fn show<L: Link, S: BuildHasher>(
     };
     match hear_piece(client, room, heard) {
         Ok(()) => Ok(()),
-        Err(error) => Err(cause_of(error)),
-    }
-}
-
-/// Returns the cause of a client's error.
-fn cause_of(error: AskError) -> Cause
-    ensures { result ≡ cause_of error }
-{
-    match error {
-        AskError::Fault(fault) => fault.cause,
-        _ => Cause::OutOfMemory,
+        Err(AskError::Fault(fault)) => Err(fault.cause),
+        Err(_) => Err(Cause::OutOfMemory),
     }
 }
 
@@ -245,14 +233,4 @@ fn settle(client: &mut Client) -> Result<(), Cause>
         Err(fault) => return Err(fault.cause),
     };
     Ok(())
-}
-
-/// Returns `count`, or the number of waiting bytes if fewer wait.
-fn at_most(waiting: usize, count: u64) -> usize
-    ensures { result ≡ min count waiting }
-{
-    match usize::try_from(count) {
-        Ok(count) => count.min(waiting),
-        Err(_) => waiting,
-    }
 }

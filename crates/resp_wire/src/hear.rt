@@ -48,11 +48,7 @@ pub(crate) fn hear_piece(
     laws::readings_go_on();
     laws::hearing_goes_on();
     let mut rest = piece;
-    // Each turn uses at least one byte.
-    for turn in 0..piece.len() {
-        if rest.is_empty() {
-            return Ok(());
-        }
+    while !rest.is_empty() {
         let given = match client.feed(rest) {
             Ok(given) => given,
             Err(fault) => return Err(stop(fault)),

@@ -1,6 +1,6 @@
 //! Pieces of the bytes that are read.
 
-ghost use Rattle.std.specs.Prelude.{◌≡◌, ◌≤◌, drop, length, take};
+ghost use Rattle.std.specs.Prelude.{◌≡◌, ◌≤◌, drop, length};
 
 /// The most bytes of one read, if the caller lends no buffer.
 pub(crate) const PIECE: usize = 4_096;
@@ -12,13 +12,4 @@ pub(crate) fn beyond(piece: &[u8], from: usize) -> &[u8]
     ensures { result.now ≡ drop from piece.now }
 {
     &piece[from..]
-}
-
-/// Returns the first `count` bytes of a piece.
-#[inline]
-pub(crate) fn front(piece: &[u8], count: usize) -> &[u8]
-    requires { count ≤ length piece.now }
-    ensures { result.now ≡ take count piece.now }
-{
-    &piece[..count]
 }

@@ -1,17 +1,16 @@
 //! The server's end of a connection.
 
-ghost use Rattle.std.specs.Prelude.{◌≡◌, ◌≢◌, ◌&&◌, ◌+◌, ◌-◌, ◌<◌, ◌≤◌, ◌^◌, [], length, take, true, false, None, Some, Err, IfSome, IfOk, IfErr, IsErrOf, OnOk, OnErr};
+ghost use Rattle.std.specs.Prelude.{◌≡◌, ◌+◌, ◌-◌, ◌<◌, ◌≤◌, ◌^◌, [], length, take, true, false, None, Some, Err, IfSome, IfOk, IfErr, IsErrOf, OnOk, OnErr};
 ghost use Rattle.resp_server.specs.Hubs.{Seat, WaitsAtMost, seat_at};
 ghost use Rattle.resp_server.specs.Handling.{HasAnswered, WhereOpen};
 ghost use Rattle.resp_server.specs.Sending.{HasSent, HasSentPart, IsClosing};
 ghost use Rattle.resp_value.specs.Devices.{failures_after};
-ghost use Rattle.resp_wire.specs.Links.{error_of_halt};
-ghost use Rattle.resp_wire.specs.Serving.{AnswersPiece, EndsBy, FailsServing, IsOpen, LeavesOverfull, LeavesRest, Overfills, ServesClosing, ServesPieces, is_of_reader, is_of_writer, rest_in};
-ghost use Rattle.resp_turns.specs.Turns.{Halts, Spends, SpendsAtMost, SpendsTurns, has_failed, stopped_by};
+ghost use Rattle.resp_wire.specs.Serving.{AnswersPiece, EndsBy, FailsServing, IsOpen, LeavesOverfull, LeavesRest, Overfills, ServesClosing, ServesPieces, StopsAnswering, is_of_reader, is_of_writer, read_error, rest_in};
+ghost use Rattle.resp_turns.specs.Turns.{Spends, SpendsAtMost, SpendsTurns, has_failed, stopped_by};
 
 use crate::error::ServeError;
-use crate::pieces::{PIECE, beyond, front};
-use resp_server::{Hub, HubError};
+use crate::pieces::{PIECE, beyond};
+use resp_server::Hub;
 use resp_session::laws;
 use resp_turns::{Halt, read_some};
 use resp_value::device::{Sink, Source};
@@ -190,8 +189,8 @@ pub fn serve_with<R: Source, W: Sink, S: BuildHasher>(
             end: Ok(Served::Closed),
             rest: 0..0,
         },
-        Err(halt) => Visit {
-            end: Err(stop(halt, ServeError::Write)),
+        Err(error) => Visit {
+            end: Err(error),
             rest: 0..0,
         },
     }
@@ -235,9 +234,9 @@ fn serve_open<R: Source, W: Sink, S: BuildHasher>(
 {
     laws::answers_go_on();
     laws::answers_are_added();
-    if let Err(halt) = write_out(writer, hub, id, turns) {
+    if let Err(error) = write_out(writer, hub, id, turns) {
         return Visit {
-            end: Err(stop(halt, ServeError::Write)),
+            end: Err(error),
             rest: 0..0,
         };
     }
@@ -249,11 +248,11 @@ fn serve_open<R: Source, W: Sink, S: BuildHasher>(
             },
             Ok(count) => count,
             Err(halt) => return Visit {
-                end: Err(stop(halt, ServeError::Read)),
+                end: Err(unread(halt)),
                 rest: 0..0,
             },
         };
-        let answered = answer(writer, hub, id, front(buffer, count), turns, held);
+        let answered = answer(writer, hub, id, &buffer[..count], turns, held);
         match answered.end {
             Ok(false) => {}
             Ok(true) => return Visit {
@@ -327,25 +326,16 @@ fn answer_part<W: Sink, S: BuildHasher>(
     ensures full { OnErr result.end (result.used < length piece.now → Overfills held hub.old
         hub.new id (take result.used piece.now) (W.written writer.old) (W.written writer.new)) }
 {
-    let taken = match hub.bytes_within(id, piece, held) {
-        Ok(taken) => taken,
-        Err(error) => {
-            return Answered {
-                used: piece.len(),
-                end: Err(unanswered(error)),
-            };
-        }
+    let Ok(taken) = hub.bytes_within(id, piece, held) else {
+        // The session is there, so an allocation failed.
+        return Answered {
+            used: piece.len(),
+            end: Err(ServeError::OutOfMemory),
+        };
     };
-    let used = taken.used;
-    match write_out(writer, hub, id, turns) {
-        Ok(closing) => Answered {
-            used,
-            end: Ok(closing),
-        },
-        Err(halt) => Answered {
-            used,
-            end: Err(stop(halt, ServeError::Write)),
-        },
+    Answered {
+        used: taken.used,
+        end: write_out(writer, hub, id, turns),
     }
 }
 
@@ -355,7 +345,7 @@ fn write_out<W: Sink, S: BuildHasher>(
     hub: &mut Hub<S>,
     id: u64,
     turns: &mut u64,
-) -> Result<bool, Halt>
+) -> Result<bool, ServeError>
     requires { (s : Seat) × (seat_at hub.old id ≡ Some s) }
     ensures sent { OnOk result (HasSent hub.old hub.new id (W.written writer.old)
         (W.written writer.new) []) }
@@ -363,39 +353,31 @@ fn write_out<W: Sink, S: BuildHasher>(
     ensures part { OnErr result (HasSentPart hub.old hub.new id (W.written writer.old)
         (W.written writer.new)) }
     ensures failures { W.failures writer.new ≡
-        failures_after (stopped_by has_failed result) (W.failures writer.old) }
-    ensures halted { IfErr result (Halts (W.failures writer.old) (W.failures writer.new)
+        failures_after (stopped_by is_of_writer result) (W.failures writer.old) }
+    ensures no_read { stopped_by is_of_reader result ≡ false }
+    ensures refusal { IfErr result (StopsAnswering (W.failures writer.old) (W.failures writer.new)
         turns.new) }
+    ensures no_memory { IsErrOf result ServeError.OutOfMemory → ⊥ }
     ensures turns { Spends (W.calls writer.old) (W.calls writer.new) turns.old turns.new }
 {
     let Ok(sent) = hub.write_out(id, writer, turns) else {
-        return Err(Halt::NoTurn);
+        return Err(ServeError::NoSession);
     };
     match sent.end {
         Ok(()) => Ok(sent.closing),
-        Err(halt) => Err(halt),
+        Err(Halt::Failed) => Err(ServeError::Write),
+        Err(Halt::NoTurn) => Err(ServeError::TooManyTurns),
     }
 }
 
-/// Returns the error of the call for a piece that was not completely handled.
-fn unanswered(error: HubError) -> ServeError
-    requires { error ≢ HubError.NoSession }
-    ensures { result ≡ ServeError.OutOfMemory }
-{
-    match error {
-        HubError::NoSession => ServeError::NoSession,
-        HubError::OutOfMemory { .. } => ServeError::OutOfMemory,
-    }
-}
-
-/// Returns the error of the call for a read or a write that moved no byte.
-fn stop(halt: Halt, failed: ServeError) -> ServeError
-    ensures error { result ≡ error_of_halt failed ServeError.TooManyTurns halt }
-    ensures of_reader { is_of_reader result ≡ (is_of_reader failed && has_failed halt) }
-    ensures of_writer { is_of_writer result ≡ (is_of_writer failed && has_failed halt) }
+/// Returns the error of the call for a read that moved no byte.
+fn unread(halt: Halt) -> ServeError
+    ensures error { result ≡ read_error halt }
+    ensures of_reader { is_of_reader result ≡ has_failed halt }
+    ensures of_writer { is_of_writer result ≡ false }
 {
     match halt {
-        Halt::Failed => failed,
+        Halt::Failed => ServeError::Read,
         Halt::NoTurn => ServeError::TooManyTurns,
     }
 }

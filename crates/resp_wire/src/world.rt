@@ -104,12 +104,9 @@ impl<S: BuildHasher + Drop> World<MemoryLink, S> {
         if count > MOST_CLIENTS {
             return Err(OpenError::TooManySessions);
         }
-        let mut links = Vec::new(alloc);
-        for _ in 0..count {
-            if links.push(MemoryLink).is_err() {
-                return Err(OpenError::OutOfMemory);
-            }
-        }
+        let Ok(links) = vec![in alloc; MemoryLink; count] else {
+            return Err(OpenError::OutOfMemory);
+        };
         World::over(alloc, links, limits, hasher)
     }
 }
@@ -135,10 +132,7 @@ impl<L: Link, S: BuildHasher + Drop> World<L, S> {
         }
         limits.are_in_range();
         let mut hub = Hub::new(alloc, limits, hasher);
-        let ends = match open_each(alloc, &mut hub, &limits, links.len()) {
-            Ok(ends) => ends,
-            Err(error) => return Err(error),
-        };
+        let ends = open_each(alloc, &mut hub, &limits, links.len())?;
         Ok(World {
             alloc,
             hub,

@@ -1,8 +1,8 @@
 //! A link over TCP.
 
-ghost use Rattle.std.specs.Prelude.{◌≡◌, ◌≢◌, ◌+◌, ◌<◌, ◌≤◌, None, length, is_err, true, IfErr, IfOk, OnOk};
+ghost use Rattle.std.specs.Prelude.{◌≡◌, ◌+◌, ◌<◌, ◌≤◌, None, length, is_err, true, IfErr, IfOk, IsErrOf, OnOk};
 ghost use Rattle.resp_value.specs.Devices.{HasRisen, failures_after};
-ghost use Rattle.resp_wire.specs.Links.{IsOutOfTurns, error_of_halt, is_of_link};
+ghost use Rattle.resp_wire.specs.Links.{IsOutOfTurns, StopsPassing, StopsReceiving, is_of_link};
 ghost use Rattle.resp_wire.specs.TcpLinks.{UsesBothEnds, receiving_end, sending_end};
 ghost use Rattle.resp_turns.specs.Turns.{Spends, SpendsAtMost};
 
@@ -40,7 +40,11 @@ impl TcpLink {
         ensures unused { IfOk result (λ link. link.client_end.calls + link.server_end.calls ≡ 0) }
         ensures none_failed { IfOk result (λ link. link.failures ≡ 0) }
     {
-        let (client_end, server_end) = connect(net)?;
+        let listener = TcpListener::bind(net, ("127.0.0.1", 0))?;
+        let client_end = TcpStream::connect(net, listener.local_addr()?)?;
+        let (server_end, _) = listener.accept()?;
+        client_end.set_nodelay(true)?;
+        server_end.set_nodelay(true)?;
         Ok(TcpLink {
             client_end: Device::new(client_end),
             server_end: Device::new(server_end),
@@ -51,16 +55,21 @@ impl TcpLink {
 
 impl TcpLink {
     /// Writes a piece at one end, and reads it at the other.
-    fn pass_along(&mut self, direction: Direction, piece: &[u8], into: &mut [u8]) -> Carried
-        ensures refusal { IfErr result (λ fault. is_of_link fault.cause ≡ true) }
-        ensures write_failed { IfErr result (λ fault. fault.cause ≡ Cause.Write →
+    fn pass_along(
+        &mut self,
+        direction: Direction,
+        piece: &[u8],
+        into: &mut [u8],
+    ) -> Result<(), Cause>
+        ensures refusal { IfErr result (λ cause. is_of_link cause ≡ true) }
+        ensures write_failed { IsErrOf result Cause.Write →
             HasRisen (sending_end direction self.old).failures
-            (sending_end direction self.new).failures) }
+            (sending_end direction self.new).failures }
         ensures used { OnOk result (0 < length piece.now → 0 < length into.old →
             UsesBothEnds self.old self.new) }
         ensures turns { SpendsAtMost (sending_end direction self.old).calls
             (sending_end direction self.new).calls (receiving_end direction self.old).calls
-            (receiving_end direction self.new).calls TURNS (IsOutOfTurns result) }
+            (receiving_end direction self.new).calls TURNS (IsErrOf result Cause.TooManyTurns) }
         ensures calls { self.new.client_end.calls + self.new.server_end.calls ≤
             self.old.client_end.calls + self.old.server_end.calls + TURNS }
         ensures same_failures { self.new.failures ≡ self.old.failures }
@@ -70,18 +79,6 @@ impl TcpLink {
         }
         pass(&mut self.server_end, &mut self.client_end, piece, into)
     }
-}
-
-/// Returns the end that connects and the end that accepts.
-fn connect(
-    net: &impl Net<Listener = TcpListener, Stream = TcpStream>,
-) -> io::Result<(TcpStream, TcpStream)> {
-    let listener = TcpListener::bind(net, ("127.0.0.1", 0))?;
-    let client_end = TcpStream::connect(net, listener.local_addr()?)?;
-    let (server_end, _) = listener.accept()?;
-    client_end.set_nodelay(true)?;
-    server_end.set_nodelay(true)?;
-    Ok((client_end, server_end))
 }
 
 impl Link for TcpLink {
@@ -116,7 +113,7 @@ impl Link for TcpLink {
     {
         let passed = match self.pass_along(direction, piece, into) {
             Ok(()) => compare(piece, into),
-            Err(fault) => Err(fault),
+            Err(cause) => Err(LinkFault { cause }),
         };
         if passed.is_err() {
             self.failures = self.failures.saturating_add(1);
@@ -137,50 +134,44 @@ fn compare(written: &[u8], came: &[u8]) -> Carried
 }
 
 /// Writes a piece at one end, and reads at the other end as many bytes as there is room for.
-fn pass<W: Sink, R: Source>(from: &mut W, to: &mut R, piece: &[u8], into: &mut [u8]) -> Carried
-    ensures refusal { IfErr result (λ fault. is_of_link fault.cause ≡ true) }
-    ensures write_failed { IfErr result (λ fault. fault.cause ≡ Cause.Write →
-        HasRisen (W.failures from.old) (W.failures from.new)) }
+fn pass<W: Sink, R: Source>(
+    from: &mut W,
+    to: &mut R,
+    piece: &[u8],
+    into: &mut [u8],
+) -> Result<(), Cause>
+    ensures refusal { IfErr result (StopsPassing (W.failures from.old) (W.failures from.new)
+        (R.failures to.old) (R.failures to.new) (R.remaining to.old) (R.remaining to.new)) }
     ensures turns { SpendsAtMost (W.calls from.old) (W.calls from.new) (R.calls to.old)
-        (R.calls to.new) TURNS (IsOutOfTurns result) }
+        (R.calls to.new) TURNS (IsErrOf result Cause.TooManyTurns) }
     ensures used { OnOk result (0 < length piece.now → 0 < length into.old →
         HasRisen (W.calls from.old) (W.calls from.new) ×
         HasRisen (R.calls to.old) (R.calls to.new)) }
     ensures calls { W.calls from.new + R.calls to.new ≤ W.calls from.old + R.calls to.old + TURNS }
 {
     let mut turns = TURNS;
-    if let Err(halt) = write_text(from, piece, &mut turns).end {
-        return Err(stop(halt, Cause::Write));
+    match write_text(from, piece, &mut turns).end {
+        Ok(()) => receive(to, into, &mut turns),
+        Err(Halt::Failed) => Err(Cause::Write),
+        Err(Halt::NoTurn) => Err(Cause::TooManyTurns),
     }
-    receive(to, into, &mut turns)
 }
 
 /// Reads as many bytes as there is room for.
-fn receive<R: Source>(to: &mut R, into: &mut [u8], turns: &mut u64) -> Carried
-    ensures refusal { IfErr result (λ fault. is_of_link fault.cause ≡ true) }
-    ensures no_write { IfErr result (λ fault. fault.cause ≢ Cause.Write) }
-    ensures no_turn_left { IsOutOfTurns result → turns.new ≡ 0 }
+#[tactic(auto, using(resp_turns::proofs::Turning::spends_more))]
+fn receive<R: Source>(to: &mut R, into: &mut [u8], turns: &mut u64) -> Result<(), Cause>
+    ensures refusal { IfErr result (StopsReceiving (R.failures to.old) (R.failures to.new)
+        (R.remaining to.old) (R.remaining to.new) turns.new) }
     ensures turns { Spends (R.calls to.old) (R.calls to.new) turns.old turns.new }
     ensures onward { OnOk result (0 < length into.old → turns.new < turns.old) }
 {
     let mut count = 0;
     while count < into.len() {
         match read_some(to, &mut into[count..], turns) {
-            Ok(0) => return Err(LinkFault { cause: Cause::Read }),
+            Ok(0) | Err(Halt::Failed) => return Err(Cause::Read),
             Ok(more) => count += more,
-            Err(halt) => return Err(stop(halt, Cause::Read)),
+            Err(Halt::NoTurn) => return Err(Cause::TooManyTurns),
         }
     }
     Ok(())
-}
-
-/// Returns the error of the link for a read or write that moved no byte.
-fn stop(halt: Halt, failed: Cause) -> LinkFault
-    ensures { result.cause ≡ error_of_halt failed Cause.TooManyTurns halt }
-{
-    let cause = match halt {
-        Halt::Failed => failed,
-        Halt::NoTurn => Cause::TooManyTurns,
-    };
-    LinkFault { cause }
 }

@@ -16,21 +16,28 @@ returns-in-Err-clause-turns g c = (
 )
 
 pub returns-in-Err-clause-refusal : goal.returns-in-Err-clause-refusal
-returns-in-Err-clause-refusal g c = inl (c.in-Err.ensures.refusal, c.queue.ensures.same_reading, refl, refl, refl)
+returns-in-Err-clause-refusal g c = inl (record {
+  stops = c.in-Err.ensures.refusal;
+  same_reading = c.queue.ensures.same_reading;
+  nothing_written = refl;
+  nothing_read = refl;
+  nothing_heard = refl;
+})
 
 pub returns-in-Err-clause-fault_is_kept : goal.returns-in-Err-clause-fault_is_kept
 returns-in-Err-clause-fault_is_kept g c = no_fault_queued c.args.client.now c.queue.new.client c.args.requests.now c.in-Err.error c.in-Err.ensures.refusal
 
 pub returns-in-Err-send_all-clause-refusal : goal.returns-in-Err-send_all-clause-refusal
 returns-in-Err-send_all-clause-refusal g c =
-    inr (inl (
-      sends_part c.args.client.now c.queue.new.client c.send_all.new.client c.args.requests.now (g.W.Sink.written c.args.writer.now)
-          (g.W.Sink.written c.send_all.new.writer) c.in_default.ensures.all_queued c.send_all.ensures.sent,
-      keeps_on c.args.client.now c.queue.new.client c.send_all.new.client c.queue.ensures.same_reading c.send_all.ensures.same_reading,
-      c.in-Err-send_all.ensures.refusal,
-      refl,
-      refl,
-    ))
+    inr (inl (record {
+      sends_part = sends_part c.args.client.now c.queue.new.client c.send_all.new.client c.args.requests.now (g.W.Sink.written c.args.writer.now)
+          (g.W.Sink.written c.send_all.new.writer) c.in_default.ensures.all_queued c.send_all.ensures.sent;
+      same_reading = keeps_on c.args.client.now c.queue.new.client c.send_all.new.client c.queue.ensures.same_reading
+          c.send_all.ensures.same_reading;
+      fails = c.in-Err-send_all.ensures.refusal;
+      nothing_read = refl;
+      nothing_heard = refl;
+    }))
 
 pub returns-in-Err-send_all-clause-fault_is_kept : goal.returns-in-Err-send_all-clause-fault_is_kept
 returns-in-Err-send_all-clause-fault_is_kept g c =
@@ -56,10 +63,10 @@ returns-in-Err-hear_all-clause-refusal g c =
     let q = c.in_default.ensures.all_queued in
     let (pieces, read, heard) = c.in-Err-hear_all.ensures.heard in
     let is = all_sent old mid new requests held held' q c.send_all.ensures.sent c.in_default-send_all.ensures.all in
-    inr (inr (
-      sends_all old mid new requests held held' q c.send_all.ensures.sent c.in_default-send_all.ensures.all,
-      c.in-Err-hear_all.ensures.refusal,
-      record {
+    inr (inr (record {
+      sends_all = sends_all old mid new requests held held' q c.send_all.ensures.sent c.in_default-send_all.ensures.all;
+      fails = c.in-Err-hear_all.ensures.refusal;
+      came = record {
         pieces = pieces;
         read = read;
         heard = λ front h. subst
@@ -69,8 +76,8 @@ returns-in-Err-hear_all-clause-refusal g c =
         waits = λ front h. subst (λ s. WaitsBefore s c.args.heard.now front pieces) is
             (let (_, stops, waits) = heard front
             (c.send_all.ensures.same_reading.same_front front (c.queue.ensures.same_reading.same_front front h)) in waits);
-      },
-    ))
+      };
+    }))
 
 pub returns-clause-sent : goal.returns-clause-sent
 returns-clause-sent g c = sends_all c.args.client.now c.queue.new.client c.send_all.new.client c.args.requests.now (g.W.Sink.written c.args.writer.now)

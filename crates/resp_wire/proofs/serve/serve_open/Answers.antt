@@ -1,18 +1,16 @@
-use Rattle.std.specs.Prelude.{⊤}
 use Rattle.std.specs.List.{concat}
 use Rattle.std.proofs.lemmas.List.{append-nil, length-take-le}
 use Rattle.std.proofs.Common.{rules, arith, ◌+◌, ◌-◌, ◌≤◌, drop, refl, Err, false, [], ◌∷◌, ◌++◌, ◌≡◌, ap, subst, sym, take, ◌∙◌, length}
-use Rattle.resp_server.specs.Handling.{HasAnswered, WhereOpen}
+use Rattle.resp_server.specs.Handling.{HasAnswered}
 use Rattle.resp_server.specs.Hubs.{HubState}
-use Rattle.resp_wire.specs.Serving.{AnswersGiven, EndsAnswering, FailsServing, Serves, StopsServing, is_of_reader}
+use Rattle.resp_wire.specs.Serving.{AnswersGiven, EndsAnswering, FailsServing, StopsServing, is_of_reader}
 use Rattle.resp_turns.specs.Pieces.{ReadsNothing}
-use Rattle.resp_wire.specs.declared.error.ServeError.TheVariants.{Read, TooManyTurns}
-use Rattle.resp_wire.proofs.LinkStops.{no_turn_left}
+use Rattle.resp_turns.specs.Turns.{stopped_by}
 use Rattle.resp_wire.proofs.AnsweredParts.{at_err, given_whole, may_leave, part_stops, still_few, stops_overfull}
 use Rattle.resp_turns.proofs.Pieces.{all_read, gives, none_left, only_pieces, rest_of, some_left}
 use Rattle.resp_wire.proofs.Seated.{open_map, sent_few, sent_none}
 use Rattle.resp_wire.proofs.ServedTexts.{HasServed, leaves_none, nothing_before, open_is, piece_serves, sent_is_open, serves_nothing}
-use Rattle.resp_wire.proofs.ServeStops.{fails_reading, stops_reading, stops_writing}
+use Rattle.resp_wire.proofs.ServeStops.{fails_reading, no_turn_to_read, stops_reading, stops_writing}
 use Rattle.resp_turns.proofs.Turning.{end_after, spends_both, spends_nothing, spends_writes}
 use Rattle.resp_wire.proofs.serve.serve_open.Goals as goal
 
@@ -27,13 +25,14 @@ returns-in-Err-clause-served g c =
       [],
       [],
       refl,
-      leaves_none (Err c.stop.result),
+      leaves_none (Err c.in-Err.error),
       only_pieces (length c.args.buffer.now) g.R.Source.remaining g.R.Source.calls g.R.Source.failures c.args.reader.now c.args.reader.now []
-          (is_of_reader c.stop.result) refl c.stop.ensures.of_reader,
+          (is_of_reader c.in-Err.error) refl (subst (λ r. stopped_by is_of_reader r ≡ false) c.in-Err.is c.write_out.ensures.no_read),
       open_map old id (λ s front. HasAnswered old old id s front 0) _ (λ s front h. (
         tt,
-        subst (StopsServing old new id s front [] held held') (sym c.stop.ensures.error)
-            (stops_writing old old new id s front [] held held' waits c.in-Err.halt some (serves_nothing old new id s front held held' waits h sent)),
+        stops_writing old new id s front [] held held' waits (g.W.Sink.failures c.args.writer.now) (g.W.Sink.failures c.write_out.new.writer)
+            c.write_out.new.turns c.in-Err.error c.in-Err.ensures.refusal (λ is. c.write_out.ensures.no_memory (c.in-Err.is ∙ ap Err is)) some
+            (serves_nothing old new id s front held held' waits h sent),
         nothing_before old id s front held held',
       )) c.requires.waiting,
     )
@@ -117,16 +116,16 @@ returns-in-Err-read_some-clause-served g c =
       pieces,
       concat pieces,
       sym (append-nil (concat pieces)),
-      leaves_none (Err c.stop-in-Err-read_some.result),
+      leaves_none (Err c.unread.result),
       record {
         between = c.loop-count.reader;
         given = given;
         over = subst (ReadsNothing g.R.Source.remaining g.R.Source.calls c.loop-count.reader c.read_some.new.reader)
-            (sym c.stop-in-Err-read_some.ensures.of_reader) c.in-Err-read_some.ensures.unread;
+            (sym c.unread.ensures.of_reader) c.in-Err-read_some.ensures.unread;
       },
       open_map old id (HasServed old cur id pieces held held') _ (λ s front h. (
         tt,
-        subst (StopsServing old cur id s front (concat pieces) held held') (sym c.stop-in-Err-read_some.ensures.error)
+        subst (StopsServing old cur id s front (concat pieces) held held') (sym c.unread.ensures.error)
             (stops_reading old cur id s front (concat pieces) held held' c.in-Err-read_some.halt (h.0, open_is cur id c.loop-count.invariant.is_open)),
         h.1,
       )) served,
@@ -137,8 +136,8 @@ returns-in-Err-read_some-clause-refusal g c =
     let writes = g.W.Sink.failures c.args.writer.now in
     let writes' = g.W.Sink.failures c.loop-count.writer in
     let reads' = g.R.Source.failures c.read_some.new.reader in
-    subst (λ n. FailsServing c.args.hub.now c.args.id writes writes' n reads' c.stop-in-Err-read_some.result) c.loop-count.invariant.reads
-    (subst (FailsServing c.args.hub.now c.args.id writes writes' (g.R.Source.failures c.loop-count.reader) reads') (sym c.stop-in-Err-read_some.ensures.error)
+    subst (λ n. FailsServing c.args.hub.now c.args.id writes writes' n reads' c.unread.result) c.loop-count.invariant.reads
+    (subst (FailsServing c.args.hub.now c.args.id writes writes' (g.R.Source.failures c.loop-count.reader) reads') (sym c.unread.ensures.error)
     (fails_reading c.args.hub.now c.args.id writes writes' (g.R.Source.failures c.loop-count.reader) reads' c.read_some.new.turns
     c.in-Err-read_some.halt c.in-Err-read_some.ensures.halted))
 
@@ -151,8 +150,8 @@ returns-in-Err-read_some-clause-turns g c = spends_both (g.W.Sink.calls c.args.w
 pub returns-in-Err-read_some-clause-no_turn_left :
     goal.returns-in-Err-read_some-clause-no_turn_left
 returns-in-Err-read_some-clause-no_turn_left g c is =
-    no_turn_left Read TooManyTurns (g.R.Source.failures c.loop-count.reader) (g.R.Source.failures c.read_some.new.reader)
-    c.read_some.new.turns c.in-Err-read_some.halt (λ same. absurd (cc)) c.in-Err-read_some.ensures.halted (let z = c.stop-in-Err-read_some.ensures.error in cc)
+    no_turn_to_read (g.R.Source.failures c.loop-count.reader) (g.R.Source.failures c.read_some.new.reader) c.read_some.new.turns
+    c.in-Err-read_some.halt c.in-Err-read_some.ensures.halted (let z = c.unread.ensures.error in cc)
 
 pub returns-in-Err-end-clause-served : goal.returns-in-Err-end-clause-served
 returns-in-Err-end-clause-served g c =
@@ -170,9 +169,9 @@ returns-in-Err-end-clause-served g c =
     let ends = subst (EndsAnswering new id (g.W.Sink.failures c.loop-count.writer) (g.W.Sink.failures c.answer-answered.new.writer)
     c.answer-answered.new.turns) c.in-Err-end.is
     c.answer-answered.ensures.part.ends in
-    let answered = subst (λ e. AnswersGiven cur new id c.front.result.now held' held'' (record { used = used; end = e })) c.in-Err-end.is
+    let answered = subst (λ e. AnswersGiven cur new id (take n into) held' held'' (record { used = used; end = e })) c.in-Err-end.is
     c.answer-answered.ensures.part.given in
-    let size : length c.front.result.now ≡ n = ap length c.front.ensures ∙ length-take-le n into c.in-Ok.ensures.within in
+    let size : length (take n into) ≡ n = length-take-le n into c.in-Ok.ensures.within in
     let within : used ≤ n = omega (arith, c.answer-answered.ensures.part.within, size) in
     let given_all = gives (length c.args.buffer.now) _ g.R.Source.remaining g.R.Source.calls g.R.Source.failures c.args.reader.now c.loop-count.reader
     c.read_some.new.reader pieces (take n into) (search rules) given (c.in-Ok.ensures.piece (search rules)) in (
@@ -186,7 +185,7 @@ returns-in-Err-end-clause-served g c =
           (is_of_reader error) given_all ends.no_read,
       part_stops c.answers_go_on.ensures c.answers_are_added.ensures c.args.hub.now cur new id pieces into n used held held' held'' error served
           c.loop-count.invariant.is_open
-          (subst (λ z. WhereOpen cur id (λ s front. ⊤ × StopsServing cur new id s front (take used z) held' held'' error)) c.front.ensures answered),
+          answered,
     )
 
 pub returns-in-Err-end-clause-full : goal.returns-in-Err-end-clause-full
@@ -199,10 +198,10 @@ returns-in-Err-end-clause-full g c some =
     let held'' = g.W.Sink.written c.answer-answered.new.writer in
     let cur = c.loop-count.hub in
     let new = c.answer-answered.new.hub in
-    let size : length c.front.result.now ≡ n = ap length c.front.ensures ∙ length-take-le n into c.in-Ok.ensures.within in
+    let size : length (take n into) ≡ n = length-take-le n into c.in-Ok.ensures.within in
     let left = at_err c.answer-answered.result.end c.in-Err-end.error c.in-Err-end.is _ c.answer-answered.ensures.full
     (let less = some_left n used into some in omega (arith, less, size)) in
-    stops_overfull c.answers_go_on.ensures c.answers_are_added.ensures c.args.held c.args.hub.now cur new c.args.id pieces c.front.result.now
+    stops_overfull c.answers_go_on.ensures c.answers_are_added.ensures c.args.held c.args.hub.now cur new c.args.id pieces (take n into)
     (g.W.Sink.written c.args.writer.now) held' held'' served c.loop-count.invariant.is_open left
 
 pub returns-in-Err-end-clause-turns : goal.returns-in-Err-end-clause-turns
@@ -232,9 +231,8 @@ returns-in-Ok-true-clause-served g c =
       open_map c.args.hub.now id (HasServed c.args.hub.now new id (pieces ++ take n into ∷ []) held held'') _ (λ s front h. (h.0, tt, h.1))
           (piece_serves c.answers_go_on.ensures c.answers_are_added.ensures c.args.hub.now cur new id pieces (take n into) held held' held'' served
           c.loop-count.invariant.is_open
-          (subst (λ z. WhereOpen cur id (λ s front. Serves cur new id s (front ++ z) held' held'' [])) c.front.ensures
-          (given_whole cur new id c.front.result.now c.answer-answered.result.used c.answer-answered.result.end c.in-Ok-true.field-0 held' held''
-          c.in-Ok-true.is c.answer-answered.ensures.none_left c.answer-answered.ensures.part.given))),
+          (given_whole cur new id (take n into) c.answer-answered.result.used c.answer-answered.result.end c.in-Ok-true.field-0 held' held''
+          c.in-Ok-true.is c.answer-answered.ensures.none_left c.answer-answered.ensures.part.given)),
     )
 
 pub returns-in-Ok-true-clause-turns : goal.returns-in-Ok-true-clause-turns
@@ -257,9 +255,8 @@ loop-count-preserved g c =
     let new = c.answer-answered.new.hub in
     let all = piece_serves c.answers_go_on.ensures c.answers_are_added.ensures old cur new id pieces (take n into) held held' held'' served
     c.loop-count.invariant.is_open
-    (subst (λ z. WhereOpen cur id (λ s front. Serves cur new id s (front ++ z) held' held'' [])) c.front.ensures
-    (given_whole cur new id c.front.result.now c.answer-answered.result.used c.answer-answered.result.end c.in-Ok-false.field-0 held' held''
-    c.in-Ok-false.is c.answer-answered.ensures.none_left c.answer-answered.ensures.part.given)) in
+    (given_whole cur new id (take n into) c.answer-answered.result.used c.answer-answered.result.end c.in-Ok-false.field-0 held' held''
+    c.in-Ok-false.is c.answer-answered.ensures.none_left c.answer-answered.ensures.part.given) in
     let ends = subst (EndsAnswering new id (g.W.Sink.failures c.loop-count.writer) (g.W.Sink.failures c.answer-answered.new.writer)
     c.answer-answered.new.turns) c.in-Ok-false.is
     c.answer-answered.ensures.part.ends in

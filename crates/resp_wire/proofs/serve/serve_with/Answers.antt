@@ -1,9 +1,10 @@
-use Rattle.std.proofs.Common.{rules, ◌+◌, Err, refl, [], subst, sym, true, length}
-use Rattle.resp_wire.specs.Serving.{StopsAnswering, is_of_reader}
+use Rattle.std.proofs.Common.{rules, ◌≡◌, ◌+◌, Err, refl, [], subst, false, true, length}
+use Rattle.resp_wire.specs.Serving.{is_of_reader}
 use Rattle.resp_server.specs.Sending.{IsClosing}
 use Rattle.resp_wire.proofs.Seated.{closing_is_there, is_open, not_open, nowhere, sent_few}
 use Rattle.resp_wire.proofs.ServedTexts.{leaves_none, sent_is_closing}
-use Rattle.resp_wire.proofs.ServeStops.{answering, no_turn_to_answer}
+use Rattle.resp_wire.proofs.ServeStops.{no_turn_to_answer}
+use Rattle.resp_turns.specs.Turns.{stopped_by}
 use Rattle.resp_turns.proofs.Pieces.{no_pieces, only_pieces}
 use Rattle.resp_wire.proofs.serve.serve_with.Goals as goal
 use Rattle.resp_turns.proofs.Turning.{spends_no_turns, spends_writes}
@@ -31,9 +32,9 @@ returns-in-Err-clause-served g c = (
   [],
   [],
   refl,
-  leaves_none (Err c.stop.result),
+  leaves_none (Err c.in-Err.error),
   only_pieces (length c.args.buffer.now) g.R.Source.remaining g.R.Source.calls g.R.Source.failures c.args.reader.now c.args.reader.now []
-      (is_of_reader c.stop.result) refl c.stop.ensures.of_reader,
+      (is_of_reader c.in-Err.error) refl (subst (λ r. stopped_by is_of_reader r ≡ false) c.in-Err.is c.write_out.ensures.no_read),
   not_open c.args.hub.now c.args.id _ (subst (IsClosing c.args.hub.now c.args.id) {y = true} (search rules) c.in-Ok.ensures.closing),
 )
 
@@ -42,10 +43,8 @@ returns-in-Err-clause-turns g c = (
   c.write_out.new.turns,
   spends_writes (g.W.Sink.calls c.args.writer.now) (g.W.Sink.calls c.write_out.new.writer) (g.R.Source.calls c.args.reader.now) c.args.turns
       c.write_out.new.turns c.write_out.ensures.turns,
-  no_turn_to_answer _ _ (g.W.Sink.failures c.args.writer.now) (g.W.Sink.failures c.write_out.new.writer) c.write_out.new.turns c.stop.result refl
-      (subst (StopsAnswering (g.W.Sink.failures c.args.writer.now) (g.W.Sink.failures c.write_out.new.writer) c.write_out.new.turns)
-      (sym c.stop.ensures.error)
-      (answering (g.W.Sink.failures c.args.writer.now) (g.W.Sink.failures c.write_out.new.writer) c.write_out.new.turns c.in-Err.halt c.in-Err.ensures.halted)),
+  no_turn_to_answer _ _ (g.W.Sink.failures c.args.writer.now) (g.W.Sink.failures c.write_out.new.writer) c.write_out.new.turns c.in-Err.error refl
+      c.in-Err.ensures.refusal,
 )
 
 pub returns-in-Ok-write_out-clause-served : goal.returns-in-Ok-write_out-clause-served

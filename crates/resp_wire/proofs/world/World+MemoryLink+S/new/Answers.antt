@@ -1,4 +1,4 @@
-use Rattle.std.proofs.Common.{arith}
+use Rattle.std.proofs.Common.{rules}
 use Rattle.resp_session.specs.Worlds.{new_world}
 use Rattle.resp_wire.specs.Worlds.{Shows}
 use Rattle.resp_wire.specs.declared.link.memory.MemoryLink.{MemoryLink}
@@ -7,8 +7,5 @@ use Rattle.resp_wire.proofs.worlds.Memory.{over_memory}
 
 pub returns-clause-shows : goal.returns-clause-shows
 returns-clause-shows g c =
-    let so_many = c.loop.invariant.as_many in
-    let within = c.loop.invariant.within in
-    let past = c.loop-test.false in
-    over_memory c.over.result (λ n world. Shows {L = MemoryLink} (λ _. Unit {0}) world c.args.limits (new_world n)) c.loop.links.items c.args.count
-    (omega (arith, so_many, within, past)) c.over.ensures.shows
+    over_memory c.over.result (λ n world. Shows {L = MemoryLink} (λ _. Unit {0}) world c.args.limits (new_world n)) c.in-Ok.links.items c.args.count
+    (search rules) c.over.ensures.shows

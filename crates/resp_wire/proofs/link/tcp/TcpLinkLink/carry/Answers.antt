@@ -1,4 +1,5 @@
-use Rattle.std.proofs.Common.{◌≡◌, ◌∙◌, ℕ, Result, Ok, Err, sym, subst, IfErr}
+use Rattle.std.proofs.Common.{◌≡◌, ◌∙◌, ℕ, Result, Ok, Err, ap, sym, subst, IfErr}
+use Rattle.std.specs.Prelude.{IsErrOf}
 use Rattle.resp_value.specs.declared.cause.Cause.TheVariants as cause
 use Rattle.resp_wire.specs.Links.{IsOutOfTurns}
 use Rattle.resp_wire.specs.TcpLinks.{receiving_end, sending_end}
@@ -25,9 +26,9 @@ differs (Err fault) read out = absurd (let z : cause.Read ≡ cause.TooManyTurns
 
 pub returns-then-is_err-clause-turns : goal.returns-then-is_err-clause-turns
 returns-then-is_err-clause-turns c =
-    turns_kept c.args.direction c.args.self.now c.pass_along.new.self c.saturating_add-self.result 65536 (IsOutOfTurns c.pass_along.result)
+    turns_kept c.args.direction c.args.self.now c.pass_along.new.self c.saturating_add-self.result 65536 (IsErrOf c.pass_along.result cause.TooManyTurns)
     (IsOutOfTurns c.match-pass_along.passed)
-    (elim c.match-pass_along.branch as (λ _. IsOutOfTurns c.match-pass_along.passed → IsOutOfTurns c.pass_along.result) [
+    (elim c.match-pass_along.branch as (λ _. IsOutOfTurns c.match-pass_along.passed → IsErrOf c.pass_along.result cause.TooManyTurns) [
       | in-Ok w ↦ λ out. absurd (differs w.compare-passed.result w.compare-passed.ensures.refusal (subst IsOutOfTurns w.passed-is out))
-      | in-Err w ↦ λ out. subst IsOutOfTurns (sym w.in-Err.is) (subst IsOutOfTurns w.passed-is out)
+      | in-Err w ↦ λ out. w.in-Err.is ∙ ap Err (subst IsOutOfTurns w.passed-is out)
     ]) c.pass_along.ensures.turns
