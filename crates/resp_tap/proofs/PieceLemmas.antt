@@ -36,13 +36,6 @@ pub record HasWatched {S : Type 0} (Step : StepOn S) (first now : S) (piece rest
       WatchesAll Step more now new rest so_far after failed failures' later → (all : List Seen) ×
       WatchesAll Step all first new piece before after failures failures' (result_and printed later)
 
--- nothing was read of the piece
-pub watched_none : {S : Type 0} (Step : StepOn S) (now : S) (piece : List ℕ) (before : Option (List ℕ)) (failures : ℕ) →
-    HasWatched Step now now piece piece before before failures failures (Ok tt)
-watched_none Step now piece before failures = record {
-  and_all = λ more new after failures' later watches. (more, watches);
-}
-
 -- one step more
 pub watched_more : {S : Type 0} (Step : StepOn S) (first now next : S) (piece rest : List ℕ) (watched : Watched)
     (before so_far written : Option (List ℕ)) (failures failed failed' : ℕ) (printed printed' : Result (Unit {0}) PrintError) →

@@ -291,7 +291,7 @@ fn watch_counted_some<W: Sink>(
 ///
 /// The first error of printing. The tap has read the whole piece, and has tried to print all of its
 /// errors.
-#[tactic(auto, using(crate::proofs::PieceLemmas::keeps_on, crate::proofs::PieceLemmas::watched_none, crate::proofs::PieceLemmas::watched_more, crate::proofs::PieceLemmas::watched_all))]
+#[tactic(auto, using(crate::proofs::PieceLemmas::keeps_on, crate::proofs::PieceLemmas::watched_more, crate::proofs::PieceLemmas::watched_all))]
 pub fn watch_counted<W: Sink>(
     tap: &mut CountedTap,
     counts: &mut Counts,

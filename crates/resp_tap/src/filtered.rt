@@ -216,7 +216,7 @@ pub fn watch_filtered_some<W: Sink>(
 /// client 1 reply 2
 ///   error "WRONGTYPE not a number" 22
 /// ```
-#[tactic(auto, using(crate::proofs::PieceLemmas::keeps_on, crate::proofs::PieceLemmas::watched_none, crate::proofs::PieceLemmas::watched_more, crate::proofs::PieceLemmas::watched_all))]
+#[tactic(auto, using(crate::proofs::PieceLemmas::keeps_on, crate::proofs::PieceLemmas::watched_more, crate::proofs::PieceLemmas::watched_all))]
 pub fn watch_filtered<W: Sink>(
     tap: &mut FilteredTap,
     filter: &Filter,

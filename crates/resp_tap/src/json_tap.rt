@@ -189,7 +189,7 @@ pub fn watch_json_some<W: Sink>(
 /// {"client":1,"kind":"command","number":1,"command":"PING","words":1,"size":14,"time":"05:36:56.123456"}
 /// {"client":1,"kind":"reply","number":1,"command":"PING","micros":120,"type":"error","size":9,"error":"ERR no","time":"05:36:56.123576"}
 /// ```
-#[tactic(auto, using(crate::proofs::PieceLemmas::keeps_on, crate::proofs::PieceLemmas::watched_none, crate::proofs::PieceLemmas::watched_more, crate::proofs::PieceLemmas::watched_all))]
+#[tactic(auto, using(crate::proofs::PieceLemmas::keeps_on, crate::proofs::PieceLemmas::watched_more, crate::proofs::PieceLemmas::watched_all))]
 pub fn watch_json<W: Sink>(
     tap: &mut JsonTap,
     filter: &Filter,

@@ -130,7 +130,7 @@ pub fn watch_some<W: Sink>(
 /// client 1 reply 1
 ///   int 7
 /// ```
-#[tactic(auto, using(crate::proofs::PieceLemmas::keeps_on, crate::proofs::PieceLemmas::watched_none, crate::proofs::PieceLemmas::watched_more, crate::proofs::PieceLemmas::watched_all))]
+#[tactic(auto, using(crate::proofs::PieceLemmas::keeps_on, crate::proofs::PieceLemmas::watched_more, crate::proofs::PieceLemmas::watched_all))]
 pub fn watch<W: Sink>(
     tap: &mut TimedTap,
     printing: Printing,
