@@ -1,5 +1,5 @@
 -- The results that a filtered tap reports and prints for the pieces of either side.
-use Rattle.std.specs.Prelude.{◌≡◌, ℕ, Bool, List, slice_get, Option, Result}
+use Rattle.std.specs.Prelude.{ℕ, Bool, List, slice_get, Option, Result}
 use Rattle.resp_value.specs.Data.{Datum}
 use Rattle.resp_print.specs.Printed.{Prints}
 use Rattle.resp_print.specs.declared.print_error.PrintError.{PrintError}
