@@ -1,9 +1,14 @@
 -- The text that was printed for a value since a call began.
-use Rattle.std.specs.Prelude.{◌≡◌, ℕ, ◌≤◌, ◌<◌, List, ◌++◌, length, Option}
+use Rattle.std.specs.Prelude.{◌≡◌, ℕ, ◌≤◌, ◌<◌, List, ◌++◌, length, take, MatchBool, Option, Result, Ok, Err}
 use Rattle.resp_value.specs.Devices.{Appends, count_after}
+use Rattle.resp_value.specs.Rules.{Rules}
 use Rattle.resp_scan.specs.Counts.{open_count}
+use Rattle.resp_scan.specs.Listening.{HearsPiece, HearsRefusal, HearsValue, StopsAfter}
 use Rattle.resp_scan.specs.Machine.Tokens.{Place}
 use Rattle.resp_scan.specs.Reading.{Events, HasRead}
+use Rattle.resp_scan.specs.declared.event.ScanError.{ScanError}
+use Rattle.resp_scan.specs.declared.event.ScanError.TheVariants as stop
+use Rattle.resp_scan.specs.declared.event.Scanned.{Scanned}
 use Rattle.resp_tool.specs.Lines.{HasRoomFor, page_of}
 use Rattle.resp_tool.specs.Pages.{page_after, shown}
 use Rattle.resp_tool.specs.Scans.{AreLinesOf}
@@ -48,6 +53,15 @@ pub record IsOfCall (call : Call) (lines_name writer_name : ℕ) : Type 0 where
 abbrev pub WherePrinted : Place → Lines → Option (List ℕ) → ℕ → (Start → List ℕ → Type 0) → Type 0
 WherePrinted s lines held failures P = (since : Start) (front : List ℕ) (given : Events) → HasRead s front given →
     HasPrinted since lines held failures given → P since front
+
+-- The result of a call over a piece: a value has ended, the piece is used up, a byte was rejected, or the listener has
+-- stopped.
+abbrev pub ScansTo : Rules → Place → (Events → Type 0) → (Events → Type 0) → List ℕ → List ℕ →
+    Result Scanned ScanError → Type 0
+ScansTo r s HasHeard HasStopped front piece (Ok scanned) = MatchBool scanned.is_whole
+    (HearsValue r s HasHeard (front ++ take scanned.used piece)) (HearsPiece s HasHeard (front ++ piece))
+ScansTo r s HasHeard HasStopped front piece (Err (stop.Fault fault)) = HearsRefusal r HasHeard front piece fault
+ScansTo r s HasHeard HasStopped front piece (Err (stop.Stopped taken)) = StopsAfter r HasStopped front piece taken
 
 -- the open parts are those after these events, if the counts and the lines have room for them
 abbrev pub IsPageAfter : Lines → Lines → Events → Type 0

@@ -1,7 +1,6 @@
 //! The lines that `show` writes for events as they arrive.
 
-ghost use Rattle.std.specs.Prelude.{◌≡◌, ◌≤◌, ◌<◌, ◌+◌, ◌^◌, ◌==◌, ◌++◌, [], ◌∷◌, drop, length, reverse, codes, OnOk};
-ghost use Rattle.std.specs.Fmt.{signed_decimal};
+ghost use Rattle.std.specs.Prelude.{◌≡◌, ◌≤◌, ◌<◌, ◌+◌, ◌^◌, ◌==◌, ◌++◌, [], ◌∷◌, length, reverse, codes, OnOk};
 ghost use Rattle.resp_fronts.specs.Events as e;
 ghost use Rattle.resp_value.specs.Data.{items_of};
 ghost use Rattle.resp_value.specs.Kinds.{kind_of};
@@ -60,7 +59,7 @@ impl Default for OpenLine {
 }
 
 impl Lines {
-    ghost use Rattle.resp_tool.specs.Lines.{HasRoomFor, innermost, page_of, with_added};
+    ghost use Rattle.resp_tool.specs.Lines.{HasRoomFor, innermost, page_of};
     ghost use Rattle.resp_tool.specs.Pages.{beginning, blank, end_of_line, shown_on, with_value};
     ghost use Rattle.resp_tool.specs.Printing.{IsPageAfter};
 
@@ -116,10 +115,7 @@ impl Lines {
     fn innermost(&self) -> Option<OpenLine>
         ensures { result ≡ innermost (reverse self.now.aggregates.items) }
     {
-        match self.aggregates.as_slice().last() {
-            Some(line) => Some(*line),
-            None => None,
-        }
+        self.aggregates.as_slice().last().copied()
     }
 
     /// Returns the number of open aggregates.
@@ -138,36 +134,21 @@ impl Lines {
     {
         let level = self.level().saturating_sub(1);
         match self.innermost() {
-            Some(line) => {
-                if line.is_full() {
-                    write_indented(writer, level, b"of\n")
-                } else {
-                    write_text(writer, b"")
-                }
-            }
-            None => write_text(writer, b""),
+            Some(line) if line.is_full() => write_indented(writer, level, b"of\n"),
+            _ => write_text(writer, b""),
         }
     }
 
-    /// Counts one more member of the innermost aggregate.
-    fn add_member(&mut self)
-        ensures items { reverse self.new.aggregates.items ≡
-            with_added (reverse self.old.aggregates.items) }
-        ensures rest { self.new ≡ record self.old { aggregates = self.new.aggregates } }
+    /// Counts a value that was written completely, as one more member of the innermost aggregate.
+    fn end(&mut self)
+        ensures { HasRoomFor 1 (page_of self.old) →
+            page_of self.new ≡ with_value (page_of self.old) }
     {
         if !self.aggregates.is_empty() {
             let last = self.aggregates.len() - 1;
             let members = self.aggregates.as_slice()[last].members.saturating_add(1);
             self.aggregates.as_mut_slice()[last].members = members;
         }
-    }
-
-    /// Counts a value that was written completely.
-    fn end(&mut self)
-        ensures { HasRoomFor 1 (page_of self.old) →
-            page_of self.new ≡ with_value (page_of self.old) }
-    {
-        self.add_member();
     }
 
     /// Writes a null.
@@ -202,7 +183,7 @@ impl Lines {
         ensures page { OnOk result (IsPageAfter self.old self.new (e.Int number ∷ [])) }
     {
         self.begin_line(writer)?;
-        write_int(writer, number)?;
+        write_number(writer, b"int ", number, b"\n")?;
         self.end();
         Ok(())
     }
@@ -283,30 +264,13 @@ impl Lines {
             (e.Open (kind_of kind) count ∷ [])) }
     {
         self.begin(kind_line(kind), writer)?;
-        self.push(OpenLine {
+        // No value needs more room than there is.
+        let _ = self.aggregates.try_push(OpenLine {
             kind,
             count,
             members: 0,
         });
         Ok(())
-    }
-
-    /// Adds an open aggregate, if there is room. No value needs more room.
-    fn push(&mut self, line: OpenLine)
-        ensures items { length self.old.aggregates.items < 128 →
-            reverse self.new.aggregates.items ≡ line ∷ reverse self.old.aggregates.items }
-        ensures rest { self.new ≡ record self.old { aggregates = self.new.aggregates } }
-    {
-        let _ = self.aggregates.try_push(line);
-    }
-
-    /// Removes the innermost open aggregate.
-    fn pop(&mut self)
-        ensures items { reverse self.new.aggregates.items ≡
-            drop 1 (reverse self.old.aggregates.items) }
-        ensures rest { self.new ≡ record self.old { aggregates = self.new.aggregates } }
-    {
-        let _ = self.aggregates.pop();
     }
 
     /// Writes the end of the innermost aggregate.
@@ -317,7 +281,7 @@ impl Lines {
         ensures page { OnOk result (IsPageAfter self.old self.new (e.Close ∷ [])) }
     {
         self.write_last(writer)?;
-        self.pop();
+        let _ = self.aggregates.pop();
         self.end();
         Ok(())
     }
@@ -347,11 +311,8 @@ impl OpenLine {
     fn is_full(&self) -> bool
         ensures { result ≡ has_all_pairs (kind_of self.now.kind) self.now.count self.now.members }
     {
-        let Some(pairs) = self.count else {
-            return false;
-        };
-        match self.kind {
-            OpenKind::Attr => is_double(self.members, pairs),
+        match (self.kind, self.count) {
+            (OpenKind::Attr, Some(pairs)) => self.members.checked_sub(pairs) == Some(pairs),
             _ => false,
         }
     }
@@ -411,14 +372,6 @@ fn write_head<W: Sink>(writer: &mut W, kind: TextKind) -> Result<(), DeviceFault
     }
 }
 
-/// Writes the line of an integer.
-fn write_int<W: Sink>(writer: &mut W, number: i64) -> Result<(), DeviceFault>
-    ensures { WritesText (W.written writer.old) (W.written writer.new) (W.failures writer.old)
-        (W.failures writer.new) result (codes "int " ++ signed_decimal number ++ codes "\n") }
-{
-    write_number(writer, b"int ", number, b"\n")
-}
-
 /// Writes the words before a verbatim string's content.
 fn write_format<W: Sink>(writer: &mut W, format: &[u8]) -> Result<(), DeviceFault>
     ensures { WritesText (W.written writer.old) (W.written writer.new) (W.failures writer.old)
@@ -465,16 +418,6 @@ fn truth_line(truth: bool) -> &'static [u8]
     ensures { result.now ≡ truth_word truth ++ codes "\n" }
 {
     if truth { b"true\n" } else { b"false\n" }
-}
-
-/// Returns whether `number` is twice `half`.
-fn is_double(number: u64, half: u64) -> bool
-    ensures { result ≡ (number == half + half) }
-{
-    if number < half {
-        return false;
-    }
-    number - half == half
 }
 
 /// Returns the text with `bytes` more bytes.

@@ -11,7 +11,7 @@ returns-in_err-begin_line-clause-written g c =
     let words = (codes "int " ++ signed_decimal c.args.number ++ codes "\n") in
     first_fails c.from_residual.result _ _ _ _ first words _ c.from_residual.ensures.0 (sym (append-nil (first ++ words))) c.in_err-begin_line.ensures
 
-pub returns-in_err-write_int-clause-written : goal.returns-in_err-write_int-clause-written
-returns-in_err-write_int-clause-written g c =
-    int_fails c.from_residual-in_err-write_int.result _ _ _ _ _ _ (beginning (page_of c.args.self.now)) _ c.args.number (search rules)
-    c.from_residual-in_err-write_int.ensures.0 c.in_ok-begin_line.ensures c.in_err-write_int.ensures
+pub returns-in_err-write_number-clause-written : goal.returns-in_err-write_number-clause-written
+returns-in_err-write_number-clause-written g c =
+    int_fails c.from_residual-in_err-write_number.result _ _ _ _ _ _ (beginning (page_of c.args.self.now)) _ c.args.number (search rules)
+    c.from_residual-in_err-write_number.ensures.0 c.in_ok-begin_line.ensures c.in_err-write_number.ensures
