@@ -1,5 +1,5 @@
 -- The text that was printed for a value since a call began.
-use Rattle.std.specs.Prelude.{◌≡◌, ℕ, ◌≤◌, ◌<◌, List, ◌++◌, length, take, MatchBool, Option, Result, Ok, Err}
+use Rattle.std.specs.Prelude.{◌≡◌, ℕ, ◌≤◌, ◌<◌, List, ◌++◌, length, take, MatchBool, Option, Result, Ok, Err, OnOk}
 use Rattle.resp_value.specs.Devices.{Appends, count_after}
 use Rattle.resp_value.specs.Rules.{Rules}
 use Rattle.resp_scan.specs.Counts.{open_count}
@@ -10,9 +10,11 @@ use Rattle.resp_scan.specs.declared.event.ScanError.{ScanError}
 use Rattle.resp_scan.specs.declared.event.ScanError.TheVariants as stop
 use Rattle.resp_scan.specs.declared.event.Scanned.{Scanned}
 use Rattle.resp_tool.specs.Lines.{HasRoomFor, page_of}
-use Rattle.resp_tool.specs.Pages.{page_after, shown}
+use Rattle.resp_tool.specs.Pages.{page_after, shown, shown_on}
 use Rattle.resp_tool.specs.Scans.{AreLinesOf}
 use Rattle.resp_tool.specs.declared.lines.Lines.{Lines}
+use Rattle.resp_print.specs.Written.{WritesText}
+use Rattle.resp_value.specs.declared.device.DeviceFault.{DeviceFault}
 
 -- the state when a call began: the bytes written, the number of failed writes, and the text of the value so far
 pub record Start : Type 0 where
@@ -67,3 +69,9 @@ ScansTo r s HasHeard HasStopped front piece (Err (stop.Stopped taken)) = StopsAf
 abbrev pub IsPageAfter : Lines → Lines → Events → Type 0
 IsPageAfter old new more = HasRoomFor (length more) (page_of old) →
     (1 ≤ open_count more → length (page_of old).open_lines < 128) → page_of new ≡ page_after more (page_of old)
+
+-- the text of these events was written, and then the open parts are those after them
+abbrev pub WritesEvents : Lines → Lines → Option (List ℕ) → Option (List ℕ) → ℕ → ℕ → Result (Unit {0}) DeviceFault →
+    Events → Type 0
+WritesEvents old new before after failures failures' result es =
+    WritesText before after failures failures' result (shown_on (page_of old) es) × OnOk result (IsPageAfter old new es)

@@ -150,7 +150,7 @@ impl Draft {
         Ok(())
     }
 
-    /// Inserts the head of an aggregate that ends before its members, unless it is there already.
+    /// Inserts the head of an aggregate before its members, unless it is there already.
     fn put_head(&mut self, aggregate: &OpenAggregate) -> Result<(), AllocError>
         ensures text { OnOk result
             (WithHead aggregate.now self.old.text.items self.new.text.items) }

@@ -10,9 +10,9 @@ use itoa::Buffer;
 use resp_print::text::{write_number, write_text};
 use resp_value::device::{DeviceFault, Sink};
 
-/// A likely reason for a byte that the grammar does not allow, unless it follows the content of a
-/// string. The first eleven are formats that an input may have in place of RESP, and the others are
-/// slips of somebody who wrote RESP.
+/// A likely reason for a byte that the grammar does not allow, where the byte does not follow the
+/// content of a string. The first eleven are formats that an input may have in place of RESP, and
+/// the others are slips of somebody who wrote RESP.
 #[derive(Clone, Copy)]
 pub(crate) enum Clue {
     /// A TLS handshake.
@@ -190,7 +190,7 @@ fn version_text(byte: u8) -> &'static [u8]
     }
 }
 
-/// Returns the first clue that the bytes before the refused one and those from it on show.
+/// Returns the first clue that the bytes show: those before the refused byte, and those from it on.
 fn first_clue(before: &[u8], from: &[u8]) -> Option<Clue>
     ensures { IsFirstOf clues before.now from.now result }
 {

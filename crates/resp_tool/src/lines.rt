@@ -1,6 +1,6 @@
 //! The lines that `show` writes for events as they arrive.
 
-ghost use Rattle.std.specs.Prelude.{◌≡◌, ◌≤◌, ◌<◌, ◌+◌, ◌^◌, ◌==◌, ◌++◌, [], ◌∷◌, length, reverse, codes, OnOk};
+ghost use Rattle.std.specs.Prelude.{◌≡◌, ◌≤◌, ◌<◌, ◌+◌, ◌^◌, ◌==◌, ◌++◌, [], ◌∷◌, length, reverse, codes};
 ghost use Rattle.resp_fronts.specs.Events as e;
 ghost use Rattle.resp_value.specs.Data.{items_of};
 ghost use Rattle.resp_value.specs.Kinds.{kind_of};
@@ -60,8 +60,8 @@ impl Default for OpenLine {
 
 impl Lines {
     ghost use Rattle.resp_tool.specs.Lines.{HasRoomFor, innermost, page_of};
-    ghost use Rattle.resp_tool.specs.Pages.{beginning, blank, end_of_line, shown_on, with_value};
-    ghost use Rattle.resp_tool.specs.Printing.{IsPageAfter};
+    ghost use Rattle.resp_tool.specs.Pages.{beginning, blank, end_of_line, with_value};
+    ghost use Rattle.resp_tool.specs.Printing.{WritesEvents};
 
     /// Returns the state before the first event.
     pub fn new() -> Lines
@@ -153,10 +153,8 @@ impl Lines {
 
     /// Writes a null.
     pub fn null<W: Sink>(&mut self, writer: &mut W) -> Result<(), DeviceFault>
-        ensures written { WritesText (W.written writer.old) (W.written writer.new)
-            (W.failures writer.old) (W.failures writer.new) result
-            (shown_on (page_of self.old) (e.Null ∷ [])) }
-        ensures page { OnOk result (IsPageAfter self.old self.new (e.Null ∷ [])) }
+        ensures { WritesEvents self.old self.new (W.written writer.old) (W.written writer.new)
+            (W.failures writer.old) (W.failures writer.new) result (e.Null ∷ []) }
     {
         self.begin(b"null\n", writer)?;
         self.end();
@@ -165,10 +163,8 @@ impl Lines {
 
     /// Writes a boolean.
     pub fn truth<W: Sink>(&mut self, truth: bool, writer: &mut W) -> Result<(), DeviceFault>
-        ensures written { WritesText (W.written writer.old) (W.written writer.new)
-            (W.failures writer.old) (W.failures writer.new) result
-            (shown_on (page_of self.old) (e.Bool truth ∷ [])) }
-        ensures page { OnOk result (IsPageAfter self.old self.new (e.Bool truth ∷ [])) }
+        ensures { WritesEvents self.old self.new (W.written writer.old) (W.written writer.new)
+            (W.failures writer.old) (W.failures writer.new) result (e.Bool truth ∷ []) }
     {
         self.begin(truth_line(truth), writer)?;
         self.end();
@@ -177,10 +173,8 @@ impl Lines {
 
     /// Writes an integer.
     pub fn int<W: Sink>(&mut self, number: i64, writer: &mut W) -> Result<(), DeviceFault>
-        ensures written { WritesText (W.written writer.old) (W.written writer.new)
-            (W.failures writer.old) (W.failures writer.new) result
-            (shown_on (page_of self.old) (e.Int number ∷ [])) }
-        ensures page { OnOk result (IsPageAfter self.old self.new (e.Int number ∷ [])) }
+        ensures { WritesEvents self.old self.new (W.written writer.old) (W.written writer.new)
+            (W.failures writer.old) (W.failures writer.new) result (e.Int number ∷ []) }
     {
         self.begin_line(writer)?;
         write_number(writer, b"int ", number, b"\n")?;
@@ -190,11 +184,9 @@ impl Lines {
 
     /// Writes the beginning of a text.
     pub fn text<W: Sink>(&mut self, kind: TextKind, writer: &mut W) -> Result<(), DeviceFault>
-        ensures written { WritesText (W.written writer.old) (W.written writer.new)
+        ensures { WritesEvents self.old self.new (W.written writer.old) (W.written writer.new)
             (W.failures writer.old) (W.failures writer.new) result
-            (shown_on (page_of self.old) (e.Text (text_kind_of kind) ∷ [])) }
-        ensures page { OnOk result (IsPageAfter self.old self.new
-            (e.Text (text_kind_of kind) ∷ [])) }
+            (e.Text (text_kind_of kind) ∷ []) }
     {
         self.begin_line(writer)?;
         write_head(writer, kind)?;
@@ -207,10 +199,8 @@ impl Lines {
 
     /// Writes a part of the text's bytes.
     pub fn part<W: Sink>(&mut self, part: &[u8], writer: &mut W) -> Result<(), DeviceFault>
-        ensures written { WritesText (W.written writer.old) (W.written writer.new)
-            (W.failures writer.old) (W.failures writer.new) result
-            (shown_on (page_of self.old) (content_events part.now)) }
-        ensures page { OnOk result (IsPageAfter self.old self.new (content_events part.now)) }
+        ensures { WritesEvents self.old self.new (W.written writer.old) (W.written writer.new)
+            (W.failures writer.old) (W.failures writer.new) result (content_events part.now) }
     {
         write_quoted(writer, part)?;
         self.text = longer(self.text, part.len() as u64);
@@ -219,10 +209,8 @@ impl Lines {
 
     /// Writes the end of the text.
     pub fn text_end<W: Sink>(&mut self, writer: &mut W) -> Result<(), DeviceFault>
-        ensures written { WritesText (W.written writer.old) (W.written writer.new)
-            (W.failures writer.old) (W.failures writer.new) result
-            (shown_on (page_of self.old) (e.TextEnd ∷ [])) }
-        ensures page { OnOk result (IsPageAfter self.old self.new (e.TextEnd ∷ [])) }
+        ensures { WritesEvents self.old self.new (W.written writer.old) (W.written writer.new)
+            (W.failures writer.old) (W.failures writer.new) result (e.TextEnd ∷ []) }
     {
         write_end(writer, self.text)?;
         self.text = None;
@@ -237,11 +225,9 @@ impl Lines {
         bytes: &[u8],
         writer: &mut W,
     ) -> Result<(), DeviceFault>
-        ensures written { WritesText (W.written writer.old) (W.written writer.new)
+        ensures { WritesEvents self.old self.new (W.written writer.old) (W.written writer.new)
             (W.failures writer.old) (W.failures writer.new) result
-            (shown_on (page_of self.old) (whole_text_events kind bytes.now)) }
-        ensures page { OnOk result (IsPageAfter self.old self.new
-            (whole_text_events kind bytes.now)) }
+            (whole_text_events kind bytes.now) }
     {
         self.begin_line(writer)?;
         write_text_line(writer, kind, bytes)?;
@@ -257,11 +243,9 @@ impl Lines {
         count: Option<u64>,
         writer: &mut W,
     ) -> Result<(), DeviceFault>
-        ensures written { WritesText (W.written writer.old) (W.written writer.new)
+        ensures { WritesEvents self.old self.new (W.written writer.old) (W.written writer.new)
             (W.failures writer.old) (W.failures writer.new) result
-            (shown_on (page_of self.old) (e.Open (kind_of kind) count ∷ [])) }
-        ensures page { OnOk result (IsPageAfter self.old self.new
-            (e.Open (kind_of kind) count ∷ [])) }
+            (e.Open (kind_of kind) count ∷ []) }
     {
         self.begin(kind_line(kind), writer)?;
         // No value needs more room than there is.
@@ -275,10 +259,8 @@ impl Lines {
 
     /// Writes the end of the innermost aggregate.
     pub fn close<W: Sink>(&mut self, writer: &mut W) -> Result<(), DeviceFault>
-        ensures written { WritesText (W.written writer.old) (W.written writer.new)
-            (W.failures writer.old) (W.failures writer.new) result
-            (shown_on (page_of self.old) (e.Close ∷ [])) }
-        ensures page { OnOk result (IsPageAfter self.old self.new (e.Close ∷ [])) }
+        ensures { WritesEvents self.old self.new (W.written writer.old) (W.written writer.new)
+            (W.failures writer.old) (W.failures writer.new) result (e.Close ∷ []) }
     {
         self.write_last(writer)?;
         let _ = self.aggregates.pop();
