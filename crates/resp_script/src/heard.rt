@@ -1,6 +1,6 @@
 //! The replies and pushes that a client received, as lines of text.
 
-ghost use Rattle.std.specs.Prelude.{◌≡◌, ◌+◌, ◌<◌, ◌≤◌, ◌^◌, ◌++◌, ℕ, List, Option, codes, decimal, length, IsErrOf};
+ghost use Rattle.std.specs.Prelude.{◌+◌, ◌<◌, ◌≤◌, ◌^◌, ◌++◌, ℕ, List, Option, codes, decimal, length, IsErrOf};
 ghost use Rattle.resp_print.specs.Headings.{push_heading, reply_heading};
 ghost use Rattle.resp_print.specs.Printed.{Prints};
 ghost use Rattle.resp_print.specs.Shown.{lines_on};
@@ -17,8 +17,7 @@ use resp_print::value::{write_push_value, write_value};
 use resp_value::device::{DeviceFault, Sink};
 use resp_value::value::{Members, Value};
 
-/// Writes replies to a client. The first one is the reply to the client's command number `count +
-/// 1`.
+/// Writes replies to a client. The first one is for the command with the number `count + 1`.
 pub(crate) fn write_replies<W: Sink>(
     client: u64,
     count: u64,
@@ -34,9 +33,7 @@ pub(crate) fn write_replies<W: Sink>(
     let mut rest = replies;
     while let Some((reply, beyond)) = rest.split_first() {
         number += 1;
-        if let Err(error) = write_reply(client, number, reply, writer) {
-            return Err(error);
-        }
+        write_reply(client, number, reply, writer)?;
         rest = beyond;
     }
     Ok(())
@@ -54,9 +51,7 @@ pub(crate) fn write_pushes<W: Sink>(
 {
     let mut rest = pushes;
     while let Some((push, beyond)) = rest.split_first() {
-        if let Err(error) = write_push(client, push, writer) {
-            return Err(error);
-        }
+        write_push(client, push, writer)?;
         rest = beyond;
     }
     Ok(())
@@ -79,10 +74,8 @@ fn write_reply<W: Sink>(
         (reply_heading client number ++ lines_on 1 (datum_of reply.now)) }
     ensures memory { IsErrOf result PlayError.Memory → 2 ^ 64 ≤ 1 + depth (datum_of reply.now) }
 {
-    match write_reply_heading(client, number, writer) {
-        Ok(()) => played(write_value(reply, 1, None, writer)),
-        Err(_) => Err(PlayError::Write),
-    }
+    write_numbers(writer, b"client ", client, b" reply ", number)?;
+    played(write_value(reply, 1, None, writer))
 }
 
 /// Writes a push to a client, after its heading.
@@ -97,10 +90,8 @@ fn write_push<W: Sink>(client: u64, push: &Members, writer: &mut W) -> Result<()
     ensures memory { IsErrOf result PlayError.Memory →
         2 ^ 64 ≤ 1 + depth (datum_of (Value.Push push.now)) }
 {
-    match write_number(writer, b"client ", client, b" push\n") {
-        Ok(()) => played(write_push_value(push, 1, None, writer)),
-        Err(_) => Err(PlayError::Write),
-    }
+    write_number(writer, b"client ", client, b" push\n")?;
+    played(write_push_value(push, 1, None, writer))
 }
 
 /// Returns the result of printing as the result of playing.
@@ -133,12 +124,4 @@ pub(crate) fn write_numbers<W: Sink>(
 {
     write_number(writer, words, first, between)?;
     write_number(writer, b"", second, b"\n")
-}
-
-/// Writes the heading of a reply.
-fn write_reply_heading<W: Sink>(client: u64, number: u64, writer: &mut W) -> Result<(), DeviceFault>
-    ensures { WritesText (W.written writer.old) (W.written writer.new) (W.failures writer.old)
-        (W.failures writer.new) result (reply_heading client number) }
-{
-    write_numbers(writer, b"client ", client, b" reply ", number)
 }

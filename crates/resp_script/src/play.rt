@@ -1,6 +1,6 @@
 //! Plays the events of a script, and prints the result of each.
 
-ghost use Rattle.std.specs.Prelude.{◌≡◌, true, ◌+◌, ◌<◌, ◌^◌, ◌++◌, ◌∷◌, [], codes, decimal, drop, length, None, Option, Some, IfErr, IsErrOf, OnOk};
+ghost use Rattle.std.specs.Prelude.{◌≡◌, true, ◌+◌, ◌<◌, ◌^◌, ◌++◌, ◌∷◌, [], codes, decimal, drop, length, None, Option, Some, IfErr, IsErrOf};
 ghost use Rattle.resp_script.specs.Plays.{AreThere, EndsPrint, FailsToWrite, AreShownOn, IsAtStep, KeepsCause, LacksMemoryOnlyTooDeep, PlaysScript, PlaysTo, WhereStopped, flush_events, no_connection_line, played, step_events, steps_events};
 ghost use Rattle.resp_script.specs.Printed.{PlaysText, counts_text, key_count, gone_text, heard_text, outcome_text, refused_text};
 ghost use Rattle.resp_session.specs.Connections.{Connection};
@@ -34,6 +34,16 @@ pub enum PlayError {
     /// A reply or a push has 2^64 levels, more than memory holds.
     #[error("out of memory")]
     Memory,
+}
+
+impl From<DeviceFault> for PlayError {
+    ghost use Rattle.resp_script.specs.declared.play.PlayError.TheVariants.{Write};
+
+    ghost from_gives = { λ _ error. error ≡ Write };
+
+    fn from(_: DeviceFault) -> PlayError {
+        PlayError::Write
+    }
 }
 
 /// Writes a line: a subject with its number, and a reason.
@@ -120,9 +130,7 @@ pub fn play<L: Link, S: BuildHasher + Drop, W: Sink>(
     ensures memory { LacksMemoryOnlyTooDeep L.is_honest world.old world.new result }
 {
     for (line, step) in &script.steps {
-        if let Err(error) = play_step(alloc, *line, step, script.clients, world, writer) {
-            return Err(error);
-        }
+        play_step(alloc, *line, step, script.clients, world, writer)?;
     }
     write_counts(world, writer)
 }
@@ -138,19 +146,8 @@ fn write_counts<L: Link, S: BuildHasher + Drop, W: Sink>(
     ensures ends { EndsPrint (W.failures writer.old) (W.failures writer.new) result }
     ensures no_memory { IsErrOf result PlayError.Memory → ⊥ }
 {
-    match write_totals(world.order().len() as u64, count_keys(world), writer) {
-        Ok(()) => Ok(()),
-        Err(_) => Err(PlayError::Write),
-    }
-}
-
-/// Writes the line of counts.
-fn write_totals<W: Sink>(commands: u64, keys: u64, writer: &mut W) -> Result<(), DeviceFault>
-    ensures { WritesText (W.written writer.old) (W.written writer.new) (W.failures writer.old)
-        (W.failures writer.new) result ((codes "commands " ++ decimal commands ++ codes " keys ") ++
-        (decimal keys ++ codes "\n")) }
-{
-    write_numbers(writer, b"commands ", commands, b" keys ", keys)
+    let commands = world.order().len() as u64;
+    Ok(write_numbers(writer, b"commands ", commands, b" keys ", count_keys(world))?)
 }
 
 /// Returns the number of keys in the store, or the greatest `u64` if it is larger.
@@ -207,13 +204,9 @@ fn flush<L: Link, S: BuildHasher + Drop, W: Sink>(
 {
     for index in 0..clients {
         let to_server = Event::ToServer(index + 1, ALL);
-        if let Err(error) = take(alloc, line, &to_server, true, world, writer) {
-            return Err(error);
-        }
+        take(alloc, line, &to_server, true, world, writer)?;
         let to_client = Event::ToClient(index + 1, ALL);
-        if let Err(error) = take(alloc, line, &to_client, true, world, writer) {
-            return Err(error);
-        }
+        take(alloc, line, &to_client, true, world, writer)?;
     }
     Ok(())
 }
@@ -300,8 +293,8 @@ impl Before {
     {
         match outcome {
             Outcome::Done => self.write_heard(alloc, world, writer),
-            Outcome::Refused(cause) => write_refused(self.client as u64, cause, writer),
-            Outcome::Gone => write_gone(self.client as u64, is_flush, writer),
+            Outcome::Refused(cause) => Ok(write_refused(self.client as u64, cause, writer)?),
+            Outcome::Gone => Ok(write_gone(self.client as u64, is_flush, writer)?),
         }
     }
 
@@ -327,9 +320,7 @@ impl Before {
         let client = self.client as u64;
         let replies = beyond(world.replies(self.client), self.replies);
         let pushes = beyond(world.pushes(self.client), self.pushes);
-        if let Err(error) = write_replies(client, self.replies as u64, replies, writer) {
-            return Err(error);
-        }
+        write_replies(client, self.replies as u64, replies, writer)?;
         write_pushes(client, pushes, writer)
     }
 }
@@ -347,39 +338,22 @@ fn beyond<T>(items: &[T], count: usize) -> &[T]
 }
 
 /// Writes that an event of a client was rejected.
-fn write_refused<W: Sink>(client: u64, cause: Cause, writer: &mut W) -> Result<(), PlayError>
-    ensures prints { PlaysText (W.written writer.old) (W.written writer.new)
-        (W.failures writer.old) (W.failures writer.new) result (refused_text client cause) }
-    ensures no_memory { IsErrOf result PlayError.Memory → ⊥ }
-{
-    match write_refusal(client, cause.name().as_bytes(), writer) {
-        Ok(()) => Ok(()),
-        Err(_) => Err(PlayError::Write),
-    }
-}
-
-/// Writes the line of a rejected event.
-fn write_refusal<W: Sink>(client: u64, name: &[u8], writer: &mut W) -> Result<(), DeviceFault>
+fn write_refused<W: Sink>(client: u64, cause: Cause, writer: &mut W) -> Result<(), DeviceFault>
     ensures { WritesText (W.written writer.old) (W.written writer.new) (W.failures writer.old)
-        (W.failures writer.new) result ((codes "client " ++ decimal client ++ codes " refused ") ++
-        (name.now ++ codes "\n")) }
+        (W.failures writer.new) result (refused_text client cause) }
 {
     write_number(writer, b"client ", client, b" refused ")?;
-    write_text(writer, name)?;
+    write_text(writer, cause.name().as_bytes())?;
     write_text(writer, b"\n")
 }
 
 /// Writes that a client is gone, except in a `flush`.
-fn write_gone<W: Sink>(client: u64, is_flush: bool, writer: &mut W) -> Result<(), PlayError>
-    ensures prints { PlaysText (W.written writer.old) (W.written writer.new)
-        (W.failures writer.old) (W.failures writer.new) result (gone_text client is_flush) }
-    ensures no_memory { IsErrOf result PlayError.Memory → ⊥ }
+fn write_gone<W: Sink>(client: u64, is_flush: bool, writer: &mut W) -> Result<(), DeviceFault>
+    ensures { WritesText (W.written writer.old) (W.written writer.new) (W.failures writer.old)
+        (W.failures writer.new) result (gone_text client is_flush) }
 {
     if is_flush {
         return Ok(());
     }
-    match write_number(writer, b"client ", client, b" gone\n") {
-        Ok(()) => Ok(()),
-        Err(_) => Err(PlayError::Write),
-    }
+    write_number(writer, b"client ", client, b" gone\n")
 }

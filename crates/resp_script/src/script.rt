@@ -1,6 +1,6 @@
 //! Reads a script: its lines, each with an event of one client.
 
-ghost use Rattle.std.specs.Prelude.{◌≡◌, ◌+◌, ◌-◌, ◌<◌, ◌≤◌, [], ◌∷◌, length, IfOk, IfErr, IfSome, IfNone, MatchBool};
+ghost use Rattle.std.specs.Prelude.{◌≡◌, ◌+◌, ◌-◌, ◌<◌, [], ◌∷◌, length, IfOk, IfErr, IfSome, IfNone, MatchBool};
 ghost use Rattle.resp_script.specs.Scripts.{IsRefusedScript, IsScript, IsWithin, NameNoClients, PassesLimit, lines_of};
 ghost use Rattle.resp_print.specs.Written.{WritesText};
 

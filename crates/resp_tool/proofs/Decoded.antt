@@ -1,5 +1,6 @@
 -- What `show --json` has read and written, from what the calls of its decoder say.
-use Rattle.std.proofs.Common.{◌≡◌, ◌⊎◌, inl, inr, ℕ, ◌<◌, true, List, [], ◌++◌, take, IfErr, IfOk, Option, Result, Ok, Err, refl, sym, ap, subst}
+use Rattle.std.specs.Prelude.{IsErrAnd, is_some, MatchOption, MatchResult}
+use Rattle.std.proofs.Common.{◌≡◌, ◌⊎◌, inl, inr, ℕ, ◌<◌, List, [], ◌++◌, length, take, append-nil, IfErr, MatchBool, Option, None, Some, Result, Ok, Err, refl, sym, ap, subst, ◌∙◌}
 use Rattle.resp_value.specs.Devices.{Appends}
 use Rattle.resp_value.specs.Rules.{Rules}
 use Rattle.resp_value.specs.Values.{datum_of}
@@ -9,17 +10,15 @@ use Rattle.resp_value.specs.declared.value.Value.{Value}
 use Rattle.resp_scan.specs.Reading.{HasNoValue}
 use Rattle.resp_scan.specs.declared.event.Fault.{Fault}
 use Rattle.resp_decode.proofs.Feeding.{no_value_at_start}
-use Rattle.resp_decode.specs.Decoding.{GivesValue, HasTaken, LacksMemory, RefusesByte}
+use Rattle.resp_decode.specs.Decoding.{GivesValue, HasTaken, LacksMemory, RefusesByte, TakesPiece}
 use Rattle.resp_decode.specs.declared.decoder.Decoder.{Decoder}
 use Rattle.resp_json.specs.Json.{json_line}
-use Rattle.resp_print.specs.Written.{WritesText}
+use Rattle.resp_print.proofs.WrittenLemmas.{Appends-none}
 use Rattle.resp_tool.specs.Counts.{IsAny, LeavesNothing}
 use Rattle.resp_tool.specs.Decoded.{HasDecoded, stop_by, stop_of}
-use Rattle.resp_tool.specs.Takings.{Takes, WritesValue}
+use Rattle.resp_tool.specs.Takings.{Takes, TakesUnfinished, WritesValue}
 use Rattle.resp_tool.specs.declared.rendering.Stop.{Stop}
-use Rattle.resp_tool.specs.declared.rendering.Stop.TheVariants.{Write}
-use Rattle.resp_tool.specs.declared.rendering.Taken.{Taken}
-use Rattle.resp_tool.proofs.Scanned.{no_part, nothing_left, part_of_value, value_uses_some}
+use Rattle.resp_tool.proofs.Scanned.{no_part, nothing_left, value_uses_some}
 
 -- a decoder before the first value
 pub decoded_nothing : (d : Decoder) → HasTaken d [] → HasDecoded d [] []
@@ -56,22 +55,39 @@ decoded_fault r d front piece so_far held fault nothing (inl refuses) = by_cause
     by_cause c = nothing_left nothing (record { rule = refuses.rule; names = refuses.names; fault_of = refuses.fault_of }) refuses.no_value
 
 -- the same of the error that a call returns for it
-pub decoded_stop : (r : Rules) (d : Decoder) (front piece so_far : List ℕ) (held : Option (List ℕ)) (fault : Fault) (stop : Stop) → stop ≡ stop_of fault →
-    so_far ≡ [] → RefusesByte r front piece fault ⊎ LacksMemory r front piece fault →
+pub decoded_stop : {X : Type 0} (r : Rules) (d : Decoder) (front piece so_far : List ℕ) (held : Option (List ℕ)) (fed : Result X Fault) (stop : Stop) → so_far ≡ [] →
+    IfErr fed (λ fault. RefusesByte r front piece fault ⊎ LacksMemory r front piece fault) →
+    MatchResult fed (λ x. ◌≡◌ {A = Result X Stop} (Err stop) (Ok x)) (λ fault. stop ≡ stop_of fault) →
     Takes r json_line IsAny LeavesNothing LeavesNothing (HasDecoded d) front piece so_far held held (Err stop)
-decoded_stop r d front piece so_far held fault stop is nothing why =
+decoded_stop r d front piece so_far held (Ok x) stop nothing why is = absurd (cc)
+decoded_stop r d front piece so_far held (Err fault) stop nothing why is =
     subst (λ z. Takes r json_line IsAny LeavesNothing LeavesNothing (HasDecoded d) front piece so_far held held (Err z)) (sym is)
     (decoded_fault r d front piece so_far held fault nothing why)
 
--- a value that was read, and the write of its line
-pub decoded_line : (r : Rules) (d : Decoder) (front piece so_far : List ℕ) (used : ℕ) (value : Value) (before after : Option (List ℕ)) (failures failures' : ℕ)
-    (result : Result Taken Stop) → HasNoValue front → so_far ≡ [] → GivesValue r d (front ++ take used piece) value →
-    WritesText before after failures failures' result (json_line (datum_of value)) →
-    IfOk result (λ taken. taken ≡ record { used = used; is_whole = true }) → IfErr result (λ stop. stop ≡ Write) →
-    Takes r json_line IsAny LeavesNothing LeavesNothing (HasDecoded d) front piece so_far before after result
-decoded_line r d front piece so_far used value before after failures failures' (Ok taken) none nothing gives written whole stops =
-    subst (λ z. Takes r json_line IsAny LeavesNothing LeavesNothing (HasDecoded d) front piece so_far before after (Ok z)) (sym whole)
-    (decoded_value r d front piece so_far used value before after none nothing gives written.0)
-decoded_line r d front piece so_far used value before after failures failures' (Err stop) none nothing gives written whole stops =
-    subst (λ z. Takes r json_line IsAny LeavesNothing LeavesNothing (HasDecoded d) front piece so_far before after (Err z)) (sym stops)
-    (part_of_value json_line (datum_of value) front piece used nothing gives.spelling written.0)
+-- a result whose error was replaced
+pub mapped_ok : {X D E : Type 0} (P : E → D → Type 0) (r : Result X E) (r' : Result X D) (x : X) →
+    MatchResult r (λ y. r' ≡ Ok y) (λ e. IsErrAnd r' (P e)) → r' ≡ Ok x → r ≡ Ok x
+mapped_ok P (Ok y) r' x is ok = let same : y ≡ x = cc in ap Ok same
+mapped_ok P (Err e) r' x is ok = absurd (subst (λ z. IsErrAnd z (P e)) ok is)
+
+-- what was read of a piece, and the line that was written for a value in it
+pub decoded_on : (r : Rules) (d : Decoder) (front piece so_far : List ℕ) (used : ℕ) (value : Option Value) (before after : Option (List ℕ)) →
+    HasNoValue front → so_far ≡ [] → ((x : Value) → value ≡ Some x → GivesValue r d (front ++ take used piece) x) →
+    (value ≡ None → TakesPiece r (HasTaken d) (front ++ piece) piece used) →
+    MatchOption value (after ≡ before) (λ x. Appends before after (json_line (datum_of x))) →
+    MatchBool (is_some value)
+    ((0 < used) × WritesValue r json_line IsAny (HasDecoded d) (front ++ take used piece) so_far before after)
+    ((used ≡ length piece) × TakesUnfinished r (HasDecoded d) (front ++ piece) so_far before after)
+decoded_on r d front piece so_far used (Some x) before after none nothing gives takes wrote =
+    decoded_value r d front piece so_far used x before after none nothing (gives x refl) wrote
+decoded_on r d front piece so_far used None before after none nothing gives takes wrote =
+    let t = takes refl in (
+      t.whole_piece,
+      record {
+        no_value = t.no_value;
+        viable = t.viable;
+        more = [];
+        appended = subst (λ a. Appends before a []) (sym wrote) (Appends-none before);
+        takes = record { taken = t.takes; no_value = t.no_value; nothing = append-nil so_far ∙ nothing };
+      },
+    )

@@ -1,5 +1,5 @@
 -- What is open in the lines so far.
-use Rattle.std.proofs.Common.{◌≡◌, ℕ, ℤ, suc, ◌+◌, ◌-◌, ◌<◌, ◌≤◌, ◌^◌, Option, None, Some, Result, List, [], ◌∷◌, ◌++◌, length, map, reverse, codes, decimal, refl, sym, ap, subst, ◌∙◌, append_assoc, append-nil, arith}
+use Rattle.std.proofs.Common.{◌≡◌, ℕ, ℤ, suc, ◌+◌, ◌-◌, ◌<◌, ◌≤◌, ◌^◌, Option, None, Some, Result, Ok, Err, OnOk, List, [], ◌∷◌, ◌++◌, length, map, reverse, codes, decimal, refl, sym, ap, subst, ◌∙◌, append_assoc, append-nil, arith}
 use Rattle.std.specs.Fmt.{signed_decimal}
 use Rattle.std.specs.Result.{IsErr}
 use Rattle.std.proofs.lemmas.List.{length-reverse}
@@ -63,6 +63,11 @@ content_page p [] = ap (λ z. let q : Page = record p { text = z } in q) (none_m
 content_page p (c ∷ s) =
     content_page (record p { text = with_bytes 1 p.text }) s ∙
     ap (λ z. let q : Page = record p { text = z } in q) (with_one_more (length s) p.text)
+
+-- nothing is said of what a call leaves that failed
+pub no_page : {X E : Type 0} (r : Result X E) (P : Type 0) → IsErr r → OnOk r P
+no_page (Ok x) P is = absurd (cc)
+no_page (Err e) P is = tt
 
 -- a text in two parts, of which the first failed
 pub first_fails : {X E : Type 0} (r : Result X E) (before after : Option (List ℕ)) (failures failures' : ℕ) (text next whole : List ℕ) → IsErr r →

@@ -1,5 +1,6 @@
 -- What a scanner has read of a value, from what its calls say.
-use Rattle.std.proofs.Common.{◌≡◌, inl, inr, ℕ, zero, suc, ◌<◌, Bool, true, false, List, [], ◌∷◌, ◌++◌, length, take, drop, MatchBool, Option, refl, sym, ap, subst, ◌∙◌, arith, append_assoc, append-nil, take-append-drop}
+use Rattle.std.specs.Prelude.{◌↔◌, IfErr, IsErrAnd, IsOk, MatchResult}
+use Rattle.std.proofs.Common.{◌≡◌, inl, inr, ℕ, zero, suc, ◌<◌, Bool, true, false, List, [], ◌∷◌, ◌++◌, length, take, drop, MatchBool, Option, Result, Ok, Err, refl, sym, ap, subst, ◌∙◌, arith, append_assoc, append-nil, take-append-drop}
 use Rattle.std.proofs.lemmas.List.{take_all}
 use Rattle.resp_value.specs.Data.{Datum}
 use Rattle.resp_value.specs.Trees.{Tree, Spells}
@@ -9,6 +10,7 @@ use Rattle.resp_value.specs.Spellings.{IsSpelling, IsViable}
 use Rattle.resp_value.specs.declared.cause.Cause.{Cause}
 use Rattle.resp_value.specs.declared.cause.Cause.TheVariants as cause
 use Rattle.resp_fronts.specs.Events.{all_events}
+use Rattle.resp_scan.specs.Kinds.{rules_of}
 use Rattle.resp_scan.specs.Listening.{HearsPiece, HearsRefusal, HearsValue}
 use Rattle.resp_scan.specs.Machine.Tokens.{Place}
 use Rattle.resp_scan.specs.Reading.{Events, HasNoSpelling, HasNoValue, HasRead, IsRefused, MayEnd}
@@ -17,9 +19,12 @@ use Rattle.resp_scan.specs.declared.event.Scanned.{Scanned}
 use Rattle.resp_decode.proofs.Feeding.{due_at_start, fault_of_refused, no_value_at_start}
 use Rattle.resp_tool.specs.Counts.{IsAny, LeavesNothing, no_text}
 use Rattle.resp_tool.specs.Scans.{HasLookedAt, HasScanned}
-use Rattle.resp_tool.specs.Takings.{IsByteFault, IsEndFault, LeavesRefused, TakesUnfinished, WritesPart, WritesValue}
+use Rattle.resp_tool.specs.Takings.{EndsInput, IsByteFault, IsEndFault, LeavesRefused, TakesUnfinished, WritesPart, WritesValue}
+use Rattle.resp_tool.specs.declared.rendering.Stop.{Stop}
+use Rattle.resp_tool.specs.declared.rendering.Stop.TheVariants as stop
 use Rattle.resp_print.specs.Written.{AppendsPart}
 use Rattle.resp_print.proofs.WrittenLemmas.{Appends-none}
+use Rattle.resp_tool.proofs.Outcomes.{is_that_error}
 use Rattle.resp_tool.proofs.Rendered.{begins_none, spelled_one}
 
 -- between two values nothing was scanned
@@ -73,12 +78,11 @@ pub looks_on : (r : Rules) (s s' : Place) (H : Events → Type 0) (front piece s
     HasLookedAt s front so_far →
     ((given : Events) → HasRead s front given → scanned.is_whole ≡ true → HearsValue r s' H (front ++ take scanned.used piece)) →
     ((given : Events) → HasRead s front given → scanned.is_whole ≡ false → HearsPiece s' H (front ++ piece)) →
-    (scanned.is_whole ≡ false → scanned.used ≡ length piece) →
-    ((bytes : List ℕ) (given : Events) → HasRead s' bytes given → IsViable r WithinTotal bytes) →
+    (scanned.is_whole ≡ false → scanned.used ≡ length piece) → rules_of s' ≡ r →
     MatchBool scanned.is_whole
     ((0 < scanned.used) × WritesValue r no_text IsAny (HasLookedAt s') (front ++ take scanned.used piece) so_far held held)
     ((scanned.used ≡ length piece) × TakesUnfinished r (HasLookedAt s') (front ++ piece) so_far held held)
-looks_on r s s' H front piece so_far held scanned looked whole part all viable = case scanned.is_whole refl
+looks_on r s s' H front piece so_far held scanned looked whole part all same = case scanned.is_whole refl
   where
     case : (b : Bool) → scanned.is_whole ≡ b → MatchBool b
         ((0 < scanned.used) × WritesValue r no_text IsAny (HasLookedAt s') (front ++ take scanned.used piece) so_far held held)
@@ -103,7 +107,7 @@ looks_on r s s' H front piece so_far held scanned looked whole part all viable =
           all is,
           record {
             no_value = h.no_value;
-            viable = viable (front ++ piece) h.heard h.reads;
+            viable = subst (λ z. IsViable z WithinTotal (front ++ piece)) same h.viable;
             more = [];
             appended = Appends-none held;
             takes = ((h.heard, record { reads = h.reads; all_due = h.all_due; no_value = h.no_value }), append-nil so_far ∙ nothing);
@@ -156,9 +160,15 @@ part_of_value {r} text x front piece {so_far} used {before} {after} nothing spel
   appended = written.appended;
 }
 
--- the end of the input inside a value
-pub looks_truncated : (r : Rules) (front so_far : List ℕ) (held : Option (List ℕ)) (c : Cause) (at : ℕ) → HasNoValue front → IsViable r WithinTotal front →
-    c ≡ cause.Truncated → at ≡ length front → (front ≡ [] → ⊥) → so_far ≡ [] →
-    LeavesRefused r (IsEndFault r) LeavesNothing front so_far held held c at
-looks_truncated r front so_far held c at none viable names place begun nothing =
-    nothing_left nothing (ends_inside r front c at viable names place begun) (no_spelling_without_value r front none)
+-- the end of the input, where nothing was written
+pub looks_ended : (r : Rules) (text : Datum → List ℕ) (front so_far : List ℕ) (held : Option (List ℕ)) (ended : Result (Unit {0}) Fault)
+    (result : Result (Unit {0}) Stop) → HasNoValue front → IsViable r WithinTotal front → so_far ≡ [] → (IsOk ended ↔ MayEnd r front) →
+    IfErr ended (λ fault. (fault.cause ≡ cause.Truncated) × (fault.at ≡ length front)) →
+    MatchResult ended (λ x. result ≡ Ok x) (λ fault. IsErrAnd result (λ s. s ≡ stop.Fault fault)) →
+    EndsInput r text LeavesNothing LeavesNothing front so_far held held result
+looks_ended r text front so_far held (Ok x) result none viable nothing may truncated is =
+    subst (EndsInput r text LeavesNothing LeavesNothing front so_far held held) (sym is) (ends_between r front none (may.0 refl), nothing, Appends-none held)
+looks_ended r text front so_far held (Err fault) result none viable nothing may truncated is =
+    subst (EndsInput r text LeavesNothing LeavesNothing front so_far held held) (sym (is_that_error result (stop.Fault fault) is))
+    (nothing_left nothing (ends_inside r front fault.cause fault.at viable truncated.0 truncated.1 (λ e. let wrong = may.1 (inl e) in absurd (cc)))
+    (no_spelling_without_value r front none))

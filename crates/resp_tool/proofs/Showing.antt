@@ -24,7 +24,7 @@ use Rattle.resp_scan.specs.declared.event.TextKind.{TextKind as ScannedKind}
 use Rattle.resp_tool.specs.Counts.{IsAny}
 use Rattle.resp_tool.specs.Lines.{HasRoomFor, page_of, size_of_text}
 use Rattle.resp_tool.specs.Pages.{OpenLine, Page, blank, end_of_line, left_text, page_after, page_after_event, shown, shown_on, with_bytes, with_member}
-use Rattle.resp_tool.specs.Printing.{Call, HasBroken, HasPrinted, IsOfCall, IsPageAfter, Start}
+use Rattle.resp_tool.specs.Printing.{Call, HasBroken, HasPrinted, IsOfCall, IsPageAfter, ScansTo, Start}
 use Rattle.resp_tool.specs.Scans.{HasShown, IsShownIn, IsShownOf}
 use Rattle.resp_print.specs.Shown.{shown_text}
 use Rattle.resp_tool.specs.Takings.{IsByteFault, IsEndFault, LeavesRefused, TakesUnfinished, WritesValue, WritesPart}
@@ -251,41 +251,29 @@ left_broken written failures call a b x x' same_writer es h =
     subst (λ y. HasBroken call.start (written y) (failures y) es) (sym (same_writer (sym h.0.writer))) h.1
 
 -- what was heard by one word was heard by another that follows of it
-pub whole_as : (H K : Events → Type 0) (r : Rules) (s : Place) (front piece : List ℕ) (result : Result Scanned ScanError) → ((es : Events) → H es → K es) →
-    IfWhole result (λ used. HearsValue r s H (front ++ take used piece)) → IfWhole result (λ used. HearsValue r s K (front ++ take used piece))
-whole_as H K r s front piece (Ok scanned) so heard = λ whole.
-    let h = heard whole in
-    record { heard = h.heard; is_value = h.is_value; has_heard = so h.heard h.has_heard; reads = h.reads }
-whole_as H K r s front piece (Err x) so heard = heard
-
-pub used_up_as : (H K : Events → Type 0) (s : Place) (written : List ℕ) (result : Result Scanned ScanError) → ((es : Events) → H es → K es) →
-    IfUsedUp result (HearsPiece s H written) → IfUsedUp result (HearsPiece s K written)
-used_up_as H K s written (Ok scanned) so heard = λ part.
-    let h = heard part in
-    record { heard = h.heard; viable = h.viable; no_value = h.no_value; all_due = h.all_due; has_heard = so h.heard h.has_heard; reads = h.reads }
-used_up_as H K s written (Err x) so heard = heard
-
-pub refusal_as : (H K : Events → Type 0) (r : Rules) (front piece : List ℕ) (result : Result Scanned ScanError) → ((es : Events) → H es → K es) →
-    IfRefused result (HearsRefusal r H front piece) → IfRefused result (HearsRefusal r K front piece)
-refusal_as H K r front piece (Ok scanned) so heard = tt
-refusal_as H K r front piece (Err (stop.Fault fault)) so heard =
-    record { heard = heard.heard; refused = heard.refused; has_heard = so heard.heard heard.has_heard }
-refusal_as H K r front piece (Err (stop.Stopped n)) so heard = tt
-
-pub stopped_as : (H K : Events → Type 0) (r : Rules) (front piece : List ℕ) (result : Result Scanned ScanError) → ((es : Events) → H es → K es) →
-    IfStopped result (StopsAfter r H front piece) → IfStopped result (StopsAfter r K front piece)
-stopped_as H K r front piece (Ok scanned) so stops = tt
-stopped_as H K r front piece (Err (stop.Fault fault)) so stops = tt
-stopped_as H K r front piece (Err (stop.Stopped n)) so stops = record {
-  told = stops.told;
-  has_stopped = so stops.told stops.has_stopped;
-  in_piece = stops.in_piece;
-  within = stops.within;
-  viable = stops.viable;
-  first_due = stops.first_due;
-  later = stops.later;
-  all_due = stops.all_due;
-  begins_one = stops.begins_one;
+pub scans_to : (H K S T : Events → Type 0) (r : Rules) (s : Place) (front piece : List ℕ) (result : Result Scanned ScanError) →
+    ((es : Events) → H es → K es) → ((es : Events) → S es → T es) → IfWhole result (λ used. HearsValue r s H (front ++ take used piece)) →
+    IfUsedUp result (HearsPiece s H (front ++ piece)) → IfRefused result (HearsRefusal r H front piece) → IfStopped result (StopsAfter r S front piece) →
+    ScansTo r s K T front piece result
+scans_to H K S T r s front piece (Ok scanned) so stops whole part refused stopped = case scanned.is_whole refl
+  where
+    case : (b : Bool) → scanned.is_whole ≡ b → MatchBool b (HearsValue r s K (front ++ take scanned.used piece)) (HearsPiece s K (front ++ piece))
+    case true is = let h = whole is in record { heard = h.heard; is_value = h.is_value; has_heard = so h.heard h.has_heard; reads = h.reads }
+    case false is =
+        let h = part is in
+        record { heard = h.heard; viable = h.viable; no_value = h.no_value; all_due = h.all_due; has_heard = so h.heard h.has_heard; reads = h.reads }
+scans_to H K S T r s front piece (Err (stop.Fault fault)) so stops whole part refused stopped =
+    record { heard = refused.heard; refused = refused.refused; has_heard = so refused.heard refused.has_heard }
+scans_to H K S T r s front piece (Err (stop.Stopped n)) so stops whole part refused stopped = record {
+  told = stopped.told;
+  has_stopped = stops stopped.told stopped.has_stopped;
+  in_piece = stopped.in_piece;
+  within = stopped.within;
+  viable = stopped.viable;
+  first_due = stopped.first_due;
+  later = stopped.later;
+  all_due = stopped.all_due;
+  begins_one = stopped.begins_one;
 }
 
 -- What comes of a piece.
@@ -345,29 +333,30 @@ module _ (r : Rules) (since : Start) (front piece : List ℕ) (after : Option (L
 
   -- the one or the other
   pub shows_on : (s : Place) (lines : Lines) (scanned : Scanned) → HasNoValue front → rules_of s ≡ r →
-      (scanned.is_whole ≡ true → HearsValue r s (HasPrinted since lines after f) (front ++ take scanned.used piece)) →
-      (scanned.is_whole ≡ false → HearsPiece s (HasPrinted since lines after f) (front ++ piece)) →
-      (scanned.is_whole ≡ false → scanned.used ≡ length piece) →
+      MatchBool scanned.is_whole (HearsValue r s (HasPrinted since lines after f) (front ++ take scanned.used piece))
+      (HearsPiece s (HasPrinted since lines after f) (front ++ piece)) → (scanned.is_whole ≡ false → scanned.used ≡ length piece) →
       MatchBool scanned.is_whole
       ((0 < scanned.used) × WritesValue r shown_text IsAny (HasShown s lines) (front ++ take scanned.used piece) since.so_far since.held after)
       ((scanned.used ≡ length piece) × TakesUnfinished r (HasShown s lines) (front ++ piece) since.so_far since.held after)
-  shows_on s lines scanned none rules whole part all = case scanned.is_whole refl
+  shows_on s lines scanned none rules = case scanned.is_whole
     where
-      case : (b : Bool) → scanned.is_whole ≡ b → MatchBool b
+      case : (b : Bool) → MatchBool b (HearsValue r s (HasPrinted since lines after f) (front ++ take scanned.used piece))
+          (HearsPiece s (HasPrinted since lines after f) (front ++ piece)) → (b ≡ false → scanned.used ≡ length piece) → MatchBool b
           ((0 < scanned.used) × WritesValue r shown_text IsAny (HasShown s lines) (front ++ take scanned.used piece) since.so_far since.held after)
           ((scanned.used ≡ length piece) × TakesUnfinished r (HasShown s lines) (front ++ piece) since.so_far since.held after)
-      case true is = shows_value s lines scanned.used none (whole is)
-      case false is = (all is, shows_front s lines rules (part is))
+      case true h all = shows_value s lines scanned.used none h
+      case false h all = (all refl, shows_front s lines rules h)
 
   -- no write has failed then
   pub none_failed : (s : Place) (lines : Lines) (scanned : Scanned) →
-      (scanned.is_whole ≡ true → HearsValue r s (HasPrinted since lines after f) (front ++ take scanned.used piece)) →
-      (scanned.is_whole ≡ false → HearsPiece s (HasPrinted since lines after f) (front ++ piece)) → f ≡ since.failures
-  none_failed s lines scanned whole part = case scanned.is_whole refl
+      MatchBool scanned.is_whole (HearsValue r s (HasPrinted since lines after f) (front ++ take scanned.used piece))
+      (HearsPiece s (HasPrinted since lines after f) (front ++ piece)) → f ≡ since.failures
+  none_failed s lines scanned = case scanned.is_whole
     where
-      case : (b : Bool) → scanned.is_whole ≡ b → f ≡ since.failures
-      case true is = (whole is).has_heard.none_failed
-      case false is = (part is).has_heard.none_failed
+      case : (b : Bool) → MatchBool b (HearsValue r s (HasPrinted since lines after f) (front ++ take scanned.used piece))
+          (HearsPiece s (HasPrinted since lines after f) (front ++ piece)) → f ≡ since.failures
+      case true h = h.has_heard.none_failed
+      case false h = h.has_heard.none_failed
 
 -- a refused byte, after which an open line was ended
 pub shows_refused : {r : Rules} {since : Start} {front piece : List ℕ} {lines : Lines} {now after : Option (List ℕ)} {f : ℕ} {fault : Fault} →

@@ -1,5 +1,5 @@
 -- The state of the lines, as the code represents it.
-use Rattle.std.specs.Prelude.{ℕ, ◌+◌, ◌-◌, ◌<◌, ◌^◌, List, [], ◌∷◌, min, reverse, map, Option, None, Some}
+use Rattle.std.specs.Prelude.{ℕ, ◌+◌, ◌<◌, ◌^◌, List, [], ◌∷◌, reverse, map, Option, None, Some}
 use Rattle.std.specs.List.{AllByRecursion}
 use Rattle.resp_value.specs.Kinds.{kind_of}
 use Rattle.resp_tool.specs.Pages.{OpenLine, Page}
@@ -14,11 +14,6 @@ line_of l = record { kind = kind_of l.kind; count = l.count; members = l.members
 -- the open aggregates and texts
 abbrev pub page_of : Lines → Page
 page_of lines = record { open_lines = map line_of (reverse lines.aggregates.items); text = lines.text }
-
--- the innermost aggregate has one more member
-abbrev pub with_added : List line.OpenLine → List line.OpenLine
-with_added [] = []
-with_added (l ∷ ls) = record l { members = min (l.members + 1) (2 ^ 64 - 1) } ∷ ls
 
 -- the innermost aggregate, if one is open
 abbrev pub innermost : List line.OpenLine → Option line.OpenLine

@@ -8,7 +8,7 @@ use Rattle.resp_value.specs.Devices.{Appends}
 use Rattle.resp_value.specs.declared.cause.Cause.{Cause}
 use Rattle.resp_value.specs.declared.cause.Cause.TheVariants as cause
 use Rattle.resp_scan.specs.Reading.{HasNoSpelling, HasNoValue}
-use Rattle.resp_tool.specs.declared.rendering.Taken.{Taken}
+use Rattle.resp_scan.specs.declared.event.Scanned.{Scanned}
 use Rattle.resp_tool.specs.declared.rendering.Stop.{Stop}
 use Rattle.resp_tool.specs.declared.rendering.Stop.TheVariants as stop
 
@@ -87,11 +87,11 @@ pub record WritesPart (r : Rules) (text : Datum → List ℕ) (IsBegun : List �
 -- the result for a piece after the bytes read before
 abbrev pub Takes : Rules → (Datum → List ℕ) → (Datum → Type 0) → (List ℕ → List ℕ → Type 0) →
     (List ℕ → List ℕ → Type 0) → (List ℕ → List ℕ → Type 0) → List ℕ → List ℕ → List ℕ → Option (List ℕ) →
-    Option (List ℕ) → Result Taken Stop → Type 0
-Takes r text IsWritten IsLeft IsBegun HasTaken front piece so_far before after (Ok taken) =
-    MatchBool taken.is_whole
-    ((0 < taken.used) × WritesValue r text IsWritten HasTaken (front ++ take taken.used piece) so_far before after)
-    ((taken.used ≡ length piece) × TakesUnfinished r HasTaken (front ++ piece) so_far before after)
+    Option (List ℕ) → Result Scanned Stop → Type 0
+Takes r text IsWritten IsLeft IsBegun HasTaken front piece so_far before after (Ok scanned) =
+    MatchBool scanned.is_whole
+    ((0 < scanned.used) × WritesValue r text IsWritten HasTaken (front ++ take scanned.used piece) so_far before after)
+    ((scanned.used ≡ length piece) × TakesUnfinished r HasTaken (front ++ piece) so_far before after)
 Takes r text IsWritten IsLeft IsBegun HasTaken front piece so_far before after (Err (stop.Fault fault)) =
     LeavesRefused r (IsByteFault r) IsLeft (front ++ piece) so_far before after fault.cause fault.at
 Takes r text IsWritten IsLeft IsBegun HasTaken front piece so_far before after (Err stop.OverLimits) =

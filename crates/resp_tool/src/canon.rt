@@ -1,12 +1,11 @@
 //! `canon`: writes the canonical text of each value of a stream.
 
-ghost use Rattle.std.specs.Prelude.{◌≡◌, ◌⊎◌, ◌+◌, ◌<◌, ◌≤◌, ℕ, true, List, [], length, Some, IfErr, IfOk, IfSome, IsErrOf, OnOk};
+ghost use Rattle.std.specs.Prelude.{◌≡◌, ◌⊎◌, ◌<◌, ◌≤◌, ℕ, List, [], length, Some, IfErr, IfSome, IsErrOf, OnOk};
 ghost use Rattle.resp_decode.specs.Builds.{nothing};
 ghost use Rattle.resp_tool.specs.Counts.{LeavesNothing};
 ghost use Rattle.resp_tool.specs.Drafts.{IsDraftOf};
 ghost use Rattle.resp_tool.specs.Live.{EachRead, IsLive};
 ghost use Rattle.resp_tool.specs.Streams.{AreRead, AtEnd, Renders, UsesReader, failed_to_write};
-ghost use Rattle.resp_print.specs.Written.{WritesText};
 ghost use Rattle.resp_args.specs.Tried.{BreaksText, WritesWhole};
 ghost use Rattle.resp_value.specs.Canonical.{canonical_text, Fits};
 ghost use Rattle.resp_value.specs.Data.{Datum};
@@ -14,12 +13,12 @@ ghost use Rattle.resp_value.specs.Devices.{failures_after};
 ghost use Rattle.resp_value.specs.Rules.{rules_under};
 
 use crate::draft::Draft;
-use crate::rendering::{Rendering, Stop, Taken};
+use crate::rendering::{Rendering, Stop};
 use crate::stream::{MOST_READS, render_stream};
 use resp_args::tool_error::ToolError;
 use resp_print::live::{LiveSink, LiveSource};
 use resp_print::text::write_text;
-use resp_scan::event::ScanError;
+use resp_scan::event::{ScanError, Scanned};
 use resp_scan::scanner::Scanner;
 use resp_value::device::{DeviceFault, Sink};
 use resp_value::laws;
@@ -54,29 +53,17 @@ impl Rendering for Canonical<'_> {
 
     ghost takes_memory = { Unit {0} };
 
-    fn take<W: Sink>(&mut self, piece: &[u8], writer: &mut W) -> Result<Taken, Stop> {
+    fn take<W: Sink>(&mut self, piece: &[u8], writer: &mut W) -> Result<Scanned, Stop> {
         laws::what_was_read_can_be_written();
         let scanned = match self.scanner.scan(piece, &mut self.draft) {
             Ok(scanned) => scanned,
             Err(ScanError::Fault(fault)) => return Err(Stop::Fault(fault)),
             Err(ScanError::Stopped { .. }) => return Err(Stop::Memory),
         };
-        let used = scanned.used;
-        if !scanned.is_whole {
-            // The bytes that were read are viable: this call states it.
-            let _viable = self.scanner.taken();
-            return Ok(Taken {
-                used,
-                is_whole: false,
-            });
+        if scanned.is_whole {
+            write_draft(&mut self.draft, self.limits, writer)?;
         }
-        match write_draft(&mut self.draft, self.limits, writer) {
-            Ok(()) => Ok(Taken {
-                used,
-                is_whole: true,
-            }),
-            Err(stop) => Err(stop),
-        }
+        Ok(scanned)
     }
 
     fn part_stands(&self) {}
@@ -88,10 +75,7 @@ impl Rendering for Canonical<'_> {
     fn finish<W: Sink>(&mut self, _writer: &mut W) -> Result<(), Stop> {
         // The bytes that were read are viable: this call states it.
         let _viable = self.scanner.taken();
-        match self.scanner.finish() {
-            Ok(()) => Ok(()),
-            Err(fault) => Err(Stop::Fault(fault)),
-        }
+        self.scanner.finish().map_err(Stop::Fault)
     }
 }
 
@@ -172,8 +156,6 @@ pub fn canon<R: LiveSource<W>, W: LiveSink>(
         scanner: Scanner::new(version, limits),
         draft,
     };
-    match render_stream(alloc, &mut canonical, piece, reader, writer) {
-        Ok(_) => Ok(()),
-        Err(error) => Err(error),
-    }
+    render_stream(alloc, &mut canonical, piece, reader, writer)?;
+    Ok(())
 }

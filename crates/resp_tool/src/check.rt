@@ -7,12 +7,12 @@ ghost use Rattle.resp_print.specs.Written.{WritesText};
 ghost use Rattle.resp_value.specs.Devices.{failures_after};
 ghost use Rattle.resp_value.specs.Rules.{rules_under};
 
-use crate::rendering::{Rendering, Stop, Taken};
+use crate::rendering::{Rendering, Stop};
 use crate::stream::{MOST_READS, Totals, render_stream};
 use resp_args::tool_error::ToolError;
 use resp_print::live::{LiveSink, LiveSource};
 use resp_print::text::write_number;
-use resp_scan::event::ScanError;
+use resp_scan::event::{ScanError, Scanned};
 use resp_scan::nobody::Nobody;
 use resp_scan::scanner::Scanner;
 use resp_value::device::{DeviceFault, Sink};
@@ -39,16 +39,9 @@ impl Rendering for Unwritten {
 
     ghost writes = { ⊥ };
 
-    fn take<W: Sink>(&mut self, piece: &[u8], _writer: &mut W) -> Result<Taken, Stop> {
+    fn take<W: Sink>(&mut self, piece: &[u8], _writer: &mut W) -> Result<Scanned, Stop> {
         match self.scanner.scan(piece, &mut Nobody::<0>) {
-            Ok(scanned) => {
-                // The bytes that were read are viable: this call states it.
-                let _viable = self.scanner.taken();
-                Ok(Taken {
-                    used: scanned.used,
-                    is_whole: scanned.is_whole,
-                })
-            }
+            Ok(scanned) => Ok(scanned),
             Err(ScanError::Fault(fault)) => Err(Stop::Fault(fault)),
             // `Nobody` never stops.
             Err(ScanError::Stopped { .. }) => unreachable!(),
@@ -64,10 +57,7 @@ impl Rendering for Unwritten {
     fn finish<W: Sink>(&mut self, _writer: &mut W) -> Result<(), Stop> {
         // The bytes that were read are viable: this call states it.
         let _viable = self.scanner.taken();
-        match self.scanner.finish() {
-            Ok(()) => Ok(()),
-            Err(fault) => Err(Stop::Fault(fault)),
-        }
+        self.scanner.finish().map_err(Stop::Fault)
     }
 }
 
@@ -112,14 +102,8 @@ pub fn check<R: LiveSource<W>, W: LiveSink>(
     let mut unwritten = Unwritten {
         scanner: Scanner::new(version, limits),
     };
-    let totals = match render_stream(alloc, &mut unwritten, piece, reader, writer) {
-        Ok(totals) => totals,
-        Err(error) => return Err(error),
-    };
-    match write_counts(writer, totals) {
-        Ok(()) => Ok(()),
-        Err(_) => Err(ToolError::Write),
-    }
+    let totals = render_stream(alloc, &mut unwritten, piece, reader, writer)?;
+    Ok(write_counts(writer, totals)?)
 }
 
 /// Writes the line of counts.

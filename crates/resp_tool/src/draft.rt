@@ -4,7 +4,6 @@ ghost use Rattle.std.specs.Prelude.{◌≡◌, ◌∷◌, ◌+◌, ◌++◌, [],
 ghost use Rattle.resp_decode.specs.Builds.{text_value};
 ghost use Rattle.resp_fronts.specs.Events as e;
 ghost use Rattle.resp_scan.specs.Kinds.{text_kind_of};
-ghost use Rattle.resp_scan.specs.Listening.{whole_text_events};
 ghost use Rattle.resp_encode.specs.Encodings.{head_text};
 ghost use Rattle.resp_tool.specs.Drafts.{AppendsKnownHead, CountsOne, WithHead};
 ghost use Rattle.resp_value.specs.Canonical.{canonical_text};
@@ -132,27 +131,6 @@ impl Draft {
         }
     }
 
-    /// Appends a complete text of this kind.
-    fn add_text(&mut self, kind: TextKind, content: &[u8]) -> bool
-        ensures { DraftsWhereFit self.old self.new (whole_text_events kind content.now) result }
-    {
-        let written = append_text(&mut self.text, kind, content);
-        self.end_value(written)
-    }
-
-    /// Appends the text whose content was received. Returns false if no text was begun, or an
-    /// allocation fails.
-    fn end_text(&mut self) -> bool
-        ensures { DraftsWhereFit self.old self.new (e.TextEnd ∷ []) result }
-    {
-        let Some(kind) = self.kind.take() else {
-            return false;
-        };
-        let written = append_text(&mut self.text, kind, self.content.as_slice());
-        self.content.clear();
-        self.end_value(written)
-    }
-
     /// Opens an aggregate, and writes its head if its number is known.
     fn open_aggregate(&mut self, kind: OpenKind, count: Option<u64>) -> Result<(), AllocError>
         ensures { DraftsWhereFit self.old self.new (e.Open (kind_of kind) count ∷ [])
@@ -172,18 +150,7 @@ impl Draft {
         Ok(())
     }
 
-    /// Closes the innermost aggregate. Returns false if none is open, or an allocation fails.
-    fn close_aggregate(&mut self) -> bool
-        ensures { DraftsWhereFit self.old self.new (e.Close ∷ []) result }
-    {
-        let Some(aggregate) = self.aggregates.pop() else {
-            return false;
-        };
-        let written = self.put_head(&aggregate);
-        self.end_value(written)
-    }
-
-    /// Inserts the head of an aggregate that ends before its members, unless it is there already.
+    /// Inserts the head of an aggregate before its members, unless it is there already.
     fn put_head(&mut self, aggregate: &OpenAggregate) -> Result<(), AllocError>
         ensures text { OnOk result
             (WithHead aggregate.now self.old.text.items self.new.text.items) }
@@ -255,7 +222,12 @@ impl Listener for Draft {
     }
 
     fn text_end(&mut self) -> bool {
-        self.end_text()
+        let Some(kind) = self.kind.take() else {
+            return false;
+        };
+        let written = append_text(&mut self.text, kind, self.content.as_slice());
+        self.content.clear();
+        self.end_value(written)
     }
 
     fn open(&mut self, kind: OpenKind, count: Option<u64>) -> bool {
@@ -263,11 +235,16 @@ impl Listener for Draft {
     }
 
     fn close(&mut self) -> bool {
-        self.close_aggregate()
+        let Some(aggregate) = self.aggregates.pop() else {
+            return false;
+        };
+        let written = self.put_head(&aggregate);
+        self.end_value(written)
     }
 
     fn whole_text(&mut self, kind: TextKind, bytes: &[u8]) -> bool {
-        self.add_text(kind, bytes)
+        let written = append_text(&mut self.text, kind, bytes);
+        self.end_value(written)
     }
 }
 

@@ -195,7 +195,7 @@ fn write_around<F: Sink>(
 }
 
 /// Finds the bytes that are valid after the front of a value, if the grammar does not allow the
-/// next one.
+/// byte there.
 fn next_after(
     alloc: Global,
     error: &ToolError,

@@ -10,9 +10,9 @@ use itoa::Buffer;
 use resp_print::text::{write_number, write_text};
 use resp_value::device::{DeviceFault, Sink};
 
-/// A likely reason for a byte that the grammar does not allow, unless it follows the content of a
-/// string. The first eleven are formats that an input may have in place of RESP, and the others are
-/// slips of somebody who wrote RESP.
+/// A likely reason for a byte that the grammar does not allow, where the byte does not follow the
+/// content of a string. The first eleven are formats that an input may have in place of RESP, and
+/// the others are slips of somebody who wrote RESP.
 #[derive(Clone, Copy)]
 pub(crate) enum Clue {
     /// A TLS handshake.
@@ -107,10 +107,7 @@ pub(crate) fn hint_of(before: &[u8], from: &[u8]) -> Option<Hint>
 {
     match length_before(before) {
         Some(length) => Some(Hint::Content { length }),
-        None => match first_clue(before, from) {
-            Some(clue) => Some(Hint::Clue(clue)),
-            None => None,
-        },
+        None => first_clue(before, from).map(Hint::Clue),
     }
 }
 
@@ -170,10 +167,8 @@ pub(crate) fn write_version<F: Sink>(from: &[u8], faults: &mut F) -> Result<(), 
     ensures { WritesText (F.written faults.old) (F.written faults.new) (F.failures faults.old)
         (F.failures faults.new) result (version_text (get_or from.now 0 0)) }
 {
-    match from.split_first() {
-        Some((byte, _)) => write_text(faults, version_text(*byte)),
-        None => write_text(faults, version_text(0)),
-    }
+    let byte = from.first().copied().unwrap_or(0);
+    write_text(faults, version_text(byte))
 }
 
 /// Returns the sentence about a byte in version 2.
@@ -195,7 +190,7 @@ fn version_text(byte: u8) -> &'static [u8]
     }
 }
 
-/// Returns the first clue that the bytes before the refused one and those from it on show.
+/// Returns the first clue that the bytes show: those before the refused byte, and those from it on.
 fn first_clue(before: &[u8], from: &[u8]) -> Option<Clue>
     ensures { IsFirstOf clues before.now from.now result }
 {
@@ -260,7 +255,7 @@ fn ends(before: &[u8], text: &[u8]) -> bool
     before.ends_with(text)
 }
 
-/// Returns whether the bytes end with one of these bytes, which are no digits, and digits after it.
+/// Returns whether the last byte that is not a digit is one of these marks. No mark is a digit.
 fn ends_with_number(before: &[u8], marks: &[u8]) -> bool
     requires no_digits { AllByRecursion (λ b. is_ascii_digit b ≡ false) marks.now }
     ensures { (result ≡ true) ↔ EndsWithNumber marks.now before.now }
@@ -279,10 +274,7 @@ fn ends_with_number(before: &[u8], marks: &[u8]) -> bool
 fn begins_with_letter(from: &[u8]) -> bool
     ensures { (result ≡ true) ↔ BeginsWithLetter from.now }
 {
-    match from.split_first() {
-        Some((byte, _)) => byte.is_ascii_alphabetic(),
-        None => false,
-    }
+    from.first().is_some_and(u8::is_ascii_alphabetic)
 }
 
 /// Returns the length of the content with which the bytes end: the longest one, if several lengths
@@ -323,8 +315,5 @@ fn ends_with_length(head: &[u8], length: usize) -> bool
 fn ends_with_mark(before: &[u8], marks: &[u8]) -> bool
     ensures { (result ≡ true) ↔ EndsWithMark marks.now before.now }
 {
-    match before.split_last() {
-        Some((byte, _)) => marks.contains(byte),
-        None => false,
-    }
+    before.last().is_some_and(|byte| marks.contains(byte))
 }

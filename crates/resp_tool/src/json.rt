@@ -1,27 +1,24 @@
 //! `show --json`: writes each value of a stream as a line of JSON.
 
-ghost use Rattle.std.specs.Prelude.{◌≡◌, ◌≤◌, ℕ, true, List, [], Some, IfErr, IfOk, IfSome};
+ghost use Rattle.std.specs.Prelude.{◌≡◌, ◌≤◌, ℕ, List, [], Some, IfSome};
 ghost use Rattle.resp_json.specs.Json.{json_line};
-ghost use Rattle.resp_print.specs.Written.{WritesText};
 ghost use Rattle.resp_tool.specs.Counts.{IsAny, LeavesNothing};
 ghost use Rattle.resp_tool.specs.Decoded.{stop_of};
 ghost use Rattle.resp_tool.specs.Live.{EachRead, IsLive};
-ghost use Rattle.resp_tool.specs.Streams.{AreRead, AtEnd, IsNeverOver, Renders, UsesReader, failed_to_write};
+ghost use Rattle.resp_tool.specs.Streams.{AreRead, AtEnd, Renders, UsesReader, failed_to_write};
 ghost use Rattle.resp_value.specs.Devices.{failures_after};
 ghost use Rattle.resp_value.specs.Rules.{rules_under};
-ghost use Rattle.resp_value.specs.Values.{datum_of};
 
-use crate::rendering::{Rendering, Stop, Taken};
+use crate::rendering::{Rendering, Stop};
 use crate::stream::{MOST_READS, render_stream};
 use resp_args::tool_error::ToolError;
 use resp_decode::decoder::Decoder;
 use resp_json::value::write_json_line;
 use resp_print::live::{LiveSink, LiveSource};
-use resp_scan::event::Fault;
+use resp_scan::event::{Fault, Scanned};
 use resp_value::cause::Cause;
 use resp_value::device::{DeviceFault, Sink};
 use resp_value::limits::Limits;
-use resp_value::value::Value;
 use resp_value::version::Version;
 use std::alloc::Global;
 
@@ -43,18 +40,15 @@ impl Rendering for JsonLines {
 
     ghost takes_memory = { Unit {0} };
 
-    fn take<W: Sink>(&mut self, piece: &[u8], writer: &mut W) -> Result<Taken, Stop> {
-        let fed = match self.decoder.feed(piece) {
-            Ok(fed) => fed,
-            Err(fault) => return Err(stop_of(fault)),
-        };
-        match &fed.value {
-            Some(value) => write_value(value, fed.used, writer),
-            None => Ok(Taken {
-                used: fed.used,
-                is_whole: false,
-            }),
+    fn take<W: Sink>(&mut self, piece: &[u8], writer: &mut W) -> Result<Scanned, Stop> {
+        let fed = self.decoder.feed(piece).map_err(stop_of)?;
+        if let Some(value) = &fed.value {
+            write_json_line(value, writer)?;
         }
+        Ok(Scanned {
+            used: fed.used,
+            is_whole: fed.value.is_some(),
+        })
     }
 
     fn part_stands(&self) {}
@@ -66,10 +60,7 @@ impl Rendering for JsonLines {
     fn finish<W: Sink>(&mut self, _writer: &mut W) -> Result<(), Stop> {
         // The bytes that were read are viable: this call states it.
         let _viable = self.decoder.taken();
-        match self.decoder.finish() {
-            Ok(()) => Ok(()),
-            Err(fault) => Err(Stop::Fault(fault)),
-        }
+        self.decoder.finish().map_err(Stop::Fault)
     }
 }
 
@@ -80,22 +71,6 @@ fn stop_of(fault: Fault) -> Stop
     match fault.cause {
         Cause::OutOfMemory => Stop::Memory,
         _ => Stop::Fault(fault),
-    }
-}
-
-/// Writes the line of a value that has ended after this many bytes of the piece.
-fn write_value<W: Sink>(value: &Value, used: usize, writer: &mut W) -> Result<Taken, Stop>
-    ensures writes { WritesText (W.written writer.old) (W.written writer.new)
-        (W.failures writer.old) (W.failures writer.new) result (json_line (datum_of value.now)) }
-    ensures whole { IfOk result (λ taken. taken ≡ record { used = used; is_whole = true }) }
-    ensures stops { IfErr result (λ stop. stop ≡ Stop.Write) }
-{
-    match write_json_line(value, writer) {
-        Ok(()) => Ok(Taken {
-            used,
-            is_whole: true,
-        }),
-        Err(_) => Err(Stop::Write),
     }
 }
 
@@ -141,8 +116,6 @@ pub fn show_json<R: LiveSource<W>, W: LiveSink>(
     let mut lines = JsonLines {
         decoder: Decoder::new(alloc, version, limits),
     };
-    match render_stream(alloc, &mut lines, piece, reader, writer) {
-        Ok(_) => Ok(()),
-        Err(error) => Err(error),
-    }
+    render_stream(alloc, &mut lines, piece, reader, writer)?;
+    Ok(())
 }

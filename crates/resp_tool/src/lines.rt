@@ -1,7 +1,6 @@
 //! The lines that `show` writes for events as they arrive.
 
-ghost use Rattle.std.specs.Prelude.{◌≡◌, ◌≤◌, ◌<◌, ◌+◌, ◌^◌, ◌==◌, ◌++◌, [], ◌∷◌, drop, length, reverse, codes, OnOk};
-ghost use Rattle.std.specs.Fmt.{signed_decimal};
+ghost use Rattle.std.specs.Prelude.{◌≡◌, ◌≤◌, ◌<◌, ◌+◌, ◌^◌, ◌==◌, ◌++◌, [], ◌∷◌, length, reverse, codes};
 ghost use Rattle.resp_fronts.specs.Events as e;
 ghost use Rattle.resp_value.specs.Data.{items_of};
 ghost use Rattle.resp_value.specs.Kinds.{kind_of};
@@ -60,9 +59,9 @@ impl Default for OpenLine {
 }
 
 impl Lines {
-    ghost use Rattle.resp_tool.specs.Lines.{HasRoomFor, innermost, page_of, with_added};
-    ghost use Rattle.resp_tool.specs.Pages.{beginning, blank, end_of_line, shown_on, with_value};
-    ghost use Rattle.resp_tool.specs.Printing.{IsPageAfter};
+    ghost use Rattle.resp_tool.specs.Lines.{HasRoomFor, innermost, page_of};
+    ghost use Rattle.resp_tool.specs.Pages.{beginning, blank, end_of_line, with_value};
+    ghost use Rattle.resp_tool.specs.Printing.{WritesEvents};
 
     /// Returns the state before the first event.
     pub fn new() -> Lines
@@ -116,10 +115,7 @@ impl Lines {
     fn innermost(&self) -> Option<OpenLine>
         ensures { result ≡ innermost (reverse self.now.aggregates.items) }
     {
-        match self.aggregates.as_slice().last() {
-            Some(line) => Some(*line),
-            None => None,
-        }
+        self.aggregates.as_slice().last().copied()
     }
 
     /// Returns the number of open aggregates.
@@ -138,22 +134,15 @@ impl Lines {
     {
         let level = self.level().saturating_sub(1);
         match self.innermost() {
-            Some(line) => {
-                if line.is_full() {
-                    write_indented(writer, level, b"of\n")
-                } else {
-                    write_text(writer, b"")
-                }
-            }
-            None => write_text(writer, b""),
+            Some(line) if line.is_full() => write_indented(writer, level, b"of\n"),
+            _ => write_text(writer, b""),
         }
     }
 
-    /// Counts one more member of the innermost aggregate.
-    fn add_member(&mut self)
-        ensures items { reverse self.new.aggregates.items ≡
-            with_added (reverse self.old.aggregates.items) }
-        ensures rest { self.new ≡ record self.old { aggregates = self.new.aggregates } }
+    /// Counts a value that was written completely, as one more member of the innermost aggregate.
+    fn end(&mut self)
+        ensures { HasRoomFor 1 (page_of self.old) →
+            page_of self.new ≡ with_value (page_of self.old) }
     {
         if !self.aggregates.is_empty() {
             let last = self.aggregates.len() - 1;
@@ -162,20 +151,10 @@ impl Lines {
         }
     }
 
-    /// Counts a value that was written completely.
-    fn end(&mut self)
-        ensures { HasRoomFor 1 (page_of self.old) →
-            page_of self.new ≡ with_value (page_of self.old) }
-    {
-        self.add_member();
-    }
-
     /// Writes a null.
     pub fn null<W: Sink>(&mut self, writer: &mut W) -> Result<(), DeviceFault>
-        ensures written { WritesText (W.written writer.old) (W.written writer.new)
-            (W.failures writer.old) (W.failures writer.new) result
-            (shown_on (page_of self.old) (e.Null ∷ [])) }
-        ensures page { OnOk result (IsPageAfter self.old self.new (e.Null ∷ [])) }
+        ensures { WritesEvents self.old self.new (W.written writer.old) (W.written writer.new)
+            (W.failures writer.old) (W.failures writer.new) result (e.Null ∷ []) }
     {
         self.begin(b"null\n", writer)?;
         self.end();
@@ -184,10 +163,8 @@ impl Lines {
 
     /// Writes a boolean.
     pub fn truth<W: Sink>(&mut self, truth: bool, writer: &mut W) -> Result<(), DeviceFault>
-        ensures written { WritesText (W.written writer.old) (W.written writer.new)
-            (W.failures writer.old) (W.failures writer.new) result
-            (shown_on (page_of self.old) (e.Bool truth ∷ [])) }
-        ensures page { OnOk result (IsPageAfter self.old self.new (e.Bool truth ∷ [])) }
+        ensures { WritesEvents self.old self.new (W.written writer.old) (W.written writer.new)
+            (W.failures writer.old) (W.failures writer.new) result (e.Bool truth ∷ []) }
     {
         self.begin(truth_line(truth), writer)?;
         self.end();
@@ -196,24 +173,20 @@ impl Lines {
 
     /// Writes an integer.
     pub fn int<W: Sink>(&mut self, number: i64, writer: &mut W) -> Result<(), DeviceFault>
-        ensures written { WritesText (W.written writer.old) (W.written writer.new)
-            (W.failures writer.old) (W.failures writer.new) result
-            (shown_on (page_of self.old) (e.Int number ∷ [])) }
-        ensures page { OnOk result (IsPageAfter self.old self.new (e.Int number ∷ [])) }
+        ensures { WritesEvents self.old self.new (W.written writer.old) (W.written writer.new)
+            (W.failures writer.old) (W.failures writer.new) result (e.Int number ∷ []) }
     {
         self.begin_line(writer)?;
-        write_int(writer, number)?;
+        write_number(writer, b"int ", number, b"\n")?;
         self.end();
         Ok(())
     }
 
     /// Writes the beginning of a text.
     pub fn text<W: Sink>(&mut self, kind: TextKind, writer: &mut W) -> Result<(), DeviceFault>
-        ensures written { WritesText (W.written writer.old) (W.written writer.new)
+        ensures { WritesEvents self.old self.new (W.written writer.old) (W.written writer.new)
             (W.failures writer.old) (W.failures writer.new) result
-            (shown_on (page_of self.old) (e.Text (text_kind_of kind) ∷ [])) }
-        ensures page { OnOk result (IsPageAfter self.old self.new
-            (e.Text (text_kind_of kind) ∷ [])) }
+            (e.Text (text_kind_of kind) ∷ []) }
     {
         self.begin_line(writer)?;
         write_head(writer, kind)?;
@@ -226,10 +199,8 @@ impl Lines {
 
     /// Writes a part of the text's bytes.
     pub fn part<W: Sink>(&mut self, part: &[u8], writer: &mut W) -> Result<(), DeviceFault>
-        ensures written { WritesText (W.written writer.old) (W.written writer.new)
-            (W.failures writer.old) (W.failures writer.new) result
-            (shown_on (page_of self.old) (content_events part.now)) }
-        ensures page { OnOk result (IsPageAfter self.old self.new (content_events part.now)) }
+        ensures { WritesEvents self.old self.new (W.written writer.old) (W.written writer.new)
+            (W.failures writer.old) (W.failures writer.new) result (content_events part.now) }
     {
         write_quoted(writer, part)?;
         self.text = longer(self.text, part.len() as u64);
@@ -238,10 +209,8 @@ impl Lines {
 
     /// Writes the end of the text.
     pub fn text_end<W: Sink>(&mut self, writer: &mut W) -> Result<(), DeviceFault>
-        ensures written { WritesText (W.written writer.old) (W.written writer.new)
-            (W.failures writer.old) (W.failures writer.new) result
-            (shown_on (page_of self.old) (e.TextEnd ∷ [])) }
-        ensures page { OnOk result (IsPageAfter self.old self.new (e.TextEnd ∷ [])) }
+        ensures { WritesEvents self.old self.new (W.written writer.old) (W.written writer.new)
+            (W.failures writer.old) (W.failures writer.new) result (e.TextEnd ∷ []) }
     {
         write_end(writer, self.text)?;
         self.text = None;
@@ -256,11 +225,9 @@ impl Lines {
         bytes: &[u8],
         writer: &mut W,
     ) -> Result<(), DeviceFault>
-        ensures written { WritesText (W.written writer.old) (W.written writer.new)
+        ensures { WritesEvents self.old self.new (W.written writer.old) (W.written writer.new)
             (W.failures writer.old) (W.failures writer.new) result
-            (shown_on (page_of self.old) (whole_text_events kind bytes.now)) }
-        ensures page { OnOk result (IsPageAfter self.old self.new
-            (whole_text_events kind bytes.now)) }
+            (whole_text_events kind bytes.now) }
     {
         self.begin_line(writer)?;
         write_text_line(writer, kind, bytes)?;
@@ -276,14 +243,13 @@ impl Lines {
         count: Option<u64>,
         writer: &mut W,
     ) -> Result<(), DeviceFault>
-        ensures written { WritesText (W.written writer.old) (W.written writer.new)
+        ensures { WritesEvents self.old self.new (W.written writer.old) (W.written writer.new)
             (W.failures writer.old) (W.failures writer.new) result
-            (shown_on (page_of self.old) (e.Open (kind_of kind) count ∷ [])) }
-        ensures page { OnOk result (IsPageAfter self.old self.new
-            (e.Open (kind_of kind) count ∷ [])) }
+            (e.Open (kind_of kind) count ∷ []) }
     {
         self.begin(kind_line(kind), writer)?;
-        self.push(OpenLine {
+        // No value needs more room than there is.
+        let _ = self.aggregates.try_push(OpenLine {
             kind,
             count,
             members: 0,
@@ -291,33 +257,13 @@ impl Lines {
         Ok(())
     }
 
-    /// Adds an open aggregate, if there is room. No value needs more room.
-    fn push(&mut self, line: OpenLine)
-        ensures items { length self.old.aggregates.items < 128 →
-            reverse self.new.aggregates.items ≡ line ∷ reverse self.old.aggregates.items }
-        ensures rest { self.new ≡ record self.old { aggregates = self.new.aggregates } }
-    {
-        let _ = self.aggregates.try_push(line);
-    }
-
-    /// Removes the innermost open aggregate.
-    fn pop(&mut self)
-        ensures items { reverse self.new.aggregates.items ≡
-            drop 1 (reverse self.old.aggregates.items) }
-        ensures rest { self.new ≡ record self.old { aggregates = self.new.aggregates } }
-    {
-        let _ = self.aggregates.pop();
-    }
-
     /// Writes the end of the innermost aggregate.
     pub fn close<W: Sink>(&mut self, writer: &mut W) -> Result<(), DeviceFault>
-        ensures written { WritesText (W.written writer.old) (W.written writer.new)
-            (W.failures writer.old) (W.failures writer.new) result
-            (shown_on (page_of self.old) (e.Close ∷ [])) }
-        ensures page { OnOk result (IsPageAfter self.old self.new (e.Close ∷ [])) }
+        ensures { WritesEvents self.old self.new (W.written writer.old) (W.written writer.new)
+            (W.failures writer.old) (W.failures writer.new) result (e.Close ∷ []) }
     {
         self.write_last(writer)?;
-        self.pop();
+        let _ = self.aggregates.pop();
         self.end();
         Ok(())
     }
@@ -347,11 +293,8 @@ impl OpenLine {
     fn is_full(&self) -> bool
         ensures { result ≡ has_all_pairs (kind_of self.now.kind) self.now.count self.now.members }
     {
-        let Some(pairs) = self.count else {
-            return false;
-        };
-        match self.kind {
-            OpenKind::Attr => is_double(self.members, pairs),
+        match (self.kind, self.count) {
+            (OpenKind::Attr, Some(pairs)) => self.members.checked_sub(pairs) == Some(pairs),
             _ => false,
         }
     }
@@ -411,14 +354,6 @@ fn write_head<W: Sink>(writer: &mut W, kind: TextKind) -> Result<(), DeviceFault
     }
 }
 
-/// Writes the line of an integer.
-fn write_int<W: Sink>(writer: &mut W, number: i64) -> Result<(), DeviceFault>
-    ensures { WritesText (W.written writer.old) (W.written writer.new) (W.failures writer.old)
-        (W.failures writer.new) result (codes "int " ++ signed_decimal number ++ codes "\n") }
-{
-    write_number(writer, b"int ", number, b"\n")
-}
-
 /// Writes the words before a verbatim string's content.
 fn write_format<W: Sink>(writer: &mut W, format: &[u8]) -> Result<(), DeviceFault>
     ensures { WritesText (W.written writer.old) (W.written writer.new) (W.failures writer.old)
@@ -465,16 +400,6 @@ fn truth_line(truth: bool) -> &'static [u8]
     ensures { result.now ≡ truth_word truth ++ codes "\n" }
 {
     if truth { b"true\n" } else { b"false\n" }
-}
-
-/// Returns whether `number` is twice `half`.
-fn is_double(number: u64, half: u64) -> bool
-    ensures { result ≡ (number == half + half) }
-{
-    if number < half {
-        return false;
-    }
-    number - half == half
 }
 
 /// Returns the text with `bytes` more bytes.

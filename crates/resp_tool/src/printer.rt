@@ -1,9 +1,8 @@
 //! The listener of `show`: it writes the lines of the events that it receives.
 
-ghost use Rattle.std.specs.Prelude.{◌≡◌, ◌≤◌, ◌++◌, length, take, false, IfOk};
+ghost use Rattle.std.specs.Prelude.{◌≡◌, ◌≤◌, length, false, IfOk};
 ghost use Rattle.resp_scan.specs.Kinds.{rules_of};
-ghost use Rattle.resp_scan.specs.Listening.{HearsPiece, HearsRefusal, HearsValue, IfRefused, IfStopped, IfUsedUp, IfWhole, StopsAfter};
-ghost use Rattle.resp_tool.specs.Printing.{HasBroken, HasPrinted, WherePrinted};
+ghost use Rattle.resp_tool.specs.Printing.{HasBroken, HasPrinted, ScansTo, WherePrinted};
 
 use crate::lines::Lines;
 use resp_scan::event::{ScanError, Scanned, TextKind};
@@ -86,22 +85,10 @@ pub fn print_piece<W: Sink>(
     lines: &mut Lines,
     writer: &mut W,
 ) -> Result<Scanned, ScanError>
-    ensures value_whole { WherePrinted scanner.old lines.old (W.written writer.old)
-        (W.failures writer.old) (λ since front. IfWhole result (λ used.
-        HearsValue (rules_of scanner.old) scanner.new (HasPrinted since lines.new
-        (W.written writer.new) (W.failures writer.new)) (front ++ take used piece.now))) }
-    ensures used_up { WherePrinted scanner.old lines.old (W.written writer.old)
-        (W.failures writer.old) (λ since front. IfUsedUp result
-        (HearsPiece scanner.new (HasPrinted since lines.new (W.written writer.new)
-        (W.failures writer.new)) (front ++ piece.now))) }
-    ensures refusal { WherePrinted scanner.old lines.old (W.written writer.old)
-        (W.failures writer.old) (λ since front. IfRefused result
-        (HearsRefusal (rules_of scanner.old) (HasPrinted since lines.new (W.written writer.new)
-        (W.failures writer.new)) front piece.now)) }
-    ensures stopped { WherePrinted scanner.old lines.old (W.written writer.old)
-        (W.failures writer.old) (λ since front. IfStopped result
-        (StopsAfter (rules_of scanner.old) (HasBroken since (W.written writer.new)
-        (W.failures writer.new)) front piece.now)) }
+    ensures printed { WherePrinted scanner.old lines.old (W.written writer.old)
+        (W.failures writer.old) (λ since front. ScansTo (rules_of scanner.old) scanner.new
+        (HasPrinted since lines.new (W.written writer.new) (W.failures writer.new))
+        (HasBroken since (W.written writer.new) (W.failures writer.new)) front piece.now result) }
     ensures within_piece { IfOk result (λ scanned. scanned.used ≤ length piece.now) }
     ensures whole_piece { IfOk result (λ scanned.
         scanned.is_whole ≡ false → scanned.used ≡ length piece.now) }

@@ -10,17 +10,8 @@ ghost use Rattle.resp_value.specs.Rules.{Rules};
 
 use resp_args::tool_error::ToolError;
 use resp_print::live::LiveSink;
-use resp_scan::event::Fault;
+use resp_scan::event::{Fault, Scanned};
 use resp_value::device::{DeviceFault, Sink};
-
-/// The result of reading bytes.
-#[derive(Clone, Copy, Debug, PartialEq, Eq)]
-pub struct Taken {
-    /// The number of bytes read from the front of the piece.
-    pub used: usize,
-    /// Whether a value is complete after them.
-    pub is_whole: bool,
-}
 
 /// Why a value was not read and written completely.
 #[derive(Clone, Copy, Debug, PartialEq, Eq)]
@@ -103,14 +94,14 @@ pub trait Rendering {
 
     /// Reads bytes of the piece until a value is complete or the piece ends, and writes the text
     /// for them.
-    fn take<W: Sink>(&mut self, piece: &[u8], writer: &mut W) -> Result<Taken, Stop>
+    fn take<W: Sink>(&mut self, piece: &[u8], writer: &mut W) -> Result<Scanned, Stop>
         requires { (front : List ℕ) × (so_far : List ℕ) × has_taken self.old front so_far }
         ensures takes { (front so_far : List ℕ) → has_taken self.old front so_far →
             Takes (rules self.old) (text (rules self.old)) (is_written (rules self.old))
             (is_left (rules self.old)) (is_begun (rules self.old)) (has_taken self.new) front
             piece.now so_far (W.written writer.old) (W.written writer.new) result }
         ensures same_rules { rules self.new ≡ rules self.old }
-        ensures within_piece { IfOk result (λ taken. taken.used ≤ length piece.now) }
+        ensures within_piece { IfOk result (λ scanned. scanned.used ≤ length piece.now) }
         ensures memory_taken { IsErrOf result Stop.Memory → takes_memory }
         ensures writes { IsErrOf result Stop.Write → writes }
         ensures write_failures { W.failures writer.new ≡

@@ -11,9 +11,8 @@ use resp_scan::event::TextKind;
 /// The most bytes of content of a short line.
 const MOST_CONTENT: usize = 96;
 
-/// Builds the line of a text in `line`, which is empty, if the text is short and no byte of it is
-/// escaped. Returns whether it did. The line is a parameter because a returned line would be
-/// copied.
+/// Builds the line of a text in the empty `line`, if the text is short and no byte of it is escaped.
+/// Returns whether it did. The line is a parameter because a returned line would be copied.
 #[inline(always)]
 pub fn make_line(line: &mut ArrayVec<u8, 128>, kind: TextKind, bytes: &[u8]) -> bool
     requires { line.old.items ≡ [] }

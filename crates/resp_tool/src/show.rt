@@ -11,11 +11,11 @@ ghost use Rattle.resp_value.specs.Rules.{rules_under};
 
 use crate::lines::Lines;
 use crate::printer::print_piece;
-use crate::rendering::{Rendering, Stop, Taken};
+use crate::rendering::{Rendering, Stop};
 use crate::stream::{MOST_READS, render_stream};
 use resp_args::tool_error::ToolError;
 use resp_print::live::{LiveSink, LiveSource};
-use resp_scan::event::ScanError;
+use resp_scan::event::{ScanError, Scanned};
 use resp_scan::scanner::Scanner;
 use resp_value::device::{DeviceFault, Sink};
 use resp_value::limits::Limits;
@@ -45,12 +45,9 @@ impl Rendering for Shown {
 
     ghost is_begun = { IsShownIn };
 
-    fn take<W: Sink>(&mut self, piece: &[u8], writer: &mut W) -> Result<Taken, Stop> {
+    fn take<W: Sink>(&mut self, piece: &[u8], writer: &mut W) -> Result<Scanned, Stop> {
         match print_piece(&mut self.scanner, piece, &mut self.lines, writer) {
-            Ok(scanned) => Ok(Taken {
-                used: scanned.used,
-                is_whole: scanned.is_whole,
-            }),
+            Ok(scanned) => Ok(scanned),
             Err(ScanError::Fault(fault)) => match self.lines.end_line(writer) {
                 Ok(()) => Err(Stop::Fault(fault)),
                 Err(_) => Err(Stop::Write),
@@ -129,8 +126,6 @@ pub fn show<R: LiveSource<W>, W: LiveSink>(
         scanner: Scanner::new(version, limits),
         lines: Lines::new(),
     };
-    match render_stream(alloc, &mut shown, piece, reader, writer) {
-        Ok(_) => Ok(()),
-        Err(error) => Err(error),
-    }
+    render_stream(alloc, &mut shown, piece, reader, writer)?;
+    Ok(())
 }

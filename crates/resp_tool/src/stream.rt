@@ -92,8 +92,7 @@ pub fn render_stream<T: Rendering, R: LiveSource<W>, W: LiveSink>(
     Err(ToolError::TooManyTurns)
 }
 
-/// Writes the text for the values that a piece continues, and returns the number of all complete
-/// values.
+/// Writes the text for the values in a piece, and returns the number of all complete values.
 fn render_piece<T: Rendering, W: Sink>(
     rendering: &mut T,
     before: u64,

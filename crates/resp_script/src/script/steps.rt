@@ -1,6 +1,6 @@
 //! The meaning of a line of a script.
 
-ghost use Rattle.std.specs.Prelude.{◌≡◌, ℕ, ◌≤◌, ◌<◌, List, [], ◌∷◌, length, map, Option, Some, IfErr, IfOk, IfSome, IfNone, decimal};
+ghost use Rattle.std.specs.Prelude.{◌≡◌, ℕ, ◌≤◌, ◌<◌, [], ◌∷◌, map, Option, Some, IfErr, IfOk, IfSome, IfNone, decimal};
 ghost use Rattle.resp_value.specs.Words.{texts_of};
 ghost use Rattle.resp_script.specs.Reasons.{IsNoStep, IsReason, WhereBad, parts_of_line};
 ghost use Rattle.resp_script.specs.ScriptSteps.{arguments_of, asked_words, clients_words, item_word, step_name, step_words, verb_of, HasRange, IsStepInRange, IsMoved};
@@ -64,10 +64,7 @@ pub fn said(alloc: Global, clients: Option<usize>, line: &[u8]) -> Result<Saying
     if is_passed_over(line) {
         return Ok(Saying::Nothing);
     }
-    let words = match words_of(alloc, line) {
-        Ok(words) => words,
-        Err(fault) => return Err(fault),
-    };
+    let words = words_of(alloc, line)?;
     match clients {
         None => match clients_of(words.as_slice()) {
             Some(count) => Ok(Saying::Clients(count)),
@@ -182,18 +179,9 @@ fn event_of(
 {
     Ok(match verb {
         Verb::Send => sent(alloc, client, words)?,
-        Verb::Hello => match asked(words) {
-            Some(asked) => Some(Event::Hello(client, asked)),
-            None => None,
-        },
-        Verb::Server => match moved(words) {
-            Some(count) => Some(Event::ToServer(client, count)),
-            None => None,
-        },
-        Verb::Client => match moved(words) {
-            Some(count) => Some(Event::ToClient(client, count)),
-            None => None,
-        },
+        Verb::Hello => asked(words).map(|asked| Event::Hello(client, asked)),
+        Verb::Server => moved(words).map(|count| Event::ToServer(client, count)),
+        Verb::Client => moved(words).map(|count| Event::ToClient(client, count)),
         Verb::Push => Some(Event::Push(client, Members::new(items_of(alloc, words)?))),
         Verb::Drop => {
             if words.is_empty() {

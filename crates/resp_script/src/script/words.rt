@@ -69,7 +69,7 @@ fn split<'a>(alloc: Global, line: &'a [u8]) -> Result<Vec<&'a [u8]>, AllocError>
     line.split(|byte| *byte == b' ').collect(alloc)
 }
 
-/// Returns why the first part that is not a word is not a word.
+/// Returns what is wrong with the first part that is not a word.
 fn first_fault(words: &[&[u8]]) -> Option<BadLine>
     ensures words { IfNone result (All IsWord (map (λ word. word.now) words.now)) }
     ensures no_words { IfSome result (λ reason.
@@ -94,8 +94,8 @@ fn are_seen(text: &[u8]) -> bool
     text.iter().all(u8::is_ascii_graphic)
 }
 
-/// Returns the number from 1 to `most` that a word is, in decimal digits without a leading zero;
-/// `None` for any other word.
+/// Returns the number that a word is: from 1 to `most`, in decimal digits without a leading zero.
+/// Returns `None` for any other word.
 pub fn number_of(word: &[u8], most: u64) -> Option<u64>
     ensures number { IfSome result (λ number.
         (word.now ≡ decimal number) × (1 ≤ number) × (number ≤ most)) }

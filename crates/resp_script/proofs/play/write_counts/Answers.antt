@@ -5,6 +5,8 @@ use Rattle.resp_session.specs.Worlds.{World}
 use Rattle.resp_value.specs.Devices.{Appends}
 use Rattle.resp_print.specs.Written.{AppendsPart}
 use Rattle.resp_script.specs.Printed.{counts_text, key_count}
+use Rattle.resp_script.specs.declared.play.PlayError.TheVariants.{Write}
+use Rattle.resp_script.proofs.Printing.{is_that_error}
 use Rattle.resp_script.proofs.play.write_counts.Goals as goal
 
 -- what holds of the line of counts as it is written holds of it by the definitions
@@ -15,16 +17,16 @@ counts_as P w order keys ordered counted written =
     subst (λ n. P ((codes "commands " ++ decimal (length w.order) ++ codes " keys ") ++ (decimal n ++ codes "\n"))) counted
     (subst (λ n. P ((codes "commands " ++ decimal n ++ codes " keys ") ++ (decimal keys ++ codes "\n"))) ran written)
 
-pub returns-in-Ok-clause-prints : goal.returns-in-Ok-clause-prints
-returns-in-Ok-clause-prints g c = λ limits w shows. (
-  counts_as (Appends (g.W.Sink.written c.args.writer.now) (g.W.Sink.written c.write_totals.new.writer)) w c.order.result.now
-      c.count_keys.result (c.order.ensures limits w shows) (c.count_keys.ensures limits w shows) c.in-Ok.ensures.0,
-  c.in-Ok.ensures.1,
+pub returns-clause-prints : goal.returns-clause-prints
+returns-clause-prints g c = λ limits w shows. (
+  counts_as (Appends (g.W.Sink.written c.args.writer.now) (g.W.Sink.written c.write_numbers.new.writer)) w c.order.result.now
+      c.count_keys.result (c.order.ensures limits w shows) (c.count_keys.ensures limits w shows) c.in_ok-write_numbers.ensures.0,
+  c.in_ok-write_numbers.ensures.1,
 )
 
-pub returns-in-Err-clause-prints : goal.returns-in-Err-clause-prints
-returns-in-Err-clause-prints g c = λ limits w shows. (
-  counts_as (AppendsPart (g.W.Sink.written c.args.writer.now) (g.W.Sink.written c.write_totals.new.writer)) w c.order.result.now
-      c.count_keys.result (c.order.ensures limits w shows) (c.count_keys.ensures limits w shows) c.in-Err.ensures.0,
-  c.in-Err.ensures.1,
+pub returns-in_err-write_numbers-clause-prints : goal.returns-in_err-write_numbers-clause-prints
+returns-in_err-write_numbers-clause-prints g c = λ limits w shows. rw (is_that_error c.from_residual.result Write c.from_residual.ensures.1) (
+  counts_as (AppendsPart (g.W.Sink.written c.args.writer.now) (g.W.Sink.written c.write_numbers.new.writer)) w c.order.result.now
+      c.count_keys.result (c.order.ensures limits w shows) (c.count_keys.ensures limits w shows) c.in_err-write_numbers.ensures.0,
+  c.in_err-write_numbers.ensures.1,
 )

@@ -11,7 +11,7 @@ render_stream-requires-clause-nothing_taken g c = record {
   nothing = refl;
 }
 
-pub returns-in-Ok-clause-written : goal.returns-in-Ok-clause-written
-returns-in-Ok-clause-written g c =
-    let (bytes, read, rendered) = c.in-Ok.ensures.rendered in
+pub returns-clause-written : goal.returns-clause-written
+returns-clause-written g c =
+    let (bytes, read, rendered) = c.in_ok-render_stream.ensures.rendered in
     (bytes, read, (rendered.values, rendered.all))

@@ -1,4 +1,4 @@
-use Rattle.std.proofs.Common.{◌≡◌, ◌∙◌, drop, None, Some, Err, inl, inr, ap, arith, subst}
+use Rattle.std.proofs.Common.{◌≡◌, ◌∙◌, drop, None, Some, Err, inl, inr, ap, arith, subst, sym}
 use Rattle.resp_value.specs.Bounds.{Bounds}
 use Rattle.resp_session.specs.Connections.{Connection, shown_pushes, shown_replies}
 use Rattle.resp_session.specs.Worlds.{World, connection_at}
@@ -6,7 +6,7 @@ use Rattle.resp_wire.proofs.worlds.Places.{none_beyond}
 use Rattle.resp_wire.specs.Worlds.{Shows, pushes_with, values_in}
 use Rattle.resp_script.specs.Printed.{HaveTooDeep, push_texts, reply_texts}
 use Rattle.resp_script.proofs.HeardOf.{deep_beyond, never_there, none_at_zero, pushes_beyond, replies_beyond, there_is}
-use Rattle.resp_script.proofs.Printing.{printed_text, prints_as, prints_next, prints_part}
+use Rattle.resp_script.proofs.Printing.{is_that_error, printed_text, prints_as, prints_next, prints_part}
 use Rattle.resp_script.proofs.play.Before.write_heard.Given.{Over}
 use Rattle.resp_script.proofs.play.Before.write_heard.Goals.{After-beyond-pushes, then-self-eq0-via-then-self-eq0, then-self-eq0-via-else-self-eq0+then-self-clients}
 use Rattle.resp_script.proofs.play.Before.write_heard.Goals as goal
@@ -39,28 +39,29 @@ returns-then-self-eq0-clause-prints g c = λ limits next shows d there.
     ] in
     never_there next.connections client d _ there none
 
-pub returns-in-Err-clause-prints : goal.returns-in-Err-clause-prints
-returns-in-Err-clause-prints g c = λ limits next shows d there.
+pub returns-in_err-write_replies-clause-prints : goal.returns-in_err-write_replies-clause-prints
+returns-in_err-write_replies-clause-prints g c = λ limits next shows d there.
     let b = c.args.self.now in
-    let heard = heard g (goal.at.returns-in-Err-clause-prints g c).After-beyond-pushes limits next shows d there in
-    prints_part c.in-Err.error _ _ _ _ (reply_texts b.client b.replies (drop b.replies (shown_replies d))) (push_texts b.client (drop b.pushes (shown_pushes d)))
-    (prints_as (Err c.in-Err.error) _ _ _ _ _ _ (ap (reply_texts b.client b.replies) heard.0) c.in-Err.ensures.prints)
+    let heard = heard g (goal.at.returns-in_err-write_replies-clause-prints g c).After-beyond-pushes limits next shows d there in
+    rw (is_that_error c.from_residual.result _ c.from_residual.ensures.1)
+    (prints_part c.in_err-write_replies.field-0.0 _ _ _ _ (reply_texts b.client b.replies (drop b.replies (shown_replies d))) (push_texts b.client (drop b.pushes (shown_pushes d)))
+    (prints_as (Err c.in_err-write_replies.field-0.0) _ _ _ _ _ _ (ap (reply_texts b.client b.replies) heard.0) c.in_err-write_replies.ensures.prints))
 
 pub returns-clause-prints : goal.returns-clause-prints
 returns-clause-prints g c = λ limits next shows d there.
     let b = c.args.self.now in
     let heard = heard g (goal.at.returns-clause-prints g c).After-beyond-pushes limits next shows d there in
-    let first = printed_text _ _ _ _ _ _ (ap (reply_texts b.client b.replies) heard.0) c.in_default.ensures.prints in
+    let first = printed_text _ _ _ _ _ _ (ap (reply_texts b.client b.replies) heard.0) c.in_ok-write_replies.ensures.prints in
     let second = prints_as c.write_pushes.result _ _ _ _ _ _ (ap (push_texts b.client) heard.1) c.write_pushes.ensures.prints in
     prints_next c.write_pushes.result _ _ _ _ _ _ (reply_texts b.client b.replies (drop b.replies (shown_replies d)))
     (push_texts b.client (drop b.pushes (shown_pushes d))) first second
 
-pub returns-in-Err-clause-memory : goal.returns-in-Err-clause-memory
-returns-in-Err-clause-memory g c = λ memory limits next shows.
+pub returns-in_err-write_replies-clause-memory : goal.returns-in_err-write_replies-clause-memory
+returns-in_err-write_replies-clause-memory g c = λ memory limits next shows.
     let b = c.args.self.now in
-    let at = (goal.at.returns-in-Err-clause-memory g c).After-beyond-pushes in
+    let at = (goal.at.returns-in_err-write_replies-clause-memory g c).After-beyond-pushes in
     let (d, there) = is_there g at limits next shows in
-    let deep = subst HaveTooDeep (heard g at limits next shows d there).0 (c.in-Err.ensures.memory memory) in
+    let deep = subst HaveTooDeep (heard g at limits next shows d there).0 (c.in_err-write_replies.ensures.memory (sym (is_that_error c.from_residual.result _ c.from_residual.ensures.1) ∙ memory)) in
     record { next = next; shows = shows; client = b.client; connection = d; there = there; deep = inl (deep_beyond b.replies (shown_replies d) deep) }
 
 pub returns-clause-memory : goal.returns-clause-memory

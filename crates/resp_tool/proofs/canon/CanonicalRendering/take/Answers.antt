@@ -10,6 +10,7 @@ use Rattle.resp_tool.specs.Takings.{Takes}
 use Rattle.resp_tool.specs.declared.rendering.Stop.{Stop}
 use Rattle.resp_tool.specs.declared.rendering.Stop.TheVariants.{OverLimits}
 use Rattle.resp_tool.proofs.Drafted.{declines, drafts_front, drafts_value, part_of_draft}
+use Rattle.resp_tool.proofs.Outcomes.{is_that_error}
 use Rattle.resp_tool.proofs.Scanned.{byte_fault, no_part, nothing_left}
 use Rattle.resp_tool.proofs.canon.CanonicalRendering.take.Goals as goal
 
@@ -28,18 +29,18 @@ returns-in-Err-Fault-clause-takes g c = λ front so_far w.
 pub returns-in-Err-Stopped-clause-takes : goal.returns-in-Err-Stopped-clause-takes
 returns-in-Err-Stopped-clause-takes g c = λ front so_far w. no_part w.nothing
 
-pub returns-then-not-scanned-clause-takes : goal.returns-then-not-scanned-clause-takes
-returns-then-not-scanned-clause-takes g c = λ front so_far w.
+pub returns-else-scanned-clause-takes : goal.returns-else-scanned-clause-takes
+returns-else-scanned-clause-takes g c = λ front so_far w.
     let self = c.args.self.now in
     let is : c.in-Ok.scanned.is_whole ≡ false = search rules in
-    let heard = c.in-Ok.ensures.used_up self.version front w.given w.scanned.reads w.drafted is in (
+    let heard = c.in-Ok.ensures.used_up self.version front w.given w.scanned.reads w.drafted is in rw is (
       c.in-Ok.ensures.whole_piece is,
       drafts_front (rules_under self.version self.limits.now) c.scan.new.self c.scan.new.listener front c.args.piece.now so_far
           (g.W.Sink.written c.args.writer.now) w.nothing heard (c.in-Ok.ensures.same_rules ∙ w.same_rules),
     )
 
-pub returns-in-Ok-write_draft-clause-takes : goal.returns-in-Ok-write_draft-clause-takes
-returns-in-Ok-write_draft-clause-takes g c = λ front so_far w.
+pub returns-in_ok-write_draft-clause-takes : goal.returns-in_ok-write_draft-clause-takes
+returns-in_ok-write_draft-clause-takes g c = λ front so_far w.
     let self = c.args.self.now in
     let r = rules_under self.version self.limits.now in
     let piece = c.args.piece.now in
@@ -47,13 +48,13 @@ returns-in-Ok-write_draft-clause-takes g c = λ front so_far w.
     let is : c.in-Ok.scanned.is_whole ≡ true = search rules in
     let heard = subst (λ z. HearsValue z c.scan.new.self (HasDrafted self.version c.scan.new.listener) (front ++ take used piece)) w.same_rules
     (c.in-Ok.ensures.value_whole self.version front w.given w.scanned.reads w.drafted is) in
-    drafts_value c.what_was_read_can_be_written.ensures.fits_but_for_total r c.scan.new.self c.scan.new.listener c.write_draft.new.draft front piece so_far
+    rw is (drafts_value c.what_was_read_can_be_written.ensures.fits_but_for_total r c.scan.new.self c.scan.new.listener c.write_draft.new.draft front piece so_far
     (g.W.Sink.written c.args.writer.now) (g.W.Sink.written c.write_draft.new.writer) used w.scanned.no_value w.nothing heard
-    (c.in-Ok.ensures.same_rules ∙ w.same_rules) c.in-Ok-write_draft.ensures.same_version c.in-Ok-write_draft.ensures.next
-    c.in-Ok-write_draft.ensures.within_total c.in-Ok-write_draft.ensures.whole.0
+    (c.in-Ok.ensures.same_rules ∙ w.same_rules) c.in_ok-write_draft.ensures.same_version c.in_ok-write_draft.ensures.next
+    c.in_ok-write_draft.ensures.within_total c.in_ok-write_draft.ensures.whole.0)
 
-pub returns-in-Err-clause-takes : goal.returns-in-Err-clause-takes
-returns-in-Err-clause-takes g c = λ front so_far w.
+pub returns-in_err-write_draft-clause-takes : goal.returns-in_err-write_draft-clause-takes
+returns-in_err-write_draft-clause-takes g c = λ front so_far w.
     let self = c.args.self.now in
     let r = rules_under self.version self.limits.now in
     let piece = c.args.piece.now in
@@ -67,12 +68,12 @@ returns-in-Err-clause-takes g c = λ front so_far w.
     let Comes = λ (b : Option (List ℕ)) (z : Stop).
     Takes r (canonical_text r.version) (Fits r) LeavesNothing LeavesNothing (HasBegunDraft r c.scan.new.self c.write_draft.new.draft) front piece so_far before b
     (Err z) in
-    elim c.in-Err.ensures.stops [
+    rw (is_that_error c.from_residual.result _ c.from_residual.ensures.1) (elim c.in_err-write_draft.ensures.stops [
       | inl over ↦
-          let (same, long) = c.in-Err.ensures.over_total (ap Err over) in
+          let (same, long) = c.in_err-write_draft.ensures.over_total (ap Err over) in
           subst (Comes after) (sym over) (subst (λ b. Comes b OverLimits) (ap g.W.Sink.written (sym same))
           (declines r c.scan.new.self draft front piece so_far used before w.nothing heard long))
       | inr broke ↦
           subst (Comes after) (sym broke)
-          (part_of_draft r c.scan.new.self draft front piece so_far used before after w.nothing heard (c.in-Err.ensures.part (ap Err broke)).0)
-    ]
+          (part_of_draft r c.scan.new.self draft front piece so_far used before after w.nothing heard (c.in_err-write_draft.ensures.part (ap Err broke)).0)
+    ])

@@ -1,21 +1,11 @@
-use Rattle.std.proofs.Common.{inl, refl}
 use Rattle.resp_scan.specs.Kinds.{rules_of}
-use Rattle.resp_tool.proofs.Scanned.{ends_between, looks_truncated}
-use Rattle.resp_print.proofs.WrittenLemmas.{Appends-none}
+use Rattle.resp_tool.specs.Counts.{no_text}
+use Rattle.resp_tool.proofs.Scanned.{looks_ended}
 use Rattle.resp_tool.proofs.check.UnwrittenRendering.finish.Goals as goal
 
-pub returns-in-Ok-clause-ends : goal.returns-in-Ok-clause-ends
-returns-in-Ok-clause-ends g c = λ front so_far looked.
-    let ((given, scanned), nothing) = looked in (
-      ends_between (rules_of c.args.self.now.scanner) front scanned.no_value ((c.in-Ok.ensures.may_end front given scanned.reads).0 refl),
-      nothing,
-      Appends-none (g.W.Sink.written c.args._writer.now),
-    )
-
-pub returns-in-Err-clause-ends : goal.returns-in-Err-clause-ends
-returns-in-Err-clause-ends g c = λ front so_far looked.
+pub returns-clause-ends : goal.returns-clause-ends
+returns-clause-ends g c = λ front so_far looked.
     let ((given, scanned), nothing) = looked in
-    let truncated = c.in-Err.ensures.truncated_inside_a_value front given scanned.reads in
-    looks_truncated (rules_of c.args.self.now.scanner) front so_far (g.W.Sink.written c.args._writer.now) c.in-Err.fault.cause c.in-Err.fault.at
-    scanned.no_value (c.taken-viable.ensures.viable front given scanned.reads) truncated.0 truncated.1
-    (λ none. let wrong = (c.in-Err.ensures.may_end front given scanned.reads).1 (inl none) in absurd (cc)) nothing
+    looks_ended (rules_of c.args.self.now.scanner) no_text front so_far (g.W.Sink.written c.args._writer.now) c.finish.result c.map_err.result
+    scanned.no_value (c.taken-viable.ensures.viable front given scanned.reads) nothing (c.finish.ensures.may_end front given scanned.reads)
+    (c.finish.ensures.truncated_inside_a_value front given scanned.reads) c.map_err.ensures.cases

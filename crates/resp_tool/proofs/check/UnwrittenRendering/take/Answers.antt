@@ -1,10 +1,8 @@
-use Rattle.std.proofs.Common.{rules, ◌≡◌, ℕ, List, subst}
+use Rattle.std.proofs.Common.{rules, ◌≡◌, subst}
 use Rattle.resp_scan.specs.Listening.{HearsRefusal, OnFault, OnStopped, StopsAfter}
 use Rattle.resp_scan.specs.declared.event.ScanError.TheVariants as stop
-use Rattle.resp_value.specs.Rules.{WithinTotal}
-use Rattle.resp_value.specs.Spellings.{IsViable}
 use Rattle.resp_scan.specs.Kinds.{rules_of}
-use Rattle.resp_scan.specs.Reading.{Events, HasRead}
+use Rattle.resp_scan.specs.Reading.{Events}
 use Rattle.resp_tool.proofs.Scanned.{looks_on, looks_refused}
 use Rattle.resp_tool.proofs.check.UnwrittenRendering.take.Goals as goal
 
@@ -12,9 +10,7 @@ pub returns-in-Ok-clause-takes : goal.returns-in-Ok-clause-takes
 returns-in-Ok-clause-takes g c = λ front so_far looked.
     looks_on (rules_of c.args.self.now.scanner) c.args.self.now.scanner c.scan.new.self (λ (es : Events). Unit {0}) front c.args.piece.now so_far
     (g.W.Sink.written c.args._writer.now) c.in-Ok.scanned looked (λ given reads. c.in-Ok.ensures.value_whole tt front given reads tt)
-    (λ given reads. c.in-Ok.ensures.used_up tt front given reads tt) c.in-Ok.ensures.whole_piece
-    (subst (λ r. (bytes : List ℕ) (given : Events) → HasRead c.scan.new.self bytes given → IsViable r WithinTotal bytes) c.in-Ok.ensures.same_rules
-    c.taken-viable.ensures.viable)
+    (λ given reads. c.in-Ok.ensures.used_up tt front given reads tt) c.in-Ok.ensures.whole_piece c.in-Ok.ensures.same_rules
 
 pub returns-in-Err-Fault-clause-takes : goal.returns-in-Err-Fault-clause-takes
 returns-in-Err-Fault-clause-takes g c = λ front so_far looked.

@@ -6,4 +6,4 @@ use Rattle.resp_tool.proofs.printer.PrinterListener.close.Goals as goal
 pub returns : goal.returns
 returns g c call given had may =
     rw c.is_ok.ensures.value (prints c.close.result call _ _ c.args.self.now.lines.now c.close.new.self _ _ _ _ given (e.Close ∷ []) had may
-    (closed_deep given may) (λ some. absurd (omega (arith, some))) c.close.ensures.written c.close.ensures.page)
+    (closed_deep given may) (λ some. absurd (omega (arith, some))) c.close.ensures.0 c.close.ensures.1)

@@ -6,4 +6,4 @@ use Rattle.resp_tool.proofs.printer.PrinterListener.null.Goals as goal
 pub returns : goal.returns
 returns g c call given had may =
     rw c.is_ok.ensures.value (prints c.null.result call _ _ c.args.self.now.lines.now c.null.new.self _ _ _ _ given (e.Null ∷ []) had may
-    (level_deep given (e.Null ∷ []) (record { opens = refl; closes = refl })) (λ some. refl) c.null.ensures.written c.null.ensures.page)
+    (level_deep given (e.Null ∷ []) (record { opens = refl; closes = refl })) (λ some. refl) c.null.ensures.0 c.null.ensures.1)

@@ -8,4 +8,4 @@ pub returns : goal.returns
 returns g c call given had may =
     rw c.is_ok.ensures.value (prints c.open.result call _ _ c.args.self.now.lines.now c.open.new.self _ _ _ _ given
     (e.Open (kind_of c.args.kind) c.args.count ∷ []) had may
-    (opened_deep given (kind_of c.args.kind) c.args.count) (λ some. refl) c.open.ensures.written c.open.ensures.page)
+    (opened_deep given (kind_of c.args.kind) c.args.count) (λ some. refl) c.open.ensures.0 c.open.ensures.1)

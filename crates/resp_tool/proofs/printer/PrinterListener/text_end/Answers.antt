@@ -6,4 +6,4 @@ use Rattle.resp_tool.proofs.printer.PrinterListener.text_end.Goals as goal
 pub returns : goal.returns
 returns g c call given had may =
     rw c.is_ok.ensures.value (prints c.text_end.result call _ _ c.args.self.now.lines.now c.text_end.new.self _ _ _ _ given (e.TextEnd ∷ []) had may
-    (level_deep given (e.TextEnd ∷ []) (record { opens = refl; closes = refl })) (λ some. refl) c.text_end.ensures.written c.text_end.ensures.page)
+    (level_deep given (e.TextEnd ∷ []) (record { opens = refl; closes = refl })) (λ some. refl) c.text_end.ensures.0 c.text_end.ensures.1)

@@ -6,4 +6,4 @@ use Rattle.resp_tool.proofs.printer.PrinterListener.truth.Goals as goal
 pub returns : goal.returns
 returns g c call given had may =
     rw c.is_ok.ensures.value (prints c.truth.result call _ _ c.args.self.now.lines.now c.truth.new.self _ _ _ _ given (e.Bool c.args.truth ∷ []) had may
-    (level_deep given (e.Bool c.args.truth ∷ []) (record { opens = refl; closes = refl })) (λ some. refl) c.truth.ensures.written c.truth.ensures.page)
+    (level_deep given (e.Bool c.args.truth ∷ []) (record { opens = refl; closes = refl })) (λ some. refl) c.truth.ensures.0 c.truth.ensures.1)

@@ -7,4 +7,4 @@ returns g c call given had may =
     let level = whole_level c.args.kind c.args.bytes.now in
     rw c.is_ok.ensures.value (prints c.whole_text.result call _ _ c.args.self.now.lines.now c.whole_text.new.self _ _ _ _ given
     (whole_text_events c.args.kind c.args.bytes.now) had may (level_deep given (whole_text_events c.args.kind c.args.bytes.now) level)
-    (λ some. level.closes) c.whole_text.ensures.written c.whole_text.ensures.page)
+    (λ some. level.closes) c.whole_text.ensures.0 c.whole_text.ensures.1)

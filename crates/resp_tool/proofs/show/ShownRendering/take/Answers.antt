@@ -20,7 +20,7 @@ refused : (g : Over) (c : In-Err-Fault g) (front so_far : List ℕ) → HasShown
     c.in-Err-Fault.fault
 refused g c front so_far h =
     let is : c.in-Err-Fault.field-0 ≡ stop.Fault c.in-Err-Fault.fault = search rules in
-    rw is at (c.in-Err-Fault.ensures.refusal _ front h.given h.scanned.reads
+    rw is at (c.in-Err-Fault.ensures.printed _ front h.given h.scanned.reads
     (printed_before (g.W.Sink.written c.args.writer.now) (g.W.Sink.failures c.args.writer.now) h))
 
 -- a failed write, after a part of what was to be printed
@@ -32,7 +32,7 @@ broken : (g : Over) (c : In-Err-Stopped g) (front so_far : List ℕ) → HasShow
     }) (g.W.Sink.written c.print_piece.new.writer) (g.W.Sink.failures c.print_piece.new.writer)) front c.args.piece.now c.in-Err-Stopped.field-0-0
 broken g c front so_far h =
     let is : c.in-Err-Stopped.field-0 ≡ stop.Stopped c.in-Err-Stopped.field-0-0 = search rules in
-    rw is at (c.in-Err-Stopped.ensures.stopped _ front h.given h.scanned.reads
+    rw is at (c.in-Err-Stopped.ensures.printed _ front h.given h.scanned.reads
     (printed_before (g.W.Sink.written c.args.writer.now) (g.W.Sink.failures c.args.writer.now) h))
 
 pub returns-in-Ok-clause-takes : goal.returns-in-Ok-clause-takes
@@ -40,8 +40,7 @@ returns-in-Ok-clause-takes g c = λ front so_far h.
     let before = printed_before (g.W.Sink.written c.args.writer.now) (g.W.Sink.failures c.args.writer.now) h in
     shows_on (rules_of c.args.self.now.scanner) _ front c.args.piece.now (g.W.Sink.written c.print_piece.new.writer)
     (g.W.Sink.failures c.print_piece.new.writer) c.print_piece.new.scanner c.print_piece.new.lines c.in-Ok.scanned h.scanned.no_value
-    c.in-Ok.ensures.same_rules (c.in-Ok.ensures.value_whole _ front h.given h.scanned.reads before)
-    (c.in-Ok.ensures.used_up _ front h.given h.scanned.reads before) c.in-Ok.ensures.whole_piece
+    c.in-Ok.ensures.same_rules (c.in-Ok.ensures.printed _ front h.given h.scanned.reads before) c.in-Ok.ensures.whole_piece
 
 pub returns-in-Ok-clause-write_failures : goal.returns-in-Ok-clause-write_failures
 returns-in-Ok-clause-write_failures g c =
@@ -49,7 +48,7 @@ returns-in-Ok-clause-write_failures g c =
     let before = printed_before (g.W.Sink.written c.args.writer.now) (g.W.Sink.failures c.args.writer.now) h in
     none_failed (rules_of c.args.self.now.scanner) _ front c.args.piece.now (g.W.Sink.written c.print_piece.new.writer)
     (g.W.Sink.failures c.print_piece.new.writer) c.print_piece.new.scanner c.print_piece.new.lines c.in-Ok.scanned
-    (c.in-Ok.ensures.value_whole _ front h.given h.scanned.reads before) (c.in-Ok.ensures.used_up _ front h.given h.scanned.reads before)
+    (c.in-Ok.ensures.printed _ front h.given h.scanned.reads before)
 
 pub returns-in-Ok-end_line-clause-takes : goal.returns-in-Ok-end_line-clause-takes
 returns-in-Ok-end_line-clause-takes g c = λ front so_far h.
