@@ -1,12 +1,12 @@
 //! `canon`: writes the canonical text of each value of a stream.
 
 ghost use Rattle.std.specs.Prelude.{◌≡◌, ◌⊎◌, ◌<◌, ◌≤◌, ℕ, List, [], length, Some, IfErr, IfSome, IsErrOf, OnOk};
+ghost use Rattle.resp_args.specs.Tried.{BreaksText, WritesWhole};
 ghost use Rattle.resp_decode.specs.Builds.{nothing};
 ghost use Rattle.resp_tool.specs.Counts.{LeavesNothing};
 ghost use Rattle.resp_tool.specs.Drafts.{IsDraftOf};
 ghost use Rattle.resp_tool.specs.Live.{EachRead, IsLive};
 ghost use Rattle.resp_tool.specs.Streams.{AreRead, AtEnd, Renders, UsesReader, failed_to_write};
-ghost use Rattle.resp_args.specs.Tried.{BreaksText, WritesWhole};
 ghost use Rattle.resp_value.specs.Canonical.{canonical_text, Fits};
 ghost use Rattle.resp_value.specs.Data.{Datum};
 ghost use Rattle.resp_value.specs.Devices.{failures_after};
