@@ -101,14 +101,12 @@ impl<C: Drop, T: Store<C>> Service<Connection<C>> for Replies<T> {
     ) -> io::Result<Connection<C>> {
         let mut stream = client;
         register(&mut stream, registry, tokens.client)?;
-        match self.store.admit() {
-            Some(client) => Ok(Connection {
-                stream,
-                client,
-                rest: Rest::new(self.room.alloc),
-            }),
-            None => Err(ErrorKind::OutOfMemory.into()),
-        }
+        let client = self.store.admit().ok_or(ErrorKind::OutOfMemory)?;
+        Ok(Connection {
+            stream,
+            client,
+            rest: Rest::new(self.room.alloc),
+        })
     }
 
     fn lose(&mut self) {}

@@ -47,10 +47,7 @@ impl<S: BuildHasher + Drop> Store<u64> for Hub<S> {
     }
 
     fn admit(&mut self) -> Option<u64> {
-        match self.open() {
-            Ok(id) => Some(id),
-            Err(_) => None,
-        }
+        self.open().ok()
     }
 
     fn visit(
