@@ -274,14 +274,12 @@ impl Lines {
             (W.failures writer.old) (W.failures writer.new) result
             (last_line (page_of self.now).open_lines) }
     {
+        let Some(line) = self.innermost() else {
+            return Ok(());
+        };
         let level = self.level().saturating_sub(1);
-        match self.innermost() {
-            Some(line) => {
-                write_indentation(writer, level as u64)?;
-                write_number(writer, b"end ", line.items(), b"\n")
-            }
-            None => write_text(writer, b""),
-        }
+        write_indentation(writer, level as u64)?;
+        write_number(writer, b"end ", line.items(), b"\n")
     }
 }
 
