@@ -1,15 +1,17 @@
 use Rattle.std.specs.List.{concat}
-use Rattle.std.proofs.Common.{rules, refl, false, [], ◌≡◌, ◌∷◌, ◌++◌, take, subst, sym, length}
+use Rattle.std.proofs.Common.{rules, refl, Bool, true, false, ℕ, List, [], ◌≡◌, ◌∷◌, ◌++◌, take, subst, sym, length}
 use Rattle.resp_client.specs.Clients.{state_of}
-use Rattle.resp_wire.specs.Hearing.{HearsAll}
+use Rattle.resp_client.specs.Hearing.{WhereTaken}
+use Rattle.resp_wire.specs.Hearing.{HearsAll, WaitsBefore}
 use Rattle.resp_wire.specs.Stops.{StopsListening, is_of_last_read}
 use Rattle.resp_wire.proofs.Listening.{fails_reading, hears_no_bytes, hears_piece, no_last_read, stops_piece, waits_for_none, waits_for_piece}
-use Rattle.resp_turns.specs.Pieces.{ReadsNothing}
+use Rattle.resp_turns.specs.Pieces.{ReadsNothing, ReadsPieces}
 use Rattle.resp_turns.specs.Turns.{has_failed}
 use Rattle.resp_turns.specs.declared.halt.Halt.TheVariants.{Failed, NoTurn}
 use Rattle.resp_turns.proofs.Pieces.{all_read, concat_more, gives, only_pieces}
 use Rattle.resp_turns.proofs.Turning.{end_after, spends_more, spends_nothing}
 use Rattle.resp_wire.proofs.ask.hear_all.Goals as goal
+use Rattle.resp_wire.proofs.ask.hear_all.Goals.{After-read_some}
 
 pub loop-reader-init : goal.loop-reader-init
 loop-reader-init g c = record {
@@ -52,27 +54,33 @@ loop-reader-preserved g c =
       none_failed = search rules;
     }
 
-pub returns-in-Ok-eq0-clause-heard : goal.returns-in-Ok-eq0-clause-heard
-returns-in-Ok-eq0-clause-heard g c =
-    let (pieces, given, heard) = c.loop-reader.invariant.heard in
-    let none : c.in-Ok-eq0.field-0 ≡ 0 = search rules in (
+-- nothing was read after the pieces
+no_more_read : (g : _) (c : After-read_some g) (is_over : Bool) →
+    ReadsNothing g.R.Source.remaining g.R.Source.calls c.loop-reader.reader c.read_some.new.reader is_over →
+    (pieces : List (List ℕ)) × ReadsPieces (length c.args.buffer.now) g.R.Source.remaining g.R.Source.calls
+    g.R.Source.failures c.args.reader.now c.read_some.new.reader pieces is_over ×
+    WhereTaken c.args.client.now (λ front. Unit {0} × HearsAll (state_of c.args.client.now) c.loop-reader.client
+    c.args.heard.now c.loop-reader.heard (front ++ concat pieces) × WaitsBefore (state_of c.args.client.now) c.args.heard.now front pieces)
+no_more_read g c is_over over =
+    let (pieces, given, heard) = c.loop-reader.invariant.heard in (
       pieces,
-      record { between = c.loop-reader.reader; given = given; over = c.in-Ok-eq0.ensures.empty none },
+      record { between = c.loop-reader.reader; given = given; over = over },
       λ front h. let (so_far, each) = heard front h in (tt, so_far, each),
     )
 
+pub returns-in-Ok-eq0-clause-heard : goal.returns-in-Ok-eq0-clause-heard
+returns-in-Ok-eq0-clause-heard g c =
+    no_more_read g (goal.at.returns-in-Ok-eq0-clause-heard g c).After-read_some true (c.in-Ok-eq0.ensures.empty (search rules))
+
 pub returns-in-Err-Failed-clause-heard : goal.returns-in-Err-Failed-clause-heard
-returns-in-Err-Failed-clause-heard g c =
-    let (pieces, given, heard) = c.loop-reader.invariant.heard in (
-      pieces,
-      record {
-        between = c.loop-reader.reader;
-        given = given;
-        over = subst (λ h. ReadsNothing g.R.Source.remaining g.R.Source.calls c.loop-reader.reader c.read_some.new.reader (has_failed h)) {y = Failed}
-            (search rules) c.in-Err-Failed.ensures.unread;
-      },
-      λ front h. let (so_far, each) = heard front h in (tt, so_far, each),
-    )
+returns-in-Err-Failed-clause-heard g c = no_more_read g (goal.at.returns-in-Err-Failed-clause-heard g c).After-read_some true
+    (subst (λ h. ReadsNothing g.R.Source.remaining g.R.Source.calls c.loop-reader.reader c.read_some.new.reader (has_failed h)) {y = Failed}
+    (search rules) c.in-Err-Failed.ensures.unread)
+
+pub returns-in-Err-NoTurn-clause-heard : goal.returns-in-Err-NoTurn-clause-heard
+returns-in-Err-NoTurn-clause-heard g c = no_more_read g (goal.at.returns-in-Err-NoTurn-clause-heard g c).After-read_some false
+    (subst (λ h. ReadsNothing g.R.Source.remaining g.R.Source.calls c.loop-reader.reader c.read_some.new.reader (has_failed h)) {y = NoTurn}
+    (search rules) c.in-Err-NoTurn.ensures.unread)
 
 pub returns-in-Ok-eq0-clause-turns : goal.returns-in-Ok-eq0-clause-turns
 returns-in-Ok-eq0-clause-turns g c = spends_more _ _ _ _ _ _ c.loop-reader.invariant.spends c.read_some.ensures.turns
@@ -122,19 +130,6 @@ returns-clause-heard g c =
       pieces,
       only_pieces (length c.args.buffer.now) g.R.Source.remaining g.R.Source.calls g.R.Source.failures c.args.reader.now c.loop-reader.reader pieces false given refl,
       λ front h. let (so_far, each) = heard front h in (so_far, tt, each),
-    )
-
-pub returns-in-Err-NoTurn-clause-heard : goal.returns-in-Err-NoTurn-clause-heard
-returns-in-Err-NoTurn-clause-heard g c =
-    let (pieces, given, heard) = c.loop-reader.invariant.heard in (
-      pieces,
-      record {
-        between = c.loop-reader.reader;
-        given = given;
-        over = subst (λ h. ReadsNothing g.R.Source.remaining g.R.Source.calls c.loop-reader.reader c.read_some.new.reader (has_failed h)) {y = NoTurn}
-            (search rules) c.in-Err-NoTurn.ensures.unread;
-      },
-      λ front h. let (so_far, each) = heard front h in (tt, so_far, each),
     )
 
 pub returns-in-Ok-eq0-clause-refusal : goal.returns-in-Ok-eq0-clause-refusal

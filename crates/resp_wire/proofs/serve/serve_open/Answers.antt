@@ -70,11 +70,6 @@ loop-count-init g c =
 
 pub returns-in-Ok-eq0-clause-served : goal.returns-in-Ok-eq0-clause-served
 returns-in-Ok-eq0-clause-served g c =
-    let old = c.args.hub.now in
-    let cur = c.loop-count.hub in
-    let id = c.args.id in
-    let held = g.W.Sink.written c.args.writer.now in
-    let held' = g.W.Sink.written c.loop-count.writer in
     let none : c.in-Ok-eq0.field-0 ≡ 0 = search rules in
     let (pieces, given, served) = c.loop-count.invariant.served in (
       pieces,
@@ -86,7 +81,8 @@ returns-in-Ok-eq0-clause-served g c =
         given = given;
         over = c.in-Ok-eq0.ensures.empty none;
       },
-      open_map old id (HasServed old cur id pieces held held') _ (λ s front h. (h.0, tt, h.1)) served,
+      open_map c.args.hub.now c.args.id (HasServed c.args.hub.now c.loop-count.hub c.args.id pieces
+          (g.W.Sink.written c.args.writer.now) (g.W.Sink.written c.loop-count.writer)) _ (λ s front h. (h.0, tt, h.1)) served,
     )
 
 pub returns-in-Ok-eq0-clause-end : goal.returns-in-Ok-eq0-clause-end
