@@ -7,9 +7,7 @@ use Rattle.resp_tool.proofs.watched.Watched.settle.Goals as goal
 
 pub returns-clause-gone_through : goal.returns-clause-gone_through
 returns-clause-gone_through g c = λ bytes h sound. elim c.if-not-pass.branch [
-  | then-not-pass w ↦
-      let lost = sym (ap (λ (z : Watched g.row.R.Denot). z.is_lost) w.self-is) ∙ sound in
-      absurd (cc)
+  | then-not-pass w ↦ let lost = sym (ap (λ (z : Watched g.row.R.Denot). z.is_lost) w.self-is) ∙ sound in absurd (cc)
   | else-not-pass w ↦
       let s = h (sym (ap (λ (z : Watched g.row.R.Denot). z.is_lost) w.self-is) ∙ sound) in
       let fresh : c.last-fresh.result.now ≡ drop (length c.args.self.now.held.items - c.args.self.now.fresh) c.args.self.now.held.items =
@@ -20,9 +18,7 @@ returns-clause-gone_through g c = λ bytes h sound. elim c.if-not-pass.branch [
 
 pub returns-clause-watched : goal.returns-clause-watched
 returns-clause-watched g c = λ bytes h sound. elim c.if-not-pass.branch [
-  | then-not-pass w ↦
-      let lost = sym (ap (λ (z : Watched g.row.R.Denot). z.is_lost) w.self-is) ∙ sound in
-      absurd (cc)
+  | then-not-pass w ↦ let lost = sym (ap (λ (z : Watched g.row.R.Denot). z.is_lost) w.self-is) ∙ sound in absurd (cc)
   | else-not-pass w ↦
       let held = c.if-not-pass.self.held.items in
       let old = (h (sym (ap (λ (z : Watched g.row.R.Denot). z.is_lost) w.self-is) ∙ sound)).holds in
