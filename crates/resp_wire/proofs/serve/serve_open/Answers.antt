@@ -209,25 +209,24 @@ pub returns-in-Ok-true-clause-served : goal.returns-in-Ok-true-clause-served
 returns-in-Ok-true-clause-served g c =
     let id = c.args.id in
     let (pieces, given, served) = c.loop-count.invariant.served in
-    let into = c.read_some.new.into in
-    let n = c.in-Ok.count in
+    let piece = take c.in-Ok.count c.read_some.new.into in
     let held = g.W.Sink.written c.args.writer.now in
     let held' = g.W.Sink.written c.loop-count.writer in
     let held'' = g.W.Sink.written c.answer-answered.new.writer in
     let cur = c.loop-count.hub in
     let new = c.answer-answered.new.hub in
     let given_all = gives (length c.args.buffer.now) _ g.R.Source.remaining g.R.Source.calls g.R.Source.failures c.args.reader.now c.loop-count.reader
-    c.read_some.new.reader pieces (take n into) (search rules) given (c.in-Ok.ensures.piece (search rules)) in (
-      pieces ++ take n into ∷ [],
-      concat (pieces ++ take n into ∷ []),
-      sym (append-nil (concat (pieces ++ take n into ∷ []))),
+    c.read_some.new.reader pieces piece (search rules) given (c.in-Ok.ensures.piece (search rules)) in (
+      pieces ++ piece ∷ [],
+      concat (pieces ++ piece ∷ []),
+      sym (append-nil (concat (pieces ++ piece ∷ []))),
       refl,
-      only_pieces (length c.args.buffer.now) g.R.Source.remaining g.R.Source.calls g.R.Source.failures c.args.reader.now c.read_some.new.reader (pieces ++ take n into ∷ []) false
+      only_pieces (length c.args.buffer.now) g.R.Source.remaining g.R.Source.calls g.R.Source.failures c.args.reader.now c.read_some.new.reader (pieces ++ piece ∷ []) false
           given_all refl,
-      open_map c.args.hub.now id (HasServed c.args.hub.now new id (pieces ++ take n into ∷ []) held held'') _ (λ s front h. (h.0, tt, h.1))
-          (piece_serves c.answers_go_on.ensures c.answers_are_added.ensures c.args.hub.now cur new id pieces (take n into) held held' held'' served
+      open_map c.args.hub.now id (HasServed c.args.hub.now new id (pieces ++ piece ∷ []) held held'') _ (λ s front h. (h.0, tt, h.1))
+          (piece_serves c.answers_go_on.ensures c.answers_are_added.ensures c.args.hub.now cur new id pieces piece held held' held'' served
           c.loop-count.invariant.is_open
-          (given_whole cur new id (take n into) c.answer-answered.result.used c.answer-answered.result.end c.in-Ok-true.field-0 held' held''
+          (given_whole cur new id piece c.answer-answered.result.used c.answer-answered.result.end c.in-Ok-true.field-0 held' held''
           c.in-Ok-true.is c.answer-answered.ensures.none_left c.answer-answered.ensures.part.given)),
     )
 
