@@ -22,7 +22,6 @@ use Rattle.resp_scan.proofs.CallClauses.WholeTexts.{taken_on}
 use Rattle.resp_c.specs.Scans.{IsTreeWithin, IsUsedUp, ReadsTo, Scans, StandFor, StandsForEvent, StandsForText, all_events_of, events_of_trees, used_by}
 use Rattle.resp_c.specs.Told.{Tells, TellsMore, TellsWhole}
 use Rattle.resp_c.specs.declared.event.RespEvent.{RespEvent}
-use Rattle.resp_c.specs.declared.scan.RespScanned.{RespScanned}
 
 -- Trees read one after another.
 
@@ -174,87 +173,89 @@ text_turns s t rest used out size h =
     }
 
 -- what the turns so far have come to
-pub record SoFar (old now : Place) (piece : List ℕ) (outs₀ outs : List RespEvent) (index : ℕ) (scanned : RespScanned) : Type 0 where
-  pub counted : scanned.count ≡ index
-  pub few : scanned.count ≤ length outs₀
-  pub used_is : scanned.used ≡ used_by (take scanned.count outs)
-  pub within : scanned.used ≤ length piece
-  pub left : drop scanned.count outs ≡ drop scanned.count outs₀
+pub record SoFar (old now : Place) (piece rest : List ℕ) (outs₀ outs : List RespEvent) (index count : ℕ) : Type 0 where
+  pub counted : count ≡ index
+  pub few : count ≤ length outs₀
+  pub within : used_by (take count outs) ≤ length piece
+  pub rest_is : rest ≡ drop (used_by (take count outs)) piece
+  pub left : drop count outs ≡ drop count outs₀
   pub rules : rules_of now ≡ rules_of old
-  pub scans : Scans old piece (take scanned.count outs) scanned.used (HasRead now)
-  pub dead : (fault : Fault) → IsFaulted old fault → (scanned.count ≡ 0) × (now ≡ old)
+  pub scans : Scans old piece (take count outs) (used_by (take count outs)) (HasRead now)
+  pub dead : (fault : Fault) → IsFaulted old fault → (count ≡ 0) × (now ≡ old)
 
-scans_on : (old s t : Place) (piece rest : List ℕ) (outs : List RespEvent) (used : ℕ) (out : RespEvent) → rest ≡ drop used piece →
-    used ≡ used_by outs → rules_of s ≡ rules_of old → Scans old piece outs used (HasRead s) → Turns s t rest out →
-    Scans old piece (outs ++ out ∷ []) (used + out.used) (HasRead t)
-scans_on old s t piece rest outs used out is by_outs rules k h = record {
+scans_on : (old s t : Place) (piece rest : List ℕ) (outs : List RespEvent) (out : RespEvent) → rest ≡ drop (used_by outs) piece →
+    rules_of s ≡ rules_of old → Scans old piece outs (used_by outs) (HasRead s) → Turns s t rest out →
+    Scans old piece (outs ++ out ∷ []) (used_by (outs ++ out ∷ [])) (HasRead t)
+scans_on old s t piece rest outs out is rules k h = record {
   told = k.told ++ h.more;
-  stand_for = stand-snoc piece outs out k.told h.more k.stand_for
-      (subst (λ p. StandsForOne p out h.more) (is ∙ ap (λ n. drop n piece) by_outs) h.one);
+  stand_for = stand-snoc piece outs out k.told h.more k.stand_for (subst (λ p. StandsForOne p out h.more) is h.one);
   reads = λ front given w.
-      let on = h.reads (rules_of old) (front ++ take used piece) (given ++ k.told) (sym rules) (k.reads front given w) in
-      let bytes : (front ++ take used piece) ++ take out.used rest ≡ front ++ take (used + out.used) piece =
-      ap (λ p. (front ++ take used piece) ++ take out.used p) is ∙ bytes_on front piece used out.used in
+      let on = h.reads (rules_of old) (front ++ take (used_by outs) piece) (given ++ k.told) (sym rules) (k.reads front given w) in
+      let bytes : (front ++ take (used_by outs) piece) ++ take out.used rest ≡ front ++ take (used_by (outs ++ out ∷ [])) piece =
+      ap (λ p. (front ++ take (used_by outs) piece) ++ take out.used p) is ∙ bytes_on front piece (used_by outs) out.used ∙
+      ap (λ n. front ++ take n piece) (sym (used-snoc outs out)) in
       subst (λ z. ReadsTo (rules_of old) z (given ++ (k.told ++ h.more)) (HasRead t)) bytes
-      (subst (λ z. ReadsTo (rules_of old) ((front ++ take used piece) ++ take out.used rest) z (HasRead t))
+      (subst (λ z. ReadsTo (rules_of old) ((front ++ take (used_by outs) piece) ++ take out.used rest) z (HasRead t))
       (append_assoc given k.told h.more) on);
 }
 
-so_far_on : (old s t : Place) (piece rest : List ℕ) (outs₀ outs : List RespEvent) (index : ℕ) (scanned : RespScanned) (shown : RespEvent) →
-    SoFar old s piece outs₀ outs index scanned → index < length outs → length outs ≡ length outs₀ → rest ≡ drop scanned.used piece →
-    ShowsEvent (λ x. Tells shown (Some x)) s t rest shown.used ⊎ ShowsText (TellsWhole shown) s t rest shown.used →
-    SoFar old t piece outs₀ (set outs index shown) (index + 1) (record { count = scanned.count + 1; used = scanned.used + shown.used })
-so_far_on old s t piece rest outs₀ outs index scanned shown k more size is shows =
-    let count = scanned.count in
+pub so_far_on : (old s t : Place) (piece rest rest' : List ℕ) (outs₀ outs : List RespEvent) (index count used : ℕ) (shown : RespEvent) →
+    SoFar old s piece rest outs₀ outs index count → index < length outs → length outs ≡ length outs₀ → rest' ≡ drop used rest → shown.used ≡ used →
+    ShowsEvent (λ x. Tells shown (Some x)) s t rest used ⊎ ShowsText (TellsWhole shown) s t rest used →
+    SoFar old t piece rest' outs₀ (set outs index shown) (index + 1) (count + 1)
+so_far_on old s t piece rest rest' outs₀ outs index count used shown k more size is by_used shows =
     let h : Turns s t rest shown = elim shows as (λ _. Turns s t rest shown) [
-      | inl x ↦ event_turns s t rest shown.used shown refl x
-      | inr x ↦ text_turns s t rest shown.used shown refl x
+      | inl x ↦ event_turns s t rest used shown by_used x
+      | inr x ↦ text_turns s t rest used shown by_used x
     ] in
     let first : take (count + 1) (set outs index shown) ≡ take count outs ++ shown ∷ [] =
     ap (λ n. take (n + 1) (set outs index shown)) k.counted ∙ take_more_set outs index shown more ∙
     ap (λ n. take n outs ++ shown ∷ []) (sym k.counted) in
     let total : used_by (take (count + 1) (set outs index shown)) ≡ used_by (take count outs) + shown.used =
     ap used_by first ∙ used-snoc (take count outs) shown in
-    let room : length rest ≡ length piece - scanned.used = ap length is ∙ length-drop scanned.used piece in
+    let room : length rest ≡ length piece - used_by (take count outs) =
+    ap length k.rest_is ∙ length-drop (used_by (take count outs)) piece in
     record {
       counted = omega (arith, k.counted);
       few = omega (arith, more, size, k.counted);
-      used_is = omega (arith, total, k.used_is);
-      within = omega (arith, h.within, room, k.within);
+      within = omega (arith, total, h.within, room, k.within);
+      rest_is = is ∙ ap (λ p. drop used p) k.rest_is ∙ drop-drop used (used_by (take count outs)) piece ∙
+          ap (λ n. drop n piece) (let z : used_by (take count outs) + used ≡ used_by (take (count + 1) (set outs index shown)) =
+          omega (arith, total, by_used) in z);
       left = ap (λ n. drop (n + 1) (set outs index shown)) k.counted ∙ drop-set-lt (index + 1) outs index shown (omega arith) ∙
           ap (λ n. drop (n + 1) outs) (sym k.counted) ∙ sym (drop-drop 1 count outs) ∙ ap (λ xs. drop 1 xs) k.left ∙
           drop-drop 1 count outs₀;
       rules = h.rules ∙ k.rules;
-      scans = subst (λ xs. Scans old piece xs (scanned.used + shown.used) (HasRead t)) (sym first)
-          (scans_on old s t piece rest (take count outs) scanned.used shown is k.used_is k.rules k.scans h);
+      scans = subst (λ xs. Scans old piece xs (used_by xs) (HasRead t)) (sym first)
+          (scans_on old s t piece rest (take count outs) shown k.rest_is k.rules k.scans h);
       dead = λ fault f. absurd (h.no_fault fault (subst (λ p. IsFaulted p fault) (sym (k.dead fault f).1) f));
     }
 
 -- The last turn.
 
-used_up_scans : (old s t : Place) (piece rest : List ℕ) (outs : List RespEvent) (used : ℕ) → rest ≡ drop used piece →
-    Scans old piece outs used (HasRead s) → Steps s t rest (Ok (record { used = length rest; event = None })) →
+pub used_up_scans : (old s t : Place) (piece rest : List ℕ) (outs : List RespEvent) → rest ≡ drop (used_by outs) piece →
+    Scans old piece outs (used_by outs) (HasRead s) → Steps s t rest (Ok (record { used = length rest; event = None })) →
     Scans old piece outs (length piece) (IsUsedUp t)
-used_up_scans old s t piece rest outs used is k steps = record {
+used_up_scans old s t piece rest outs is k steps = record {
   told = k.told;
   stand_for = k.stand_for;
   reads = λ front given w.
-      let bytes : (front ++ take used piece) ++ rest ≡ front ++ take (length piece) piece =
-      ap (λ p. (front ++ take used piece) ++ p) is ∙ append_assoc front (take used piece) (drop used piece) ∙
-      ap (λ z. front ++ z) (take-append-drop used piece ∙ sym (take-length piece)) in
+      let bytes : (front ++ take (used_by outs) piece) ++ rest ≡ front ++ take (length piece) piece =
+      ap (λ p. (front ++ take (used_by outs) piece) ++ p) is ∙ append_assoc front (take (used_by outs) piece) (drop (used_by outs) piece) ∙
+      ap (λ z. front ++ z) (take-append-drop (used_by outs) piece ∙ sym (take-length piece)) in
       subst (λ z. ReadsTo (rules_of old) z (given ++ k.told) (IsUsedUp t)) bytes
-      (reads_bytes (rules_of old) (front ++ take used piece) (given ++ k.told) (HasRead s) (IsUsedUp t) rest (k.reads front given w)
+      (reads_bytes (rules_of old) (front ++ take (used_by outs) piece) (given ++ k.told) (HasRead s) (IsUsedUp t) rest (k.reads front given w)
       (λ f g h. let u = steps.no_event f g h in record { viable = u.viable; no_value = u.no_value; all_due = u.all_due; reads = u.reads }));
 }
 
-refused_scans : (old s t : Place) (piece rest : List ℕ) (outs : List RespEvent) (used : ℕ) (fault : Fault) → rest ≡ drop used piece →
-    rules_of s ≡ rules_of old → Scans old piece outs used (HasRead s) → Steps s t rest (Err fault) →
-    Scans old piece outs used (λ front given. IsRefused (rules_of old) front given (drop used piece) fault)
-refused_scans old s t piece rest outs used fault is rules k steps = record {
+pub refused_scans : (old s t : Place) (piece rest : List ℕ) (outs : List RespEvent) (fault : Fault) → rest ≡ drop (used_by outs) piece →
+    rules_of s ≡ rules_of old → Scans old piece outs (used_by outs) (HasRead s) → Steps s t rest (Err fault) →
+    Scans old piece outs (used_by outs) (λ front given. IsRefused (rules_of old) front given (drop (used_by outs) piece) fault)
+refused_scans old s t piece rest outs fault is rules k steps = record {
   told = k.told;
   stand_for = k.stand_for;
-  reads = λ front given w. reads_as (rules_of old) (front ++ take used piece) (given ++ k.told) (HasRead s)
-      (λ f g. IsRefused (rules_of old) f g (drop used piece) fault) (k.reads front given w)
+  reads = λ front given w. reads_as (rules_of old) (front ++ take (used_by outs) piece) (given ++ k.told) (HasRead s)
+      (λ f g. IsRefused (rules_of old) f g (drop (used_by outs) piece) fault) (k.reads front given w)
       (λ f g h. subst (λ p. IsRefused (rules_of old) f g p fault) is (subst (λ r. IsRefused r f g rest fault) rules (steps.refusal f g h)));
 }
 
@@ -267,15 +268,15 @@ tells_more out n kind h = grind arith
 tells_used : (out : RespEvent) (n : ℕ) (x : Event) → Tells out (Some x) → Tells (record out { used = n }) (Some x)
 tells_used out n x h = grind (arith, tells_more)
 
-pub shown_so_far : (old s t : Place) (piece rest : List ℕ) (outs₀ outs : List RespEvent) (index : ℕ) (scanned : RespScanned) (used : ℕ) (slot : RespEvent) →
-    SoFar old s piece outs₀ outs index scanned → index < length outs → length outs ≡ length outs₀ → rest ≡ drop scanned.used piece →
+pub shown_so_far : (old s t : Place) (piece rest rest' : List ℕ) (outs₀ outs : List RespEvent) (index count used : ℕ) (slot : RespEvent) →
+    SoFar old s piece rest outs₀ outs index count → index < length outs → length outs ≡ length outs₀ → rest' ≡ drop used rest →
     ShowsEvent (λ x. Tells slot (Some x)) s t rest used ⊎ ShowsText (TellsWhole slot) s t rest used →
-    SoFar old t piece outs₀ (set outs index (record slot { used = used })) (index + 1) (record { count = scanned.count + 1; used = scanned.used + used })
-shown_so_far old s t piece rest outs₀ outs index scanned used slot k more size is (inl h) =
-    so_far_on old s t piece rest outs₀ outs index scanned (record slot { used = used }) k more size is
+    SoFar old t piece rest' outs₀ (set outs index (record slot { used = used })) (index + 1) (count + 1)
+shown_so_far old s t piece rest rest' outs₀ outs index count used slot k more size is (inl h) =
+    so_far_on old s t piece rest rest' outs₀ outs index count used (record slot { used = used }) k more size is refl
     (inl (record { event = h.event; shows = tells_used slot used h.event h.shows; steps = h.steps }))
-shown_so_far old s t piece rest outs₀ outs index scanned used slot k more size is (inr h) =
-    so_far_on old s t piece rest outs₀ outs index scanned (record slot { used = used }) k more size is
+shown_so_far old s t piece rest rest' outs₀ outs index count used slot k more size is (inr h) =
+    so_far_on old s t piece rest rest' outs₀ outs index count used (record slot { used = used }) k more size is refl
     (inr (record {
       kind = h.kind;
       bytes = h.bytes;
@@ -285,34 +286,36 @@ shown_so_far old s t piece rest outs₀ outs index scanned used slot k more size
     }))
 
 -- a slice to the end
-pub sliced : (used : ℕ) (piece : List ℕ) → take (length piece - used) (drop used piece) ≡ drop used piece
-sliced used piece = ap (λ n. take n (drop used piece)) (sym (length-drop used piece)) ∙ take-length (drop used piece)
+pub sliced : (used : ℕ) (rest : List ℕ) → take (length rest - used) (drop used rest) ≡ drop used rest
+sliced used rest = ap (λ n. take n (drop used rest)) (sym (length-drop used rest)) ∙ take-length (drop used rest)
 
-pub used_up_so_far : (old s t : Place) (piece rest : List ℕ) (outs₀ outs : List RespEvent) (index : ℕ) (scanned : RespScanned) (slot : RespEvent) →
-    SoFar old s piece outs₀ outs index scanned → rest ≡ drop scanned.used piece →
-    Steps s t rest (Ok (record { used = length rest; event = None })) →
-    Scans old piece (take scanned.count (set outs index slot)) (length piece) (IsUsedUp t)
-used_up_so_far old s t piece rest outs₀ outs index scanned slot k is steps =
-    subst (λ xs. Scans old piece xs (length piece) (IsUsedUp t)) (sym (take-set-le scanned.count outs index slot (omega (arith, k.counted))))
-    (used_up_scans old s t piece rest (take scanned.count outs) scanned.used is k.scans steps)
+pub used_up_so_far : (old s t : Place) (piece rest : List ℕ) (outs₀ outs : List RespEvent) (index count : ℕ) (slot : RespEvent) →
+    SoFar old s piece rest outs₀ outs index count → Steps s t rest (Ok (record { used = length rest; event = None })) →
+    Scans old piece (take count (set outs index slot)) (length piece) (IsUsedUp t)
+used_up_so_far old s t piece rest outs₀ outs index count slot k steps =
+    subst (λ xs. Scans old piece xs (length piece) (IsUsedUp t)) (sym (take-set-le count outs index slot (omega (arith, k.counted))))
+    (used_up_scans old s t piece rest (take count outs) k.rest_is k.scans steps)
 
-pub refused_so_far : (old s t : Place) (piece rest : List ℕ) (outs₀ outs : List RespEvent) (index : ℕ) (scanned : RespScanned) (slot : RespEvent) (fault : Fault) →
-    SoFar old s piece outs₀ outs index scanned → rest ≡ drop scanned.used piece → Steps s t rest (Err fault) →
-    (scanned.used ≡ used_by (take scanned.count (set outs index slot))) ×
-    Scans old piece (take scanned.count (set outs index slot)) scanned.used
-    (λ front given. IsRefused (rules_of old) front given (drop scanned.used piece) fault)
-refused_so_far old s t piece rest outs₀ outs index scanned slot fault k is steps =
-    let same : take scanned.count (set outs index slot) ≡ take scanned.count outs =
-    take-set-le scanned.count outs index slot (omega (arith, k.counted)) in (
-      k.used_is ∙ ap used_by (sym same),
-      subst (λ xs. Scans old piece xs scanned.used (λ front given. IsRefused (rules_of old) front given (drop scanned.used piece) fault)) (sym same)
-          (refused_scans old s t piece rest (take scanned.count outs) scanned.used fault is k.rules k.scans steps),
+pub refused_so_far : (old s t : Place) (piece rest : List ℕ) (outs₀ outs : List RespEvent) (index count : ℕ) (slot : RespEvent) (fault : Fault) →
+    SoFar old s piece rest outs₀ outs index count → Steps s t rest (Err fault) →
+    (length piece - length rest ≡ used_by (take count (set outs index slot))) ×
+    Scans old piece (take count (set outs index slot)) (length piece - length rest)
+    (λ front given. IsRefused (rules_of old) front given (drop (length piece - length rest) piece) fault)
+refused_so_far old s t piece rest outs₀ outs index count slot fault k steps =
+    let same : take count (set outs index slot) ≡ take count outs = take-set-le count outs index slot (omega (arith, k.counted)) in
+    let room : length rest ≡ length piece - used_by (take count outs) =
+    ap length k.rest_is ∙ length-drop (used_by (take count outs)) piece in
+    let size : length piece - length rest ≡ used_by (take count outs) = omega (arith, room, k.within) in (
+      size ∙ ap used_by (sym same),
+      subst (λ n. Scans old piece (take count (set outs index slot)) n (λ front given. IsRefused (rules_of old) front given (drop n piece) fault)) (sym size)
+          (subst (λ xs. Scans old piece xs (used_by (take count outs)) (λ front given.
+          IsRefused (rules_of old) front given (drop (used_by (take count outs)) piece) fault)) (sym same)
+          (refused_scans old s t piece rest (take count outs) fault k.rest_is k.rules k.scans steps)),
     )
 
-pub final_so_far : (old s t : Place) (piece rest : List ℕ) (outs₀ outs : List RespEvent) (index : ℕ) (scanned : RespScanned) (fault other : Fault) →
-    SoFar old s piece outs₀ outs index scanned → Steps s t rest (Err other) → IsFaulted old fault →
-    (other ≡ fault) × (scanned.count ≡ 0) × (t ≡ old)
-final_so_far old s t piece rest outs₀ outs index scanned fault other k steps f =
+pub final_so_far : (old s t : Place) (piece rest : List ℕ) (outs₀ outs : List RespEvent) (index count : ℕ) (fault other : Fault) →
+    SoFar old s piece rest outs₀ outs index count → Steps s t rest (Err other) → IsFaulted old fault → (other ≡ fault) × (count ≡ 0) × (t ≡ old)
+final_so_far old s t piece rest outs₀ outs index count fault other k steps f =
     let dead = k.dead fault f in
     let again = steps.fault_is_final fault (subst (λ p. IsFaulted p fault) (sym dead.1) f) in
     ((let z : Err other ≡ Err fault = again.0 in cc), dead.0, again.1 ∙ dead.1)

@@ -67,20 +67,34 @@ pub extern "C" fn resp_scanner_scan(
         (scanned.new.count ≡ 0) × (scanner.new.scanner ≡ scanner.old.scanner)) }
 {
     let scanner = scanner.scanner();
-    *scanned = RespScanned { count: 0, used: 0 };
+    let mut rest = piece;
+    let mut count = 0;
     for event in events.iter_mut() {
-        match scanner.step_into(&piece[scanned.used..], event) {
+        match scanner.step_into(rest, event) {
             Ok(Some(used)) => {
                 event.used = used;
-                scanned.used += used;
-                scanned.count += 1;
+                rest = &rest[used..];
             }
             Ok(None) => {
-                scanned.used = piece.len();
+                *scanned = RespScanned {
+                    count,
+                    used: piece.len(),
+                };
                 return 0;
             }
-            Err(fault) => return fault.cause.number(),
+            Err(fault) => {
+                *scanned = RespScanned {
+                    count,
+                    used: piece.len() - rest.len(),
+                };
+                return fault.cause.number();
+            }
         }
+        count += 1;
     }
+    *scanned = RespScanned {
+        count,
+        used: piece.len() - rest.len(),
+    };
     0
 }

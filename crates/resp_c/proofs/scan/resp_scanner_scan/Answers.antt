@@ -7,8 +7,8 @@ use Rattle.resp_c.proofs.scan.resp_scanner_scan.Goals as goal
 
 pub loop-event-preserved : goal.loop-event-preserved
 loop-event-preserved c =
-    shown_so_far _ _ _ _ _ _ _ _ _ _ c.step_into.new.slot c.loop-event.invariant (omega (arith, c.loop-event-test.true))
-    (omega (arith, c.loop-event.auto.events)) (sliced c.loop-event.scanned.used c.args.piece.now) (rw c.in-Ok-Some.field-0-is at c.in-Ok-Some.ensures.shown)
+    shown_so_far _ _ _ _ _ _ _ _ _ _ _ c.step_into.new.slot c.loop-event.invariant (omega (arith, c.loop-event-test.true))
+    (omega (arith, c.loop-event.auto.events)) (sliced c.in-Ok-Some.used c.loop-event.rest.now) (rw c.in-Ok-Some.field-0-is at c.in-Ok-Some.ensures.shown)
 
 pub returns-in-Ok-None-clause-used_up : goal.returns-in-Ok-None-clause-used_up
 returns-in-Ok-None-clause-used_up c none few = (
@@ -19,15 +19,14 @@ returns-in-Ok-None-clause-used_up c none few = (
     was = c.scanner-scanner.ensures.value;
     is = refl;
     holds = used_up_so_far _ _ _ _ _ _ _ _ _ c.step_into.new.slot c.loop-event.invariant
-        (sliced c.loop-event.scanned.used c.args.piece.now) (rw c.in-Ok-None.field-0-is at c.in-Ok-None.ensures.used_up);
+        (rw c.in-Ok-None.field-0-is at c.in-Ok-None.ensures.used_up);
   },
 )
 
 pub returns-in-Err-clause-refused : goal.returns-in-Err-clause-refused
 returns-in-Err-clause-refused c some =
     let steps = c.in-Err.ensures.refused in
-    let told = refused_so_far _ _ _ _ _ _ _ _ _ c.step_into.new.slot c.in-Err.fault c.loop-event.invariant
-    (sliced c.loop-event.scanned.used c.args.piece.now) steps in (
+    let told = refused_so_far _ _ _ _ _ _ _ _ _ c.step_into.new.slot c.in-Err.fault c.loop-event.invariant steps in (
       c.in-Err.fault,
       c.number.ensures,
       told.0,
