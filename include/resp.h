@@ -405,7 +405,7 @@ struct resp_replies {
 };
 
 /* Reads all replies that are whole in the buffer, and writes their nodes to an array of `room` nodes,
- * the nodes of the first reply first. `replies` counts the nodes and the bytes of these replies, also
+ * the nodes of the first reply first. `replies` counts the nodes and the bytes of the replies, also
  * after an error. Nodes after them have no meaning.
  *
  *     struct resp_node nodes[64];

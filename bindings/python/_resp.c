@@ -369,7 +369,7 @@ static bool word_bytes(PyObject *word, PyObject **held, Py_buffer *bytes) {
     return !PyObject_GetBuffer(*held ? *held : word, bytes, PyBUF_SIMPLE);
 }
 
-/* Sets the kind of a command of these words. Returns false with an exception if a word isn't a word. */
+/* Sets the kind of a command with these words. Returns false with an exception if a word isn't a word. */
 static bool kind_of(PyObject *words, uint32_t *kind) {
     Py_ssize_t count = PyTuple_Size(words);
     PyObject *held[2] = {NULL, NULL};

@@ -43,7 +43,7 @@ use std::ops::Range;
 /// A version of the protocol.
 #[derive(Clone, Copy, Debug, PartialEq, Eq)]
 pub enum Version {
-    /// RESP2, in which a connection begins.
+    /// RESP2. A connection begins in it.
     Two = 2,
     /// RESP3, which a client asks for with HELLO.
     Three = 3,

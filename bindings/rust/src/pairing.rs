@@ -117,7 +117,7 @@ impl Pairing {
         Ok(Pairing { scanner: Scanner::new(Version::Two, limits)?, pairing })
     }
 
-    /// Counts a command of these words that is sent, and returns the number of its reply. After the reply
+    /// Counts a command that is sent with these words, and returns the number of its reply. After the reply
     /// to a HELLO that asks for a version, unless it is an error, values are read in that version.
     ///
     /// In version 3 SUBSCRIBE, PSUBSCRIBE, SSUBSCRIBE and their UN- forms are answered by a push for each

@@ -188,7 +188,7 @@ impl<'a> Reply<'a> {
         Members { nodes: self.inner, buffer: self.buffer }
     }
 
-    /// Returns the value of the first key of a map that is a text of these bytes. It looks at each key in
+    /// Returns the value of the first key of a map that is a text with these bytes. It looks at each key in
     /// turn.
     pub fn get(&self, key: &[u8]) -> Option<Reply<'a>> {
         if !matches!(self.kind(), Kind::Aggregate(Aggregate::Map, _)) {

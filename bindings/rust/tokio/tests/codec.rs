@@ -14,7 +14,7 @@ fn codec() -> Codec {
     Codec::new(Version::Three, &Limits::default()).unwrap()
 }
 
-/// Decodes all frames of these pieces.
+/// Decodes all frames in the pieces.
 fn frames(pieces: &[&[u8]]) -> Result<Vec<Frame>, CodecError> {
     let (mut codec, mut buffer, mut frames) = (codec(), BytesMut::new(), Vec::new());
     for piece in pieces {
