@@ -37,8 +37,8 @@ extern "C" {
 #endif
 
 /* The version of this header, and the same as a number: 65,536 x major + 256 x minor + patch. */
-#define RESP_VERSION "0.2.0"
-#define RESP_VERSION_NUMBER 0x000200u
+#define RESP_VERSION "0.3.0"
+#define RESP_VERSION_NUMBER 0x000300u
 
 /* Returns the version of the library that the program runs with, as a number. */
 uint32_t resp_version(void);

@@ -186,10 +186,12 @@ def pages(names, to):
 
 
 def documents(to=ABOUT):
-    """Returns the pages for users."""
+    """Returns the pages for users, with the files that they describe."""
     left = "DECISIONS.md"
     names = sorted(f"docs/{it}" for it in os.listdir(f"{TOP}/docs") if it.endswith((".md", ".svg")) and it != left)
-    return pages(["README.md", "CHANGELOG.md", "SECURITY.md", *names], to)
+    samples = [f"{folder}/{it}" for folder in ("stunnel", "kubernetes") for it in sorted(os.listdir(f"{TOP}/docs/{folder}"))]
+    more = [Entry(f"{to}/{it}", content(f"{TOP}/docs/{it}")) for it in samples]
+    return [*pages(["README.md", "CHANGELOG.md", "SECURITY.md", *names], to), *more]
 
 
 def notices():

@@ -137,7 +137,7 @@ def connections_as_json():
     """Lines about connections have addresses, names, and the bytes of a value that is cut off."""
     hello = command(b"HELLO", b"2", b"SETNAME", b"worker")
     server = Server(len(hello), b"*0\r\n")
-    words = ["tap", "--json", "--connections", "--clients", "1", "127.0.0.1:0", f"127.0.0.1:{server.port}"]
+    words = ["tap", "--json", "--connections", "--max-clients", "1", "127.0.0.1:0", f"127.0.0.1:{server.port}"]
     with running(*words) as tap:
         with connect(tap.port) as client:
             address = f"127.0.0.1:{client.getsockname()[1]}"

@@ -1,4 +1,4 @@
-"""Tests `resp serve --clients MOST` with many connections at once: many_clients.py PORT PID MOST
+"""Tests `resp serve --max-clients MOST` with many connections at once: many_clients.py PORT PID MOST
 
 It fails if a reply is wrong, if one client waits for another, or if the server keeps memory or descriptors of closed
 connections.

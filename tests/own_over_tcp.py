@@ -7,7 +7,7 @@ The servers are of the tests' own. They test that
 - its bytes and those of the server are forwarded until both sides end, and no other client gets any of them;
 - with a password AUTH is sent first over each of these connections, and its reply is given to nobody;
 - a client whose connection can't be opened gets an error with the reason, and is closed;
-- --own limits how many clients have one, and a client over the limit gets an error and goes on;
+- --max-dedicated limits how many clients have one, and a client over the limit gets an error and is closed;
 - at the end of standard input these connections end too.
 """
 import os
@@ -24,14 +24,14 @@ MULTI = command(b"MULTI")
 NEED_OWN = [MULTI, command(b"BLPOP", b"list", b"0"), command(b"SUBSCRIBE", b"news"), command(b"WATCH", b"key"),
             command(b"MONITOR"), command(b"XREAD", b"BLOCK", b"0", b"STREAMS", b"s", b"$"),
             command(b"client", b"TRACKING", b"on")]
-# With --lines 1 these do too.
+# With --max-shared 1 these do too.
 SETTINGS = [command(b"HELLO", b"3"), command(b"SELECT", b"1"), command(b"AUTH", b"anna", b"secret"), command(b"RESET"),
             command(b"HELLO", b"4")]
 
 
 def own_connection():
     """The commands before go over the shared connection, and the connection is opened after their replies."""
-    for words, firsts in (((), NEED_OWN), (("--lines", "1"), NEED_OWN + SETTINGS)):
+    for words, firsts in (((), NEED_OWN), (("--max-shared", "1"), NEED_OWN + SETTINGS)):
         own_connection_of(words, firsts)
 
 
@@ -51,7 +51,7 @@ def own_connection_of(words, firsts):
                 server.sendall(bulk(b"A") + bulk(b"B"))
                 hear(client, bulk(b"A"))
                 hear(other, bulk(b"B"))
-                with peer.accept() as own:
+                with peer.accept_own() as own:
                     hear(own, first + after)
                     own.sendall(b"anything, and >1\r\n+pushes\r\n")
                     hear(client, b"anything, and >1\r\n+pushes\r\n")
@@ -92,7 +92,7 @@ def own_connection_at_any_cut():
             hear(server, PING)
             server.sendall(PONG)
             hear(client, PONG)
-            with peer.accept() as own:
+            with peer.accept_own() as own:
                 hear(own, text[len(PING) :])
                 sending.join()
                 own.sendall(b"+OK\r\n")
@@ -106,12 +106,12 @@ def ends_of_own_connections():
         with connect(proxy.port) as client, connect(proxy.port) as second, connect(proxy.port) as third:
             client.sendall(MULTI + get(b"a"))
             client.shutdown(socket.SHUT_WR)
-            with peer.accept() as own:
+            with peer.accept_own() as own:
                 assert hear_end(own) == MULTI + get(b"a")
                 own.sendall(b"+OK\r\n+QUEUED\r\n")
             assert hear_end(client) == b"+OK\r\n+QUEUED\r\n"
             second.sendall(MULTI)
-            with peer.accept() as own:
+            with peer.accept_own() as own:
                 hear(own, MULTI)
                 own.sendall(b"+OK\r\n")
                 own.shutdown(socket.SHUT_WR)
@@ -133,7 +133,7 @@ def password_of_own_connections():
     auth = command(b"AUTH", b"secret")
     peer = Peer()
     with (unittest.mock.patch.dict(os.environ, RESP_PASSWORD="secret"),
-          running("proxy", "127.0.0.1:0", peer.address, "--patience", "60000") as proxy, peer.accept() as server):
+          running("proxy", "127.0.0.1:0", peer.address, "--server-timeout", "1m") as proxy, peer.accept() as server):
         hear(server, auth)
         server.sendall(b"+OK\r\n")
         is_connected(proxy)
@@ -153,7 +153,7 @@ def password_of_own_connections():
             with peer.accept() as own:
                 hear(own, auth)
                 own.sendall(b"-WRONGPASS no\r\n")
-                assert hear_end(rejected) == NOT_CONNECTED + b"the server rejected AUTH\r\n"
+                assert hear_end(rejected) == NOT_CONNECTED + b"WRONGPASS no\r\n"
                 assert hear_end(own) == b""
 
 
@@ -171,38 +171,36 @@ def own_connection_that_is_refused():
 
 
 def most_of_own():
-    """A client over --own gets an error with the name of its command, and goes on; a place is free once another ends."""
-    with proxied("--own", "1") as (proxy, peer, server), connect(proxy.port) as other:
+    """A client over --max-dedicated gets an error with the name of its command and is closed; a place is free once another ends."""
+    with proxied("--max-dedicated", "1") as (proxy, peer, server), connect(proxy.port) as other:
         with connect(proxy.port) as client:
             client.sendall(MULTI)
-            with peer.accept() as own:
+            with peer.accept_own() as own:
                 hear(own, MULTI)
                 for name in (b"MULTI", b"BLPOP"):
-                    other.sendall(command(name, b"a", b"0"))
-                    line = line_of(other)
-                    assert line.startswith(b"-ERR ") and b"'%s'" % name in line, line
-                other.sendall(PING)
-                hear(server, PING)
-                server.sendall(PONG)
-                hear(other, PONG)
+                    with connect(proxy.port) as refused:
+                        refused.sendall(command(name, b"a", b"0") + command(b"INCR", b"counter"))
+                        wanted = b"-ERR '%s' needs a connection of its own, and no more are allowed\r\n" % name
+                        assert hear_end(refused) == wanted, name
+                assert not has_reply(server), "a command after a refused one is sent"
                 client.close()
                 assert hear_end(own) == b""
         before = proxy.descriptors()
         until(lambda: proxy.descriptors() <= before, "the first client is open")
         other.sendall(MULTI)
-        with peer.accept() as own:
+        with peer.accept_own() as own:
             hear(own, MULTI)
 
 
 def drain_of_own_connections():
     """At the end of standard input the server is told the end, and the client gets what the server still sends."""
     peer = Peer()
-    words = [PROGRAM, "proxy", "127.0.0.1:0", peer.address, "--drain", "--patience", "60000"]
+    words = [PROGRAM, "proxy", "127.0.0.1:0", peer.address, "--drain", "--server-timeout", "1m"]
     with subprocess.Popen(words, stdin=subprocess.PIPE, stdout=subprocess.PIPE, stderr=subprocess.DEVNULL) as ran:
         port = int(ran.stdout.readline().rpartition(b":")[2])
         with peer.accept(), connect(port) as client:
             client.sendall(MULTI)
-            with peer.accept() as own:
+            with peer.accept_own() as own:
                 hear(own, MULTI)
                 ran.stdin.close()
                 assert hear_end(own) == b""

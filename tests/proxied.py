@@ -325,7 +325,7 @@ class Servers:
         self.redis = None
         self.start()
         self.log = open(f"{self.work.name}/proxy", "wb+")
-        words = [resp, "proxy", "127.0.0.1:0", f"127.0.0.1:{self.port}", "--clients", "5000", "--lines", "32"]
+        words = [resp, "proxy", "127.0.0.1:0", f"127.0.0.1:{self.port}", "--max-clients", "5000", "--max-shared", "32"]
         self.proxy = subprocess.Popen(words, stdin=subprocess.DEVNULL, stdout=self.log, stderr=self.log)
         while b"\n" not in self.printed():
             assert self.proxy.poll() is None, self.printed()

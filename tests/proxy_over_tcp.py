@@ -8,10 +8,10 @@ Most tests have a server of their own, which reads and replies step by step. The
   sent over the next connection, and nothing is sent twice;
 - a reply that no command waits for, or a wrong byte, ends the connection to the server;
 - without a server each command gets an error at once, and the server is tried again;
-- a server that sends no reply for --patience is given up, but not if no command waits;
+- a server that sends no reply for --server-timeout is given up, but not if no command waits;
 - a client with a protocol error is closed after its earlier replies, and the others are not;
 - a client that does not read its replies is not read either, and delays no other;
-- --waiting and --clients limit what they say, and nothing is busy without work;
+- --pipeline and --max-clients limit what they say, and nothing is busy without work;
 - with a password AUTH is sent first, and commands only after its reply;
 - lines are commands, and with --no-inline they are not;
 - --also, --local-ping, --report and --drain do what they say, and INFO proxy;
@@ -101,8 +101,8 @@ class Answering(Peer):
 def proxied(*words):
     """A proxy in front of a server of the test's own, with the first connection to it. It has much patience, since a test
     may be slow."""
-    if "--patience" not in words:
-        words = (*words, "--patience", "60000")
+    if "--server-timeout" not in words:
+        words = (*words, "--server-timeout", "1m")
     peer = Peer()
     with running("proxy", "127.0.0.1:0", peer.address, *words) as proxy, peer.accept() as server:
         is_connected(proxy)
@@ -209,7 +209,7 @@ def end_of_input():
 def server_that_closes():
     """A command of which a byte was sent gets an error, and any other one is sent over the next connection."""
     large = command(b"SET", b"key", bytes(16_000_000))
-    for words in ([], ["--unsent", "100000000"]):
+    for words in ([], ["--server-buffer", "100000000"]):
         with proxied(*words) as (proxy, peer, server), contextlib.ExitStack() as streams:
             first, second, third, fourth = (streams.enter_context(connect(proxy.port)) for _ in range(4))
             first.sendall(PING + PING)
@@ -326,7 +326,7 @@ def server_that_is_not_there():
             assert time.monotonic() - begun < 5, "the error comes late"
             time.sleep(0.5)
         proxy.is_idle()
-        told = b"cannot connect to server: Connection refused (os error 111)\n"
+        told = b"cannot connect to 127.0.0.1:%d: Connection refused (os error 111)\n" % port
         assert proxy.printed().count(told) == 1 and proxy.printed().count(b"\n") == 2, proxy.printed()
         with socket.create_server(("127.0.0.1", port)) as listener:
             listener.settimeout(LIMIT)
@@ -341,7 +341,7 @@ def server_that_is_not_there():
 
 def patience():
     """A server that sends no reply for that time while a command waits is given up."""
-    with proxied("--patience", "500") as (proxy, peer, server), connect(proxy.port) as client:
+    with proxied("--server-timeout", "500ms") as (proxy, peer, server), connect(proxy.port) as client:
         # Without a command that waits, the connection stands.
         time.sleep(1.2)
         # Each reply comes within the time, and all of them do not.
@@ -430,14 +430,13 @@ def lines():
 
 def own_replies():
     """The proxy replies to some commands itself, in their place, and refuses others by their name."""
-    with proxied("--own", "0") as (proxy, _, server), connect(proxy.port) as client, connect(proxy.port) as other:
-        client.sendall(PING + command(b"SELECT", b"0") + command(b"MULTI") + command(b"BLPOP", b"list", b"0") +
-                       command(b"SHUTDOWN") + command(b"NOSUCH") + get(b"a"))
+    with proxied("--max-dedicated", "0") as (proxy, _, server), connect(proxy.port) as client, connect(proxy.port) as other:
+        client.sendall(PING + command(b"SELECT", b"0") + command(b"SHUTDOWN") + command(b"NOSUCH") + get(b"a"))
         hear(server, PING)
         assert not has_reply(client), "a reply of the proxy comes before that of the server"
         server.sendall(PONG)
         hear(client, PONG + b"+OK\r\n")
-        for name in (b"MULTI", b"BLPOP", b"SHUTDOWN", b"NOSUCH"):
+        for name in (b"SHUTDOWN", b"NOSUCH"):
             line = line_of(client)
             assert line.startswith(b"-ERR ") and b"'" + name + b"'" in line, line
         hear(server, get(b"a"))
@@ -456,7 +455,7 @@ def client_that_does_not_read():
     """It is not read while too much waits for it, delays no other, and gets all replies once it reads."""
     value = bytes(range(256)) * 400
     peer = Answering(lambda words: bulk(value if words[-1] == b"large" else words[-1]))
-    words = ["--waiting", "10", "--held", "1000000"]
+    words = ["--pipeline", "10", "--client-buffer", "1000000"]
     with running("proxy", "127.0.0.1:0", peer.address, *words) as proxy, connect(proxy.port) as greedy:
         greedy.sendall(get(b"large") * 400)
         with connect(proxy.port) as other:
@@ -479,10 +478,10 @@ def client_that_does_not_read():
 
 
 def client_that_never_reads():
-    """A client for which more bytes wait than --unread says is closed, and no other one."""
+    """A client for which more bytes wait than --client-buffer-limit says is closed, and no other one."""
     value = b"v" * 102_400
     peer = Answering(lambda words: bulk(value if words[-1] == b"large" else words[-1]))
-    with running("proxy", "127.0.0.1:0", peer.address, "--unread", "10M") as proxy, connect(proxy.port) as other:
+    with running("proxy", "127.0.0.1:0", peer.address, "--client-buffer-limit", "10M") as proxy, connect(proxy.port) as other:
         with connect(proxy.port) as slow, connect(proxy.port) as greedy:
             # (102 replies are less than 10 MiB)
             slow.sendall(get(b"large") * 102)
@@ -496,8 +495,8 @@ def client_that_never_reads():
 
 
 def server_that_does_not_read():
-    """No client is read while more bytes wait for the server than --unsent says, and nothing is lost by that."""
-    with proxied("--unsent", "100000") as (proxy, _, server), contextlib.ExitStack() as streams:
+    """No client is read while more bytes wait for the server than --server-buffer says, and nothing is lost by that."""
+    with proxied("--server-buffer", "100000") as (proxy, _, server), contextlib.ExitStack() as streams:
         clients = [streams.enter_context(connect(proxy.port)) for _ in range(4)]
         value = bytes(50_000)
         asked = [command(b"SET", b"%d" % number, value) for number in range(4)]
@@ -534,8 +533,8 @@ def server_that_does_not_read():
 
 
 def one_command_at_a_time():
-    """With --waiting 1 the next command of a client is sent after the reply to the one before."""
-    with proxied("--waiting", "1") as (proxy, _, server), connect(proxy.port) as client, connect(proxy.port) as other:
+    """With --pipeline 1 the next command of a client is sent after the reply to the one before."""
+    with proxied("--pipeline", "1") as (proxy, _, server), connect(proxy.port) as client, connect(proxy.port) as other:
         client.sendall(get(b"a") + get(b"b") + get(b"c"))
         hear(server, get(b"a"))
         other.sendall(get(b"x"))
@@ -566,7 +565,9 @@ def login():
                 assert heard_in_a_moment(server) == b""
                 server.sendall(wrong)
                 line = line_of(client)
-                assert line == NOT_CONNECTED + b"the server rejected AUTH\r\n", (wrong, line)
+                # The words of the server, if it replied by an error.
+                why = wrong[1:] if wrong.startswith(b"-") else b"the server rejected AUTH\r\n"
+                assert line == NOT_CONNECTED + why, (wrong, line)
                 assert hear_end(server) == b""
         assert b"server connected\n" not in proxy.printed(), proxy.printed()
         with peer.accept() as server:
@@ -584,7 +585,7 @@ def admitted_commands():
     """With --also the commands of these names are sent, and no other that the table does not have or that is refused."""
     with proxied("--also", "JSON.GET,,config") as (proxy, _, server), connect(proxy.port) as client:
         ask(client, b"JSON.SET a\r\n", b"-ERR unknown command 'JSON.SET'\r\n")
-        ask(client, b"CONFIG GET save\r\n", b"-ERR 'CONFIG' is not served by this proxy\r\n")
+        ask(client, b"CONFIG GET save\r\n", b"-ERR 'CONFIG GET' is not served by this proxy\r\n")
         sent = command(b"json.Get", b"a")
         client.sendall(sent)
         hear(server, sent)
@@ -610,7 +611,7 @@ def ping_of_the_proxy():
 
 def reports():
     """A line with numbers is printed each second."""
-    with proxied("--report", "1") as (proxy, peer, server), connect(proxy.port) as client:
+    with proxied("--report", "1s") as (proxy, peer, server), connect(proxy.port) as client:
         client.sendall(PING + PING)
         hear(server, PING + PING)
         server.sendall(PONG)
@@ -668,7 +669,7 @@ def end_of_standard_input():
     """With --drain the proxy ends with standard input, after the replies to the commands that it has read."""
     for as_file in (False, True):
         peer = Peer()
-        words = [PROGRAM, "proxy", "127.0.0.1:0", peer.address, "--drain", "--patience", "60000"]
+        words = [PROGRAM, "proxy", "127.0.0.1:0", peer.address, "--drain", "--server-timeout", "1m"]
         source = subprocess.DEVNULL if as_file else subprocess.PIPE
         with subprocess.Popen(words, stdin=source, stdout=subprocess.PIPE, stderr=subprocess.DEVNULL) as ran:
             port = int(ran.stdout.readline().rpartition(b":")[2])
@@ -703,7 +704,7 @@ def accepts(port):
 def most_of_proxy():
     """Clients over the maximum are rejected, and a new one is served after another has gone."""
     peer = Answering(lambda words: PONG)
-    with running("proxy", "127.0.0.1:0", peer.address, "--clients", "3") as proxy:
+    with running("proxy", "127.0.0.1:0", peer.address, "--max-clients", "3") as proxy:
         is_connected(proxy)
         streams = [connect(proxy.port) for _ in range(3)]
         for stream in streams:
@@ -731,7 +732,7 @@ def heard_in_a_moment(stream):
 def descriptors_of_proxy():
     """While no descriptor is left clients wait, and a lost connection to the server is still opened again."""
     peer = Peer()
-    words = ["proxy", "127.0.0.1:0", peer.address, "--patience", "60000", "--clients", "1000"]
+    words = ["proxy", "127.0.0.1:0", peer.address, "--server-timeout", "1m", "--max-clients", "1000"]
     with running(*words, descriptors=32) as proxy, contextlib.ExitStack() as closing:
         server = peer.accept()
         is_connected(proxy)
@@ -768,7 +769,7 @@ def busy_clients():
     """Clients that send without end delay no other, and many clients share one connection."""
     with running("serve", "127.0.0.1:0") as serve:
         idle = serve.descriptors()
-        words = ["127.0.0.1:0", f"127.0.0.1:{serve.port}", "--patience", "60000"]
+        words = ["127.0.0.1:0", f"127.0.0.1:{serve.port}", "--server-timeout", "1m"]
         with running("proxy", *words) as proxy:
             is_connected(proxy)
             until(lambda: serve.descriptors() == idle + 1, "the connection is not accepted")
@@ -879,7 +880,7 @@ def server_out_of_step():
 
         peer = Answering(reply)
         counts = {b"own": 0, b"error": 0}
-        with running("proxy", "127.0.0.1:0", peer.address, "--check-every", "1", "--patience", "300") as proxy:
+        with running("proxy", "127.0.0.1:0", peer.address, "--check-every", "1", "--server-timeout", "300ms") as proxy:
             is_connected(proxy)
             wrong = []
 
@@ -966,7 +967,7 @@ sends these too; name only those that have one reply and do not wait
     assert (status, errors) == (1, b"")
     assert printed == (b"shared GET\nshared JSON.GET\nsetting SELECT\nown MULTI\nproxy CLIENT ID\nproxy CLIENT SETINFO\n"
                        b"rejected CLIENT KILL\nunknown CLIENT NEW\nunknown FT.WAIT\n"), printed
-    status, printed, errors, _ = checked(b"*1\r\n" + listed(b"SELECT"), "--all", "--lines", "1")
+    status, printed, errors, _ = checked(b"*1\r\n" + listed(b"SELECT"), "--all", "--max-shared", "1")
     assert (status, printed, errors) == (0, b"own SELECT\n", b"")
     known = b"*2\r\n" + listed(b"GET") + listed(b"ping")
     status, printed, errors, seen = checked(known, "--all", "--local-ping", password="secret")

@@ -97,7 +97,7 @@ def hear_one(stream):
 def numbers_stay():
     """A rejected client, and one whose server is not there, keep their numbers in the replay."""
     with running("serve", "127.0.0.1:0") as serve:
-        with recording("--clients", "1", "127.0.0.1:0", f"127.0.0.1:{serve.port}") as (tap, file):
+        with recording("--max-clients", "1", "127.0.0.1:0", f"127.0.0.1:{serve.port}") as (tap, file):
             with connect(tap.port) as stream:
                 stream.sendall(PING)
                 hear(stream, PONG)
@@ -109,7 +109,7 @@ def numbers_stay():
                 hear(stream, PONG)
             until(lambda: b"client 3 gone" in tap.printed(), "the third client does not go")
             live, later = without_head(tap.printed()), replay(file)
-            assert live.replace(b"client 2: rejected by --clients", b"client 2 gone") == later, (live, later)
+            assert live.replace(b"client 2: rejected by --max-clients", b"client 2 gone") == later, (live, later)
     with socket.create_server(("127.0.0.1", 0)) as closed:
         port = closed.getsockname()[1]
     with recording("127.0.0.1:0", f"127.0.0.1:{port}") as (tap, file):

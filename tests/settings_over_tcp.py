@@ -12,7 +12,7 @@ A setting is a version, a database and a user. The servers are of the tests' own
 - a connection that is lost is opened again in its setting, with the password that was accepted last;
 - CLIENT ID and the name of a client stay the same, and HELLO has this id;
 - a connection of a client's own begins in the client's setting;
-- --lines limits the settings, and a setting without clients gives its place to another;
+- --max-shared limits the settings, and a setting without clients gives its place to another;
 - lines on standard error name the setting and no password, and INFO proxy adds the settings up;
 - a server that sends no reply, or a push, delays and harms no client of another setting.
 """
@@ -125,7 +125,7 @@ def settings_of_words():
          (HELLO, [], [], hello_of(3))],
     ]
     with (unittest.mock.patch.dict(os.environ, RESP_PASSWORD="the proxy's"),
-          running("proxy", "127.0.0.1:0", peer.address, "--patience", "60000") as proxy, contextlib.ExitStack() as stack):
+          running("proxy", "127.0.0.1:0", peer.address, "--server-timeout", "1m") as proxy, contextlib.ExitStack() as stack):
         server = stack.enter_context(peer.accept())
         hear(server, own)
         server.sendall(OK)
@@ -180,13 +180,12 @@ def passwords_are_checked():
             with peer.accept() as line:
                 hear(line, auth(b"anna", b"new"))
                 line.sendall(REFUSED)
-            why = NOT_CONNECTED + b"the server rejected AUTH, HELLO or SELECT\r\n"
-            ask(first, get(b"e"), why)
+            ask(first, get(b"e"), NOT_CONNECTED + REFUSED[1:])
         printed = proxy.printed()
         for word in (b"secret", b"guess", b"new"):
             assert word not in printed, printed
         assert b"\nserver connected: version 2, database 0, user anna\n" in printed, printed
-        why = b"\ncannot connect to server: version 2, database 0, user anna: the server rejected AUTH, HELLO or SELECT\n"
+        why = b"\ncannot connect to %s: version 2, database 0, user anna: " % peer.address.encode() + REFUSED[1:-2] + b"\n"
         assert why in printed, printed
 
 
@@ -221,7 +220,7 @@ def refusals():
         # The server accepts a command that the proxy does not understand: the client has a connection of its own.
         client.sendall(command(b"HELLO", b"4") + get(b"a"))
         with accepted(peer, (command(b"HELLO", b"4"), hello_of(1))):
-            with peer.accept() as own:
+            with peer.accept_own() as own:
                 hear(own, command(b"HELLO", b"4") + get(b"a"))
                 own.sendall(b"whatever")
                 hear(client, b"whatever")
@@ -229,7 +228,7 @@ def refusals():
 
 def server_that_opens_no_setting():
     """Without a connection, or without a reply in time, the client gets the reason and goes on where it was."""
-    with proxied("--patience", "700") as (proxy, peer, server), connect(proxy.port) as client:
+    with proxied("--server-timeout", "700ms") as (proxy, peer, server), connect(proxy.port) as client:
         client.sendall(select(b"3") + PING)
         with peer.accept() as silent:
             hear(silent, select(b"3"))
@@ -315,8 +314,8 @@ def hello_2(number):
 
 
 def own_connections_of_settings():
-    """A connection of a client's own begins in the setting of the client, and --own limits only these."""
-    with proxied("--own", "1") as (proxy, peer, _), connect(proxy.port) as client, connect(proxy.port) as other:
+    """A connection of a client's own begins in the setting of the client, and --max-dedicated limits only these."""
+    with proxied("--max-dedicated", "1") as (proxy, peer, _), connect(proxy.port) as client, connect(proxy.port) as other:
         client.sendall(command(b"HELLO", b"3", b"AUTH", b"anna", b"secret"))
         steps = [(auth(b"anna", b"secret") + HELLO, OK + hello_of(8))]
         with accepted(peer, *steps):
@@ -330,19 +329,20 @@ def own_connections_of_settings():
                 with accepted(peer, *steps):
                     hear(other, hello_of(2))
                 needs = b"-ERR 'MULTI' needs a connection of its own, and no more are allowed\r\n"
-                ask(other, MULTI + command(b"CLIENT", b"ID"), needs + b":2\r\n")
+                other.sendall(MULTI + command(b"CLIENT", b"ID"))
+                assert hear_end(other) == needs, "a command after a refused one is answered"
 
 
 def most_settings():
-    """With --lines 2 there is one more setting. A client that asks for a third has a connection of its own. A setting without
+    """With --max-shared 2 there is one more setting. A client that asks for a third has a connection of its own. A setting without
     clients gives its place to another."""
-    with proxied("--lines", "2") as (proxy, peer, server), connect(proxy.port) as other:
+    with proxied("--max-shared", "2") as (proxy, peer, server), connect(proxy.port) as other:
         with connect(proxy.port) as client:
             client.sendall(select(b"1"))
             with accepted(peer, (select(b"1"), OK)) as line:
                 hear(client, OK)
                 other.sendall(select(b"2") + get(b"a"))
-                with peer.accept() as own:
+                with peer.accept_own() as own:
                     hear(own, select(b"2") + get(b"a"))
                     own.sendall(OK)
                     hear(other, OK)
@@ -359,9 +359,9 @@ def most_settings():
                         hear(third, get(b"c"))
                         third.sendall(bulk(b"C"))
                         hear(next_one, bulk(b"C"))
-    with proxied("--lines", "1") as (proxy, peer, server), connect(proxy.port) as client:
+    with proxied("--max-shared", "1") as (proxy, peer, server), connect(proxy.port) as client:
         client.sendall(command(b"HELLO", b"4") + get(b"a"))
-        with peer.accept() as own:
+        with peer.accept_own() as own:
             hear(own, command(b"HELLO", b"4") + get(b"a"))
 
 
@@ -463,6 +463,8 @@ class Settings(Peer):
         if name == b"RESET":
             setting.update(version=b"2", database=b"0", user=b"nobody")
             return b"+RESET\r\n"
+        if name == b"PING":
+            return b"+PONG\r\n"
         text = b"%s of %s" % (words[1], shown(setting))
         return bulk(text) if setting["version"] == b"2" else b"=%d\r\ntxt:%s\r\n" % (len(text) + 4, text)
 
@@ -484,7 +486,7 @@ def settings_at_random():
     """Clients that move at random get replies of their own commands and settings, in order, at any cut."""
     for seed in range(3):
         peer = Settings(random.Random(seed))
-        with running("proxy", "127.0.0.1:0", peer.address, "--lines", ("16", "3", "64")[seed]) as proxy:
+        with running("proxy", "127.0.0.1:0", peer.address, "--max-shared", ("16", "3", "64")[seed]) as proxy:
             is_connected(proxy)
             wrong = []
 

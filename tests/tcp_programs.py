@@ -195,6 +195,14 @@ class Peer:
         stream.settimeout(LIMIT)
         return stream
 
+    def accept_own(self):
+        """Accepts a connection of a client's own that needs no other command first, and replies to the PING that it begins
+        with."""
+        stream = self.accept()
+        hear(stream, PING)
+        stream.sendall(PONG)
+        return stream
+
     def close(self):
         """Closes the listener. A thread that waits in `accept` ends: otherwise it would keep the port open, and accept
         connections of another listener if its system call begins again once the descriptor has a new use."""

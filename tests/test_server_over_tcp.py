@@ -138,7 +138,7 @@ def long_pipelines():
 
 
 def replies_that_wait():
-    """Commands of a client that does not read are not run while more bytes wait than --held says."""
+    """Commands of a client that does not read are not run while more bytes wait than --client-buffer says."""
     value = bytes(range(256)) * 4_096
     reply = b"$%d\r\n%s\r\n" % (len(value), value)
     with serving() as serve, contextlib.ExitStack() as streams:

@@ -29,7 +29,7 @@ def clients_at_once():
     with tempfile.TemporaryDirectory() as work:
         paths = [f"{work}/{name}.sock" for name in ("serve", "tap", "proxy")]
         served, tapped, shared = paths
-        with running("serve", served) as serve, running("tap", "--clients", "20", tapped, served) as tap, \
+        with running("serve", served) as serve, running("tap", "--max-clients", "20", tapped, served) as tap, \
                 running("proxy", shared, tapped) as proxy:
             for program, path in zip((serve, tap, proxy), paths):
                 assert program.printed().startswith(b"listening on %s\n" % path.encode()), program.printed()

@@ -976,7 +976,7 @@ static void on_the_stack(void) {
 }
 
 int main(void) {
-    check(resp_version() == RESP_VERSION_NUMBER && RESP_VERSION_NUMBER == 0x000200 && !strcmp(RESP_VERSION, "0.2.0"), "version",
+    check(resp_version() == RESP_VERSION_NUMBER && RESP_VERSION_NUMBER == 0x000300 && !strcmp(RESP_VERSION, "0.3.0"), "version",
           "another one");
     check(sizeof(void *) != 8 || (sizeof(struct resp_event) == 48 && sizeof(struct resp_pairing) == 64 &&
           sizeof(struct resp_limits) == 40 && sizeof(struct resp_scanned) == 16 && sizeof(struct resp_node) == 40), "structs", "have other sizes");

@@ -12,18 +12,20 @@ _resp() {
     --record | --replay) compopt -o filenames && COMPREPLY=($(compgen -f -- "$word")) && return ;;
     --proto) COMPREPLY=($(compgen -W "2 3" -- "$word")) && return ;;
     --color) COMPREPLY=($(compgen -W "auto always never" -- "$word")) && return ;;
-    --depth | --length | --total | --items | --piece | --clients | --held | --shown | --user | --window | \
-        --own | --lines | --waiting | --unread | --unsent | --patience | --report | --slower | --command | --key | --client | --port) return ;;
+    --depth | --length | --total | --items | --piece | --max-clients | --client-buffer | --shown | --user | --window | \
+        --max-dedicated | --max-shared | --pipeline | --client-buffer-limit | --server-buffer | --server-timeout | --report | \
+        --drain-timeout | --stats-every | --also | --check-every | --slower | --command | --key | --client | --port) return ;;
     esac
     case $command in
-    show | check | canon) options="-2 -3 --proto $limits --doubles --piece --color --utf8 --json --explain --no-explain -h --help" ;;
+    show) options="-2 -3 --proto $limits --doubles --piece --color --utf8 --json --explain --no-explain -h --help" ;;
+    check | canon) options="-2 -3 --proto $limits --doubles --piece --explain --no-explain -h --help" ;;
     loop) options="--explain --no-explain -h --help" ;;
-    serve) options="$limits --clients --held --test-server -h --help" ;;
+    serve) options="--test-server --max-clients --client-buffer $limits -h --help" ;;
     tap)
-        options="$limits --clients --time --errors --slower --command --key --client --connections --stats --stats-every --exit-with-output --keep-going --no-inline --show-passwords --shown --record --replay --port --color --utf8 -h --help"
+        options="--stats --stats-every --time --connections --json --color --utf8 --shown --show-passwords --errors --slower --command --key --client --record --replay --port --max-clients --no-inline --exit-with-output --keep-going $limits -h --help"
         ;;
     proxy)
-        options="$limits --clients --own --lines --waiting --held --unread --unsent --patience --report --local-ping --no-inline --drain --also --check-every --check --all -h --help"
+        options="--server-timeout --report --drain --drain-timeout --local-ping --also --no-inline --check-every --check --all --max-clients --max-dedicated --max-shared --pipeline --client-buffer --client-buffer-limit --server-buffer $limits -h --help"
         ;;
     ask) options="-3 --user --window --raw --count --color --utf8 --json $limits -h --help" ;;
     help) [ "$COMP_CWORD" -ne 2 ] || COMPREPLY=($(compgen -W "$commands" -- "$word")) ;;

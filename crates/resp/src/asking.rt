@@ -1,7 +1,9 @@
 //! The command `ask`, which sends commands to a server.
 
 use crate::failures::{Failures, Faults, Input, Output};
-use crate::hosts::{addresses_of, password_of, refuse_server};
+use crate::hints::write_hint;
+use crate::hosts::{addresses_of, name_of, password_of, refuse_server};
+use crate::prompting::{Prompting, is_typed};
 use crate::server_stream::ServerStream;
 use resp_args::asking::Asking;
 use resp_args::tool_error::ToolError;
@@ -10,7 +12,7 @@ use resp_print::live::LiveSink;
 use resp_print::text::{write_number, write_text};
 use resp_value::device::{Device, DeviceFault, Sink, Source};
 use std::alloc::{AllocError, Global};
-use std::io;
+use std::io::{self, IsTerminal};
 use std::time::Instant;
 
 /// The exit status after a reply that is an error, or an error in the input.
@@ -30,7 +32,6 @@ pub fn run_ask<O: LiveSink>(
     output: &mut O,
     faults: &mut Faults<'_>,
 ) -> Result<u8, AllocError> {
-    let alloc = rt.alloc();
     let password = password_of(rt);
     if asking.options.user.is_some() && password.is_none() {
         let _ = write_text(
@@ -39,20 +40,39 @@ pub fn run_ask<O: LiveSink>(
         );
         return Ok(BAD_ARGUMENTS);
     }
+    let status = ask_server(rt, asking, password.as_deref(), output, faults)?;
+    if status != 0 {
+        let _ = write_hint(asking, &mut faults.lines);
+    }
+    Ok(status)
+}
+
+/// Connects to the server, sends the commands and prints the replies. Returns the exit status.
+fn ask_server<O: LiveSink>(
+    rt: &HostRuntime,
+    asking: &Asking<'_>,
+    password: Option<&str>,
+    output: &mut O,
+    faults: &mut Faults<'_>,
+) -> Result<u8, AllocError> {
+    let alloc = rt.alloc();
     let addresses = match addresses_of(rt, alloc, &asking.server) {
         Ok(addresses) => addresses,
         Err(error) => return refuse_server(alloc, &asking.server, &error, faults),
     };
     let stream = match ServerStream::connect(rt, addresses.as_slice()) {
         Ok(stream) => stream,
-        Err(error) => return faults.refuse_opening(alloc, asking.server_text, &error),
+        Err(error) => {
+            let name = name_of(alloc, &asking.server)?;
+            return faults.refuse_connection(alloc, name.as_str(), &error);
+        }
     };
     let mut reader = Device::new(Input::new(&stream, faults.failures));
     let mut writer = Device::new(Output::new(&stream, faults.failures));
     ask_over(
         rt,
         asking,
-        password.as_deref(),
+        password,
         &mut reader,
         &mut writer,
         output,
@@ -71,12 +91,7 @@ fn ask_over<R: Source, W: Sink, O: LiveSink>(
     output: &mut O,
     faults: &mut Faults<'_>,
 ) -> Result<u8, AllocError> {
-    let form = match asking.words.is_empty() {
-        _ if asking.options.counts => Form::Counted,
-        _ if asking.options.style.json => Form::Json,
-        true => Form::Numbered,
-        false => Form::Alone,
-    };
+    let form = form_of(rt, asking);
     let mut talk = Talk::new(rt.alloc(), &asking.options.limits, reader, writer);
     let asked = ask_with(
         rt,
@@ -97,6 +112,22 @@ fn ask_over<R: Source, W: Sink, O: LiveSink>(
             write_why(rt.alloc(), &failure, faults)?;
             Ok(failure.status())
         }
+    }
+}
+
+/// Returns how replies are printed. On a terminal, a text of several lines is printed as these
+/// lines. The replies to commands that a person types have no numbers.
+fn form_of(rt: &HostRuntime, asking: &Asking<'_>) -> Form {
+    if asking.options.counts {
+        Form::Counted
+    } else if asking.options.style.json {
+        Form::Json
+    } else if asking.words.is_empty() && !is_typed(rt, asking) {
+        Form::Numbered
+    } else if rt.stdout().is_terminal() {
+        Form::Lined
+    } else {
+        Form::Alone
     }
 }
 
@@ -173,13 +204,46 @@ fn send_commands<R: Source, W: Sink, O: LiveSink>(
     if !asking.words.is_empty() {
         return talk.send_words(alloc, asking.words.as_slice(), output);
     }
-    let mut input = Device::new(Input::new(rt.stdin(), failures));
     let window = asking.options.window as u64;
+    if is_typed(rt, asking) {
+        return send_typed(rt, talk, asking, failures, output);
+    }
+    let mut input = Device::new(Input::new(rt.stdin(), failures));
     if asking.options.raw {
         let mut commands = RawCommands::new(alloc, &asking.options.limits)?;
         return talk.send_input(alloc, &mut commands, &mut input, window, output);
     }
     talk.send_input(alloc, &mut Lines::new(alloc), &mut input, window, output)
+}
+
+/// Sends the commands that a person types, with a prompt for each line. The error of a line that is
+/// no command, or that is not sent, is printed at once, and the next line is read.
+fn send_typed<R: Source, W: Sink, O: LiveSink>(
+    rt: &HostRuntime,
+    talk: &mut Talk<'_, R, W>,
+    asking: &Asking<'_>,
+    failures: &Failures,
+    output: &mut O,
+) -> Result<(), Failure> {
+    let alloc = rt.alloc();
+    let window = asking.options.window as u64;
+    let server = name_of(alloc, &asking.server)?;
+    let prompt = format!(in alloc; "{server}> ")?;
+    let typed = Prompting::new(rt.stdin(), rt.stdout(), prompt.as_str());
+    let mut input = Device::new(Input::new(typed, failures));
+    let mut lines = Lines::new(alloc);
+    for _ in 0..u64::MAX {
+        match talk.send_input(alloc, &mut lines, &mut input, window, output) {
+            Err(failure) if failure.is_of_line() => {
+                if output.flush().is_err() {
+                    return Err(Failure::Output);
+                }
+                let _ = failure.write(talk.next_reply(), &mut Device::new(rt.stderr()));
+            }
+            ended => return ended,
+        }
+    }
+    Ok(())
 }
 
 /// Writes the line of `--count`.

@@ -61,7 +61,7 @@ pub fn run_check<O: LiveSink>(
     let alloc = rt.alloc();
     let stream = match ServerStream::connect(rt, addresses) {
         Ok(stream) => stream,
-        Err(error) => return faults.refuse_opening(alloc, server, &error),
+        Err(error) => return faults.refuse_connection(alloc, server, &error),
     };
     let mut reader = Device::new(Input::new(&stream, faults.failures));
     let mut writer = Device::new(Output::new(&stream, faults.failures));

@@ -1,7 +1,7 @@
 //! The devices of the program, why the last of their calls that failed did so, and the error messages.
 
 use resp_args::tool_error::ToolError;
-use resp_args::words::refuse_file;
+use resp_args::words::{refuse_connection, refuse_file};
 use resp_print::text::write_text;
 use resp_tool::explain::write_system_reason;
 use resp_value::device::{DeviceFault, MemorySink};
@@ -94,6 +94,20 @@ impl<'a> Faults<'a> {
         Ok(refuse_file(name, why.as_str(), &mut self.lines))
     }
 
+    /// Reports that no connection to a server can be opened, and why. Returns the exit status.
+    pub fn refuse_connection(
+        &mut self,
+        alloc: Global,
+        server: &str,
+        error: &io::Error,
+    ) -> Result<u8, AllocError> {
+        let why = match short_reason(error.kind()) {
+            Some(reason) => format!(in alloc; "{reason}")?,
+            None => format!(in alloc; "{error}")?,
+        };
+        Ok(refuse_connection(server, why.as_str(), &mut self.lines))
+    }
+
     /// Writes that a word is no value of an option, and then `wanted`: which option, and what it
     /// expects.
     pub fn write_bad_value(&mut self, word: &str, wanted: &[u8]) -> Result<(), DeviceFault> {
@@ -104,6 +118,17 @@ impl<'a> Faults<'a> {
             &mut self.lines,
             b"\n\nFor more information, try '--help'.\n",
         )
+    }
+}
+
+/// Returns the reason for the usual failures of a connection, or `None` for others.
+fn short_reason(kind: ErrorKind) -> Option<&'static str> {
+    match kind {
+        ErrorKind::ConnectionRefused => Some("connection refused"),
+        ErrorKind::NotFound => Some("no such file or directory"),
+        ErrorKind::PermissionDenied => Some("permission denied"),
+        ErrorKind::TimedOut => Some("timed out"),
+        _ => None,
     }
 }
 

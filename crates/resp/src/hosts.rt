@@ -4,7 +4,7 @@ use crate::failures::Faults;
 use resp_args::listen_address::ListenAddress;
 use resp_args::server_address::ServerAddress;
 use resp_args::words::refuse_host;
-use resp_loop::Address;
+use resp_loop::{Address, Backend};
 use std::alloc::{AllocError, Global};
 use std::net::{Net, ToSocketAddrs};
 use std::{env, io};
@@ -46,6 +46,30 @@ pub fn addresses_of(
             drop(addresses);
             Err(error)
         }
+    }
+}
+
+/// Returns a server whose name is looked up whenever a connection to it is tried and none of its
+/// addresses is known or accepts one.
+///
+/// # Errors
+///
+/// `AllocError` if an allocation fails.
+pub fn backend_of(rt: &HostRuntime, server: &ServerAddress<'_>) -> Result<Backend, AllocError> {
+    let alloc = rt.alloc();
+    let name = name_of(alloc, server)?;
+    let address = match *server {
+        ServerAddress::Named { host, port } => {
+            let host = String::from_str(alloc, host)?;
+            return Ok(Backend::at_host(alloc, name, host, port));
+        }
+        ServerAddress::Socket(address) => Address::Socket(address),
+        ServerAddress::Path(path) => Address::Path(String::from_str(alloc, path)?),
+    };
+    let mut addresses = Vec::new(alloc);
+    match addresses.push(address) {
+        Ok(()) => Ok(Backend::new(name, addresses)),
+        Err(_) => Err(AllocError),
     }
 }
 

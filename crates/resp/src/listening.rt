@@ -2,7 +2,7 @@
 
 use crate::checking::run_check;
 use crate::failures::Faults;
-use crate::hosts::{addresses_of, listening_on, name_of, password_of, refuse_server};
+use crate::hosts::{addresses_of, backend_of, listening_on, name_of, password_of, refuse_server};
 use crate::most_clients::{SERVE, TAP, descriptors_of_proxy, most_clients};
 use crate::replaying::run_replay;
 use crate::style::style_of;
@@ -13,6 +13,7 @@ use resp_args::tapping::{FilterOptions, StatsOptions, Tapping};
 use resp_args::tool_error::ToolError;
 use resp_args::traffic::{Route, Traffic};
 use resp_args::words::stop;
+use resp_commands::entry;
 use resp_loop::{Address, Backend};
 use resp_paint::{Painted, Style};
 use resp_print::live::LiveSink;
@@ -25,7 +26,7 @@ use resp_value::device::Sink;
 use resp_window::{AfterFailure, Settings, Tables, Window};
 use std::alloc::{AllocError, Global};
 use std::hash::RandomState;
-use std::io::{self, ErrorKind};
+use std::io::{self, ErrorKind, Write};
 use std::time::Duration;
 
 /// The exit status of a usage error.
@@ -36,12 +37,12 @@ const DEVICE_FAILED: u8 = 3;
 
 /// The error of `tap` with `--json` and a table of counts.
 const NO_JSON_OF_TABLES: &[u8] =
-    b"error: the argument '--json' cannot be used with '--stats' or '--stats-every <N>'\n\n\
+    b"error: the argument '--json' cannot be used with '--stats' or '--stats-every <TIME>'\n\n\
     For more information, try '--help'.\n";
 
 /// The error of a text that is not a duration, after the text.
 const BAD_DURATION: &[u8] =
-    b"' for '--slower <DURATION>': expected a number with us, ms or s, such as 10ms";
+    b"' for '--slower <TIME>': expected a time with a unit (us, ms, s, m or h), such as 10ms";
 
 /// Why the program stops listening for clients.
 #[derive(Drop)]
@@ -164,8 +165,7 @@ fn run_window<W: LiveSink>(
     };
     let backend = Backend::new(name_of(rt.alloc(), &route.server)?, addresses);
     match tap(rt, tapping, route, backend, slower, style, writer) {
-        // It ends this way only after a write has failed, which was reported then.
-        Ok(()) => Ok(DEVICE_FAILED),
+        Ok(status) => Ok(status),
         Err(ListenError::File(error)) => {
             faults.refuse_opening(rt.alloc(), route.record.unwrap_or(""), &error)
         }
@@ -200,7 +200,7 @@ pub fn filter_of(
 /// Returns when tables are printed, if commands are counted.
 pub fn tables_of(stats: StatsOptions) -> Option<Tables> {
     if stats.every > 0 {
-        return Some(Tables::Every(Duration::from_secs(stats.every)));
+        return Some(Tables::Every(Duration::from_micros(stats.every)));
     }
     stats.is_on.then_some(Tables::AtEnd)
 }
@@ -216,8 +216,8 @@ fn after_failure(tapping: &Tapping<'_>) -> AfterFailure {
     }
 }
 
-/// Runs the tap between clients and a server until that fails, or until its output has failed and
-/// all connections are closed.
+/// Runs the tap between clients and a server until that fails, until its output has failed and all
+/// connections are closed, or until a person ends it. Returns the status.
 fn tap<W: LiveSink>(
     rt: &HostRuntime,
     tapping: &Tapping<'_>,
@@ -226,7 +226,7 @@ fn tap<W: LiveSink>(
     slower: Option<u64>,
     style: Style,
     writer: &mut Painted<W>,
-) -> Result<(), ListenError> {
+) -> Result<u8, ListenError> {
     let alloc = rt.alloc();
     let Ok(filter) = filter_of(alloc, &tapping.filter, slower) else {
         return Err(ToolError::Memory.into());
@@ -260,7 +260,8 @@ fn settings_of_window(
     }
 }
 
-/// Runs a window until that fails, or until its output has failed and all connections are closed.
+/// Runs a window until that fails, until its output has failed and all connections are closed, or
+/// until a person ends it. Returns the status.
 fn watch<W: LiveSink>(
     rt: &HostRuntime,
     tapping: &Tapping<'_>,
@@ -268,7 +269,7 @@ fn watch<W: LiveSink>(
     style: Style,
     window: &mut Window,
     writer: &mut Painted<W>,
-) -> Result<(), ListenError> {
+) -> Result<u8, ListenError> {
     record(rt, window, route.record)?;
     if !window.may_wait() {
         writer.set_style(style);
@@ -276,7 +277,10 @@ fn watch<W: LiveSink>(
     write_tapping(rt.alloc(), &window.address()?, tapping.style.json, writer)?;
     match window.run(rt, writer) {
         Err(error) if error.kind() == ErrorKind::WriteZero => Err(ToolError::Write.into()),
-        ended => Ok(ended?),
+        Err(error) if error.kind() == ErrorKind::Interrupted => Ok(0),
+        Err(error) => Err(error.into()),
+        // It ends this way only after a write has failed, which was reported then.
+        Ok(()) => Ok(DEVICE_FAILED),
     }
 }
 
@@ -298,26 +302,37 @@ pub fn run_proxy<W: LiveSink>(
     writer: &mut W,
     faults: &mut Faults<'_>,
 ) -> Result<u8, AllocError> {
+    warn_of_known(rt, proxying.also);
+    if proxying.checks {
+        return check(rt, proxying, writer, faults);
+    }
+    let backend = backend_of(rt, &proxying.server)?;
+    match proxy(rt, proxying, backend, writer) {
+        Ok(()) => Ok(0),
+        Err(error) => refuse(rt.alloc(), proxying.address_text, &error, faults),
+    }
+}
+
+/// Checks the commands of the server in the words. Returns the status.
+fn check<W: LiveSink>(
+    rt: &HostRuntime,
+    proxying: &Proxying<'_>,
+    writer: &mut W,
+    faults: &mut Faults<'_>,
+) -> Result<u8, AllocError> {
     let addresses = match addresses_of(rt, rt.alloc(), &proxying.server) {
         Ok(addresses) => addresses,
         Err(error) => return refuse_server(rt.alloc(), &proxying.server, &error, faults),
     };
     let name = name_of(rt.alloc(), &proxying.server)?;
-    if proxying.checks {
-        return run_check(
-            rt,
-            proxying,
-            name.as_str(),
-            addresses.as_slice(),
-            writer,
-            faults,
-        );
-    }
-    let backend = Backend::new(name, addresses);
-    match proxy(rt, proxying, backend, writer) {
-        Ok(()) => Ok(0),
-        Err(error) => refuse(rt.alloc(), proxying.address_text, &error, faults),
-    }
+    run_check(
+        rt,
+        proxying,
+        name.as_str(),
+        addresses.as_slice(),
+        writer,
+        faults,
+    )
 }
 
 /// Runs the proxy between clients and a server until that fails.
@@ -349,8 +364,26 @@ fn share<W: LiveSink>(
     if admit(server, proxying.also).is_err() {
         return Err(ToolError::Memory.into());
     }
-    announce(rt.alloc(), &server.address()?, writer)?;
+    match announce(rt.alloc(), &server.address()?, writer) {
+        // The proxy serves clients although nobody reads its output.
+        Ok(()) | Err(ToolError::Write) => {}
+        Err(error) => return Err(error.into()),
+    }
     Ok(server.run(rt, rt.stdin(), writer)?)
+}
+
+/// Says on standard error which of these names, between commas, the table of commands has.
+fn warn_of_known(rt: &HostRuntime, names: Option<&str>) {
+    for name in names.unwrap_or("").split(',') {
+        if entry(name.as_bytes()).is_some() {
+            let line = format!(in rt.alloc();
+                "--also {name} changes nothing, since the proxy knows this command\n"
+            );
+            if let Ok(line) = line {
+                let _ = rt.stderr().write_all(line.as_str().as_bytes());
+            }
+        }
+    }
 }
 
 /// Admits the commands of these names, between commas.
@@ -376,6 +409,7 @@ fn login_of(rt: &HostRuntime) -> Result<Vec<u8>, AllocError> {
 
 /// Returns the settings that the options of `proxy` ask for.
 fn settings_of(rt: &HostRuntime, options: &ProxyOptions) -> ProxySettings {
+    let times = options.times;
     ProxySettings {
         proxy: resp_proxy::Settings {
             limits: options.limits,
@@ -390,9 +424,10 @@ fn settings_of(rt: &HostRuntime, options: &ProxyOptions) -> ProxySettings {
         own: options.own,
         unread: options.unread,
         lines: options.lines,
-        patience: Duration::from_millis(options.patience),
-        report: (options.report > 0).then_some(Duration::from_secs(options.report)),
+        patience: Duration::from_micros(times.server_timeout),
+        report: (times.report > 0).then_some(Duration::from_micros(times.report)),
         drains: options.drains,
+        drain_timeout: Duration::from_micros(times.drain_timeout),
         check_every: options.check_every,
     }
 }

@@ -6,10 +6,13 @@
 mod asking;
 mod checking;
 mod failures;
+mod hints;
 mod hosts;
 mod input;
 mod listening;
 mod most_clients;
+mod opening;
+mod prompting;
 mod replaying;
 mod server_stream;
 mod style;
@@ -21,6 +24,7 @@ use asking::run_ask;
 use failures::{Failures, Faults, Input, StandardOutput};
 use input::read_input;
 use listening::{run_proxy, run_serve, run_tap};
+use opening::{open_file, tell_waiting};
 use resp_args::asked::Asked;
 use resp_args::options::{Options, STANDARD_INPUT, Task};
 use resp_args::style::StyleOptions;
@@ -38,7 +42,6 @@ use resp_value::limits::Limits;
 use resp_wire::{TcpLink, World};
 use std::alloc::{AllocError, Global};
 use std::env;
-use std::fs::File;
 use std::hash::RandomState;
 use std::io::{self, IsTerminal, Read, Write};
 use std::process::ExitCode;
@@ -182,10 +185,11 @@ fn run_task<W: LiveSink>(
     requires { (1 ≤ options.now.piece) × (options.now.piece ≤ 65536) }
 {
     let alloc = rt.alloc();
+    tell_waiting(rt, options.file);
     if options.file == STANDARD_INPUT {
         return run_stream(alloc, options, rt.stdin(), writer, faults);
     }
-    match File::open(rt, options.file) {
+    match open_file(rt, options.file) {
         Ok(file) => run_stream(alloc, options, file, writer, faults),
         Err(error) => faults.refuse_opening(alloc, options.file, &error),
     }
@@ -247,10 +251,11 @@ fn run_script<W: Sink>(
     writer: &mut W,
     faults: &mut Faults<'_>,
 ) -> Result<u8, AllocError> {
+    tell_waiting(rt, file);
     if file == STANDARD_INPUT {
         return run_loop(rt, rt.stdin(), writer, faults);
     }
-    match File::open(rt, file) {
+    match open_file(rt, file) {
         Ok(opened) => run_loop(rt, opened, writer, faults),
         Err(error) => faults.refuse_opening(rt.alloc(), file, &error),
     }

@@ -18,9 +18,9 @@ pub const TAP: Descriptors = Descriptors {
     second: u32::MAX,
 };
 
-/// The descriptors of `proxy` without connections to the server: those of `serve`, the terminal and its
-/// poll, and a spare one.
-const PROXY: u32 = 9;
+/// The descriptors of `proxy` without connections to the server: those of `serve`, standard output and
+/// standard error opened anew, each with a poll, and a spare one.
+const PROXY: u32 = 11;
 
 /// Returns the descriptors of `proxy`. Clients share some connections to the server, and some clients
 /// have one of their own.

@@ -2,6 +2,7 @@
 
 use crate::failures::{Faults, Input};
 use crate::listening::{filter_of, tables_of};
+use crate::opening::{open_file, tell_waiting};
 use resp_args::options::STANDARD_INPUT;
 use resp_args::tapping::Tapping;
 use resp_args::tool_error::ToolError;
@@ -12,7 +13,6 @@ use resp_tap::Filter;
 use resp_value::device::{Device, Sink};
 use resp_window::{Replay, ReplayError, ReplaySettings};
 use std::alloc::{AllocError, Global};
-use std::fs::File;
 use std::io::Read;
 
 /// The status if the file is no capture, or is cut off.
@@ -52,10 +52,11 @@ pub fn run_replay<W: LiveSink>(
     let alloc = rt.alloc();
     let filter = filter_of(alloc, &tapping.filter, slower)?;
     let settings = settings_of(tapping, captured, slower.is_some());
+    tell_waiting(rt, captured.file);
     if captured.file == STANDARD_INPUT {
         return replay(alloc, rt.stdin(), settings, filter, writer, faults);
     }
-    match File::open(rt, captured.file) {
+    match open_file(rt, captured.file) {
         Ok(file) => replay(alloc, file, settings, filter, writer, faults),
         Err(error) => faults.refuse_opening(alloc, captured.file, &error),
     }

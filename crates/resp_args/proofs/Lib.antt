@@ -5,3 +5,4 @@ pub mod AskingLemmas
 pub mod CommandExamples
 pub mod SizeLemmas
 pub mod HostLemmas
+pub mod DurationLemmas

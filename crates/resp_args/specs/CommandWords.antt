@@ -12,6 +12,7 @@ use Rattle.clap.specs.declared.parser.matches.ArgMatches.{ArgMatches}
 use Rattle.resp_value.specs.Bounds.{AreBounds, Bounds}
 use Rattle.resp_value.specs.declared.version.Version.{Version}
 use Rattle.resp_value.specs.declared.version.Version.TheVariants.{Two, Three}
+use Rattle.resp_args.specs.Durations.{IsPause, IsTime}
 use Rattle.resp_args.specs.Hosts.{IsListenText, IsServerText}
 use Rattle.resp_args.specs.Sizes.{IsSize}
 use Rattle.resp_args.specs.declared.asked.Asked.{Asked}
@@ -22,6 +23,7 @@ use Rattle.resp_args.specs.declared.options.Options.{Options}
 use Rattle.resp_args.specs.declared.options.Task.{Task}
 use Rattle.resp_args.specs.declared.options.Task.TheVariants.{Show, Check, Canon}
 use Rattle.resp_args.specs.declared.proxying.ProxyOptions.{ProxyOptions}
+use Rattle.resp_args.specs.declared.proxying.ProxyTimes.{ProxyTimes}
 use Rattle.resp_args.specs.declared.proxying.Proxying.{Proxying}
 use Rattle.resp_args.specs.declared.serving.Serving.{Serving}
 use Rattle.resp_args.specs.declared.style.StyleOptions.{StyleOptions}
@@ -45,6 +47,14 @@ HasNumber given name number = (text : Text) × (one_of name given ≡ Some text)
 -- the option is this number of bytes, which is in this range
 abbrev pub HasSize : List Row → Text → ℕ → ℕ → ℕ → Type 0
 HasSize given name least most size = (text : Text) × (first_of name given ≡ Some text) × IsSize text least most size
+
+-- the option is a time with a unit of this many microseconds, which is in this range
+abbrev pub HasTime : List Row → Text → ℕ → ℕ → ℕ → Type 0
+HasTime given name least most micros = (text : Text) × (first_of name given ≡ Some text) × IsTime text least most micros
+
+-- the option is `0`, or a time with a unit of this many microseconds, which is in this range
+abbrev pub HasPause : List Row → Text → ℕ → ℕ → ℕ → Type 0
+HasPause given name least most micros = (text : Text) × (first_of name given ≡ Some text) × IsPause text least most micros
 
 -- the option is this number, which is from 1 to 65,536
 abbrev pub HasSmallNumber : List Row → Text → ℕ → Type 0
@@ -125,8 +135,8 @@ pub record HasOptions (given : List Row) (options : Options) : Type 0 where
 pub record HasServeWords (given : List Row) (address : Text) (limits : Bounds) (clients : Option ℕ) (held : ℕ) : Type 0 where
   pub in_limits : HasLimits given limits
   pub no_doubles : limits.doubles ≡ false
-  pub at_once : HasMost given (codes "clients") clients
-  pub waiting : HasSize given (codes "held") 1 1099511627776 held
+  pub at_once : HasMost given (codes "max-clients") clients
+  pub waiting : HasSize given (codes "client-buffer") 1 1099511627776 held
   pub text : first_of (codes "address") given ≡ Some address
 
 -- the options of `serve`, with its address
@@ -148,13 +158,13 @@ pub record HasFilter (given : List Row) (filter : FilterOptions) : Type 0 where
 -- the options of `tap` that say that commands are counted
 pub record HasStats (given : List Row) (stats : StatsOptions) : Type 0 where
   pub on : HasFlag given (codes "stats") stats.is_on
-  pub seconds : HasNumber given (codes "stats-every") stats.every
+  pub micros : HasPause given (codes "stats-every") 1000000 86400000000 stats.every
 
 -- the options of `tap` that are no address
 pub record HasTapOptions (given : List Row) (options : TapOptions) : Type 0 where
   pub in_limits : HasLimits given options.limits
   pub with_doubles : options.limits.doubles ≡ true
-  pub at_once : HasMost given (codes "clients") options.clients
+  pub at_once : HasMost given (codes "max-clients") options.clients
   pub tells : HasFlag given (codes "time") options.tells_time
   pub exits : HasFlag given (codes "exit-with-output") options.exits_with_output
   pub keeps : HasFlag given (codes "keep-going") options.keeps_going
@@ -206,10 +216,11 @@ HasTraffic given (traffic.Captured captured) = HasCaptured given captured
 abbrev pub HasTapping : List Row → Tapping → Type 0
 HasTapping given tapping = HasTraffic given tapping.traffic × HasTapOptions given (tap_options_of tapping)
 
--- `--patience` in milliseconds and `--report` in seconds, within an hour and a day
-abbrev pub HasProxyTimes : List Row → ℕ × ℕ → Type 0
-HasProxyTimes given times = HasNumberBetween given (codes "patience") 1 3600000 times.0 ×
-    HasNumberBetween given (codes "report") 0 86400 times.1
+-- the times of `proxy` in microseconds: 1 ms to 1 h, 1 s to 24 h or 0, and 1 ms to 24 h or 0
+pub record HasProxyTimes (given : List Row) (times : ProxyTimes) : Type 0 where
+  pub server_timeout : HasTime given (codes "server-timeout") 1000 3600000000 times.server_timeout
+  pub report : HasPause given (codes "report") 1000000 86400000000 times.report
+  pub drain_timeout : HasPause given (codes "drain-timeout") 1000 86400000000 times.drain_timeout
 
 -- whether `--local-ping` and `--drain` are given
 abbrev pub HasProxyFlags : List Row → Bool × Bool → Type 0
@@ -219,15 +230,15 @@ HasProxyFlags given flags = HasFlag given (codes "local-ping") flags.0 × HasFla
 pub record HasProxyOptions (given : List Row) (options : ProxyOptions) : Type 0 where
   pub in_limits : HasLimits given options.limits
   pub no_doubles : options.limits.doubles ≡ false
-  pub at_once : HasMost given (codes "clients") options.clients
-  pub alone : HasNumberBetween given (codes "own") 0 65536 options.own
-  pub unanswered : HasNumberBetween given (codes "waiting") 1 1048576 options.waiting
-  pub for_client : HasSize given (codes "held") 1 1099511627776 options.held
-  pub unread : HasSize given (codes "unread") 1 1099511627776 options.unread
-  pub for_server : HasSize given (codes "unsent") 1 1099511627776 options.unsent
-  pub times : HasProxyTimes given (options.patience, options.report)
+  pub at_once : HasMost given (codes "max-clients") options.clients
+  pub alone : HasNumberBetween given (codes "max-dedicated") 0 65536 options.own
+  pub unanswered : HasNumberBetween given (codes "pipeline") 1 1048576 options.waiting
+  pub for_client : HasSize given (codes "client-buffer") 1 1099511627776 options.held
+  pub unread : HasSize given (codes "client-buffer-limit") 1 1099511627776 options.unread
+  pub for_server : HasSize given (codes "server-buffer") 1 1099511627776 options.unsent
+  pub times : HasProxyTimes given options.times
   pub probes : HasNumberBetween given (codes "check-every") 0 1000000000 options.check_every
-  pub shared : HasNumberBetween given (codes "lines") 1 256 options.lines
+  pub shared : HasNumberBetween given (codes "max-shared") 1 256 options.lines
   pub flags : HasProxyFlags given (options.local_ping, options.drains)
   pub refuses_lines : HasFlag given (codes "no-inline") options.refuses_lines
 
@@ -290,9 +301,13 @@ Enters (Some entered) asked = IsAsked entered.0 entered.1 asked
 abbrev pub AskFor : App → List Text → Asked → Type 0
 AskFor program words asked = (fault_of program words ≡ []) × Enters (subcommand_of program words) asked
 
+-- a time of at most 24 h, in microseconds
+abbrev pub IsWithinDay : ℕ → Type 0
+IsWithinDay micros = micros ≤ 86400000000
+
 -- The size of a read, the most clients at once if it is given, and the most commands that wait are from 1 to 65,536; for
--- `proxy` at most 65,536 clients have a connection of their own, a client has from 1 to 1,048,576 commands that wait,
--- patience ends within an hour, and reports follow one another within a day.
+-- `proxy` at most 65,536 clients have a connection of their own, a client has from 1 to 1,048,576 commands that wait, the
+-- server has from 1 ms to 1 h for a reply, and reports follow one another within a day.
 abbrev pub IsInRange : Asked → Type 0
 IsInRange (Stream options) = (1 ≤ options.piece) × (options.piece ≤ 65536)
 IsInRange (Play explains never_explains file) = Unit {0}
@@ -301,7 +316,8 @@ IsInRange (Tap tapping) = IfSome tapping.clients IsSmall
 IsInRange (Proxy proxying) = IfSome proxying.options.clients IsSmall ×
     (proxying.options.own ≤ 65536) ×
     (1 ≤ proxying.options.waiting) × (proxying.options.waiting ≤ 1048576) ×
-    (1 ≤ proxying.options.patience) × (proxying.options.patience ≤ 3600000) × (proxying.options.report ≤ 86400)
+    (1000 ≤ proxying.options.times.server_timeout) × (proxying.options.times.server_timeout ≤ 3600000000) ×
+    IsWithinDay proxying.options.times.report × IsWithinDay proxying.options.times.drain_timeout
 IsInRange (Ask asking) = (1 ≤ asking.options.window) × (asking.options.window ≤ 65536)
 
 -- the words ask for help, or for the version of the program

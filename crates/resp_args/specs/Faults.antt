@@ -35,6 +35,10 @@ open_failed_line = reason_line (codes "open failed: ")
 abbrev pub no_host_line : List ℕ → List ℕ → List ℕ
 no_host_line = reason_line (codes "cannot find the address of ")
 
+-- the line for a server to which no connection can be opened, with the reason
+abbrev pub no_connection_line : List ℕ → List ℕ → List ℕ
+no_connection_line = reason_line (codes "cannot connect to ")
+
 -- Memory was out, or a write of help failed: the line of that error was written, or one write of it failed. The last
 -- numbers are the counts of failed writes of help.
 abbrev pub TellsFailure : Option (List ℕ) → Option (List ℕ) → ℕ → ℕ → ℕ → ℕ → Type 0

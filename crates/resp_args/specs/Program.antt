@@ -42,6 +42,10 @@ range_option name range = record (new_rule name) { long = Some name; value_names
 abbrev pub size_option : Text → Text → Rule
 size_option name default = record (new_rule name) { long = Some name; value_names = 1; defaults = default ∷ [] }
 
+-- `--name TIME`, a time: any text for the parser
+abbrev pub time_option : Text → Text → Rule
+time_option name default = record (new_rule name) { long = Some name; value_names = 1; defaults = default ∷ [] }
+
 -- the parser's representation of a range
 abbrev pub numbers_between : ℤ → ℤ → ValueParser
 numbers_between least most =
@@ -85,14 +89,18 @@ version_options versions = value_option (codes "proto") versions (codes "2") ∷
 abbrev pub explained_file : List Rule
 explained_file = flag_option (codes "explain") ∷ flag_option (codes "no-explain") ∷ file_word ∷ []
 
--- the options of `show`, `check` and `canon` after those that limit values
-abbrev pub reading_options : List Rule
-reading_options = flag_option (codes "doubles") ∷ size_option (codes "piece") (codes "4K") ∷ style_options ++
+-- the options of `show` after those that limit values
+abbrev pub showing_options : List Rule
+showing_options = flag_option (codes "doubles") ∷ size_option (codes "piece") (codes "4K") ∷ style_options ++
     flag_option (codes "json") ∷ explained_file
 
--- the options of `show`, `check` and `canon`, with these versions for `--proto`
-abbrev pub stream_options : ValueParser → List Rule
-stream_options versions = version_options versions ++ limit_options ++ reading_options
+-- the options of `check` and `canon` after those that limit values
+abbrev pub reading_options : List Rule
+reading_options = flag_option (codes "doubles") ∷ size_option (codes "piece") (codes "4K") ∷ explained_file
+
+-- the options of a command that reads a stream, with these versions for `--proto` and these last options
+abbrev pub stream_options : ValueParser → List Rule → List Rule
+stream_options versions last = version_options versions ++ limit_options ++ last
 
 -- the options of `loop`
 abbrev pub loop_options : List Rule
@@ -104,28 +112,25 @@ address_word name = record (new_rule name) { value_names = 1; required = true }
 
 -- the most clients at once
 abbrev pub clients_option : Rule
-clients_option = range_option (codes "clients") (vp.Unsigned 1 65536)
-
--- the options of `serve`, `tap` and `proxy`, followed by those that only one of them has
-abbrev pub listening_options : List Rule → List Rule
-listening_options others = limit_options ++ clients_option ∷ others
+clients_option = range_option (codes "max-clients") (vp.Unsigned 1 65536)
 
 -- the options that only `serve` has
 abbrev pub serving_options : List Rule
-serving_options = size_option (codes "held") (codes "1M") ∷ flag_option (codes "test-server") ∷ address_word (codes "address") ∷ []
+serving_options = flag_option (codes "test-server") ∷ clients_option ∷ size_option (codes "client-buffer") (codes "1M") ∷
+    address_word (codes "address") ∷ []
 
 -- the options of `serve`
 abbrev pub serve_options : List Rule
-serve_options = listening_options serving_options
+serve_options = serving_options ++ limit_options
 
 -- the options of `tap` that say which commands are printed
 abbrev pub filter_options : List Rule
 filter_options = flag_option (codes "errors") ∷ name_option (codes "slower") ∷ name_option (codes "command") ∷
-    name_option (codes "key") ∷ number_option (codes "client") 0 1099511627776 (codes "0") ∷ flag_option (codes "connections") ∷ []
+    name_option (codes "key") ∷ number_option (codes "client") 0 1099511627776 (codes "0") ∷ []
 
 -- the options of `tap` that say that commands are counted
 abbrev pub stats_options : List Rule
-stats_options = flag_option (codes "stats") ∷ number_option (codes "stats-every") 0 86400 (codes "0") ∷ []
+stats_options = flag_option (codes "stats") ∷ time_option (codes "stats-every") (codes "0") ∷ []
 
 -- an argument without a name that may be missing
 abbrev pub optional_word : Text → Rule
@@ -138,41 +143,49 @@ traffic_options = name_option (codes "record") ∷ name_option (codes "replay") 
 
 -- the options of `tap` that say what is printed
 abbrev pub watching_options : List Rule
-watching_options = flag_option (codes "time") ∷ filter_options ++ stats_options
+watching_options = stats_options ++ flag_option (codes "time") ∷ flag_option (codes "connections") ∷
+    flag_option (codes "json") ∷ style_options ++ size_option (codes "shown") (codes "1K") ∷
+    flag_option (codes "show-passwords") ∷ filter_options
 
 -- the other options of `tap`, and the addresses
 abbrev pub printing_options : List Rule
-printing_options =
-    flag_option (codes "exit-with-output") ∷ flag_option (codes "keep-going") ∷ flag_option (codes "no-inline") ∷
-    flag_option (codes "show-passwords") ∷ size_option (codes "shown") (codes "1K") ∷ traffic_options ++ style_options ++
-    flag_option (codes "json") ∷ optional_word (codes "listen") ∷ optional_word (codes "server") ∷ []
+printing_options = traffic_options ++ clients_option ∷ flag_option (codes "no-inline") ∷
+    flag_option (codes "exit-with-output") ∷ flag_option (codes "keep-going") ∷
+    optional_word (codes "listen") ∷ optional_word (codes "server") ∷ []
 
 -- the options of `tap`
 abbrev pub tap_options : List Rule
-tap_options = listening_options (watching_options ++ printing_options)
+tap_options = watching_options ++ printing_options ++ limit_options
 
--- the options of `proxy` that are numbers
+-- the options of `proxy` about its commands and its end, and the addresses
+abbrev pub replying_options : List Rule
+replying_options =
+    time_option (codes "server-timeout") (codes "5s") ∷
+    time_option (codes "report") (codes "0") ∷
+    flag_option (codes "drain") ∷
+    time_option (codes "drain-timeout") (codes "30s") ∷
+    flag_option (codes "local-ping") ∷
+    name_option (codes "also") ∷
+    flag_option (codes "no-inline") ∷
+    number_option (codes "check-every") 0 1000000000 (codes "0") ∷
+    flag_option (codes "check") ∷
+    flag_option (codes "all") ∷
+    address_word (codes "listen") ∷ address_word (codes "server") ∷ []
+
+-- the options of `proxy` that bound its connections and its buffers
 abbrev pub sharing_options : List Rule
 sharing_options =
-    number_option (codes "own") 0 65536 (codes "1000") ∷
-    number_option (codes "lines") 1 256 (codes "16") ∷
-    number_option (codes "waiting") 1 1048576 (codes "1024") ∷
-    size_option (codes "held") (codes "1M") ∷
-    size_option (codes "unread") (codes "1G") ∷
-    size_option (codes "unsent") (codes "1M") ∷
-    number_option (codes "patience") 1 3600000 (codes "5000") ∷
-    number_option (codes "report") 0 86400 (codes "0") ∷
-    number_option (codes "check-every") 0 1000000000 (codes "0") ∷ []
-
--- the other options of `proxy`, and the addresses
-abbrev pub replying_options : List Rule
-replying_options = flag_option (codes "local-ping") ∷ flag_option (codes "no-inline") ∷ flag_option (codes "drain") ∷
-    name_option (codes "also") ∷ flag_option (codes "check") ∷ flag_option (codes "all") ∷
-    address_word (codes "listen") ∷ address_word (codes "server") ∷ []
+    clients_option ∷
+    number_option (codes "max-dedicated") 0 65536 (codes "1000") ∷
+    number_option (codes "max-shared") 1 256 (codes "16") ∷
+    number_option (codes "pipeline") 1 1048576 (codes "1024") ∷
+    size_option (codes "client-buffer") (codes "1M") ∷
+    size_option (codes "client-buffer-limit") (codes "1G") ∷
+    size_option (codes "server-buffer") (codes "1M") ∷ []
 
 -- the options of `proxy`
 abbrev pub proxy_options : List Rule
-proxy_options = listening_options (sharing_options ++ replying_options)
+proxy_options = replying_options ++ sharing_options ++ limit_options
 
 -- the words of a command: an argument without a name, to which all words after its first one belong
 abbrev pub command_word : Rule
@@ -214,9 +227,9 @@ bare_app = on_top (λ top. record top { has_version = true; subcommand_required 
 abbrev pub resp_app : ValueParser → App
 resp_app versions = with_subcommand (with_subcommand (with_subcommand (with_subcommand (with_subcommand
     (with_subcommand (with_subcommand (with_subcommand bare_app
-    (task_shape (codes "show") (stream_options versions)))
-    (task_shape (codes "check") (stream_options versions)))
-    (task_shape (codes "canon") (stream_options versions)))
+    (task_shape (codes "show") (stream_options versions showing_options)))
+    (task_shape (codes "check") (stream_options versions reading_options)))
+    (task_shape (codes "canon") (stream_options versions reading_options)))
     (task_shape (codes "loop") loop_options))
     (task_shape (codes "serve") serve_options))
     (task_shape (codes "tap") tap_options))

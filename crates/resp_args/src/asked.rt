@@ -5,6 +5,7 @@ ghost use Rattle.clap.specs.Words.{found_of, rows_of, subcommand_rows_of};
 ghost use Rattle.resp_args.specs.CommandWords.{Enters, IsAsked, task_word};
 
 use crate::asking::{Asking, asking_of};
+use crate::duration::{DAY, HOUR, MILLISECOND, SECOND, pause_of, time_of};
 use crate::options::{MOST_BYTES, Options, Task, flag_of, options_of, text_of};
 use crate::proxying::{Proxying, proxying_of};
 use crate::serving::{Serving, serving_of};
@@ -14,7 +15,6 @@ use clap::ArgMatches;
 use resp_print::text::{write_number, write_text};
 use resp_value::device::{DeviceFault, Sink};
 use std::alloc::Global;
-use std::num::IntErrorKind;
 
 /// The line for words that ask for something that is not done here.
 pub(crate) const OTHER_WORDS: &[u8] = b"error: these words ask for nothing here\n";
@@ -31,6 +31,15 @@ const BOTH_FILES: &[u8] =
 /// The end of the lines about missing addresses.
 const NEEDS_ADDRESSES: &[u8] = b"  <SERVER>\n\nUsage: resp tap [OPTIONS] <LISTEN> <SERVER>\n       \
     resp tap [OPTIONS] --replay <FILE>\n\nFor more information, try '--help'.\n";
+
+/// The number of bytes of the unit `K`.
+const KILO: u64 = 1_024;
+
+/// The number of bytes of the unit `M`.
+const MEGA: u64 = 1_048_576;
+
+/// The number of bytes of the unit `G`.
+const GIGA: u64 = 1_073_741_824;
 
 /// What a command line asks for.
 #[derive(Drop)]
@@ -78,6 +87,14 @@ pub(crate) enum NothingAsked<'a> {
         least: u64,
         most: u64,
     },
+    /// The text of an option is no time in its range.
+    BadTime {
+        text: &'a str,
+        name: &'static str,
+        /// The unit of an example, and the times that the option accepts.
+        unit: &'static str,
+        range: &'static str,
+    },
     /// An address of `tap` is missing: that of the server if `listens` is true, and otherwise both.
     NoAddress {
         listens: bool,
@@ -107,6 +124,12 @@ impl NothingAsked<'_> {
                 least,
                 most,
             } => write_bad_size(text, name, least, most, faults),
+            Self::BadTime {
+                text,
+                name,
+                unit,
+                range,
+            } => write_bad_time(text, name, unit, range, faults),
         }
     }
 }
@@ -147,8 +170,7 @@ fn write_bad_server<F: Sink>(text: &str, faults: &mut F) -> Result<(), DeviceFau
     write_text(faults, b"For more information, try '--help'.\n")
 }
 
-/// Writes the range of an option that is a number of bytes. The line about a number without a unit is that
-/// of clap.
+/// Writes the range of an option that is a number of bytes.
 fn write_bad_size<F: Sink>(
     text: &str,
     name: &str,
@@ -160,26 +182,54 @@ fn write_bad_size<F: Sink>(
     write_text(faults, text.as_bytes())?;
     write_text(faults, b"' for '--")?;
     write_text(faults, name.as_bytes())?;
-    match text.parse::<u64>() {
-        Ok(number) => {
-            write_number(faults, b" <N>': ", number, b" is not in ")?;
-            write_number(faults, b"", least, b"..=")?;
-            write_number(faults, b"", most, b"\n\n")?;
-        }
-        Err(error) => match error.kind() {
-            IntErrorKind::PosOverflow => {
-                write_text(faults, b" <N>': number too large to fit in target type\n\n")?;
-            }
-            _ => {
-                write_number(faults, b" <N>': expected ", least, b" to ")?;
-                write_number(faults, b"", most, b" bytes, such as 4096 or 64K\n\n")?;
-            }
-        },
-    }
+    write_text(faults, b" <N>': expected a size from ")?;
+    write_size(least, faults)?;
+    write_text(faults, b" to ")?;
+    write_size(most, faults)?;
+    write_text(faults, b", such as 4096 or 64K\n\n")?;
     write_text(faults, b"For more information, try '--help'.\n")
 }
 
-/// Returns why these options ask for nothing: a number of bytes is wrong, or something else.
+/// Writes a number of bytes in the greatest unit of which it is a multiple.
+fn write_size<F: Sink>(bytes: u64, faults: &mut F) -> Result<(), DeviceFault> {
+    if bytes >= GIGA && bytes % GIGA == 0 {
+        write_number(faults, b"", bytes / GIGA, b"G")
+    } else if bytes >= MEGA && bytes % MEGA == 0 {
+        write_number(faults, b"", bytes / MEGA, b"M")
+    } else if bytes >= KILO && bytes % KILO == 0 {
+        write_number(faults, b"", bytes / KILO, b"K")
+    } else {
+        write_number(faults, b"", bytes, b"")
+    }
+}
+
+/// Writes the times that an option accepts, or that a number other than 0 needs a unit.
+fn write_bad_time<F: Sink>(
+    text: &str,
+    name: &str,
+    unit: &str,
+    range: &str,
+    faults: &mut F,
+) -> Result<(), DeviceFault> {
+    write_text(faults, b"error: invalid value '")?;
+    write_text(faults, text.as_bytes())?;
+    write_text(faults, b"' for '--")?;
+    write_text(faults, name.as_bytes())?;
+    if text.parse::<u64>().unwrap_or(0) > 0 {
+        write_text(
+            faults,
+            b" <TIME>': a time needs a unit (us, ms, s, m or h), such as ",
+        )?;
+        write_text(faults, text.as_bytes())?;
+        write_text(faults, unit.as_bytes())?;
+    } else {
+        write_text(faults, b" <TIME>': expected ")?;
+        write_text(faults, range.as_bytes())?;
+    }
+    write_text(faults, b"\n\nFor more information, try '--help'.\n")
+}
+
+/// Returns why these options ask for nothing: a number of bytes or a time is wrong, or something else.
 pub(crate) fn wrong_options<'a>(given: &ArgMatches<'a>) -> NothingAsked<'a> {
     if let Some(wrong) = wrong_size(given, "length", 64, 1_073_741_824) {
         return wrong;
@@ -190,16 +240,61 @@ pub(crate) fn wrong_options<'a>(given: &ArgMatches<'a>) -> NothingAsked<'a> {
     if let Some(wrong) = wrong_size(given, "piece", 1, 65_536) {
         return wrong;
     }
-    if let Some(wrong) = wrong_size(given, "held", 1, MOST_BYTES) {
+    if let Some(wrong) = wrong_size(given, "client-buffer", 1, MOST_BYTES) {
         return wrong;
     }
     if let Some(wrong) = wrong_size(given, "shown", 32, MOST_BYTES) {
         return wrong;
     }
-    if let Some(wrong) = wrong_size(given, "unread", 1, MOST_BYTES) {
+    if let Some(wrong) = wrong_size(given, "client-buffer-limit", 1, MOST_BYTES) {
         return wrong;
     }
-    wrong_size(given, "unsent", 1, MOST_BYTES).unwrap_or(NothingAsked::OtherWords)
+    if let Some(wrong) = wrong_size(given, "server-buffer", 1, MOST_BYTES) {
+        return wrong;
+    }
+    wrong_times(given).unwrap_or(NothingAsked::OtherWords)
+}
+
+/// Returns why these options ask for nothing, if a time is wrong.
+fn wrong_times<'a>(given: &ArgMatches<'a>) -> Option<NothingAsked<'a>> {
+    if let Some(text) = text_of(given, "server-timeout") {
+        if time_of(text, MILLISECOND, HOUR).is_none() {
+            return Some(NothingAsked::BadTime {
+                text,
+                name: "server-timeout",
+                unit: "ms",
+                range: "a time from 1ms to 1h, such as 500ms or 5s",
+            });
+        }
+    }
+    let range = "0, or a time from 1s to 24h, such as 10s";
+    if let Some(wrong) = wrong_pause(given, "report", SECOND, range) {
+        return Some(wrong);
+    }
+    if let Some(wrong) = wrong_pause(given, "stats-every", SECOND, range) {
+        return Some(wrong);
+    }
+    let range = "0, or a time from 1ms to 24h, such as 30s";
+    wrong_pause(given, "drain-timeout", MILLISECOND, range)
+}
+
+/// Returns why an option asks for nothing, if it is given and is neither 0 nor a time up to 24 h.
+fn wrong_pause<'a>(
+    given: &ArgMatches<'a>,
+    name: &'static str,
+    least: u64,
+    range: &'static str,
+) -> Option<NothingAsked<'a>> {
+    let text = text_of(given, name)?;
+    match pause_of(text, least, DAY) {
+        Some(_) => None,
+        None => Some(NothingAsked::BadTime {
+            text,
+            name,
+            unit: "s",
+            range,
+        }),
+    }
 }
 
 /// Returns why an option asks for nothing, if it is given and is no number of bytes in its range.

@@ -1,21 +1,73 @@
-//! Durations on the command line.
+//! Times on the command line, such as `500ms`.
 
-ghost use Rattle.std.specs.Prelude.{ℕ, IfNone, IfSome};
-ghost use Rattle.resp_args.specs.Durations.{IsDuration};
+ghost use Rattle.std.specs.Prelude.{◌<◌, ℕ, IfNone, IfSome};
+ghost use Rattle.resp_args.specs.Durations.{IsDuration, IsPause, IsTime};
 
-use crate::units::number_before;
+use crate::units::{number_before, number_within};
 
-/// Returns the microseconds of a duration: a number with `us`, `ms` or `s`, such as `10ms`. Returns
-/// `None` for any other text, and for 2^64 microseconds or more.
+/// The microseconds of a millisecond.
+pub(crate) const MILLISECOND: u64 = 1_000;
+
+/// The microseconds of a second.
+pub(crate) const SECOND: u64 = 1_000_000;
+
+/// The microseconds of an hour.
+pub(crate) const HOUR: u64 = 3_600_000_000;
+
+/// The microseconds of a day.
+pub(crate) const DAY: u64 = 86_400_000_000;
+
+/// Returns the microseconds of a time: `0`, or a number with `us`, `ms`, `s`, `m` or `h`, such as
+/// `10ms`. Returns `None` for any other text, and for 2^64 microseconds or more.
 pub fn duration_of(text: &str) -> Option<u64>
     ensures some { IfSome result (IsDuration text.now) }
     ensures none { IfNone result ((micros : ℕ) → IsDuration text.now micros → ⊥) }
 {
+    if text == "0" {
+        return Some(0);
+    }
     if let Some(micros) = number_before("us", 1, text) {
         return Some(micros);
     }
     if let Some(micros) = number_before("ms", 1_000, text) {
         return Some(micros);
     }
-    number_before("s", 1_000_000, text)
+    if let Some(micros) = number_before("s", 1_000_000, text) {
+        return Some(micros);
+    }
+    if let Some(micros) = number_before("m", 60_000_000, text) {
+        return Some(micros);
+    }
+    number_before("h", 3_600_000_000, text)
+}
+
+/// Returns the microseconds of a time in this range: a number with `us`, `ms`, `s`, `m` or `h`.
+pub(crate) fn time_of(text: &str, least: u64, most: u64) -> Option<u64>
+    ensures some { IfSome result (IsTime text.now least most) }
+    ensures none { IfNone result ((micros : ℕ) → IsTime text.now least most micros → ⊥) }
+{
+    if let Some(micros) = number_within("us", 1, text, least, most) {
+        return Some(micros);
+    }
+    if let Some(micros) = number_within("ms", 1_000, text, least, most) {
+        return Some(micros);
+    }
+    if let Some(micros) = number_within("s", 1_000_000, text, least, most) {
+        return Some(micros);
+    }
+    if let Some(micros) = number_within("m", 60_000_000, text, least, most) {
+        return Some(micros);
+    }
+    number_within("h", 3_600_000_000, text, least, most)
+}
+
+/// Returns the microseconds of a time in this range, or 0 if the text is `0`.
+pub(crate) fn pause_of(text: &str, least: u64, most: u64) -> Option<u64>
+    ensures some { IfSome result (IsPause text.now least most) }
+    ensures none { IfNone result ((micros : ℕ) → IsPause text.now least most micros → ⊥) }
+{
+    if text == "0" {
+        return Some(0);
+    }
+    time_of(text, least, most)
 }

@@ -13,6 +13,7 @@ pub mod options;
 mod parameter;
 mod parser;
 pub mod proxying;
+mod renamed;
 pub mod server_address;
 pub mod serving;
 mod sizes;

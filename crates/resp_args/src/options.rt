@@ -3,10 +3,11 @@
 ghost use Rattle.std.specs.Prelude.{◌≡◌, ℕ, Bool, Option, false, IfNone, IfOk, IfSome, OnErr, option_map};
 ghost use Rattle.clap.specs.Words.{first_of, found_of, rows_of};
 ghost use Rattle.resp_args.specs.Addresses.{HasPort, IsAddressText, IsLocalPort};
-ghost use Rattle.resp_args.specs.CommandWords.{HasFlag, HasLimits, HasNumber, HasOptions, HasProto, HasMost, HasReading, HasSize, HasSmallNumber};
+ghost use Rattle.resp_args.specs.CommandWords.{HasFlag, HasLimits, HasNumber, HasOptions, HasProto, HasMost, HasPause, HasReading, HasSize, HasSmallNumber, HasTime};
 ghost use Rattle.resp_value.specs.Bounds.{Bounds};
 
 use crate::asked::NothingAsked;
+use crate::duration::{pause_of, time_of};
 use crate::sizes::size_of;
 use crate::style::{StyleOptions, style_of};
 use clap::ArgMatches;
@@ -87,6 +88,43 @@ pub(crate) fn bytes_of(matches: &ArgMatches<'_>, name: &str, least: u64, most: u
 {
     match text_of(matches, name) {
         Some(text) => size_of(text, least, most),
+        None => None,
+    }
+}
+
+/// Returns the microseconds of an option; `None` if it is no time with a unit in this range.
+pub(crate) fn time_between(
+    matches: &ArgMatches<'_>,
+    name: &str,
+    least: u64,
+    most: u64,
+) -> Option<u64>
+    ensures some { IfSome result
+        (HasTime (rows_of (found_of matches.now)) name.now least most) }
+    ensures none { IfNone result ((micros : ℕ)
+        → HasTime (rows_of (found_of matches.now)) name.now least most micros → ⊥) }
+{
+    match text_of(matches, name) {
+        Some(text) => time_of(text, least, most),
+        None => None,
+    }
+}
+
+/// Returns the microseconds of an option; `None` if it is neither `0` nor a time with a unit in this
+/// range.
+pub(crate) fn pause_between(
+    matches: &ArgMatches<'_>,
+    name: &str,
+    least: u64,
+    most: u64,
+) -> Option<u64>
+    ensures some { IfSome result
+        (HasPause (rows_of (found_of matches.now)) name.now least most) }
+    ensures none { IfNone result ((micros : ℕ)
+        → HasPause (rows_of (found_of matches.now)) name.now least most micros → ⊥) }
+{
+    match text_of(matches, name) {
+        Some(text) => pause_of(text, least, most),
         None => None,
     }
 }

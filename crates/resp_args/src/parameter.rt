@@ -11,6 +11,8 @@ pub(crate) struct Parameter {
     /// The name by which its values are found.
     pub(crate) name: &'static str,
     pub(crate) help: &'static str,
+    /// The heading in help above it, or an empty text if it has the usual one.
+    pub(crate) heading: &'static str,
     pub(crate) form: Form,
     /// The name of its value in help, if it has a value.
     pub(crate) value_names: &'static [&'static str],
@@ -26,6 +28,7 @@ pub(crate) struct Parameter {
 pub(crate) const PLAIN: Parameter = Parameter {
     name: "",
     help: "",
+    heading: "",
     form: Form::Flag,
     value_names: &[],
     defaults: &[],
@@ -69,6 +72,23 @@ pub(crate) fn add<'a>(
 
 /// Returns the argument that the parser has for `parameter`.
 fn arg<'a>(alloc: Global, parameter: &Parameter) -> Arg<'a>
+    ensures { local_rule result ≡ here (parameter_rule parameter.now) }
+{
+    below(parameter.heading, written(alloc, parameter))
+}
+
+/// Returns the argument with this heading in help, or with the usual one if the text is empty.
+fn below<'a>(heading: &'static str, arg: Arg<'a>) -> Arg<'a>
+    ensures { local_rule result ≡ local_rule arg.entry }
+{
+    if heading.is_empty() {
+        return arg;
+    }
+    arg.help_heading(heading)
+}
+
+/// Returns the argument that the parser has for `parameter`, with the usual heading in help.
+fn written<'a>(alloc: Global, parameter: &Parameter) -> Arg<'a>
     ensures { local_rule result ≡ here (parameter_rule parameter.now) }
 {
     let name = parameter.name;

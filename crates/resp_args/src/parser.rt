@@ -101,7 +101,7 @@ fn bare_program<'a>(alloc: Global) -> Command<'a>
     ensures { IsTask result bare_app }
 {
     Command::new(alloc, "resp")
-        .version("0.2.0")
+        .version("0.3.0")
         .about("Tools for RESP2 and RESP3, the wire protocol of Redis")
         .after_help(EXAMPLES)
         .subcommand_required(true)

@@ -6,8 +6,12 @@ ghost use Rattle.resp_args.specs.CommandWords.{HasNumberBetween, HasProxyFlags, 
 ghost use Rattle.resp_args.specs.Hosts.{IsListenText, IsServerText};
 
 use crate::asked::{NothingAsked, wrong_options};
+use crate::duration::{DAY, HOUR, MILLISECOND, SECOND};
 use crate::listen_address::{ListenAddress, listen_of};
-use crate::options::{MOST_BYTES, bytes_of, flag_of, limits_of, most_of, number_of, text_of};
+use crate::options::{
+    MOST_BYTES, bytes_of, flag_of, limits_of, most_of, number_of, pause_between, text_of,
+    time_between,
+};
 use crate::server_address::{ServerAddress, server_of};
 use crate::style::is_on;
 use clap::ArgMatches;
@@ -52,12 +56,8 @@ pub struct ProxyOptions {
     pub unread: usize,
     /// The most bytes that wait to be written to the server when a command is taken.
     pub unsent: usize,
-    /// The milliseconds without a reply, while commands wait, after which the connection to the
-    /// server is given up, from 1 to 3,600,000.
-    pub patience: u64,
-    /// The seconds from one report on standard output to the next, from 0 to 86,400; with 0 there
-    /// is no report.
-    pub report: u64,
+    /// The times.
+    pub times: ProxyTimes,
     /// The commands after which the connection to the server is checked by a probe, from 0 to
     /// 1,000,000,000; with 0 there is no probe.
     pub check_every: u64,
@@ -67,6 +67,19 @@ pub struct ProxyOptions {
     pub refuses_lines: bool,
     /// Whether the proxy ends when standard input ends.
     pub drains: bool,
+}
+
+/// The times in the options of `resp proxy`, in microseconds.
+#[derive(Clone, Copy)]
+pub struct ProxyTimes {
+    /// The time without a reply, while commands wait, after which the connection to the server is given
+    /// up, from 1 ms to 1 h.
+    pub server_timeout: u64,
+    /// The time from one report on standard output to the next, from 1 s to 24 h; with 0 there is no
+    /// report.
+    pub report: u64,
+    /// The most time that the end of the proxy waits for replies to clients, from 1 ms to 24 h, or 0.
+    pub drain_timeout: u64,
 }
 
 /// The options before the addresses are parsed.
@@ -137,36 +150,39 @@ fn options_of(matches: &ArgMatches<'_>) -> Option<ProxyOptions>
     ensures none { IfNone result ((options : ProxyOptions)
         → HasProxyOptions (rows_of (found_of matches.now)) options → ⊥) }
 {
-    let (patience, report) = times_of(matches)?;
+    let times = times_of(matches)?;
     let (local_ping, drains) = flags_of(matches)?;
     let refuses_lines = flag_of(matches, "no-inline")?;
     Some(ProxyOptions {
         limits: limits_of(matches)?,
-        clients: most_of(matches, "clients")?,
-        own: number_between(matches, "own", 0, 65_536)? as usize,
-        waiting: number_between(matches, "waiting", 1, 1_048_576)? as u32,
-        held: bytes_of(matches, "held", 1, MOST_BYTES)? as usize,
-        unread: bytes_of(matches, "unread", 1, MOST_BYTES)? as usize,
-        unsent: bytes_of(matches, "unsent", 1, MOST_BYTES)? as usize,
-        patience,
-        report,
+        clients: most_of(matches, "max-clients")?,
+        own: number_between(matches, "max-dedicated", 0, 65_536)? as usize,
+        waiting: number_between(matches, "pipeline", 1, 1_048_576)? as u32,
+        held: bytes_of(matches, "client-buffer", 1, MOST_BYTES)? as usize,
+        unread: bytes_of(matches, "client-buffer-limit", 1, MOST_BYTES)? as usize,
+        unsent: bytes_of(matches, "server-buffer", 1, MOST_BYTES)? as usize,
+        times,
         check_every: number_between(matches, "check-every", 0, 1_000_000_000)?,
-        lines: number_between(matches, "lines", 1, 256)? as usize,
+        lines: number_between(matches, "max-shared", 1, 256)? as usize,
         local_ping,
         refuses_lines,
         drains,
     })
 }
 
-/// Returns the milliseconds of `--patience` and the seconds of `--report`; `None` if one of them is
-/// outside its range.
-fn times_of(matches: &ArgMatches<'_>) -> Option<(u64, u64)>
+/// Returns the times; `None` if one of them is outside its range.
+fn times_of(matches: &ArgMatches<'_>) -> Option<ProxyTimes>
     ensures some { IfSome result (HasProxyTimes (rows_of (found_of matches.now))) }
-    ensures none { IfNone result ((times : ℕ × ℕ)
+    ensures none { IfNone result ((times : ProxyTimes)
         → HasProxyTimes (rows_of (found_of matches.now)) times → ⊥) }
 {
-    let patience = number_between(matches, "patience", 1, 3_600_000)?;
-    Some((patience, number_between(matches, "report", 0, 86_400)?))
+    let server_timeout = time_between(matches, "server-timeout", MILLISECOND, HOUR)?;
+    let report = pause_between(matches, "report", SECOND, DAY)?;
+    Some(ProxyTimes {
+        server_timeout,
+        report,
+        drain_timeout: pause_between(matches, "drain-timeout", MILLISECOND, DAY)?,
+    })
 }
 
 /// Returns whether `--local-ping` and `--drain` are given.

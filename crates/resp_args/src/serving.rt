@@ -70,7 +70,7 @@ fn words_of<'a>(matches: &ArgMatches<'a>) -> Option<Words<'a>>
     Some(Words {
         address: text_of(matches, "address")?,
         limits: limits_of(matches)?,
-        clients: most_of(matches, "clients")?,
-        held: bytes_of(matches, "held", 1, MOST_BYTES)? as usize,
+        clients: most_of(matches, "max-clients")?,
+        held: bytes_of(matches, "client-buffer", 1, MOST_BYTES)? as usize,
     })
 }

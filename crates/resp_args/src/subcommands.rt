@@ -6,8 +6,8 @@ ghost use Rattle.resp_args.specs.Tables.{with_subcommands};
 use crate::parameter::Parameter;
 use crate::parser::{Subcommand, Texts};
 use crate::tables::{
-    asking, limits, printing, reading, replying, script, serving, sharing, versions, watching,
-    words,
+    asking, limits, printing, reading, replying, script, serving, sharing, showing, versions,
+    watching, words,
 };
 
 /// No parameters.
@@ -18,11 +18,13 @@ pub(crate) fn subcommands() -> [Subcommand; 8]
     ensures { IsProgram (with_subcommands bare_app result) }
 {
     let limits = limits();
-    let stream = [versions(), limits, reading()];
+    let versions = versions();
+    let shown = [versions, limits, showing()];
+    let stream = [versions, limits, reading()];
     [
         Subcommand {
             texts: &SHOW,
-            parameters: stream,
+            parameters: shown,
         },
         Subcommand {
             texts: &CHECK,
@@ -38,15 +40,15 @@ pub(crate) fn subcommands() -> [Subcommand; 8]
         },
         Subcommand {
             texts: &SERVE,
-            parameters: [limits, serving(), NONE],
+            parameters: [serving(), limits, NONE],
         },
         Subcommand {
             texts: &TAP,
-            parameters: [limits, watching(), printing()],
+            parameters: [watching(), printing(), limits],
         },
         Subcommand {
             texts: &PROXY,
-            parameters: [limits, sharing(), replying()],
+            parameters: [replying(), sharing(), limits],
         },
         Subcommand {
             texts: &ASK,
@@ -139,7 +141,7 @@ Exit status:
 /// The end of the help of `serve`.
 const SERVE_HELP: &str = r"Examples:
   resp serve 127.0.0.1:6380
-  resp serve --clients 100 --total 1M 127.0.0.1:0
+  resp serve --max-clients 100 --total 1M 127.0.0.1:0
   resp serve --test-server 6379
 
 The server runs until it is stopped. With port 0 the system chooses the port.
@@ -153,7 +155,7 @@ const TAP_HELP: &str = r"Examples:
   resp tap 127.0.0.1:6380 127.0.0.1:6379
   resp tap --time 127.0.0.1:6380 127.0.0.1:6379 >traffic.txt
   resp tap --slower 10ms --command get,mget 6380 redis.internal:6379
-  resp tap --stats-every 10 6380 6379
+  resp tap --stats-every 10s 6380 6379
   resp tap --record traffic.pcap 6380 6379
   resp tap --replay traffic.pcap --errors
   resp tap --json 6380 6379 | jq 'select(.micros > 1000)'
@@ -190,7 +192,7 @@ Exit status:
 /// The end of the help of `proxy`.
 const PROXY_HELP: &str = r"Examples:
   resp proxy 127.0.0.1:6380 127.0.0.1:6379
-  resp proxy --clients 10000 --patience 1000 6380 redis.internal:6379
+  resp proxy --max-clients 10000 --server-timeout 1s 6380 redis.internal:6379
   resp proxy --check 6380 redis.internal:6379
 
 Clients connect to LISTEN instead of SERVER. They share one connection to the

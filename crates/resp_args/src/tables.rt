@@ -1,8 +1,8 @@
 //! The tables of the options of the subcommands.
 
-ghost use Rattle.std.specs.Prelude.{◌≡◌, ◌∷◌, map};
+ghost use Rattle.std.specs.Prelude.{◌≡◌, map};
 ghost use Rattle.clap.specs.declared.builder.value_parser.ValueParser.{ValueParser};
-ghost use Rattle.resp_args.specs.Program.{TakesVersions, asking_options, clients_option, limit_options, loop_options, printing_options, reading_options, replying_options, server_and_words, serving_options, sharing_options, version_options, watching_options};
+ghost use Rattle.resp_args.specs.Program.{TakesVersions, asking_options, clients_option, limit_options, loop_options, printing_options, reading_options, replying_options, server_and_words, serving_options, sharing_options, showing_options, version_options, watching_options};
 ghost use Rattle.resp_args.specs.Tables.{parameter_rule};
 
 use crate::options::STANDARD_INPUT;
@@ -35,6 +35,31 @@ const JSON: Parameter = Parameter {
     ..PLAIN
 };
 
+/// `--doubles`: whether doubles are accepted.
+const DOUBLES: Parameter = Parameter {
+    name: "doubles",
+    help: "Accepts RESP3 doubles",
+    ..PLAIN
+};
+
+/// `--piece`: the most bytes of a read.
+const PIECE: Parameter = Parameter {
+    name: "piece",
+    heading: LIMITS_OF_VALUES,
+    form: Text,
+    value_names: &["N"],
+    defaults: &["4K"],
+    help: "Maximum bytes of a read, 1 to 64K",
+    ..PLAIN
+};
+
+/// `--explain`: whether errors of a stream are explained.
+const EXPLAIN: Parameter = Parameter {
+    name: "explain",
+    help: "Says where in the input an error is, and why;\nthe default if standard error is a terminal",
+    ..PLAIN
+};
+
 /// `--no-explain`: whether nothing is explained.
 const NO_EXPLAIN: Parameter = Parameter {
     name: "no-explain",
@@ -52,12 +77,33 @@ const FILE: Parameter = Parameter {
     ..PLAIN
 };
 
-/// `--clients`: the most clients at once.
+/// The heading of the options that bound connections.
+const CONNECTIONS: &str = "Connections";
+
+/// The heading of the options that bound what is held for clients and servers.
+const BUFFERS: &str = "Buffers";
+
+/// The heading of the options that limit values.
+const LIMITS_OF_VALUES: &str = "Limits";
+
+/// `--max-clients`: the most clients at once.
 const CLIENTS: Parameter = Parameter {
-    name: "clients",
+    name: "max-clients",
+    heading: CONNECTIONS,
     form: Between(1, 65_536),
     value_names: &["N"],
     help: "Maximum clients at once, 1 to 65536\n[default: as many as ulimit -n allows]",
+    ..PLAIN
+};
+
+/// `--client-buffer`: the bytes waiting for a client at which its commands wait.
+const CLIENT_BUFFER: Parameter = Parameter {
+    name: "client-buffer",
+    heading: BUFFERS,
+    form: Text,
+    value_names: &["N"],
+    defaults: &["1M"],
+    help: "Pauses a client while more bytes than this wait\nfor it, 1 to 1024G",
     ..PLAIN
 };
 
@@ -114,6 +160,7 @@ pub(crate) fn limits() -> &'static [Parameter]
 const LIMITS: &[Parameter] = &[
     Parameter {
         name: "depth",
+        heading: LIMITS_OF_VALUES,
         form: Between(4, 128),
         value_names: &["N"],
         defaults: &["32"],
@@ -122,14 +169,16 @@ const LIMITS: &[Parameter] = &[
     },
     Parameter {
         name: "length",
+        heading: LIMITS_OF_VALUES,
         form: Text,
         value_names: &["N"],
         defaults: &["512M"],
-        help: "Maximum bytes of a string or line,\n64 to 1G",
+        help: "Maximum bytes of a string or line, 64 to 1G",
         ..PLAIN
     },
     Parameter {
         name: "total",
+        heading: LIMITS_OF_VALUES,
         form: Text,
         value_names: &["N"],
         defaults: &["1G"],
@@ -138,6 +187,7 @@ const LIMITS: &[Parameter] = &[
     },
     Parameter {
         name: "items",
+        heading: LIMITS_OF_VALUES,
         form: Between(16, MOST_ITEMS),
         value_names: &["N"],
         defaults: &["1099511627776"],
@@ -147,12 +197,23 @@ const LIMITS: &[Parameter] = &[
     },
     Parameter {
         name: "no-streamed",
+        heading: LIMITS_OF_VALUES,
         help: "Rejects streamed strings and aggregates",
         ..PLAIN
     },
 ];
 
-/// The options of `show`, `check` and `canon` after the limits, and the file.
+/// The options of `show` after the limits, and the file.
+pub(crate) fn showing() -> &'static [Parameter]
+    ensures { map parameter_rule result.now ≡ showing_options }
+{
+    SHOWING
+}
+
+/// The parameters of [`showing`].
+const SHOWING: &[Parameter] = &[DOUBLES, PIECE, COLOR, UTF8, JSON, EXPLAIN, NO_EXPLAIN, FILE];
+
+/// The options of `check` and `canon` after the limits, and the file.
 pub(crate) fn reading() -> &'static [Parameter]
     ensures { map parameter_rule result.now ≡ reading_options }
 {
@@ -160,31 +221,7 @@ pub(crate) fn reading() -> &'static [Parameter]
 }
 
 /// The parameters of [`reading`].
-const READING: &[Parameter] = &[
-    Parameter {
-        name: "doubles",
-        help: "Accepts RESP3 doubles",
-        ..PLAIN
-    },
-    Parameter {
-        name: "piece",
-        form: Text,
-        value_names: &["N"],
-        defaults: &["4K"],
-        help: "Maximum bytes of a read, 1 to 64K",
-        ..PLAIN
-    },
-    COLOR,
-    UTF8,
-    JSON,
-    Parameter {
-        name: "explain",
-        help: "Says where in the input an error is, and why;\nthe default if standard error is a terminal",
-        ..PLAIN
-    },
-    NO_EXPLAIN,
-    FILE,
-];
+const READING: &[Parameter] = &[DOUBLES, PIECE, EXPLAIN, NO_EXPLAIN, FILE];
 
 /// The options of `loop`, and the file.
 pub(crate) fn script() -> &'static [Parameter]
@@ -204,29 +241,22 @@ const SCRIPT: &[Parameter] = &[
     FILE,
 ];
 
-/// The options of `serve` after the limits, and the address.
+/// The options of `serve` before the limits, and the address.
 pub(crate) fn serving() -> &'static [Parameter]
-    ensures { map parameter_rule result.now ≡ clients_option ∷ serving_options }
+    ensures { map parameter_rule result.now ≡ serving_options }
 {
     SERVING
 }
 
 /// The parameters of [`serving`].
 const SERVING: &[Parameter] = &[
-    CLIENTS,
-    Parameter {
-        name: "held",
-        form: Text,
-        value_names: &["N"],
-        defaults: &["1M"],
-        help: "Maximum bytes waiting for a client when its\nnext command is run, 1 to 1024G",
-        ..PLAIN
-    },
     Parameter {
         name: "test-server",
         help: "Also serves inline commands, QUIT, SELECT, CLIENT,\nEXISTS, DBSIZE, FLUSHDB and FLUSHALL, in 16 databases",
         ..PLAIN
     },
+    CLIENTS,
+    CLIENT_BUFFER,
     Parameter {
         name: "address",
         form: Word,
@@ -237,54 +267,35 @@ const SERVING: &[Parameter] = &[
     },
 ];
 
-/// The options of `tap` after the limits that say what is printed.
+/// The heading of the options of `tap` that choose commands.
+const FILTERS: &str = "Filters";
+
+/// The options of `tap` that say what is printed.
 pub(crate) fn watching() -> &'static [Parameter]
-    ensures { map parameter_rule result.now ≡ clients_option ∷ watching_options }
+    ensures { map parameter_rule result.now ≡ watching_options }
 {
     WATCHING
 }
 
 /// The parameters of [`watching`].
 const WATCHING: &[Parameter] = &[
-    CLIENTS,
+    Parameter {
+        name: "stats",
+        help: "Prints a table of commands when the last connection\ncloses, and not the commands",
+        ..PLAIN
+    },
+    Parameter {
+        name: "stats-every",
+        form: Text,
+        value_names: &["TIME"],
+        defaults: &["0"],
+        hides_defaults: true,
+        help: "As --stats, and prints the table this often too,\n1s to 24h",
+        ..PLAIN
+    },
     Parameter {
         name: "time",
         help: "Prints the time in UTC, and how long each reply took",
-        ..PLAIN
-    },
-    Parameter {
-        name: "errors",
-        help: "Prints only commands whose reply is an error",
-        ..PLAIN
-    },
-    Parameter {
-        name: "slower",
-        form: Text,
-        value_names: &["DURATION"],
-        help: "Prints only commands that wait longer for their\nreply, such as 10ms, 1s or 500us",
-        ..PLAIN
-    },
-    Parameter {
-        name: "command",
-        form: Text,
-        value_names: &["NAMES"],
-        help: "Prints only commands with these names, with a\ncomma between two of them",
-        ..PLAIN
-    },
-    Parameter {
-        name: "key",
-        form: Text,
-        value_names: &["GLOB"],
-        help: "Prints only commands with a key that this glob\nmatches, such as 'user:*'",
-        ..PLAIN
-    },
-    Parameter {
-        name: "client",
-        form: Between(0, MOST_ITEMS),
-        value_names: &["N"],
-        defaults: &["0"],
-        hides_defaults: true,
-        help: "Prints only the lines about client N",
         ..PLAIN
     },
     Parameter {
@@ -293,20 +304,69 @@ const WATCHING: &[Parameter] = &[
         ..PLAIN
     },
     Parameter {
-        name: "stats",
-        help: "Prints a table of commands when the last connection\ncloses, and not the commands",
+        name: "json",
+        help: "Prints each command and reply as a line of JSON",
+        ..PLAIN
+    },
+    COLOR,
+    UTF8,
+    Parameter {
+        name: "shown",
+        form: Text,
+        value_names: &["N"],
+        defaults: &["1K"],
+        help: "Maximum bytes printed of each text,\n32 to 1024G",
         ..PLAIN
     },
     Parameter {
-        name: "stats-every",
-        form: Between(0, 86_400),
+        name: "show-passwords",
+        help: "Prints the passwords in commands",
+        ..PLAIN
+    },
+    Parameter {
+        name: "errors",
+        heading: FILTERS,
+        help: "Prints only commands whose reply is an error",
+        ..PLAIN
+    },
+    Parameter {
+        name: "slower",
+        heading: FILTERS,
+        form: Text,
+        value_names: &["TIME"],
+        help: "Prints only commands that wait longer for their reply,\nsuch as 10ms, 1s or 500us",
+        ..PLAIN
+    },
+    Parameter {
+        name: "command",
+        heading: FILTERS,
+        form: Text,
+        value_names: &["NAMES"],
+        help: "Prints only commands with these names, with a comma\nbetween two of them",
+        ..PLAIN
+    },
+    Parameter {
+        name: "key",
+        heading: FILTERS,
+        form: Text,
+        value_names: &["GLOB"],
+        help: "Prints only commands with a key that this glob\nmatches, such as 'user:*'",
+        ..PLAIN
+    },
+    Parameter {
+        name: "client",
+        heading: FILTERS,
+        form: Between(0, MOST_ITEMS),
         value_names: &["N"],
         defaults: &["0"],
         hides_defaults: true,
-        help: "As --stats, and prints the table every N seconds\ntoo, 1 to 86400",
+        help: "Prints only the lines about client N",
         ..PLAIN
     },
 ];
+
+/// The heading of the options of `tap` about captures.
+const CAPTURES: &str = "Captures";
 
 /// The other options of `tap`, and the addresses.
 pub(crate) fn printing() -> &'static [Parameter]
@@ -318,61 +378,48 @@ pub(crate) fn printing() -> &'static [Parameter]
 /// The parameters of [`printing`].
 const PRINTING: &[Parameter] = &[
     Parameter {
+        name: "record",
+        heading: CAPTURES,
+        form: Text,
+        value_names: &["FILE"],
+        help: "Writes the traffic to a capture (pcap) for --replay, with\nall passwords",
+        ..PLAIN
+    },
+    Parameter {
+        name: "replay",
+        heading: CAPTURES,
+        form: Text,
+        value_names: &["FILE"],
+        help: "Reads the traffic in a capture (pcap, pcapng) in place of\nLISTEN and SERVER; - is standard input",
+        ..PLAIN
+    },
+    Parameter {
+        name: "port",
+        heading: CAPTURES,
+        form: Between(0, 65_535),
+        value_names: &["N"],
+        defaults: &["0"],
+        hides_defaults: true,
+        help: "Port of the server in the capture, for connections of\nwhich it has no beginning",
+        ..PLAIN
+    },
+    CLIENTS,
+    Parameter {
+        name: "no-inline",
+        heading: CONNECTIONS,
+        help: "Reads no inline commands, such as the line PING",
+        ..PLAIN
+    },
+    Parameter {
         name: "exit-with-output",
+        heading: CONNECTIONS,
         help: "Ends at once if the output fails",
         ..PLAIN
     },
     Parameter {
         name: "keep-going",
+        heading: CONNECTIONS,
         help: "Accepts clients after the output has failed",
-        ..PLAIN
-    },
-    Parameter {
-        name: "no-inline",
-        help: "Reads no commands that are lines, such as PING",
-        ..PLAIN
-    },
-    Parameter {
-        name: "show-passwords",
-        help: "Prints the passwords in commands",
-        ..PLAIN
-    },
-    Parameter {
-        name: "shown",
-        form: Text,
-        value_names: &["N"],
-        defaults: &["1K"],
-        help: "Maximum bytes printed of each text,\n32 to 1024G",
-        ..PLAIN
-    },
-    Parameter {
-        name: "record",
-        form: Text,
-        value_names: &["FILE"],
-        help: "Writes the traffic to a capture (pcap) for --replay,\nwith all passwords",
-        ..PLAIN
-    },
-    Parameter {
-        name: "replay",
-        form: Text,
-        value_names: &["FILE"],
-        help: "Reads the traffic in a capture (pcap, pcapng) in\nplace of LISTEN and SERVER; - is standard input",
-        ..PLAIN
-    },
-    Parameter {
-        name: "port",
-        form: Between(0, 65_535),
-        value_names: &["N"],
-        defaults: &["0"],
-        hides_defaults: true,
-        help: "Port of the server in the capture, for connections\nof which it has no beginning",
-        ..PLAIN
-    },
-    COLOR,
-    UTF8,
-    Parameter {
-        name: "json",
-        help: "Prints each command and reply as a line of JSON",
         ..PLAIN
     },
     Parameter {
@@ -391,91 +438,10 @@ const PRINTING: &[Parameter] = &[
     },
 ];
 
-/// The options of `proxy` after the limits that are numbers.
-pub(crate) fn sharing() -> &'static [Parameter]
-    ensures { map parameter_rule result.now ≡ clients_option ∷ sharing_options }
-{
-    SHARING
-}
+/// The heading of the options of `proxy` that serve no client.
+const CHECKS: &str = "Check a server";
 
-/// The parameters of [`sharing`].
-const SHARING: &[Parameter] = &[
-    CLIENTS,
-    Parameter {
-        name: "own",
-        form: Between(0, 65_536),
-        value_names: &["N"],
-        defaults: &["1000"],
-        help: "Maximum clients with a connection of their own,\n0 to 65536",
-        ..PLAIN
-    },
-    Parameter {
-        name: "lines",
-        form: Between(1, 256),
-        value_names: &["N"],
-        defaults: &["16"],
-        help: "Maximum connections that clients share, one for\neach version, database and user, 1 to 256",
-        ..PLAIN
-    },
-    Parameter {
-        name: "waiting",
-        form: Between(1, 1_048_576),
-        value_names: &["N"],
-        defaults: &["1024"],
-        help: "Maximum commands of a client that wait for\nreplies, 1 to 1048576",
-        ..PLAIN
-    },
-    Parameter {
-        name: "held",
-        form: Text,
-        value_names: &["N"],
-        defaults: &["1M"],
-        help: "Maximum bytes waiting for a client when its next\ncommand is read, 1 to 1024G",
-        ..PLAIN
-    },
-    Parameter {
-        name: "unread",
-        form: Text,
-        value_names: &["N"],
-        defaults: &["1G"],
-        help: "Maximum bytes waiting for a client before it is\nclosed, 1 to 1024G",
-        ..PLAIN
-    },
-    Parameter {
-        name: "unsent",
-        form: Text,
-        value_names: &["N"],
-        defaults: &["1M"],
-        help: "Maximum bytes waiting for the server when a\ncommand is read, 1 to 1024G",
-        ..PLAIN
-    },
-    Parameter {
-        name: "patience",
-        form: Between(1, 3_600_000),
-        value_names: &["N"],
-        defaults: &["5000"],
-        help: "Milliseconds without a reply before the\nconnection is closed, 1 to 3600000",
-        ..PLAIN
-    },
-    Parameter {
-        name: "report",
-        form: Between(0, 86_400),
-        value_names: &["N"],
-        defaults: &["0"],
-        help: "Prints a line with numbers every N seconds,\n0 to 86400; 0 prints no line",
-        ..PLAIN
-    },
-    Parameter {
-        name: "check-every",
-        form: Between(0, 1_000_000_000),
-        value_names: &["N"],
-        defaults: &["0"],
-        help: "Checks by an ECHO after every N commands that replies\nare in step, 0 to 1000000000; 0 checks nothing",
-        ..PLAIN
-    },
-];
-
-/// The other options of `proxy`, and the addresses.
+/// The options of `proxy` about its commands and its end, and the addresses.
 pub(crate) fn replying() -> &'static [Parameter]
     ensures { map parameter_rule result.now ≡ replying_options }
 {
@@ -485,34 +451,70 @@ pub(crate) fn replying() -> &'static [Parameter]
 /// The parameters of [`replying`].
 const REPLYING: &[Parameter] = &[
     Parameter {
+        name: "server-timeout",
+        form: Text,
+        value_names: &["TIME"],
+        defaults: &["5s"],
+        help: "Closes the connection to the server after this\ntime without a reply, 1ms to 1h",
+        ..PLAIN
+    },
+    Parameter {
+        name: "report",
+        form: Text,
+        value_names: &["TIME"],
+        defaults: &["0"],
+        hides_defaults: true,
+        help: "Prints a line with numbers this often, 1s to 24h",
+        ..PLAIN
+    },
+    Parameter {
+        name: "drain",
+        help: "Ends when standard input ends; each client gets\nthe replies to its commands first",
+        ..PLAIN
+    },
+    Parameter {
+        name: "drain-timeout",
+        form: Text,
+        value_names: &["TIME"],
+        defaults: &["30s"],
+        help: "At the end, closes the clients that are left\nafter this time, 1ms to 24h or 0",
+        ..PLAIN
+    },
+    Parameter {
         name: "local-ping",
         help: "Replies to PING without the server",
         ..PLAIN
     },
     Parameter {
-        name: "no-inline",
-        help: "Rejects commands that are lines, such as PING",
-        ..PLAIN
-    },
-    Parameter {
-        name: "drain",
-        help: "Ends when standard input ends; each client gets the\nreplies to its commands first",
-        ..PLAIN
-    },
-    Parameter {
         name: "also",
         form: Text,
-        value_names: &["NAME"],
+        value_names: &["NAMES"],
         help: "Also sends these commands of modules, such as\nJSON.GET,JSON.SET; each must have one reply",
         ..PLAIN
     },
     Parameter {
+        name: "no-inline",
+        help: "Rejects inline commands, such as the line PING",
+        ..PLAIN
+    },
+    Parameter {
+        name: "check-every",
+        form: Between(0, 1_000_000_000),
+        value_names: &["N"],
+        defaults: &["0"],
+        hides_defaults: true,
+        help: "Checks by an ECHO after every N commands that\nreplies are in step, 1 to 1000000000",
+        ..PLAIN
+    },
+    Parameter {
         name: "check",
-        help: "Serves no client; prints what the proxy would do\nwith the commands of the server",
+        heading: CHECKS,
+        help: "Serves no client; prints what the proxy would do with the\ncommands of the server",
         ..PLAIN
     },
     Parameter {
         name: "all",
+        heading: CHECKS,
         help: "With --check: prints a line for each command",
         ..PLAIN
     },
@@ -525,6 +527,64 @@ const REPLYING: &[Parameter] = &[
         ..PLAIN
     },
     SERVER,
+];
+
+/// The options of `proxy` that bound its connections and its buffers.
+pub(crate) fn sharing() -> &'static [Parameter]
+    ensures { map parameter_rule result.now ≡ sharing_options }
+{
+    SHARING
+}
+
+/// The parameters of [`sharing`].
+const SHARING: &[Parameter] = &[
+    CLIENTS,
+    Parameter {
+        name: "max-dedicated",
+        heading: CONNECTIONS,
+        form: Between(0, 65_536),
+        value_names: &["N"],
+        defaults: &["1000"],
+        help: "Maximum clients with a connection of their own,\n0 to 65536",
+        ..PLAIN
+    },
+    Parameter {
+        name: "max-shared",
+        heading: CONNECTIONS,
+        form: Between(1, 256),
+        value_names: &["N"],
+        defaults: &["16"],
+        help: "Maximum connections that clients share, one for each\nversion, database and user, 1 to 256",
+        ..PLAIN
+    },
+    Parameter {
+        name: "pipeline",
+        heading: CONNECTIONS,
+        form: Between(1, 1_048_576),
+        value_names: &["N"],
+        defaults: &["1024"],
+        help: "Maximum commands of a client that wait for replies,\n1 to 1048576",
+        ..PLAIN
+    },
+    CLIENT_BUFFER,
+    Parameter {
+        name: "client-buffer-limit",
+        heading: BUFFERS,
+        form: Text,
+        value_names: &["N"],
+        defaults: &["1G"],
+        help: "Closes a client for which more bytes than this\nwait, 1 to 1024G",
+        ..PLAIN
+    },
+    Parameter {
+        name: "server-buffer",
+        heading: BUFFERS,
+        form: Text,
+        value_names: &["N"],
+        defaults: &["1M"],
+        help: "Pauses clients while more bytes than this wait\nfor the server, 1 to 1024G",
+        ..PLAIN
+    },
 ];
 
 /// The options of `ask` before the limits.

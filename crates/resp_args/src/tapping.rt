@@ -5,7 +5,10 @@ ghost use Rattle.clap.specs.Words.{found_of, rows_of};
 ghost use Rattle.resp_args.specs.CommandWords.{HasFilter, HasStats, HasTapOptions, HasTapping};
 
 use crate::asked::{NothingAsked, wrong_options};
-use crate::options::{MOST_BYTES, bytes_of, flag_of, limits_of, most_of, number_of, text_of};
+use crate::duration::{DAY, SECOND};
+use crate::options::{
+    MOST_BYTES, bytes_of, flag_of, limits_of, most_of, number_of, pause_between, text_of,
+};
 use crate::style::{StyleOptions, style_of};
 use crate::traffic::{Traffic, traffic_of};
 use clap::ArgMatches;
@@ -45,8 +48,8 @@ pub struct Tapping<'a> {
 pub struct StatsOptions {
     /// Whether `--stats` is given.
     pub is_on: bool,
-    /// The seconds between two tables, or 0 if there is one only when the last connection closes. Any
-    /// other number has the effect of `--stats` too.
+    /// The microseconds between two tables, or 0 if there is one only when the last connection closes.
+    /// Any other number has the effect of `--stats` too.
     pub every: u64,
 }
 
@@ -122,7 +125,7 @@ fn options_of<'a>(matches: &ArgMatches<'a>) -> Option<TapOptions<'a>>
 {
     Some(TapOptions {
         limits: limits_of(matches)?.with_doubles(true),
-        clients: most_of(matches, "clients")?,
+        clients: most_of(matches, "max-clients")?,
         tells_time: flag_of(matches, "time")?,
         exits_with_output: flag_of(matches, "exit-with-output")?,
         keeps_going: flag_of(matches, "keep-going")?,
@@ -162,6 +165,6 @@ fn stats_of(matches: &ArgMatches<'_>) -> Option<StatsOptions>
     let is_on = flag_of(matches, "stats")?;
     Some(StatsOptions {
         is_on,
-        every: number_of(matches, "stats-every")?,
+        every: pause_between(matches, "stats-every", SECOND, DAY)?,
     })
 }

@@ -3,13 +3,14 @@
 ghost use Rattle.std.specs.Prelude.{◌≡◌, ◌≢◌, ◌⊎◌, IfErr, IfOk, IsErrOf, OnOk, codes, map};
 ghost use Rattle.clap.specs.Words.{App, kind_of};
 ghost use Rattle.resp_args.specs.CommandWords.{AnswersSort, AnswersStatus, AskFor, IsInRange};
-ghost use Rattle.resp_args.specs.Faults.{IsWordStatus, TellsFailure, fault_line, no_host_line, open_failed_line, reason_line, status_of};
+ghost use Rattle.resp_args.specs.Faults.{IsWordStatus, TellsFailure, fault_line, no_connection_line, no_host_line, open_failed_line, reason_line, status_of};
 ghost use Rattle.resp_args.specs.Program.{IsProgram};
 ghost use Rattle.resp_args.specs.Tried.{TriesText, WritesSome};
 ghost use Rattle.resp_print.specs.Written.{WritesText};
 
 use crate::asked::{Asked, NothingAsked, OTHER_WORDS, asked_of};
 use crate::parser::matches_of;
+use crate::renamed::write_usage_error;
 use crate::tool_error::ToolError;
 use clap::error::ErrorKind;
 use resp_print::text::write_text;
@@ -55,7 +56,7 @@ fn explain<W: Sink, F: Sink>(
             write_help(text.as_str().as_bytes(), writer, faults)
         }
         _ => {
-            let _ = write_text(faults, text.as_str().as_bytes());
+            let _ = write_usage_error(text.as_str(), faults);
             BAD_ARGUMENTS
         }
     }
@@ -144,6 +145,21 @@ pub fn refuse_host<F: Sink>(name: &str, why: &str, faults: &mut F) -> u8
 {
     let _ = write_reason(
         b"cannot find the address of ",
+        name.as_bytes(),
+        why.as_bytes(),
+        faults,
+    );
+    DEVICE_FAILED
+}
+
+/// Writes that no connection to a server can be opened, and why. Returns the exit status, 3.
+pub fn refuse_connection<F: Sink>(name: &str, why: &str, faults: &mut F) -> u8
+    ensures status { result ≡ 3 }
+    ensures told { TriesText (F.written faults.old) (F.written faults.new)
+        (F.failures faults.old) (F.failures faults.new) (no_connection_line name.now why.now) }
+{
+    let _ = write_reason(
+        b"cannot connect to ",
         name.as_bytes(),
         why.as_bytes(),
         faults,

@@ -1,3 +1,4 @@
+pub mod Lined
 pub mod Tellings
 pub mod Hearing
 pub mod Exchanging

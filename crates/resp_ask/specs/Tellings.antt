@@ -11,15 +11,17 @@ use Rattle.resp_client.specs.declared.heard.What.TheVariants.{Reply, Push, Shown
 use Rattle.resp_json.specs.Json.{json_line}
 use Rattle.resp_print.specs.Shown.{lines_on}
 use Rattle.resp_print.specs.Written.{AppendsPart}
+use Rattle.resp_ask.specs.Lined.{lined_text}
 use Rattle.resp_ask.specs.declared.error.AskError.{AskError}
 use Rattle.resp_ask.specs.declared.error.AskError.TheVariants as error
 use Rattle.resp_ask.specs.declared.telling.Form.{Form}
-use Rattle.resp_ask.specs.declared.telling.Form.TheVariants.{Alone, Numbered, Json, Counted}
+use Rattle.resp_ask.specs.declared.telling.Form.TheVariants.{Alone, Lined, Numbered, Json, Counted}
 use Rattle.resp_ask.specs.declared.telling.Telling.{Telling}
 
 -- the text for a reply with this number
 abbrev pub numbered_text : Form → ℕ → Datum → List ℕ
 numbered_text Alone number x = lines_on 0 x
+numbered_text Lined number x = lined_text x
 numbered_text Numbered number x = (codes "reply " ++ decimal number ++ codes "\n") ++ lines_on 1 x
 numbered_text Json number x = json_line x
 numbered_text Counted number x = []
@@ -31,6 +33,7 @@ reply_text t number x = numbered_text t.form (number - t.before) x
 -- the text for a push
 abbrev pub push_text : Form → Datum → List ℕ
 push_text Alone x = lines_on 0 x
+push_text Lined x = lines_on 0 x
 push_text Numbered x = lines_on 0 x
 push_text Json x = json_line x
 push_text Counted x = []

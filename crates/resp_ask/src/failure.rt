@@ -74,6 +74,20 @@ impl Failure {
         }
     }
 
+    /// Returns whether a line of the input is no command, or a command that is not sent. The lines
+    /// after it can be sent.
+    pub fn is_of_line(&self) -> bool {
+        match self {
+            Failure::Line { error, .. } => *error != LineError::Memory,
+            Failure::Refused {
+                place: Place::Line(_),
+                error,
+                ..
+            } => *error != SendError::OutOfMemory,
+            _ => false,
+        }
+    }
+
     /// Returns whether a read failed.
     pub fn is_of_read(&self) -> bool {
         matches!(self, Failure::Ask(AskError::Read) | Failure::Input)

@@ -11,6 +11,7 @@ pub mod error;
 pub mod exchange;
 pub mod failure;
 pub mod hear;
+mod lined;
 pub mod lines;
 pub mod raw;
 pub mod talk;

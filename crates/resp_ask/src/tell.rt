@@ -6,13 +6,15 @@ ghost use Rattle.resp_print.specs.Written.{WritesText};
 ghost use Rattle.resp_session.specs.Reading.{is_refusal};
 ghost use Rattle.resp_value.specs.Values.{datum_of};
 ghost use Rattle.resp_ask.specs.Tellings.{TellsText, counted_after, errors_of, push_text, reply_text, text_of};
+ghost use Rattle.resp_ask.specs.Lined.{lined_text};
 
 use crate::error::AskError;
+use crate::lined::text_of_lines;
 use crate::telling::{Form, Telling};
 use resp_client::What;
 use resp_json::value::{write_json_line, write_push_json_line};
 use resp_print::print_error::PrintError;
-use resp_print::text::write_number;
+use resp_print::text::{write_number, write_text};
 use resp_print::value::{write_push_value, write_value};
 use resp_value::device::{DeviceFault, Sink};
 use resp_value::value::{Members, Value};
@@ -68,6 +70,7 @@ fn write_reply<O: Sink>(
 {
     match telling.form {
         Form::Alone => told(write_value(value, 0, None, output)),
+        Form::Lined => write_lined(value, output),
         Form::Numbered => {
             let number = number.saturating_sub(telling.before);
             match write_number(output, b"reply ", number, b"\n") {
@@ -80,13 +83,26 @@ fn write_reply<O: Sink>(
     }
 }
 
+/// Prints a reply as `resp show` prints a value, or as it is if it is a text of lines.
+fn write_lined<O: Sink>(value: &Value, output: &mut O) -> Result<(), AskError>
+    ensures { TellsText (O.written output.old) (O.written output.new) (O.failures output.old)
+        (O.failures output.new) result (lined_text (datum_of value.now)) }
+{
+    match text_of_lines(value) {
+        Some(text) => line_told(write_text(output, text)),
+        None => told(write_value(value, 0, None, output)),
+    }
+}
+
 /// Prints a push, as `resp show` prints a value.
 fn write_push<O: Sink>(form: Form, items: &Members, output: &mut O) -> Result<(), AskError>
     ensures { TellsText (O.written output.old) (O.written output.new) (O.failures output.old)
         (O.failures output.new) result (push_text form (datum_of (Value.Push items.now))) }
 {
     match form {
-        Form::Alone | Form::Numbered => told(write_push_value(items, 0, None, output)),
+        Form::Alone | Form::Lined | Form::Numbered => told(write_push_value(
+            items, 0, None, output,
+        )),
         Form::Json => line_told(write_push_json_line(items, output)),
         Form::Counted => Ok(()),
     }

@@ -5,6 +5,9 @@
 pub enum Form {
     /// The lines of the reply, as `resp show` prints a value.
     Alone,
+    /// The same, except that a bulk or a verbatim string that is a text of lines, such as that of
+    /// INFO, is printed as this text.
+    Lined,
     /// A line with the number of the reply, and its lines on level 1.
     Numbered,
     /// A line of JSON, as `resp show --json` prints a value.

@@ -6,7 +6,7 @@ ghost use Rattle.std.specs.Prelude.{◌≡◌, ◌+◌, ◌*◌};
 /// `RESP_VERSION_NUMBER`.
 #[unsafe(no_mangle)]
 pub extern "C" fn resp_version() -> u32
-    ensures { result ≡ 65_536 * 0 + 256 * 2 + 0 }
+    ensures { result ≡ 65_536 * 0 + 256 * 3 + 0 }
 {
-    0x00_02_00
+    0x00_03_00
 }

@@ -44,7 +44,8 @@ fn read_tcp(packet: &[u8]) -> Option<Carried<'_>>
     })
 }
 
-/// Returns what a packet of a capture carries, which has this link.
+/// Returns the segment in a packet of a capture, or that it is a fragment or has no segment. `link` is
+/// the type of the link on which the packet was captured.
 pub fn read_packet(link: Link, frame: &[u8]) -> Packet<'_>
     ensures segment { IfSegment result (HasSegment link frame.now) }
     ensures none { UnlessSegment result ((segment : Segment) →

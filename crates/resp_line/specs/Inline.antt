@@ -62,6 +62,10 @@ pub record IsLineFor (limits : Bounds) (text : List ℕ) (array : Option Filled)
   pub line : IsLineWith content text
   pub has : HasText limits content array
 
+-- the line that ends in the piece has this content before its LF
+abbrev pub EndsLine : List ℕ → List ℕ → InlineCommand → Type 0
+EndsLine front piece command = front ++ take command.used piece ≡ command.content.items ++ 10 ∷ []
+
 -- a line ends in the piece, or goes on after it
 abbrev pub ReadsLine : Bounds → List ℕ → List ℕ → List ℕ → Option InlineCommand → Type 0
 ReadsLine limits front piece held None = (held ≡ front ++ piece) × IsWithinLine held

@@ -1,7 +1,7 @@
 //! Reads commands that clients send as lines.
 
 ghost use Rattle.std.specs.Prelude.{◌≡◌, ◌↔◌, ◌⊎◌, ◌++◌, ◌<◌, ◌≤◌, length, IfErr, IfOk, IfSome, IsTrue, OnOk};
-ghost use Rattle.resp_line.specs.Inline.{BeginsLine, GoesOn, HasText, ReadsLine, RejectsContent, RejectsLine};
+ghost use Rattle.resp_line.specs.Inline.{BeginsLine, EndsLine, GoesOn, HasText, ReadsLine, RejectsContent, RejectsLine};
 
 use crate::line::{LineError, words_of};
 use bytes::BytesMut;
@@ -9,6 +9,7 @@ use memchr::memchr;
 use resp_encode::{EncodeError, encode_words};
 use resp_value::limits::Limits;
 use std::alloc::{AllocError, Global};
+use std::mem;
 
 /// The most bytes of a line before its LF.
 const LONGEST: usize = 65_536;
@@ -29,6 +30,8 @@ pub enum InlineError {
 /// A line whose LF was read.
 #[derive(Drop)]
 pub struct InlineCommand {
+    /// The bytes of the line before its LF.
+    pub content: Vec<u8>,
     /// The words of the line as an array, or `None` if it has no words.
     pub text: Option<BytesMut>,
     /// The number of bytes of the piece that belong to the line.
@@ -60,6 +63,8 @@ pub fn next_inline(
 ) -> Result<Option<InlineCommand>, InlineError>
     ensures read { GoesOn line.old.items piece.now → IfOk result
         (ReadsLine limits.now line.old.items piece.now line.new.items) }
+    ensures content { GoesOn line.old.items piece.now → IfOk result (λ found. IfSome found
+        (λ command. EndsLine line.old.items piece.now command)) }
     ensures rejected { GoesOn line.old.items piece.now → IfErr result
         (RejectsLine limits.now (line.old.items ++ piece.now)) }
     ensures onward { IfOk result (λ found. IfSome found (λ command. 0 < command.used)) }
@@ -77,8 +82,9 @@ pub fn next_inline(
     }
     match text_of(alloc, limits, line.as_slice()) {
         Ok(text) => {
-            *line = Vec::new(alloc);
+            let content = mem::replace(line, Vec::new(alloc));
             Ok(Some(InlineCommand {
+                content,
                 text,
                 used: end + 1,
             }))

@@ -7,7 +7,7 @@ use std::alloc::{AllocError, Global};
 use std::fmt::{Display, Formatter, Write};
 use std::fs::Files;
 use std::io::ErrorKind;
-use std::net::{Net, SocketAddr};
+use std::net::{Net, SocketAddr, ToSocketAddrs};
 use std::{fmt, io};
 
 /// An address of a server or of a listener.
@@ -49,8 +49,19 @@ impl Display for Address {
 pub struct Backend {
     name: String,
     addresses: Vec<Address>,
+    /// The host whose addresses they are, if they are looked up.
+    host: Option<Host>,
+    /// The address on which the program itself listens, if it is known.
+    own: Option<Address>,
     /// The index of the address that is tried first.
     first: usize,
+}
+
+/// The name of a host, and a port.
+#[derive(Drop)]
+struct Host {
+    name: String,
+    port: u16,
 }
 
 /// An attempt to connect to one of the addresses of a server.
@@ -69,7 +80,57 @@ impl Backend {
         Backend {
             name,
             addresses,
+            host: None,
+            own: None,
             first: 0,
+        }
+    }
+
+    /// Returns a server at this port of a host, whose addresses are not known before
+    /// [`Backend::look_up`]. The name is used in lines about connections that can't be opened.
+    pub fn at_host(alloc: Global, name: String, host: String, port: u16) -> Self {
+        Backend {
+            name,
+            addresses: Vec::new(alloc),
+            host: Some(Host { name: host, port }),
+            own: None,
+            first: 0,
+        }
+    }
+
+    /// Returns whether the addresses are looked up by the name of a host.
+    pub fn is_at_host(&self) -> bool {
+        self.host.is_some()
+    }
+
+    /// Returns whether no address is known.
+    pub fn is_empty(&self) -> bool {
+        self.addresses.is_empty()
+    }
+
+    /// Looks up the addresses of the host, if the server is given by the name of one. The system may
+    /// wait for other machines meanwhile.
+    ///
+    /// # Errors
+    ///
+    /// The error of the system if it finds no address, an error of kind `InvalidInput` if the program
+    /// itself listens on one of them, or an error of kind `OutOfMemory`. The addresses stay as they
+    /// were.
+    pub fn look_up<R: Net + Files>(&mut self, rt: &R, alloc: Global) -> io::Result<()> {
+        let Some(host) = &self.host else {
+            return Ok(());
+        };
+        let addresses = addresses_of(rt, alloc, host)?;
+        match self.check_all(rt, &addresses) {
+            Ok(()) => {
+                self.addresses = addresses;
+                self.first = 0;
+                Ok(())
+            }
+            Err(error) => {
+                drop(addresses);
+                Err(error)
+            }
         }
     }
 
@@ -83,9 +144,19 @@ impl Backend {
         for address in &self.addresses {
             addresses.push(address.copy()?)?;
         }
+        let host = match &self.host {
+            Some(host) => Some(host.copy()?),
+            None => None,
+        };
+        let own = match &self.own {
+            Some(own) => Some(own.copy()?),
+            None => None,
+        };
         Ok(Backend {
             name: self.name.clone()?,
             addresses,
+            host,
+            own,
             first: self.first,
         })
     }
@@ -96,15 +167,28 @@ impl Backend {
     }
 
     /// Fails if connections to one of the addresses would come back to this address, on which the
-    /// caller has just begun to listen. The file of its Unix socket is removed then.
+    /// caller has just begun to listen. The file of its Unix socket is removed then. Addresses that
+    /// are looked up later are compared with it too.
     ///
     /// # Errors
     ///
     /// The error of the address, or an error of kind `InvalidInput`.
-    pub fn check<R: Net + Files>(&self, rt: &R, listening: io::Result<Address>) -> io::Result<()> {
-        let listening = listening?;
-        for address in &self.addresses {
-            match (address, &listening) {
+    pub fn check<R: Net + Files>(
+        &mut self,
+        rt: &R,
+        listening: io::Result<Address>,
+    ) -> io::Result<()> {
+        self.own = Some(listening?);
+        self.check_all(rt, &self.addresses)
+    }
+
+    /// Fails if connections to one of these addresses would come back to the program itself.
+    fn check_all<R: Net + Files>(&self, rt: &R, addresses: &[Address]) -> io::Result<()> {
+        let Some(listening) = &self.own else {
+            return Ok(());
+        };
+        for address in addresses {
+            match (address, listening) {
                 (Address::Socket(server), Address::Socket(listening)) => {
                     check_server(rt, *server, *listening)?;
                 }
@@ -174,4 +258,37 @@ impl Backend {
         }
         Err(ErrorKind::AddrNotAvailable.into())
     }
+}
+
+impl Host {
+    /// Returns a copy.
+    fn copy(&self) -> Result<Host, AllocError> {
+        Ok(Host {
+            name: self.name.clone()?,
+            port: self.port,
+        })
+    }
+}
+
+/// Returns the addresses of a host, of which there is at least one.
+fn addresses_of(net: &impl Net, alloc: Global, host: &Host) -> io::Result<Vec<Address>> {
+    let mut addresses = Vec::new(alloc);
+    match add_addresses(net, host, &mut addresses) {
+        Ok(()) => Ok(addresses),
+        Err(error) => {
+            drop(addresses);
+            Err(error)
+        }
+    }
+}
+
+/// Adds the addresses of a host behind others.
+fn add_addresses(net: &impl Net, host: &Host, addresses: &mut Vec<Address>) -> io::Result<()> {
+    for address in (host.name.as_str(), host.port).to_socket_addrs(net)? {
+        addresses.push(Address::Socket(address))?;
+    }
+    if addresses.is_empty() {
+        return Err(ErrorKind::AddrNotAvailable.into());
+    }
+    Ok(())
 }

@@ -7,7 +7,7 @@ ghost use Rattle.resp_loop.specs.Waits.{IsNoWait};
 use crate::backend::Address;
 use crate::closing::refuse;
 use crate::listener::Listener;
-use crate::service::{Cause, INPUT, Next, OWN_SOCKET, Service, Tokens, number_of};
+use crate::service::{INPUT, Next, OWN_SOCKET, Service, Tokens, number_of};
 use crate::stream::Stream;
 use mio::{Events, Poll, Registry, Token};
 use resp_schedule::{Backlog, OpenError, Schedule, State, Wait};
@@ -143,6 +143,7 @@ impl<C: Drop> Loop<C> {
     fn turn<T: Service<C>>(&mut self, service: &mut T, events: &mut Events) -> io::Result<()> {
         let timeout = self.timeout(service);
         self.poll.poll(events, timeout)?;
+        service.begin_turn();
         for event in events.iter() {
             match event.token() {
                 Token(LISTENER) => self.schedule.set_backlog(Backlog::Waiting),
@@ -152,10 +153,7 @@ impl<C: Drop> Loop<C> {
                     let is_at_end = event.is_read_closed();
                     match number_of(token) {
                         Some(number) => service.ready(number, is_at_end),
-                        None => {
-                            let place = (token - 1) / 2;
-                            self.visit_idle(service, place, Cause::Ready { is_at_end });
-                        }
+                        None => self.ready(service, (token - 1) / 2, is_at_end),
                     }
                 }
             }
@@ -180,10 +178,20 @@ impl<C: Drop> Loop<C> {
         }
     }
 
+    /// Notes that a socket of a connection is ready, and visits the connection if it is not queued.
+    fn ready<T: Service<C>>(&mut self, service: &mut T, place: usize, is_at_end: bool)
+        ensures others { KeepsOthers self.old.connections.items self.new.connections.items place }
+    {
+        note_one(&mut self.connections, service, place, is_at_end);
+        self.visit_idle(service, place);
+    }
+
     /// Visits a connection that is not queued. A queued connection is visited when it is its turn.
-    fn visit_idle<T: Service<C>>(&mut self, service: &mut T, place: usize, cause: Cause) {
+    fn visit_idle<T: Service<C>>(&mut self, service: &mut T, place: usize)
+        ensures others { KeepsOthers self.old.connections.items self.new.connections.items place }
+    {
         if let State::Idle = self.schedule.state(place) {
-            self.visit(service, place, cause);
+            self.visit(service, place);
         }
     }
 
@@ -193,7 +201,7 @@ impl<C: Drop> Loop<C> {
             let Some(place) = service.next_due() else {
                 return;
             };
-            self.visit_idle(service, place, Cause::Due);
+            self.visit_idle(service, place);
         }
     }
 
@@ -203,17 +211,17 @@ impl<C: Drop> Loop<C> {
         ensures all_are_next { due_of self.new.schedule ≡ self.new.schedule.queue }
     {
         while let Some(place) = self.schedule.next_due() {
-            self.visit(service, place, Cause::Queued);
+            self.visit(service, place);
         }
     }
 
     /// Visits the connection in a place, and queues or closes it if the service says so.
-    fn visit<T: Service<C>>(&mut self, service: &mut T, place: usize, cause: Cause)
+    fn visit<T: Service<C>>(&mut self, service: &mut T, place: usize)
         ensures due { length (due_of self.new.schedule) ≤ length (due_of self.old.schedule) }
         ensures others { KeepsOthers self.old.connections.items self.new.connections.items place }
     {
         let registry = self.poll.registry();
-        let next = visit_one(&mut self.connections, service, registry, place, cause);
+        let next = visit_one(&mut self.connections, service, registry, place);
         self.settle(service, place, next);
     }
 
@@ -323,19 +331,33 @@ fn accept(listener: &Option<Listener>) -> Result<Stream, Backlog> {
     }
 }
 
+/// Notes that a socket of the connection in a place is ready, if there is one.
+fn note_one<C: Drop, T: Service<C>>(
+    connections: &mut Vec<Option<C>>,
+    service: &mut T,
+    place: usize,
+    is_at_end: bool,
+)
+    ensures same { NoneAppears connections.old.items connections.new.items }
+    ensures others { KeepsOthers connections.old.items connections.new.items place }
+{
+    if let Some(Some(connection)) = connections.get_mut(place) {
+        service.note_ready(connection, is_at_end);
+    }
+}
+
 /// Visits the connection in a place, if there is one.
 fn visit_one<C: Drop, T: Service<C>>(
     connections: &mut Vec<Option<C>>,
     service: &mut T,
     registry: &Registry,
     place: usize,
-    cause: Cause,
 ) -> Next
     ensures same { NoneAppears connections.old.items connections.new.items }
     ensures others { KeepsOthers connections.old.items connections.new.items place }
 {
     match connections.get_mut(place) {
-        Some(Some(connection)) => service.visit(connection, registry, cause),
+        Some(Some(connection)) => service.visit(connection, registry),
         _ => Next::Wait,
     }
 }

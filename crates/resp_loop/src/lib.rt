@@ -18,6 +18,7 @@ mod own_address;
 pub mod register;
 pub mod service;
 pub mod spare;
+pub mod stop_signals;
 pub mod stream;
 pub mod terminal;
 

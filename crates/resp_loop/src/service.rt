@@ -44,29 +44,6 @@ pub enum Next {
     Close,
 }
 
-/// Why a connection is visited.
-#[derive(Clone, Copy, Debug, PartialEq, Eq)]
-pub enum Cause {
-    /// A socket of it is ready. `is_at_end` says whether an input may have ended.
-    Ready { is_at_end: bool },
-    /// The visit before it asked for another one.
-    Queued,
-    /// The service named its place.
-    Due,
-}
-
-impl Cause {
-    /// Returns whether an input may have ended. The event that reports the end may have passed
-    /// before a queued visit.
-    pub fn is_at_end(self) -> bool {
-        match self {
-            Cause::Ready { is_at_end } => is_at_end,
-            Cause::Queued => true,
-            Cause::Due => false,
-        }
-    }
-}
-
 /// The place of one connection, and the tokens of its sockets.
 #[derive(Clone, Copy)]
 pub struct Tokens {
@@ -91,9 +68,16 @@ pub trait Service<C> {
     /// Notes that an accepted client was closed at once, because the most connections are open.
     fn reject(&mut self);
 
+    /// Notes that a wait has ended, before connections are visited.
+    fn begin_turn(&mut self) {}
+
+    /// Notes that a socket of a connection is ready. `is_at_end` says whether its input may have
+    /// ended. The visit follows at once, or in its turn if the connection is queued.
+    fn note_ready(&mut self, connection: &mut C, is_at_end: bool);
+
     /// Reads and writes the sockets of a connection, and says when to do so again. A further socket
     /// of the connection is registered in the registry.
-    fn visit(&mut self, connection: &mut C, registry: &Registry, cause: Cause) -> Next;
+    fn visit(&mut self, connection: &mut C, registry: &Registry) -> Next;
 
     /// Closes a connection.
     fn close(&mut self, connection: C);

@@ -10,6 +10,8 @@ use std::net::Net;
 #[derive(Drop)]
 pub struct Spare {
     poll: Option<Poll>,
+    /// Whether the descriptor is opened again.
+    is_kept: bool,
 }
 
 impl Spare {
@@ -17,12 +19,16 @@ impl Spare {
     pub fn new(net: &impl Net) -> Self {
         Spare {
             poll: Poll::new(net).ok(),
+            is_kept: true,
         }
     }
 
-    /// Returns no descriptor.
+    /// Returns no descriptor. None is opened later.
     pub fn none() -> Self {
-        Spare { poll: None }
+        Spare {
+            poll: None,
+            is_kept: false,
+        }
     }
 
     /// Begins to connect to a server. If that fails, it is tried once more after the spare descriptor
@@ -44,7 +50,7 @@ impl Spare {
 
     /// Opens the descriptor again, if it is closed and one is left.
     pub fn keep(&mut self, net: &impl Net) {
-        if self.poll.is_none() {
+        if self.is_kept && self.poll.is_none() {
             self.poll = Poll::new(net).ok();
         }
     }

@@ -2,7 +2,8 @@
 
 ghost use Rattle.std.specs.Prelude.{◌≡◌, ◌<◌};
 
-use crate::place::Place;
+use crate::color::Color;
+use crate::place::{Place, color_of_heading, may_be_heading};
 use crate::printable::{is_printable, length_from};
 use crate::style::Style;
 use arrayvec::ArrayVec;
@@ -61,7 +62,29 @@ impl Painter {
                 return Paint::Now(text);
             }
         }
+        if self.style.colors && self.place.is_start() {
+            if may_be_heading(held) {
+                return Paint::Later;
+            }
+            if let Some(color) = color_of_heading(held) {
+                return Paint::Now(self.heading(held, color));
+            }
+        }
         Paint::Now(self.as_they_are(held))
+    }
+
+    /// Returns a heading in the color of its line.
+    fn heading(&mut self, held: &[u8], color: Color) -> ArrayVec<u8, MOST_PAINTED> {
+        let mut text = ArrayVec::new();
+        self.place = Place::Colored;
+        append(&mut text, color.sequence());
+        for byte in held {
+            let step = self.place.step(*byte);
+            self.place = step.place;
+            append(&mut text, step.before.sequence());
+            append(&mut text, &[*byte]);
+        }
+        text
     }
 
     /// Returns the bytes with their colors.

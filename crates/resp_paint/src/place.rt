@@ -17,6 +17,16 @@ const ERROR: u64 = 0x65_7272_6F72;
 /// The last eight bytes of the word `bulkerror`.
 const BULK_ERROR: u64 = 0x756C_6B65_7272_6F72;
 
+/// The beginnings of the lines that have one color up to their end.
+const HEADINGS: [(&[u8], Color); 6] = [
+    (b"client ", Color::Bold),
+    (b"command ", Color::Bold),
+    (b"reply ", Color::Bold),
+    (b"null\n", Color::Dim),
+    (b"true\n", Color::Magenta),
+    (b"false\n", Color::Magenta),
+];
+
 /// The place behind the bytes of a line so far.
 #[derive(Clone, Copy, Debug, PartialEq, Eq)]
 pub(crate) enum Place {
@@ -59,7 +69,28 @@ fn colored(before: Color, place: Place) -> Step {
     }
 }
 
+/// Returns whether these bytes of a line, after its indentation, begin a heading and do not end it.
+pub(crate) fn may_be_heading(bytes: &[u8]) -> bool {
+    HEADINGS.iter().any(|(heading, _)| heading.len() > bytes.len() && heading.starts_with(bytes))
+}
+
+/// Returns the color of a line that begins with these bytes after its indentation, if they are a
+/// heading.
+pub(crate) fn color_of_heading(bytes: &[u8]) -> Option<Color> {
+    for (heading, color) in &HEADINGS {
+        if *heading == bytes {
+            return Some(*color);
+        }
+    }
+    None
+}
+
 impl Place {
+    /// Returns whether the next byte is the first one of a line after its indentation.
+    pub(crate) fn is_start(self) -> bool {
+        self == Place::Start
+    }
+
     /// Returns whether the next byte is inside quotes, and not behind a backslash.
     pub(crate) fn is_quoted(self) -> bool {
         matches!(self, Place::Quoted(_))
@@ -90,9 +121,6 @@ fn begin(byte: u8) -> Step {
     match byte {
         b' ' | b'\n' => to(Place::Start),
         b'"' => colored(Color::Green, Place::Quoted(Color::Green)),
-        b'n' => colored(Color::Dim, Place::Colored),
-        b't' | b'f' => colored(Color::Magenta, Place::Colored),
-        b'c' | b'r' => colored(Color::Bold, Place::Colored),
         _ => to(Place::Word(u64::from(byte))),
     }
 }

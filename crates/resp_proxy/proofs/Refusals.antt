@@ -14,8 +14,9 @@ use Rattle.resp_line.specs.Inline.{IsArrayOf, IsLineWith}
 use Rattle.resp_proxy.proofs.Carryings.{line-request}
 use Rattle.resp_proxy.specs.declared.error.ClientError.{ClientError}
 use Rattle.resp_proxy.specs.declared.error.ClientError.TheVariants as error
-use Rattle.resp_proxy.specs.Reasons.{BeginsNamed, RefusesArray}
-use Rattle.resp_proxy.specs.Refusing.{BeginsCommand, Refuses}
+use Rattle.resp_proxy.specs.Leaving.{NeedsOwn}
+use Rattle.resp_proxy.specs.Reasons.{BeginsForOwn, BeginsNamed, RefusesArray}
+use Rattle.resp_proxy.specs.Refusing.{BeginsCommand, BeginsCommandForOwn, Refuses}
 use Rattle.resp_proxy.specs.Terms.{Terms}
 use Rattle.resp_value.specs.Laws.{NoSpellingBeginsAnother}
 
@@ -29,18 +30,19 @@ memory-refused-in (Ok x) terms text is = tt
 memory-refused-in (Err e) terms text is = memory-refused terms text e is
 
 refuses : (terms : Terms) (array text : List ℕ) (e : ClientError) →
-    ((wanted : List ℕ) → BeginsNamed terms.rules.limits array wanted → BeginsCommand terms text wanted) → RefusesArray terms.rules.limits array e →
-    Refuses terms text e
-refuses terms array text error.Quit named r = named (codes "QUIT") r
-refuses terms array text error.Http named (inl r) = inl (named (codes "POST") r)
-refuses terms array text error.Http named (inr r) = inr (named (codes "HOST:") r)
-refuses terms array text error.NoClient named r = tt
-refuses terms array text error.OutOfMemory named r = tt
-refuses terms array text error.Closing named r = tt
-refuses terms array text (error.Protocol e) named r = absurd r
-refuses terms array text error.Quotes named r = absurd r
-refuses terms array text error.LongLine named r = absurd r
-refuses terms array text error.OverLimits named r = absurd r
+    ((wanted : List ℕ) → BeginsNamed terms.rules.limits array wanted → BeginsCommand terms text wanted) →
+    (BeginsForOwn terms.rules.limits array → BeginsCommandForOwn terms text) → RefusesArray terms.rules.limits array e → Refuses terms text e
+refuses terms array text error.Quit named own r = named (codes "QUIT") r
+refuses terms array text error.Http named own (inl r) = inl (named (codes "POST") r)
+refuses terms array text error.Http named own (inr r) = inr (named (codes "HOST:") r)
+refuses terms array text (error.NoneLeft place) named own r = own r
+refuses terms array text error.NoClient named own r = tt
+refuses terms array text error.OutOfMemory named own r = tt
+refuses terms array text error.Closing named own r = tt
+refuses terms array text (error.Protocol e) named own r = absurd r
+refuses terms array text error.Quotes named own r = absurd r
+refuses terms array text error.LongLine named own r = absurd r
+refuses terms array text error.OverLimits named own r = absurd r
 
 -- the bytes after a text that begins with a command of this name
 named-more : (terms : Terms) (text wanted more : List ℕ) → BeginsNamed terms.rules.limits text wanted → BeginsCommand terms (text ++ more) wanted
@@ -55,6 +57,21 @@ named-more terms text wanted more b = record {
   named = b.named;
 }
 
+-- the bytes after a text that begins with a command that may need a connection of the client's own
+own-more : (terms : Terms) (text more : List ℕ) → BeginsForOwn terms.rules.limits text → BeginsCommandForOwn terms (text ++ more)
+own-more terms text more b = record {
+  front = b.begins.written;
+  rest = b.rest ++ more;
+  whole = ap (λ t. t ++ more) b.begins.whole ∙ append_assoc b.begins.written b.rest more;
+  needs = record {
+    sent = b.begins.written;
+    name = b.name;
+    arguments = b.arguments;
+    request = record { spelled = b.begins.spelled; form = inl refl };
+    kind = b.kind;
+  };
+}
+
 -- a command that is an array was not carried out
 pub array-refused : (terms : Terms) (front piece : List ℕ) (found : CommandFrame) (e : ClientError) → IsFrameOfWords terms.rules.limits front piece found →
     RefusesArray terms.rules.limits (text_of found.frame) e → Refuses terms (front ++ piece) e
@@ -64,7 +81,7 @@ array-refused terms front piece found e f r =
     ap (λ t. t ++ drop used piece) f.frame.text ∙ append_assoc front (take used piece) (drop used piece) ∙
     ap (λ t. front ++ t) (take-append-drop used piece) in
     subst (λ text. Refuses terms text e) whole (refuses terms (text_of found.frame) (text_of found.frame ++ drop used piece) e
-    (λ wanted. named-more terms (text_of found.frame) wanted (drop used piece)) r)
+    (λ wanted. named-more terms (text_of found.frame) wanted (drop used piece)) (own-more terms (text_of found.frame) (drop used piece)) r)
 
 -- the bytes are no command
 pub frame-refused : (terms : Terms) (front piece : List ℕ) (e : FrameError) → OnFault e (RejectsByte terms.rules front piece) →
@@ -72,6 +89,17 @@ pub frame-refused : (terms : Terms) (front piece : List ℕ) (e : FrameError) �
 frame-refused terms front piece (frame.Fault fault) rejects none = rejects_in_text terms.rules front piece fault rejects
 frame-refused terms front piece frame.NotACommand rejects none = no_request_in_text terms.rules terms.rules.limits front piece (none refl)
 frame-refused terms front piece frame.OutOfMemory rejects none = tt
+
+-- a line whose array is a command that may need a connection of the client's own
+pub line-needs-own : NoSpellingBeginsAnother → (terms : Terms) (content line array : List ℕ) → terms.lines ≡ true → IsLineWith content line →
+    IsArrayOf terms.rules.limits content array → BeginsForOwn terms.rules.limits array → NeedsOwn terms line
+line-needs-own law terms content line array lines is a b = record {
+  sent = array;
+  name = b.name;
+  arguments = b.arguments;
+  request = line-request law terms content line array b.name b.arguments b.rest lines is a b.begins;
+  kind = b.kind;
+}
 
 -- the command of a line was not carried out
 pub line-refused : NoSpellingBeginsAnother → (terms : Terms) (front piece content array : List ℕ) (count : ℕ) (e : ClientError) → terms.lines ≡ true →
@@ -87,6 +115,12 @@ line-refused law terms front piece content array count e lines line a r = refuse
       arguments = b.arguments;
       request = line-request law terms content (front ++ take count piece) array b.name b.arguments b.rest lines line a b.begins;
       named = b.named;
+    })
+    (λ b. record {
+      front = front ++ take count piece;
+      rest = drop count piece;
+      whole = ap (λ t. front ++ t) (sym (take-append-drop count piece)) ∙ sym (append_assoc front (take count piece) (drop count piece));
+      needs = line-needs-own law terms content (front ++ take count piece) array lines line a b;
     }) r
 
 -- after an error the whole piece was taken

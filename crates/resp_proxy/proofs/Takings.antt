@@ -1,7 +1,21 @@
 -- How commands are taken, one after another.
-use Rattle.std.proofs.Common.{◌≡◌, ◌∙◌, inl, ℕ, ◌+◌, ◌-◌, ◌<◌, ◌≤◌, List, [], ◌∷◌, ◌++◌, length, take, drop, None, Some, Result, Ok, Err, ap, append_assoc, arith, length-drop, refl, subst, sym}
+use Rattle.std.proofs.Common.{◌≡◌, ◌∙◌, inl, inr, ℕ, ◌+◌, ◌-◌, ◌<◌, ◌≤◌, List, [], ◌∷◌, ◌++◌, length, take, drop, Option, None, Some, Result, Ok, Err, ap, append_assoc, arith, length-drop, refl, subst, sym}
 use Rattle.std.specs.List.{AllByRecursion, concat}
-use Rattle.std.specs.Prelude.{IfOk}
+use Rattle.std.specs.Prelude.{IfOk, MatchOption}
+use Rattle.resp_commands.specs.Classes.{HasClass, HasNoClass}
+use Rattle.resp_commands.specs.declared.command.Class.{Class}
+use Rattle.resp_frames.proofs.SameWords.{whole_text}
+use Rattle.resp_frames.specs.Commands.{IsCommand, IsFrameOfWords}
+use Rattle.resp_frames.specs.Texts.{text_of, used_of}
+use Rattle.resp_frames.specs.declared.words.CommandFrame.{CommandFrame}
+use Rattle.resp_proxy.proofs.Carryings.{whole-command}
+use Rattle.resp_proxy.specs.Leaving.{IsForOwn, MayNeedOwn}
+use Rattle.resp_value.specs.Bounds.{Bounds}
+use Rattle.resp_value.specs.Laws.{NoSpellingBeginsAnother}
+use Rattle.resp_value.specs.Rules.{rules_under}
+use Rattle.resp_value.specs.Spellings.{IsSpelling}
+use Rattle.resp_value.specs.Words.{command_of}
+use Rattle.resp_value.specs.declared.version.Version.TheVariants.{Two}
 use Rattle.std.proofs.Math.Seq.{take-add}
 use Rattle.std.proofs.lemmas.List.{append-nil, take-append-drop}
 use Rattle.std.proofs.Math.Seq.{take-length}
@@ -16,7 +30,7 @@ use Rattle.resp_proxy.specs.declared.part.Part.{Part}
 use Rattle.resp_proxy.specs.declared.part.Part.TheVariants.{Aside, Partial, Whole}
 use Rattle.resp_frames.specs.declared.unfinished.Unfinished.{Unfinished}
 use Rattle.resp_proxy.specs.Leaving.{NeedsOwn}
-use Rattle.resp_proxy.specs.Reasons.{MovesOn}
+use Rattle.resp_proxy.specs.Reasons.{BeginsForOwn, MovesOn}
 use Rattle.resp_proxy.specs.Refusing.{Refuses}
 use Rattle.resp_proxy.specs.Taking.{HasTaken, IsTaken, SetsAside, Taken, Takes, TakesArray, TakesOne, TakesPart, TakesSome, texts_taken, with_one, with_taken}
 use Rattle.resp_proxy.specs.Terms.{Terms}
@@ -172,6 +186,42 @@ never-same i i1 u u1 u2 old mid new who piece used part h e moves r front begun 
     let s = h.taken r front begun in
     let byte : 0 < 0 = subst MovesOn e (moves (h.ready r) s.after (subst (λ terms. HasUnfinished terms u1 s.after) (sym h.same_terms) s.begun)) in
     absurd (omega (arith, byte))
+
+own-kind : (found : Option Class) (name : List ℕ) (arguments : List (List ℕ)) →
+    MatchOption found (HasNoClass name arguments) (λ class. HasClass name arguments class) → IsForOwn found → MayNeedOwn name arguments
+own-kind found name arguments has (inl is) =
+    inl (subst (λ o. MatchOption o (HasNoClass name arguments) (λ class. HasClass name arguments class)) is has)
+own-kind found name arguments has (inr is) =
+    inr (subst (λ o. MatchOption o (HasNoClass name arguments) (λ class. HasClass name arguments class)) is has)
+
+-- an array that may need a connection of the client's own was put aside
+pub array-aside : (terms : Terms) (front piece text : List ℕ) (found : CommandFrame) (m : Multiplexed) →
+    IsFrameOfWords terms.rules.limits front piece found → IsForOwn found.words.class → text ≡ text_of found.frame →
+    SetsAside terms (front ++ take (used_of found.frame) piece) text m m
+array-aside terms front piece text found m f own is = record {
+  same = is ∙ f.frame.text;
+  needs = subst (NeedsOwn terms) f.frame.text (record {
+    sent = text_of found.frame;
+    name = f.words.name;
+    arguments = f.words.arguments;
+    request = record { spelled = f.words.spelled; form = inl refl };
+    kind = own-kind found.words.class f.words.name f.words.arguments f.words.has.class own;
+  });
+  kept = λ p h. h;
+}
+
+-- an array that may need a connection of the client's own begins with such a command
+pub text-for-own : NoSpellingBeginsAnother → (limits : Bounds) (text : List ℕ) (found : CommandFrame) → IsCommand limits text →
+    IsFrameOfWords limits [] text found → IsForOwn found.words.class → BeginsForOwn limits text
+text-for-own law limits text found k f own = record {
+  name = f.words.name;
+  arguments = f.words.arguments;
+  rest = [];
+  begins = whole_text limits text f.words.name f.words.arguments
+      (subst (λ t. IsSpelling (rules_under Two limits) (command_of (f.words.name ∷ f.words.arguments)) t)
+      (whole-command law limits text found k f) f.words.spelled);
+  kind = own-kind found.words.class f.words.name f.words.arguments f.words.has.class own;
+}
 
 -- the next command was put aside
 pub aside-taken : (i i1 : Intake) (u u1 u2 : Unfinished) (old mid new : Multiplexed) (who : ClientId) (piece text : List ℕ) (used count : ℕ) (part : Part) →

@@ -4,37 +4,33 @@ use Rattle.resp_commands.specs.Classes.{HasClass}
 use Rattle.resp_commands.specs.declared.command.Class.{Class}
 use Rattle.resp_commands.specs.declared.command.Class.TheVariants as class
 use Rattle.resp_proxy.specs.Clients.{is_leaving}
-use Rattle.resp_proxy.specs.Terms.{Terms}
+use Rattle.resp_proxy.specs.Terms.{IsRequestOf, Terms}
 use Rattle.resp_proxy.specs.Unfinished.{HasUnfinished}
 use Rattle.resp_proxy.specs.declared.client.Client.{Client}
 use Rattle.resp_proxy.specs.declared.part.Part.{Part}
 use Rattle.resp_proxy.specs.declared.part.Part.TheVariants.{Aside, Partial, Whole}
-use Rattle.resp_value.specs.Rules.{rules_under}
-use Rattle.resp_value.specs.Spellings.{IsSpelling}
-use Rattle.resp_value.specs.Words.{command_of}
-use Rattle.resp_value.specs.declared.version.Version.TheVariants.{Two}
 
 -- a command of this class may need a connection of the client's own
 abbrev pub IsForOwn : Option Class → Type 0
 IsForOwn found = (found ≡ Some class.OwnConnection) ⊎ (found ≡ Some class.Setting)
 
--- the text is a command that may need a connection of the client's own
+-- a command of these words may need a connection of the client's own
+abbrev pub MayNeedOwn : List ℕ → List (List ℕ) → Type 0
+MayNeedOwn name arguments = HasClass name arguments class.OwnConnection ⊎ HasClass name arguments class.Setting
+
+-- the text is a command, an array or a line, that may need a connection of the client's own
 pub record NeedsOwn (terms : Terms) (text : List ℕ) : Type 0 where
+  pub sent : List ℕ
   pub name : List ℕ
   pub arguments : List (List ℕ)
-  pub spelled : IsSpelling (rules_under Two terms.rules.limits) (command_of (name ∷ arguments)) text
-  pub kind : HasClass name arguments class.OwnConnection ⊎ HasClass name arguments class.Setting
+  pub request : IsRequestOf terms text sent (name ∷ arguments)
+  pub kind : MayNeedOwn name arguments
 
 -- the number of bytes of the piece that belong to the part
 abbrev pub part_used : Part → ℕ
 part_used (Whole used) = used
 part_used Partial = 0
 part_used (Aside used text) = used
-
--- a part that was taken if a number is given, and otherwise goes on
-abbrev pub part_of : Option ℕ → Part
-part_of None = Partial
-part_of (Some used) = Whole used
 
 -- the part was put aside
 abbrev pub IsAside : Part → Type 0

@@ -8,6 +8,7 @@ use Rattle.resp_proxy.specs.declared.error.ClientError.{ClientError}
 use Rattle.resp_proxy.specs.declared.error.ClientError.TheVariants as error
 use Rattle.resp_proxy.specs.declared.part.Part.{Part}
 use Rattle.resp_proxy.specs.declared.part.Part.TheVariants as part
+use Rattle.resp_proxy.specs.Leaving.{MayNeedOwn}
 use Rattle.resp_proxy.specs.Refusing.{SameLetters}
 use Rattle.resp_scan.specs.Whole.{BeginsWith}
 use Rattle.resp_value.specs.Bounds.{Bounds}
@@ -21,16 +22,26 @@ pub record BeginsNamed (limits : Bounds) (text wanted : List ℕ) : Type 0 where
   pub begins : BeginsWith limits text (command_of (name ∷ arguments)) rest
   pub named : SameLetters name wanted
 
--- the client is closed only because of the name of its command
+-- the text begins with an array of words that may need a connection of the client's own
+pub record BeginsForOwn (limits : Bounds) (text : List ℕ) : Type 0 where
+  pub name : List ℕ
+  pub arguments : List (List ℕ)
+  pub rest : List ℕ
+  pub begins : BeginsWith limits text (command_of (name ∷ arguments)) rest
+  pub kind : MayNeedOwn name arguments
+
+-- the client is closed only because of the words of its command
 abbrev pub FitsAnswer : Bounds → List ℕ → Answer → Type 0
 FitsAnswer limits text (answer.Reply reply) = Unit {0}
 FitsAnswer limits text answer.Quit = BeginsNamed limits text (codes "QUIT")
 FitsAnswer limits text answer.Http = BeginsNamed limits text (codes "POST") ⊎ BeginsNamed limits text (codes "HOST:")
+FitsAnswer limits text answer.NoneLeft = BeginsForOwn limits text
 
 -- why an array is not carried out
 abbrev pub RefusesArray : Bounds → List ℕ → ClientError → Type 0
 RefusesArray limits text error.Quit = BeginsNamed limits text (codes "QUIT")
 RefusesArray limits text error.Http = BeginsNamed limits text (codes "POST") ⊎ BeginsNamed limits text (codes "HOST:")
+RefusesArray limits text (error.NoneLeft place) = BeginsForOwn limits text
 RefusesArray limits text error.NoClient = Unit {0}
 RefusesArray limits text error.OutOfMemory = Unit {0}
 RefusesArray limits text _ = ⊥

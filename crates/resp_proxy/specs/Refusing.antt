@@ -5,6 +5,7 @@ use Rattle.resp_frames.specs.declared.error.FrameError.TheVariants as frame
 use Rattle.resp_frames.specs.Framing.{RejectsByte}
 use Rattle.resp_frames.specs.Requests.{EndsNoRequest}
 use Rattle.resp_line.specs.Inline.{BeginsLineThat, BeginsLongLine, HasFaultyWords, HasNoWords}
+use Rattle.resp_proxy.specs.Leaving.{NeedsOwn}
 use Rattle.resp_proxy.specs.declared.error.ClientError.{ClientError}
 use Rattle.resp_proxy.specs.declared.error.ClientError.TheVariants as error
 use Rattle.resp_proxy.specs.Terms.{IsRequestOf, Terms}
@@ -24,6 +25,13 @@ pub record BeginsCommand (terms : Terms) (text wanted : List ℕ) : Type 0 where
   pub request : IsRequestOf terms front sent (name ∷ arguments)
   pub named : SameLetters name wanted
 
+-- the text begins with a command, an array or a line, that may need a connection of the client's own
+pub record BeginsCommandForOwn (terms : Terms) (text : List ℕ) : Type 0 where
+  pub front : List ℕ
+  pub rest : List ℕ
+  pub whole : text ≡ front ++ rest
+  pub needs : NeedsOwn terms front
+
 -- The bytes that came since the last command are the cause of the error. The client may also be closing or not open, or memory
 -- ran out.
 abbrev pub Refuses : Terms → List ℕ → ClientError → Type 0
@@ -35,6 +43,7 @@ Refuses terms text error.LongLine = (terms.lines ≡ true) × BeginsLongLine tex
 Refuses terms text error.OverLimits = (terms.lines ≡ true) × BeginsLineThat text (HasFaultyWords terms.rules.limits)
 Refuses terms text error.Http = BeginsCommand terms text (codes "POST") ⊎ BeginsCommand terms text (codes "HOST:")
 Refuses terms text error.Quit = BeginsCommand terms text (codes "QUIT")
+Refuses terms text (error.NoneLeft place) = BeginsCommandForOwn terms text
 Refuses terms text error.Closing = Unit {0}
 Refuses terms text error.NoClient = Unit {0}
 Refuses terms text error.OutOfMemory = Unit {0}

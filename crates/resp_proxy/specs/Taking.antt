@@ -127,11 +127,12 @@ TakesArray terms who front piece begun (Whole used) old new =
 TakesArray terms who front piece begun (Aside used text) old new =
     HasBegun terms.rules begun [] × SetsAside terms (front ++ take used piece) text.items old new
 
--- a part was taken that is a line and ends in the piece, or no line ends in it
-abbrev pub TakesLine : Terms → ClientId → List ℕ → List ℕ → List ℕ → Option ℕ → Multiplexed → Multiplexed → Type 0
-TakesLine terms who front piece line found old new =
-    MatchOption found ((line ≡ front ++ piece) × IsWithinLine line × KeepsPassed old new)
-    (λ used. (line ≡ []) × TakesPart terms who (front ++ take used piece) old new)
+-- a part was taken or put aside that is a line and ends in the piece, or no line ends in it
+abbrev pub TakesLine : Terms → ClientId → List ℕ → List ℕ → List ℕ → Part → Multiplexed → Multiplexed → Type 0
+TakesLine terms who front piece line Partial old new = (line ≡ front ++ piece) × IsWithinLine line × KeepsPassed old new
+TakesLine terms who front piece line (Whole used) old new = (line ≡ []) × TakesPart terms who (front ++ take used piece) old new
+TakesLine terms who front piece line (Aside used text) old new =
+    (line ≡ []) × SetsAside terms (front ++ take used piece) text.items old new
 
 -- a part was taken or put aside that ends in the piece, or none ends in it
 abbrev pub TakesOne : Terms → ClientId → List ℕ → List ℕ → Unfinished → Part → Multiplexed → Multiplexed → Type 0

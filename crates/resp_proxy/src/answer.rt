@@ -3,14 +3,14 @@
 ghost use Rattle.std.specs.Prelude.{IfOk, IsTrue};
 ghost use Rattle.resp_frames.specs.Texts.{text_of};
 ghost use Rattle.resp_proxy.specs.Leaving.{IsForOwn};
-ghost use Rattle.resp_proxy.specs.Reasons.{FitsAnswer};
+ghost use Rattle.resp_proxy.specs.Reasons.{BeginsForOwn, FitsAnswer};
 ghost use Rattle.resp_proxy.specs.Refusing.{SameLetters};
 
 use crate::error::ClientError;
 use crate::hello::hello_text;
 use crate::identity::Identity;
 use crate::settings::Settings;
-use resp_commands::{Class, entry};
+use resp_commands::{COMMANDS, Class, class_of, entry};
 use resp_frames::{CommandFrame, Frames};
 use resp_scan::whole;
 use resp_value::limits::Limits;
@@ -68,6 +68,9 @@ pub(crate) enum Answer {
     Quit,
     /// It closes the client, since the command is a line of a request of HTTP.
     Http,
+    /// It closes the client, since the command needs a connection of the client's own, or another setting,
+    /// and no more are allowed. The bytes after it were meant for that connection.
+    NoneLeft,
 }
 
 /// Returns what the proxy does with a command that is not sent to the server.
@@ -96,8 +99,33 @@ pub(crate) fn own_answer(
     if is(asked.name, b"POST") || is(asked.name, b"HOST:") {
         return Ok(Answer::Http);
     }
+    if !stays(settings, asked) && needs_connection(limits, command.frame.text()) {
+        return Ok(Answer::NoneLeft);
+    }
     let text = answer_to(alloc, settings, identity, asked, command.words.class)?;
     Ok(Answer::Reply(text))
+}
+
+/// Returns whether a text begins with a command that needs a connection of the client's own, or in another
+/// setting.
+fn needs_connection(limits: &Limits, text: &[u8]) -> bool
+    ensures { IsTrue result → BeginsForOwn limits.now text.now }
+{
+    let Some(words) = whole::command(text, limits) else {
+        return false;
+    };
+    matches!(
+        class_of(words.name, words.arguments),
+        Some(Class::OwnConnection | Class::Setting)
+    )
+}
+
+/// Returns whether the proxy replies to a command that concerns the setting: to SELECT 0 of a client in
+/// database 0, and to HELLO without a user, whose client learns from the reply that its version stays 2.
+fn stays(settings: &Settings, asked: Asked<'_>) -> bool {
+    settings.answers_settings
+        && asked.count <= 1
+        && (is(asked.name, b"HELLO") || is(asked.name, b"SELECT") && asked.first == b"0".as_slice())
 }
 
 /// Returns whether a word is this one, in upper or lower case.
@@ -208,11 +236,6 @@ pub(crate) fn is_name(name: &[u8]) -> bool {
 
 /// Returns the reply to HELLO: the client stays in version 2.
 fn answer_to_hello(alloc: Global, number: u64, asked: Asked<'_>) -> Result<Vec<u8>, AllocError> {
-    if asked.count > 1 {
-        return b"-ERR 'HELLO' with options needs a connection of its own, and no more are allowed\r\n".to_vec(
-            alloc,
-        );
-    }
     if asked.count == 1 && asked.first != b"2".as_slice() {
         return b"-NOPROTO 'HELLO' with another version than 2 needs a connection of its own, and no more are allowed\r\n".to_vec(
             alloc,
@@ -236,17 +259,17 @@ fn ok(alloc: Global) -> Result<Vec<u8>, AllocError> {
     b"+OK\r\n".to_vec(alloc)
 }
 
-/// Returns the error for a command that is not served, with its name and the reason.
+/// Returns the error for a command that is not served, with its name, its subcommand and the reason.
 fn refusal(alloc: Global, asked: Asked<'_>, class: Option<Class>) -> Result<Vec<u8>, AllocError> {
     let name = asked.name[..asked.name.len().min(SHOWN)].escape_ascii();
-    let text = match class {
-        None if entry(asked.name).is_some() => {
-            let word = asked.first[..asked.first.len().min(SHOWN)].escape_ascii();
-            format!(in alloc; "-ERR unknown subcommand '{word}' of '{name}'\r\n")?
+    let word = asked.first[..asked.first.len().min(SHOWN)].escape_ascii();
+    let text = match (class, entry(asked.name)) {
+        (None, Some(_)) => format!(in alloc; "-ERR unknown subcommand '{word}' of '{name}'\r\n")?,
+        (None, None) => format!(in alloc; "-ERR unknown command '{name}'\r\n")?,
+        (Some(_), Some(command)) if command.has_subcommands() && asked.count > 0 => {
+            format!(in alloc; "-ERR '{name} {word}' is not served by this proxy\r\n")?
         }
-        None => format!(in alloc; "-ERR unknown command '{name}'\r\n")?,
-        Some(Class::Setting | Class::OwnConnection) => return no_more(alloc, asked.name),
-        Some(_) => format!(in alloc; "-ERR '{name}' is not served by this proxy\r\n")?,
+        (Some(_), _) => format!(in alloc; "-ERR '{name}' is not served by this proxy\r\n")?,
     };
     Ok(text.into_bytes())
 }
@@ -263,6 +286,17 @@ pub fn no_more(alloc: Global, name: &[u8]) -> Result<Vec<u8>, AllocError> {
         "-ERR '{name}' needs a connection of its own, and no more are allowed\r\n"
     )?;
     Ok(text.into_bytes())
+}
+
+/// Returns the error of `no_more` for the command at this place of the table.
+pub(crate) fn no_more_at(alloc: Global, place: Option<u8>) -> Result<Vec<u8>, AllocError> {
+    let name: &[u8] = match place {
+        Some(place) if usize::from(place) < COMMANDS.len() => COMMANDS[usize::from(place)].name(),
+        _ => b"command",
+    };
+    let mut name = name.to_vec(alloc)?;
+    name.make_ascii_uppercase();
+    no_more(alloc, &name)
 }
 
 /// Returns the error for a client that sent bytes that are no command.

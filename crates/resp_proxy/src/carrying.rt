@@ -90,6 +90,7 @@ fn answer_or_send(
         Ok(Answer::Reply(answer)) => own(mux, who, &answer),
         Ok(Answer::Quit) => Err(ClientError::Quit),
         Ok(Answer::Http) => Err(ClientError::Http),
+        Ok(Answer::NoneLeft) => Err(ClientError::NoneLeft(command.words.place)),
         Err(AllocError) => Err(ClientError::OutOfMemory),
     }
 }

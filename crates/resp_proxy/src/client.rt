@@ -1,7 +1,7 @@
 //! A client of a proxy.
 
-ghost use Rattle.std.specs.Prelude.{◌≡◌, false, []};
-ghost use Rattle.resp_proxy.specs.Clients.{Holds, client_id, is_closing, is_leaving};
+ghost use Rattle.std.specs.Prelude.{◌≡◌, ◌↔◌, false, []};
+ghost use Rattle.resp_proxy.specs.Clients.{Holds, client_id, is_closing, is_leaving, waits_for_room};
 ghost use Rattle.resp_proxy.specs.Terms.{Terms};
 
 use crate::identity::Identity;
@@ -60,6 +60,13 @@ impl Client {
         ensures { result ≡ is_closing self.now }
     {
         self.is_closing
+    }
+
+    /// Returns whether bytes of this client wait for room for a command.
+    pub fn has_rest(&self) -> bool
+        ensures { (result ≡ false) ↔ (waits_for_room self.now ≡ []) }
+    {
+        !self.rest.is_empty()
     }
 
     /// Returns whether the next command of this client needs a connection of its own. Nothing more is

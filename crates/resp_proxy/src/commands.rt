@@ -16,7 +16,7 @@ use crate::error::ClientError;
 use crate::identity::Identity;
 use crate::intake::Intake;
 use crate::lines::take_line;
-use crate::part::{Part, part_of};
+use crate::part::Part;
 use crate::settings::Settings;
 use resp_frames::{Begun, Request, Unfinished};
 use resp_mux::{ClientId, Mux};
@@ -27,7 +27,8 @@ use std::alloc::{AllocError, Global};
 pub(crate) struct Taken {
     /// The number of bytes that were taken, or that belong to the command that was put aside.
     pub(crate) used: usize,
-    /// The text of the next command, if it needs a connection of the client's own. It was not taken.
+    /// The text of the next command, an array or a line, if it needs a connection of the client's own. It was
+    /// not taken.
     pub(crate) aside: Option<Vec<u8>>,
     pub(crate) end: Result<(), ClientError>,
 }
@@ -133,7 +134,7 @@ fn take_one(
     ensures same_own { intake.new.admits_own ≡ intake.old.admits_own }
 {
     if unfinished.is_line(intake.lines, piece) {
-        match take_line(
+        take_line(
             alloc,
             settings,
             intake,
@@ -143,10 +144,7 @@ fn take_one(
             mux,
             who,
             piece,
-        ) {
-            Ok(found) => Ok(part_of(found)),
-            Err(error) => Err(error),
-        }
+        )
     } else {
         take_array(
             alloc,

@@ -26,6 +26,10 @@ pub enum ClientError {
     /// The client sent QUIT.
     #[error("the client sent QUIT")]
     Quit,
+    /// The client sent a command that needs a connection of its own, or another setting, and it may get
+    /// neither. The number is the place of the command in the table of commands, if it is known.
+    #[error("a command needs a connection of its own, and no more are allowed")]
+    NoneLeft(Option<u8>),
     /// The client is closing.
     #[error("the client is closing")]
     Closing,

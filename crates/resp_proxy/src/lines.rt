@@ -1,10 +1,11 @@
 //! Commands that a client sends as lines.
 
-ghost use Rattle.std.specs.Prelude.{◌≡◌, ◌++◌, ◌<◌, ◌≤◌, None, length, true, IfErr, IfOk, IfSome, OnErr, OnOk};
+ghost use Rattle.std.specs.Prelude.{◌≡◌, ◌++◌, ◌∷◌, ◌≤◌, None, [], length, true, IfErr, IfOk, IsTrue, OnErr, OnOk};
 ghost use Rattle.resp_frames.specs.Commands.{IsCommand};
 ghost use Rattle.resp_line.specs.Inline.{GoesOn};
 ghost use Rattle.resp_mux.specs.Multiplexing.{KeepsClients, KeepsPassed, waiting_for};
-ghost use Rattle.resp_proxy.specs.Reasons.{RefusesArray, inline_error};
+ghost use Rattle.resp_proxy.specs.Leaving.{IsAside, part_used};
+ghost use Rattle.resp_proxy.specs.Reasons.{BeginsForOwn, MovesOn, RefusesArray, inline_error};
 ghost use Rattle.resp_proxy.specs.Refusing.{IsOfBytes, Refuses};
 ghost use Rattle.resp_proxy.specs.Taking.{Carries, TakesLine};
 ghost use Rattle.resp_proxy.specs.Unfinished.{terms_of};
@@ -14,15 +15,16 @@ use crate::counts::Counts;
 use crate::error::ClientError;
 use crate::identity::Identity;
 use crate::intake::Intake;
+use crate::part::Part;
 use crate::settings::Settings;
 use resp_frames::command_of_piece;
-use resp_line::{InlineError, next_inline};
+use resp_line::{InlineCommand, InlineError, next_inline};
 use resp_mux::{ClientId, Mux};
 use resp_value::laws::no_spelling_begins_another;
-use std::alloc::Global;
+use std::alloc::{AllocError, Global};
 
-/// Takes bytes up to the end of a line, and carries out the command of this line. Returns the number of
-/// bytes, or `None` if the line does not end in the piece. Then all bytes of the piece are held.
+/// Takes bytes up to the end of a line, and carries out the command of this line, unless it needs a
+/// connection of the client's own.
 pub(crate) fn take_line(
     alloc: Global,
     settings: &Settings,
@@ -33,27 +35,39 @@ pub(crate) fn take_line(
     mux: &mut Mux,
     who: ClientId,
     piece: &[u8],
-) -> Result<Option<usize>, ClientError>
+) -> Result<Part, ClientError>
     ensures taken { (terms_of intake.now).lines ≡ true → GoesOn line.old.items piece.now →
-        IfOk result (λ found. TakesLine (terms_of intake.now) who line.old.items piece.now
-        line.new.items found mux.old mux.new) }
+        IfOk result (λ part. TakesLine (terms_of intake.now) who line.old.items piece.now
+        line.new.items part mux.old mux.new) }
     ensures refused { (terms_of intake.now).lines ≡ true → GoesOn line.old.items piece.now →
         IfErr result (Refuses (terms_of intake.now) (line.old.items ++ piece.now)) }
     ensures open { (waiting_for mux.old who ≡ None → ⊥) → IfErr result IsOfBytes }
     ensures unchanged { OnErr result (KeepsPassed mux.old mux.new) }
-    ensures progress { IfOk result (λ found. IfSome found (λ used. 0 < used)) }
-    ensures within { IfOk result (λ found. IfSome found (λ used. used ≤ length piece.now)) }
+    ensures progress { IfOk result MovesOn }
+    ensures within { IfOk result (λ part. part_used part ≤ length piece.now) }
+    ensures admitted { IfOk result (λ part. IsAside part → intake.now.admits_own ≡ true) }
     ensures same_clients { KeepsClients mux.old mux.new }
 {
     no_spelling_begins_another();
     let command = match next_inline(alloc, &intake.frames.limits(), line, piece) {
         Ok(Some(command)) => command,
-        Ok(None) => return Ok(None),
+        Ok(None) => return Ok(Part::Partial),
         Err(error) => return Err(error_of_line(error)),
     };
-    let Some(text) = &command.text else {
-        return Ok(Some(command.used));
+    let InlineCommand {
+        content,
+        text,
+        used,
+    } = command;
+    let Some(text) = text else {
+        return Ok(Part::Whole(used));
     };
+    if needs_own_text(intake, text.as_slice()) {
+        return match with_end(content) {
+            Ok(line) => Ok(Part::Aside(used, line)),
+            Err(AllocError) => Err(ClientError::OutOfMemory),
+        };
+    }
     match carry_out_text(
         alloc,
         settings,
@@ -64,8 +78,33 @@ pub(crate) fn take_line(
         who,
         text.as_slice(),
     ) {
-        Ok(()) => Ok(Some(command.used)),
+        Ok(()) => Ok(Part::Whole(used)),
         Err(error) => Err(error),
+    }
+}
+
+/// Returns whether the command that is this text needs a connection of the client's own, and the client may
+/// get one.
+fn needs_own_text(intake: &Intake, text: &[u8]) -> bool
+    ensures admitted { IsTrue result → intake.now.admits_own ≡ true }
+    ensures needed { IsCommand (terms_of intake.now).rules.limits text.now → IsTrue result →
+        BeginsForOwn (terms_of intake.now).rules.limits text.now }
+{
+    no_spelling_begins_another();
+    match command_of_piece(text, &intake.frames.limits()) {
+        Some(command) => intake.sets_aside(&command),
+        None => false,
+    }
+}
+
+/// Returns the bytes of a line with its LF.
+fn with_end(content: Vec<u8>) -> Result<Vec<u8>, AllocError>
+    ensures { IfOk result (λ line. line.items ≡ content.items ++ 10 ∷ []) }
+{
+    let mut line = content;
+    match line.push(b'\n') {
+        Ok(()) => Ok(line),
+        Err(_) => Err(AllocError),
     }
 }
 

@@ -11,7 +11,7 @@ ghost use Rattle.resp_proxy.specs.Taking.{SaysLast, TakesHeld, TakesIn};
 ghost use Rattle.resp_proxy.specs.Terms.{Terms};
 ghost use Rattle.resp_proxy.specs.Unfinished.{terms_of};
 
-use crate::answer::protocol_error;
+use crate::answer::{no_more_at, protocol_error};
 use crate::carrying::own;
 use crate::client::Client;
 use crate::commands::take_commands;
@@ -279,6 +279,11 @@ fn say_last(alloc: Global, mux: &mut Mux, who: ClientId, error: ClientError)
     match error {
         ClientError::Quit => {
             let _ = own(mux, who, b"+OK\r\n");
+        }
+        ClientError::NoneLeft(place) => {
+            if let Ok(text) = no_more_at(alloc, place) {
+                let _ = own(mux, who, &text);
+            }
         }
         ClientError::Protocol(_)
         | ClientError::Quotes

@@ -75,7 +75,7 @@ impl Arrival {
             Progress::Waits => Ok(Arrived::No),
             Progress::Accepted => Ok(Arrived::Yes),
             Progress::Rejected if self.entry.refusal().is_empty() => {
-                Err(io::Error::new(ErrorKind::PermissionDenied, REJECTED))
+                Err(self.entry.rejection(REJECTED))
             }
             Progress::Rejected => Ok(Arrived::Rejected),
             Progress::Failed => Err(io::Error::new(ErrorKind::ConnectionAborted, CLOSED)),

@@ -1,5 +1,6 @@
 //! The connection to the server that the clients in one setting share.
 
+use crate::messages::{Messages, Topic};
 use crate::proxying::ProxySettings;
 use crate::server_link::{Loss, ServerLink};
 use crate::stalled::Stalled;
@@ -9,7 +10,9 @@ use resp_mux::ClientId;
 use resp_proxy::{Client, Counted, Departed, Numbers, Proxy, ServerError, Setting, Times};
 use resp_value::version::Version;
 use std::alloc::{AllocError, Global};
+use std::fs::Files;
 use std::io;
+use std::io::ErrorKind;
 use std::net::Net;
 use std::random::RandomSource;
 use std::time::Duration;
@@ -48,6 +51,8 @@ pub(crate) struct Channel {
     is_out_of_step: bool,
     /// The commands that were queued since the last probe.
     unprobed: u64,
+    /// The time at which the server replied last to a command of a client.
+    replied_at: Duration,
     /// The reply to commands that wait while there is no connection.
     failure: Vec<u8>,
 }
@@ -80,6 +85,7 @@ impl Channel {
                 is_losing: false,
                 is_out_of_step: false,
                 unprobed: 0,
+                replied_at: Duration::from_millis(0),
                 failure: Vec::new(alloc),
             }),
             Err(AllocError) => {
@@ -120,6 +126,11 @@ impl Channel {
             Some(times)
         };
         self.proxy.set_others(others, times);
+    }
+
+    /// Returns the time at which the server replied last to a command of a client.
+    pub(crate) fn replied_at(&self) -> Duration {
+        self.replied_at
     }
 
     /// Returns whether the channel is in this setting.
@@ -263,29 +274,30 @@ impl Channel {
     }
 
     /// Writes commands if many bytes wait for the server.
-    pub(crate) fn send_eagerly<R: Net + Eprint>(&mut self, rt: &R) {
+    pub(crate) fn send_eagerly(&mut self, net: &impl Net, messages: &mut Messages) {
         if self.proxy.unsent() >= EAGER {
             if let Err(loss) = self.link.send(&mut self.proxy) {
-                self.lose(rt, loss);
+                self.lose(net, messages, loss);
             }
         }
     }
 
     /// Writes the commands that wait for the server, reads replies, and connects to the server if
     /// there is no connection.
-    pub(crate) fn work<R: Net + Eprint>(
+    pub(crate) fn work<R: Net + Files>(
         &mut self,
-        rt: &R,
+        net: &R,
+        messages: &mut Messages,
         registry: &Registry,
         buffer: &mut [u8; 65_536],
     ) {
-        self.finish_connecting(rt);
-        self.exchange(rt, buffer);
+        self.finish_connecting(messages);
+        self.exchange(net, messages, buffer);
         if let Err(loss) = self.link.judge(self.proxy.waiting() > 0) {
-            self.lose(rt, loss);
+            self.lose(net, messages, loss);
         }
         self.finish_losing();
-        self.connect(rt, registry);
+        self.connect(net, messages, registry);
         if self.link.is_down() {
             self.fail();
         }
@@ -293,35 +305,41 @@ impl Channel {
     }
 
     /// Reads replies of the server, and writes commands to it.
-    pub(crate) fn exchange<R: Net + Eprint>(&mut self, rt: &R, buffer: &mut [u8; 65_536]) {
+    pub(crate) fn exchange(
+        &mut self,
+        net: &impl Net,
+        messages: &mut Messages,
+        buffer: &mut [u8; 65_536],
+    ) {
         let before = self.proxy.waiting();
         let exchanged = self.link.exchange(&mut self.proxy, buffer);
         let replied = before.saturating_sub(self.proxy.waiting());
         if replied > 0 {
+            self.replied_at = self.link.now();
             self.proxy.count(Counted::Replied(replied, self.link.now()));
         }
         if let Err(loss) = exchanged {
-            self.lose(rt, loss);
+            self.lose(net, messages, loss);
         }
     }
 
     /// Begins to connect to the server if there is no connection, one is needed, and the pause is
     /// over.
-    fn connect<R: Net + Eprint>(&mut self, rt: &R, registry: &Registry) {
+    fn connect<R: Net + Files>(&mut self, net: &R, messages: &mut Messages, registry: &Registry) {
         if self.is_losing || !self.is_used() {
             return;
         }
-        if let Err(error) = self.link.connect(rt, registry) {
-            self.tell_failure(rt, &error);
+        if let Err(error) = self.link.connect(net, registry) {
+            self.tell_failure(messages, &error);
         }
     }
 
     /// Notes whether the connection that was begun is open.
-    fn finish_connecting(&mut self, log: &impl Eprint) {
+    fn finish_connecting(&mut self, messages: &mut Messages) {
         match self.link.finish_connecting() {
             Ok(false) => {}
-            Ok(true) => self.tell_connected(log),
-            Err(error) => self.tell_failure(log, &error),
+            Ok(true) => self.tell_connected(messages),
+            Err(error) => self.tell_failure(messages, &error),
         }
     }
 
@@ -330,55 +348,53 @@ impl Channel {
     ///
     /// # Errors
     ///
-    /// The error of the system.
+    /// The error of the system, or an error of kind `OutOfMemory` if commands that a lost connection
+    /// had begun still wait for a reply. The connection is closed.
     pub(crate) fn adopt(
         &mut self,
         stream: Stream,
         hello: Vec<u8>,
         registry: &Registry,
-        log: &impl Eprint,
+        messages: &mut Messages,
     ) -> io::Result<()> {
+        self.finish_losing();
+        if self.is_losing {
+            // The replies over this connection would go to the clients of those commands.
+            drop(stream);
+            drop(hello);
+            return Err(ErrorKind::OutOfMemory.into());
+        }
         self.link.adopt(stream, hello, registry)?;
-        self.tell_connected(log);
+        self.tell_connected(messages);
         Ok(())
     }
 
     /// Counts and prints that the connection is open.
-    fn tell_connected(&mut self, log: &impl Eprint) {
+    fn tell_connected(&mut self, messages: &mut Messages) {
         self.failure = Vec::new(self.alloc);
         self.proxy.count(Counted::Connected);
-        self.tell(log, "server connected", "");
+        self.tell(messages, Topic::Connected, Topic::Connected.words(), "");
     }
 
     /// Prints why no connection to the server was opened, if that was not the reason before.
-    fn tell_failure(&mut self, log: &impl Eprint, error: &io::Error) {
+    fn tell_failure(&mut self, messages: &mut Messages, error: &io::Error) {
         let reply = format!(in self.alloc; "-ERR cannot connect to server: {error}\r\n");
         if self.has_failure(reply) {
             return;
         }
-        match format!(in self.alloc; "{error}") {
-            Ok(why) => self.tell(log, "cannot connect to server", why.as_str()),
-            Err(_) => self.tell(log, "cannot connect to server", ""),
+        let name = self.link.backend().name();
+        let what = format!(in self.alloc; "cannot connect to {name}");
+        let why = format!(in self.alloc; "{error}");
+        let topic = Topic::NotConnected;
+        match (&what, &why) {
+            (Ok(what), Ok(why)) => self.tell(messages, topic, what.as_str(), why.as_str()),
+            _ => self.tell(messages, topic, topic.words(), ""),
         }
     }
 
     /// Prints what has happened, the setting unless it is the first, and why if there is a reason.
-    fn tell(&self, log: &impl Eprint, what: &str, why: &str) {
-        let shown = self.shown.as_str();
-        let line = match (shown.is_empty(), why.is_empty()) {
-            (true, true) => format!(in self.alloc; "{what}"),
-            (true, false) => format!(in self.alloc; "{what}: {why}"),
-            (false, true) => format!(in self.alloc; "{what}: {shown}"),
-            (false, false) => format!(in self.alloc; "{what}: {shown}: {why}"),
-        };
-        match line {
-            Ok(line) => {
-                let _ = log.eprintln(line.as_str());
-            }
-            Err(_) => {
-                let _ = log.eprintln(what);
-            }
-        }
+    fn tell(&self, messages: &mut Messages, topic: Topic, words: &str, why: &str) {
+        messages.add(self.link.now(), topic, words, self.shown.as_str(), why);
     }
 
     /// Sets the reply to the commands that wait while there is no connection, and returns whether
@@ -395,18 +411,30 @@ impl Channel {
 
     /// Prints that the connection to the server was lost, and replies to the commands that it had
     /// begun.
-    fn lose<R: Net + Eprint>(&mut self, rt: &R, loss: Loss) {
+    fn lose(&mut self, net: &impl Net, messages: &mut Messages, loss: Loss) {
         // Otherwise a client that waits gets the descriptor of the lost connection.
-        self.link.keep_spare(rt);
-        let reply = format!(in self.alloc; "-ERR cannot connect to server: {loss}\r\n");
+        self.link.keep_spare(net);
+        let why = self.reason_of(loss);
+        let why = match &why {
+            Ok(why) => why.as_str(),
+            Err(_) => "",
+        };
+        let reply = format!(in self.alloc; "-ERR cannot connect to server: {why}\r\n");
         let _ = self.has_failure(reply);
-        match format!(in self.alloc; "{loss}") {
-            Ok(why) => self.tell(rt, "server lost", why.as_str()),
-            Err(_) => self.tell(rt, "server lost", ""),
-        }
+        self.tell(messages, Topic::Lost, Topic::Lost.words(), why);
         self.is_losing = true;
         self.is_out_of_step = loss == Loss::Server(ServerError::OutOfStep);
         self.finish_losing();
+    }
+
+    /// Returns why a connection was lost, with the words of the server if it sent an error that no
+    /// command waited for.
+    fn reason_of(&self, loss: Loss) -> Result<String, AllocError> {
+        let words = self.link.unasked();
+        if words.is_empty() || !loss.is_unasked() {
+            return format!(in self.alloc; "{loss}");
+        }
+        format!(in self.alloc; "{loss}: {words}")
     }
 
     /// Replies to the commands that a lost connection had begun. Without memory the client of the

@@ -3,6 +3,7 @@
 
 ghost use Rattle.std.specs.Prelude.{◌≡◌, ◌↔◌, codes, true};
 
+use memchr::memchr;
 use resp_frames::{Begun, Frames};
 use resp_loop::non_blocking::{Input, Output};
 use resp_loop::stream::Stream;
@@ -10,13 +11,20 @@ use resp_proxy::Setting;
 use resp_value::limits::Limits;
 use resp_value::version::Version;
 use std::alloc::{AllocError, Global};
-use std::io::{Read, Write};
+use std::io::{ErrorKind, Read, Write};
+use std::{io, str};
 
 /// The reply to AUTH and SELECT if the server accepts them.
 const ACCEPTED: &[u8] = b"+OK\r\n";
 
 /// The most bytes of one read of the replies.
 const PIECE: usize = 1_024;
+
+/// The command that shows whether the server replies.
+const PING: &[u8] = b"*1\r\n$4\r\nPING\r\n";
+
+/// The most bytes of an error of the server that are shown.
+const WORDS: usize = 256;
 
 /// How far the entry is.
 #[derive(Clone, Copy)]
@@ -31,6 +39,18 @@ pub(crate) enum Progress {
     Failed,
 }
 
+/// Which replies to the last command are accepted.
+#[derive(Clone, Copy, Debug, PartialEq, Eq)]
+enum Last {
+    /// It brings the connection into a setting: the reply with which the server accepts it.
+    Setting,
+    /// It is a command of a client: each reply but an error.
+    Asked,
+    /// It only shows that the server replies: each reply but the two errors with which a server closes
+    /// a connection that it does not serve.
+    Checked,
+}
+
 /// How much of the commands was sent over a connection, and what was replied.
 #[derive(Drop)]
 pub(crate) struct Entry {
@@ -40,8 +60,7 @@ pub(crate) struct Entry {
     sent: usize,
     /// The number of replies that are missing.
     missing: u8,
-    /// Whether the last command is one of a client, to which each reply but an error is accepted.
-    asks: bool,
+    last: Last,
     frames: Frames,
     begun: Begun,
     /// The reply to HELLO, or no byte.
@@ -65,7 +84,7 @@ impl Entry {
             commands,
             sent: 0,
             missing,
-            asks: false,
+            last: Last::Setting,
             frames: Frames::new(alloc, Version::Three, &Limits::standard())?,
             begun: Begun::new(),
             hello: Vec::new(alloc),
@@ -81,8 +100,30 @@ impl Entry {
     pub(crate) fn ask(&mut self, command: &[u8]) -> Result<(), AllocError> {
         self.commands.extend_from_slice(command)?;
         self.missing = self.missing.saturating_add(1);
-        self.asks = true;
+        self.last = Last::Asked;
         Ok(())
+    }
+
+    /// Adds PING, if there is no command: the entry ends when the server has replied.
+    ///
+    /// # Errors
+    ///
+    /// `AllocError` if an allocation fails.
+    pub(crate) fn check(&mut self) -> Result<(), AllocError> {
+        if self.missing == 0 {
+            self.commands.extend_from_slice(PING)?;
+            self.missing = 1;
+            self.last = Last::Checked;
+        }
+        Ok(())
+    }
+
+    /// Returns the error for a connection that the server rejected: the words of the server if it replied
+    /// by an error, and otherwise this reason.
+    pub(crate) fn rejection(&self, why: &str) -> io::Error {
+        let words = words_of(&self.refusal);
+        let why = if words.is_empty() { why } else { words };
+        io::Error::new(ErrorKind::PermissionDenied, why)
     }
 
     /// Sends the rest of the commands over the connection, as far as the socket accepts them, and
@@ -160,14 +201,15 @@ impl Entry {
 
     /// Returns how far the entry is after this reply.
     fn judge(&mut self, reply: Vec<u8>) -> Progress {
-        if reply.starts_with(b"-") {
+        let is_last = self.missing <= 1;
+        let accepts_any = is_last && self.last != Last::Setting;
+        if is_refusal(&reply, is_last && self.last == Last::Checked) {
             self.refusal = reply;
             return Progress::Rejected;
         }
-        let is_last = self.missing <= 1;
-        if reply.starts_with(b"%") && !(self.asks && is_last) {
+        if reply.starts_with(b"%") && !accepts_any {
             self.hello = reply;
-        } else if !is_accepted(&reply) && !(self.asks && is_last) {
+        } else if !is_accepted(&reply) && !accepts_any {
             return Progress::Rejected;
         }
         self.missing = self.missing.saturating_sub(1);
@@ -177,6 +219,24 @@ impl Entry {
             Progress::Waits
         }
     }
+}
+
+/// Returns whether this reply is an error that ends the entry. `is_check` says whether it is the reply to
+/// a command that only shows that the server replies.
+fn is_refusal(reply: &[u8], is_check: bool) -> bool {
+    if is_check {
+        reply.starts_with(b"-ERR max number of clients") || reply.starts_with(b"-DENIED")
+    } else {
+        reply.starts_with(b"-")
+    }
+}
+
+/// Returns the words of an error of the server without the sign before them and the line's end, at most
+/// 256 bytes. It is empty if they are not text.
+pub(crate) fn words_of(error: &[u8]) -> &str {
+    let text = error.strip_prefix(b"-").unwrap_or(b"");
+    let end = memchr(b'\r', text).unwrap_or(text.len()).min(WORDS);
+    str::from_utf8(&text[..end.min(text.len())]).unwrap_or("")
 }
 
 /// Returns whether this is the reply to AUTH or SELECT if the server accepts it.

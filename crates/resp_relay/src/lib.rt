@@ -8,6 +8,7 @@ mod arrival;
 mod channel;
 mod entry;
 mod input_end;
+mod messages;
 mod moving;
 mod own;
 mod plan;

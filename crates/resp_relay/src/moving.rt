@@ -4,16 +4,18 @@ use crate::arrival::{Arrival, Arrived};
 use crate::channel::{Channel, NOT_CONNECTED};
 use crate::entry::Entry;
 use crate::own::Own;
-use crate::plan::{Plan, skip};
+use crate::plan::{Plan, Refusal, skip};
 use crate::proxied::{Move, Proxied};
 use crate::relay::{Relay, add};
 use crate::server_link::ServerLink;
 use mio::Registry;
+use resp_loop::closing::refuse;
 use resp_loop::service::Next;
 use resp_loop::spare::Spare;
 use resp_loop::stream::Stream;
-use resp_proxy::{Counted, Departed, Numbers, Setting, next_wish, no_more};
+use resp_proxy::{Counted, Departed, Numbers, Setting};
 use std::alloc::AllocError;
+use std::collections::VecDeque;
 use std::io::ErrorKind;
 use std::net::Net;
 use std::time::Duration;
@@ -32,7 +34,7 @@ enum Way {
 
 impl Relay {
     /// Gives a client the connection that its next command needs.
-    pub(crate) fn leave<R: Net + Eprint>(
+    pub(crate) fn leave<R: Net>(
         &mut self,
         rt: &R,
         connection: &mut Proxied,
@@ -64,7 +66,7 @@ impl Relay {
     }
 
     /// Moves a client to the setting that it wants, or begins to open a connection for it.
-    fn follow<R: Net + Eprint>(
+    fn follow<R: Net>(
         &mut self,
         rt: &R,
         connection: &mut Proxied,
@@ -81,7 +83,7 @@ impl Relay {
             Way::Open(number) => self.enter(connection, number, departed, plan),
             Way::New => match self.begin(rt, connection, registry, from, &departed, &plan) {
                 Ok(arrival) => {
-                    let since = self.now();
+                    let since = self.waits_since(connection, from);
                     self.wait(
                         connection,
                         Move {
@@ -147,8 +149,10 @@ impl Relay {
 
     /// Lets a client wait for the connection that was begun.
     fn wait(&mut self, connection: &mut Proxied, moving: Move) -> Next {
-        let until = moving.since.saturating_add(self.settings.patience);
-        if self.moves.push_back((until, connection.place())).is_err() {
+        if self
+            .give_up_later(connection.place(), moving.since)
+            .is_err()
+        {
             return close(moving);
         }
         self.begin_move(moving.from);
@@ -171,7 +175,7 @@ impl Relay {
     }
 
     /// Goes on to open the connection that a client waits for.
-    pub(crate) fn go_on_moving<R: Net + Eprint>(
+    pub(crate) fn go_on_moving<R: Net>(
         &mut self,
         rt: &R,
         connection: &mut Proxied,
@@ -242,13 +246,13 @@ impl Relay {
     }
 
     /// Returns whether a connection that was begun at this time is given up.
-    fn is_late(&self, since: Duration) -> bool {
+    pub(crate) fn is_late(&self, since: Duration) -> bool {
         self.now().saturating_sub(since) >= self.settings.patience
     }
 
     /// Moves a client to the setting that it wants, since the server has accepted the connection
     /// that it waited for. Clients share it if the setting has no other.
-    fn arrive<R: Net + Eprint>(
+    fn arrive<R: Net>(
         &mut self,
         rt: &R,
         connection: &mut Proxied,
@@ -310,7 +314,7 @@ impl Relay {
 
     /// Lets clients in the setting of this number share a connection that has arrived, if they have
     /// no other.
-    fn use_arrival<R: Net + Eprint>(
+    fn use_arrival<R: Net>(
         &mut self,
         rt: &R,
         registry: &Registry,
@@ -352,7 +356,7 @@ impl Relay {
     }
 
     /// Uses a connection in the setting of this number. `hello` is the reply to HELLO over it.
-    fn adopt<R: Net + Eprint>(
+    fn adopt<R: Net>(
         &mut self,
         rt: &R,
         registry: &Registry,
@@ -361,7 +365,7 @@ impl Relay {
         hello: Vec<u8>,
     ) -> io::Result<()> {
         match self.channels.get_mut(number) {
-            Some(channel) => channel.adopt(stream, hello, registry, rt),
+            Some(channel) => channel.adopt(stream, hello, registry, &mut self.messages),
             None => {
                 drop(stream);
                 drop(hello);
@@ -443,7 +447,7 @@ impl Relay {
     }
 
     /// Gives a client a connection of its own, or an error if no more clients may get one.
-    fn give_own<R: Net + Eprint>(
+    fn give_own<R: Net>(
         &mut self,
         rt: &R,
         connection: &mut Proxied,
@@ -458,17 +462,12 @@ impl Relay {
             return close(departed);
         };
         let link = &channel.link;
-        let Ok(entry) = link.entry() else {
+        let Ok(entry) = entry_of_own(link) else {
             return close(departed);
         };
         let token = connection.server_token();
         match Arrival::begin(rt, link.backend(), registry, token, entry) {
-            Ok(arrival) => {
-                let own = Own::new(self.alloc, arrival, departed.into_rest());
-                connection.give_own(own);
-                self.count(Counted::OwnOpened);
-                Next::Wait
-            }
+            Ok(arrival) => self.wait_for_own(connection, from, departed, arrival),
             Err(error) => {
                 drop(departed);
                 self.give_up(connection, &error)
@@ -476,18 +475,58 @@ impl Relay {
         }
     }
 
-    /// Tells a client that no more clients may get a connection of their own.
+    /// Lets a client wait for the connection of its own that was begun.
+    fn wait_for_own(
+        &mut self,
+        connection: &mut Proxied,
+        from: usize,
+        departed: Departed,
+        arrival: Arrival,
+    ) -> Next {
+        let since = self.waits_since(connection, from);
+        if self.give_up_later(connection.place(), since).is_err() {
+            drop(arrival);
+            return close(departed);
+        }
+        let own = Own::new(self.alloc, arrival, since, departed.into_rest());
+        connection.give_own(own);
+        self.count(Counted::OwnOpened);
+        Next::Wait
+    }
+
+    /// Returns the time since which a client that leaves a setting has waited for a server that does not
+    /// reply: since its command needs another connection, or since the server replied last.
+    fn waits_since(&self, connection: &Proxied, from: usize) -> Duration {
+        let since = connection.leaving_since(self.now());
+        match self.channels.get(from) {
+            Some(channel) => since.max(channel.replied_at()),
+            None => since,
+        }
+    }
+
+    /// Names the connection in a place again once its client, which has waited since this time, is told
+    /// that there is no connection.
+    fn give_up_later(&mut self, place: usize, since: Duration) -> Result<(), AllocError> {
+        let until = since.saturating_add(self.settings.patience);
+        if self.moves.push_back((until, place)).is_err() {
+            return Err(AllocError);
+        }
+        sort_last(&mut self.moves);
+        Ok(())
+    }
+
+    /// Tells a client that no more clients may get a connection of their own, and closes it unless it goes
+    /// on without one.
     fn refuse_own(&mut self, connection: &mut Proxied, from: usize, departed: Departed) -> Next {
-        let (used, reply) = match next_wish(departed.rest(), &self.settings.proxy.limits) {
-            Some(asking) => (
-                departed.rest().len().saturating_sub(asking.rest.len()),
-                no_more(self.alloc, asking.name),
-            ),
-            None => return close(departed),
-        };
-        match reply {
-            Ok(reply) => self.answer(connection, from, departed, used, &reply),
-            Err(AllocError) => close(departed),
+        match Refusal::of(self.alloc, departed.rest(), &self.settings.proxy.limits) {
+            Ok(Some(refusal)) if refusal.goes_on => {
+                self.answer(connection, from, departed, refusal.used, &refusal.reply)
+            }
+            Ok(Some(refusal)) => {
+                refuse(connection.stream(), &refusal.reply);
+                close(departed)
+            }
+            Ok(None) | Err(AllocError) => close(departed),
         }
     }
 
@@ -610,6 +649,16 @@ impl Relay {
     }
 }
 
+/// Moves the last of these times before those that are later. The others are in order.
+fn sort_last(moves: &mut VecDeque<(Duration, usize)>) {
+    for index in (1..moves.len()).rev() {
+        match (moves.get(index - 1), moves.get(index)) {
+            (Some((before, _)), Some((last, _))) if *before > *last => moves.swap(index - 1, index),
+            _ => return,
+        }
+    }
+}
+
 /// Closes a connection whose client had this.
 fn close<T: Drop>(departed: T) -> Next {
     drop(departed);
@@ -621,6 +670,14 @@ fn used_by(plan: Plan) -> usize {
     let used = plan.used;
     drop(plan);
     used
+}
+
+/// Returns the entry into the setting of a link for a connection of a client's own. It ends when the
+/// server has replied.
+fn entry_of_own(link: &ServerLink) -> Result<Entry, AllocError> {
+    let mut entry = link.entry()?;
+    entry.check()?;
+    Ok(entry)
 }
 
 /// Returns the entry into the setting of a link, with a command of a client after it.

@@ -12,6 +12,7 @@ use resp_loop::stream::Stream;
 use std::alloc::Global;
 use std::io;
 use std::io::ErrorKind;
+use std::time::Duration;
 
 /// A connection to the server for one client. The bytes of both sides are forwarded unchanged.
 #[derive(Drop)]
@@ -19,6 +20,8 @@ pub(crate) struct Own {
     server: Arrival,
     /// Whether the connection is in its setting.
     is_open: bool,
+    /// The time since which the client has waited for it.
+    since: Duration,
     alloc: Global,
     /// The bytes that the client sent before, from its first command on that needs this connection,
     /// and that were not written to the server yet.
@@ -30,11 +33,13 @@ pub(crate) struct Own {
 }
 
 impl Own {
-    /// Returns a connection that was begun. `first` are the bytes that are sent first.
-    pub(crate) fn new(alloc: Global, server: Arrival, first: BytesMut) -> Self {
+    /// Returns a connection that was begun, for which the client has waited since this time. `first` are
+    /// the bytes that are sent first.
+    pub(crate) fn new(alloc: Global, server: Arrival, since: Duration, first: BytesMut) -> Self {
         Own {
             server,
             is_open: false,
+            since,
             alloc,
             first,
             is_shut: false,
@@ -43,34 +48,37 @@ impl Own {
         }
     }
 
+    /// Returns the time since which the client has waited for the connection.
+    pub(crate) fn since(&self) -> Duration {
+        self.since
+    }
+
     /// Goes on to connect and to log in, and forwards bytes once the connection is open. Each piece
-    /// is read into the buffer.
+    /// is read into the buffer. `is_late` says that a connection which is not open is given up.
     ///
     /// # Errors
     ///
     /// Why the connection was not opened: the error of the system, an error of kind
-    /// `PermissionDenied` if the server rejected the login, or an error of kind `ConnectionAborted`
-    /// if it closed the connection meanwhile.
+    /// `PermissionDenied` if the server rejected the login, an error of kind `ConnectionAborted`
+    /// if it closed the connection meanwhile, or an error of kind `TimedOut`.
     pub(crate) fn visit(
         &mut self,
         client: &Stream,
         is_at_end: bool,
+        is_late: bool,
         buffer: &mut [u8],
     ) -> io::Result<Next>
         requires { 0 < length buffer.old }
     {
-        if self.is_open {
-            return Ok(self.forward(client, is_at_end, buffer));
-        }
-        match self.server.go_on()? {
-            Arrived::No => Ok(Next::Wait),
-            Arrived::Rejected => Err(io::Error::new(ErrorKind::PermissionDenied, REJECTED)),
-            Arrived::Yes => {
-                self.is_open = true;
-                // The event that reports the end of an input may already have passed.
-                Ok(self.forward(client, true, buffer))
+        if !self.is_open {
+            match self.server.go_on()? {
+                Arrived::No if is_late => return Err(ErrorKind::TimedOut.into()),
+                Arrived::No => return Ok(Next::Wait),
+                Arrived::Rejected => return Err(self.server.entry().rejection(REJECTED)),
+                Arrived::Yes => self.is_open = true,
             }
         }
+        Ok(self.forward(client, is_at_end, buffer))
     }
 
     /// Reads nothing more from the client. The server is told so.

@@ -1,6 +1,8 @@
 //! What a client that needs another connection wants.
 
-use resp_proxy::{Departed, Setting, Wish, is_client_name, next_wish};
+use bytes::BytesMut;
+use resp_line::{InlineCommand, InlineError, begins_line, next_inline};
+use resp_proxy::{Asking, Departed, Setting, Wish, is_client_name, next_wish, no_more};
 use resp_value::limits::Limits;
 use std::alloc::{AllocError, Global};
 
@@ -43,10 +45,28 @@ impl Plan {
         limits: &Limits,
     ) -> Result<Option<Plan>, AllocError> {
         let text = departed.rest();
-        let Some(asking) = next_wish(text, limits) else {
-            return Ok(None);
-        };
-        let used = text.len().saturating_sub(asking.rest.len());
+        if let Some(line) = line_of(alloc, text, limits)? {
+            return match next_wish(line.array.as_slice(), limits) {
+                Some(asking) => Plan::by(alloc, asking, line.used, setting),
+                None => Ok(None),
+            };
+        }
+        match next_wish(text, limits) {
+            Some(asking) => {
+                let used = text.len().saturating_sub(asking.rest.len());
+                Plan::by(alloc, asking, used, setting)
+            }
+            None => Ok(None),
+        }
+    }
+
+    /// Returns the plan for a command of so many bytes that asks for this.
+    fn by(
+        alloc: Global,
+        asking: Asking<'_>,
+        used: usize,
+        setting: &Setting,
+    ) -> Result<Option<Plan>, AllocError> {
         let (kind, has_password, name) = match asking.wish {
             Wish::Other => return Ok(None),
             Wish::Hello(_, account, name) => (Kind::Hello, account.is_some(), name),
@@ -101,6 +121,84 @@ impl Plan {
             Kind::Reset => b"+RESET\r\n".to_vec(alloc),
             Kind::Hello => departed.hello(alloc, setting.version, hello),
         }
+    }
+}
+
+/// Why a client gets no connection of its own.
+#[derive(Drop)]
+pub(crate) struct Refusal {
+    /// The reply to the command that needs one.
+    pub(crate) reply: Vec<u8>,
+    /// The number of bytes of the command.
+    pub(crate) used: usize,
+    /// Whether the client goes on: it has asked for another version of the protocol, and learns from the
+    /// reply that its version stays. Another command would be carried out elsewhere than the client thinks.
+    pub(crate) goes_on: bool,
+}
+
+impl Refusal {
+    /// Returns the refusal of the command with which the bytes of a client begin, or `None` if they begin
+    /// with no command.
+    ///
+    /// # Errors
+    ///
+    /// `AllocError` if an allocation fails.
+    pub(crate) fn of(
+        alloc: Global,
+        text: &[u8],
+        limits: &Limits,
+    ) -> Result<Option<Refusal>, AllocError> {
+        if let Some(line) = line_of(alloc, text, limits)? {
+            return match next_wish(line.array.as_slice(), limits) {
+                Some(asking) => Ok(Some(Refusal::by(alloc, asking, line.used)?)),
+                None => Ok(None),
+            };
+        }
+        match next_wish(text, limits) {
+            Some(asking) => {
+                let used = text.len().saturating_sub(asking.rest.len());
+                Ok(Some(Refusal::by(alloc, asking, used)?))
+            }
+            None => Ok(None),
+        }
+    }
+
+    /// Returns the refusal of a command of so many bytes that asks for this.
+    fn by(alloc: Global, asking: Asking<'_>, used: usize) -> Result<Refusal, AllocError> {
+        Ok(Refusal {
+            reply: no_more(alloc, asking.name)?,
+            used,
+            goes_on: matches!(asking.wish, Wish::Hello(_, None, _)),
+        })
+    }
+}
+
+/// A line with which the bytes of a client begin.
+#[derive(Drop)]
+struct Line {
+    /// Its words as an array.
+    array: BytesMut,
+    /// The number of its bytes.
+    used: usize,
+}
+
+/// Returns the line with which the bytes of a client begin, if they begin with one that has words.
+fn line_of(alloc: Global, text: &[u8], limits: &Limits) -> Result<Option<Line>, AllocError> {
+    if !begins_line(text) {
+        return Ok(None);
+    }
+    match next_inline(alloc, limits, &mut Vec::new(alloc), text) {
+        Ok(
+            Some(
+                InlineCommand {
+                    text: Some(array),
+                    used,
+                    ..
+                },
+            ),
+        ) => Ok(Some(Line { array, used })),
+        Err(InlineError::OutOfMemory) => Err(AllocError),
+        _ => Ok(None),
     }
 }
 

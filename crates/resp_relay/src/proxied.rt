@@ -8,7 +8,7 @@ use crate::plan::Plan;
 use mio::Token;
 use resp_lane::{Progress, after_write};
 use resp_loop::non_blocking::{Input, Output};
-use resp_loop::service::{Cause, Next, Tokens};
+use resp_loop::service::{Next, Tokens};
 use resp_loop::stream::Stream;
 use resp_mux::ClientId;
 use resp_proxy::{Client, Departed, Proxy, Read, Written};
@@ -26,6 +26,8 @@ pub(crate) struct Proxied {
     may_read: bool,
     /// Whether the input may have ended.
     is_at_end: bool,
+    /// The time since which the next command of the client needs another connection, if it does.
+    leaving_since: Option<Duration>,
 }
 
 /// How the commands of a client reach the server.
@@ -49,7 +51,7 @@ pub(crate) struct Move {
     /// The number of the setting that it has left.
     pub(crate) from: usize,
     pub(crate) arrival: Arrival,
-    /// The time at which the connection was begun.
+    /// The time since which the client has waited for it.
     pub(crate) since: Duration,
 }
 
@@ -71,6 +73,7 @@ impl Proxied {
             link: Link::Shared(0, client),
             may_read: false,
             is_at_end: false,
+            leaving_since: None,
         }
     }
 
@@ -82,12 +85,10 @@ impl Proxied {
         }
     }
 
-    /// Notes why the connection is visited.
-    pub(crate) fn note(&mut self, cause: Cause) {
-        if let Cause::Ready { is_at_end } = cause {
-            self.may_read = true;
-            self.is_at_end = self.is_at_end || is_at_end;
-        }
+    /// Notes that a socket is ready. `is_at_end` says whether its input may have ended.
+    pub(crate) fn note_ready(&mut self, is_at_end: bool) {
+        self.may_read = true;
+        self.is_at_end = self.is_at_end || is_at_end;
     }
 
     /// Reads nothing more from a client that shares a connection.
@@ -113,6 +114,14 @@ impl Proxied {
         }
     }
 
+    /// Returns whether this proxy, which the client shares, has room for its next command.
+    pub(crate) fn has_room(&self, proxy: &Proxy) -> bool {
+        match &self.link {
+            Link::Shared(_, client) => proxy.has_room(client),
+            _ => false,
+        }
+    }
+
     /// Returns whether the client shares a connection, and is to get another one now: its next
     /// command needs it, and all replies to the commands before were written.
     pub(crate) fn leaves(&self, proxy: &Proxy) -> bool {
@@ -120,6 +129,22 @@ impl Proxied {
             Link::Shared(_, client) => proxy.may_leave(client),
             _ => false,
         }
+    }
+
+    /// Notes whether the next command of a client that shares a connection needs another one.
+    pub(crate) fn note_leaving(&mut self, now: Duration) {
+        if let Link::Shared(_, client) = &self.link {
+            self.leaving_since = match self.leaving_since {
+                Some(since) if client.is_leaving() => Some(since),
+                None if client.is_leaving() => Some(now),
+                _ => None,
+            };
+        }
+    }
+
+    /// Returns the time since which a command of the client has needed another connection, or this time.
+    pub(crate) fn leaving_since(&self, now: Duration) -> Duration {
+        self.leaving_since.unwrap_or(now)
     }
 
     /// Returns the number of bytes that wait for a client that shares a connection.
@@ -151,7 +176,8 @@ impl Proxied {
             if exchanged.read == Read::Failed && !exchanged.is_dry {
                 return Next::Close;
             }
-            if exchanged.is_dry && proxy.has_room(client) {
+            // Replies of the proxy itself may have filled the room, and were written since.
+            if exchanged.is_dry && proxy.has_room(client) && !client.has_rest() {
                 self.may_read = false;
             }
             exchanged.written
@@ -222,18 +248,27 @@ impl Proxied {
         self.set_link(Link::Own(own));
     }
 
-    /// Forwards bytes over the connection of the client's own. Returns `None` if it has none.
+    /// Returns the time since which the client has waited for the connection of its own, if it has one.
+    pub(crate) fn own_since(&self) -> Option<Duration> {
+        match &self.link {
+            Link::Own(own) => Some(own.since()),
+            _ => None,
+        }
+    }
+
+    /// Forwards bytes over the connection of the client's own. Returns `None` if it has none. If it
+    /// is not open, `is_late` gives it up.
     ///
     /// # Errors
     ///
     /// Why that connection was not opened.
-    pub(crate) fn forward(&mut self, is_at_end: bool, buffer: &mut [u8]) -> io::Result<Option<Next>>
+    pub(crate) fn forward(&mut self, is_late: bool, buffer: &mut [u8]) -> io::Result<Option<Next>>
         requires { 0 < length buffer.old }
     {
         match &mut self.link {
             Link::Shared(..) | Link::Moving(_) => Ok(None),
             Link::Own(own) => {
-                let next = own.visit(&self.stream, is_at_end, buffer)?;
+                let next = own.visit(&self.stream, self.is_at_end, is_late, buffer)?;
                 Ok(Some(next))
             }
             Link::Closed => Ok(Some(Next::Close)),

@@ -2,14 +2,15 @@
 
 use crate::input_end::InputEnd;
 use crate::proxied::Proxied;
-use crate::relay::Relay;
+use crate::relay::{Relay, shorter};
 use crate::report::Report;
 use mio::Registry;
 use resp_loop::backend::{Address, Backend};
 use resp_loop::closing;
 use resp_loop::event_loop::Loop;
 use resp_loop::register::register;
-use resp_loop::service::{Cause, Next, Service, Tokens};
+use resp_loop::service::{Next, Service, Tokens};
+use resp_loop::stop_signals::StopSignals;
 use resp_loop::stream::Stream;
 use resp_print::live::LiveSink;
 use std::alloc::{AllocError, Global};
@@ -55,6 +56,8 @@ pub struct ProxySettings {
     pub report: Option<Duration>,
     /// Whether the proxy ends when standard input ends.
     pub drains: bool,
+    /// The time after which it closes the clients that are still open then.
+    pub drain_timeout: Duration,
     /// The commands after which the connection to the server is checked by a probe, or 0 if it is
     /// not.
     pub check_every: u64,
@@ -66,6 +69,7 @@ struct Relaying<'a, R, I, W> {
     relay: &'a mut Relay,
     report: Option<Report>,
     input: Option<InputEnd<I>>,
+    signals: StopSignals,
     rt: &'a R,
     out: &'a mut W,
 }
@@ -79,7 +83,7 @@ impl ProxyServer {
     /// The error of the system if the address can't be opened, an error of kind `InvalidInput` if
     /// an address of the server is the address to listen on, or an error of kind `OutOfMemory` if
     /// an allocation fails.
-    pub fn listen<R: Net + Files>(
+    pub fn listen<R: Net + Files<File = File>>(
         rt: &R,
         alloc: Global,
         address: &Address,
@@ -116,8 +120,9 @@ impl ProxyServer {
         self.connections.address()
     }
 
-    /// Serves all clients until waiting for them fails, or until `input`, which is standard input,
-    /// has ended and the last client was closed, if the settings ask for that. Prints on standard
+    /// Serves all clients until waiting for them fails, or until the last client was closed after
+    /// `input`, which is standard input, has ended, if the settings ask for that, or after SIGTERM or
+    /// SIGINT has come that was blocked at the start. Prints on standard
     /// error when the server is connected and lost.
     ///
     /// # Errors
@@ -125,7 +130,7 @@ impl ProxyServer {
     /// The error of that wait, an error of the system if standard output can't be used, or an error
     /// of kind `OutOfMemory` if the first allocation fails.
     pub fn run<
-        R: Net + Clock + Eprint + RandomSource + Files<File = File>,
+        R: Net + Clock + Eprint + RandomSource + Files<File = File> + Alloc,
         I: Read + Drop,
         W: LiveSink,
     >(&mut self, rt: &R, input: I, out: &mut W) -> io::Result<()> {
@@ -141,6 +146,7 @@ impl ProxyServer {
             relay,
             report,
             input,
+            signals: StopSignals::new(rt),
             rt,
             out,
         };
@@ -149,7 +155,7 @@ impl ProxyServer {
 }
 
 /// Returns the relay of a proxy that listens on this address.
-fn relay_of<R: Net + Files>(
+fn relay_of<R: Net + Files<File = File>>(
     rt: &R,
     alloc: Global,
     listening: io::Result<Address>,
@@ -157,11 +163,9 @@ fn relay_of<R: Net + Files>(
     login: Vec<u8>,
     settings: ProxySettings,
 ) -> io::Result<Relay> {
+    let mut backend = backend;
     backend.check(rt, listening)?;
-    match Relay::new(rt, alloc, backend, login, settings) {
-        Ok(relay) => Ok(relay),
-        Err(AllocError) => Err(ErrorKind::OutOfMemory.into()),
-    }
+    Relay::new(rt, alloc, backend, login, settings)
 }
 
 /// Returns a report with a line each time this time has passed, if there is one.
@@ -176,8 +180,9 @@ fn report_of<R: Net + Files<File = File>>(
     }
 }
 
-impl<R: Net + Clock + Eprint + RandomSource, I: Read + Drop, W: LiveSink> Service<Proxied>
-    for Relaying<'_, R, I, W> {
+impl<R: Net + Clock + Eprint + RandomSource + Files + Alloc, I: Read + Drop, W: LiveSink> Service<
+    Proxied,
+> for Relaying<'_, R, I, W> {
     fn admit(
         &mut self,
         client: Stream,
@@ -197,8 +202,16 @@ impl<R: Net + Clock + Eprint + RandomSource, I: Read + Drop, W: LiveSink> Servic
         self.relay.reject();
     }
 
-    fn visit(&mut self, connection: &mut Proxied, registry: &Registry, cause: Cause) -> Next {
-        self.relay.visit(self.rt, connection, registry, cause)
+    fn begin_turn(&mut self) {
+        self.relay.look_at_clock(self.rt);
+    }
+
+    fn note_ready(&mut self, connection: &mut Proxied, is_at_end: bool) {
+        connection.note_ready(is_at_end);
+    }
+
+    fn visit(&mut self, connection: &mut Proxied, registry: &Registry) -> Next {
+        self.relay.visit(self.rt, connection, registry)
     }
 
     fn close(&mut self, connection: Proxied) {
@@ -211,9 +224,10 @@ impl<R: Net + Clock + Eprint + RandomSource, I: Read + Drop, W: LiveSink> Servic
     }
 
     fn patience(&self) -> Option<Duration> {
-        let of_relay = self.relay.patience();
+        let now = self.relay.now();
+        let of_relay = shorter(self.relay.patience(), self.signals.patience(now));
         match &self.report {
-            Some(report) => Some(shorter(of_relay, report.patience(self.relay.now()))),
+            Some(report) => shorter(of_relay, report.patience(now)),
             None => of_relay,
         }
     }
@@ -225,6 +239,9 @@ impl<R: Net + Clock + Eprint + RandomSource, I: Read + Drop, W: LiveSink> Servic
             }
         }
         self.relay.work(self.rt, registry);
+        if self.signals.have_come(self.rt, self.relay.now()) {
+            self.relay.drain();
+        }
         if let Some(report) = &mut self.report {
             report.go_on(self.relay.now(), self.relay.numbers(), self.out);
         }
@@ -245,13 +262,5 @@ impl<R: Net + Clock + Eprint + RandomSource, I: Read + Drop, W: LiveSink> Servic
 
     fn next_due(&mut self) -> Option<usize> {
         self.relay.next_due()
-    }
-}
-
-/// Returns the shorter of two times, if there are two.
-fn shorter(one: Option<Duration>, other: Duration) -> Duration {
-    match one {
-        Some(one) => one.min(other),
-        None => other,
     }
 }

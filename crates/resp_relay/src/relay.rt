@@ -1,6 +1,7 @@
 //! The proxy with its connections: what it does with a client, and with the server.
 
 use crate::channel::{Channel, NOT_CONNECTED};
+use crate::messages::Messages;
 use crate::proxied::{Link, Proxied};
 use crate::proxying::ProxySettings;
 use crate::server_link::ServerLink;
@@ -8,12 +9,13 @@ use mio::Registry;
 use resp_lane::PIECE;
 use resp_loop::backend::Backend;
 use resp_loop::closing::refuse;
-use resp_loop::service::{Cause, Next, Tokens};
+use resp_loop::service::{Next, Tokens};
 use resp_loop::spare::Spare;
 use resp_loop::stream::Stream;
 use resp_proxy::{Client, Counted, Numbers, Setting, Times};
 use std::alloc::{AllocError, Global};
 use std::collections::VecDeque;
+use std::fs::{File, Files};
 use std::io;
 use std::io::ErrorKind;
 use std::net::Net;
@@ -42,19 +44,31 @@ pub(crate) struct Relay {
     pub(crate) also: Vec<Vec<u8>>,
     /// The numbers of settings that are not in use any more.
     pub(crate) gone: Numbers,
-    /// The clients that wait for a connection in another setting, and for each the time at which it
-    /// is given up and its place. Those that wait no more may be among them.
+    /// The clients that wait for a connection in another setting.
     pub(crate) moving: u64,
+    /// For each client that waits for another connection, the time at which it is given up and its
+    /// place, in the order of these times. Clients that wait no more may be among them.
     pub(crate) moves: VecDeque<(Duration, usize)>,
     /// The time of the next sum of how long replies took.
     summed: Duration,
     times: Times,
     /// The places of all connections are less than this number.
     end: usize,
-    /// The places up to this one were named since the relay began to drain, or `None` before that.
-    drained: Option<usize>,
+    drain: Option<Drain>,
+    pub(crate) messages: Messages,
     client_buffer: [u8; CLIENT_PIECE],
     server_buffer: [u8; SERVER_PIECE],
+}
+
+/// How far a relay is that ends.
+#[derive(Clone, Copy)]
+struct Drain {
+    /// The time at which the clients that are still open are closed.
+    until: Duration,
+    /// Whether this time has come.
+    is_over: bool,
+    /// The places below this one were named since the relay began to end, or since that time has come.
+    named: usize,
 }
 
 impl Relay {
@@ -74,16 +88,17 @@ impl Relay {
     ///
     /// # Errors
     ///
-    /// `AllocError` if an allocation fails.
-    pub(crate) fn new(
-        net: &impl Net,
+    /// An error of the system, or an error of kind `OutOfMemory`.
+    pub(crate) fn new<R: Net + Files<File = File>>(
+        rt: &R,
         alloc: Global,
         backend: Backend,
         login: Vec<u8>,
         settings: ProxySettings,
-    ) -> Result<Self, AllocError> {
+    ) -> io::Result<Self> {
         let setting = Setting::first(alloc)?;
-        let spare = Spare::new(net);
+        let spare = Spare::new(rt);
+        let messages = Messages::new(rt, alloc)?;
         let link = ServerLink::new(alloc, backend, 0, setting, login, settings.patience, spare);
         let channels = only(
             alloc,
@@ -100,7 +115,8 @@ impl Relay {
             summed: Duration::from_millis(0),
             times: Times::default(),
             end: 0,
-            drained: None,
+            drain: None,
+            messages,
             client_buffer: [0; CLIENT_PIECE],
             server_buffer: [0; SERVER_PIECE],
         })
@@ -162,14 +178,34 @@ impl Relay {
     /// Begins to end: nothing more is read from clients, and each is closed when its commands have
     /// their replies.
     pub(crate) fn drain(&mut self) {
-        if self.drained.is_none() {
-            self.drained = Some(0);
+        if self.drain.is_none() {
+            self.drain = Some(Drain {
+                until: self.now().saturating_add(self.settings.drain_timeout),
+                is_over: false,
+                named: 0,
+            });
         }
     }
 
     /// Returns whether the relay has begun to end.
     pub(crate) fn is_draining(&self) -> bool {
-        self.drained.is_some()
+        self.drain.is_some()
+    }
+
+    /// Returns whether the relay has begun to end, and the clients that are still open are closed now.
+    fn is_drained(&self) -> bool {
+        matches!(self.drain, Some(drain) if drain.is_over)
+    }
+
+    /// Notes that the clients that are still open are closed, if it is time for that.
+    fn end_drain(&mut self) {
+        let now = self.now();
+        if let Some(drain) = &mut self.drain {
+            if !drain.is_over && drain.until <= now {
+                drain.is_over = true;
+                drain.named = 0;
+            }
+        }
     }
 
     /// Returns the current time.
@@ -189,18 +225,23 @@ impl Relay {
     }
 
     /// Reads and writes the sockets of a client.
-    pub(crate) fn visit<R: Net + Eprint + RandomSource>(
+    pub(crate) fn visit<R: Net + RandomSource>(
         &mut self,
         rt: &R,
         connection: &mut Proxied,
         registry: &Registry,
-        cause: Cause,
     ) -> Next {
-        connection.note(cause);
+        if self.is_drained() {
+            return Next::Close;
+        }
         if self.is_draining() {
             connection.shut_own();
         }
-        match connection.forward(cause.is_at_end(), &mut self.client_buffer) {
+        let is_late = match connection.own_since() {
+            Some(since) => self.is_late(since),
+            None => false,
+        };
+        match connection.forward(is_late, &mut self.client_buffer) {
             Ok(Some(next)) => return next,
             Ok(None) => {}
             Err(error) => return self.give_up(connection, &error),
@@ -215,7 +256,7 @@ impl Relay {
     }
 
     /// Reads and writes the socket of a client that shares a connection.
-    fn visit_shared<R: Net + Eprint + RandomSource>(
+    fn visit_shared<R: Net + RandomSource>(
         &mut self,
         rt: &R,
         connection: &mut Proxied,
@@ -237,9 +278,10 @@ impl Relay {
         channel.proxy.admit_own(may_leave);
         let before = channel.proxy.waiting();
         let next = connection.visit(&mut channel.proxy, &mut self.client_buffer);
+        connection.note_leaving(channel.link.now());
         let queued = channel.proxy.waiting().saturating_sub(before);
         channel.note_queued(rt, queued, self.settings.check_every);
-        channel.send_eagerly(rt);
+        channel.send_eagerly(rt, &mut self.messages);
         if connection.unread(&channel.proxy) > self.settings.unread {
             channel.proxy.count(Counted::Unread);
             return Next::Close;
@@ -247,12 +289,8 @@ impl Relay {
         if connection.leaves(&channel.proxy) {
             return self.leave(rt, connection, registry, number);
         }
-        let is_full = channel.is_full(self.settings.proxy.unsent);
-        if next == Next::Wait && connection.waits_for_room() && is_full {
-            return match channel.stall(connection.place()) {
-                Ok(()) => Next::Wait,
-                Err(AllocError) => Next::Close,
-            };
+        if next == Next::Wait && connection.waits_for_room() {
+            return wait_for_room(channel, connection, self.settings.proxy.unsent);
         }
         next
     }
@@ -311,30 +349,38 @@ impl Relay {
         Some(place)
     }
 
-    /// Returns whether a place was not named since the relay began to drain.
-    fn has_to_drain(&self) -> bool {
-        matches!(self.drained, Some(drained) if drained < self.end)
+    /// Returns the time until a place is named because the relay has begun to end, if one is.
+    fn drain_time_left(&self) -> Option<Duration> {
+        let drain = self.drain?;
+        if drain.named < self.end {
+            return Some(Duration::from_millis(0));
+        }
+        if drain.is_over {
+            return None;
+        }
+        Some(drain.until.saturating_sub(self.now()))
     }
 
-    /// Returns the next place that was not named since the relay began to drain.
+    /// Returns the next place that was not named since the relay began to end, or since the clients that
+    /// are still open are closed.
     fn next_to_drain(&mut self) -> Option<usize> {
-        let place = self.drained?;
+        let drain = self.drain.as_mut()?;
+        let place = drain.named;
         if place >= self.end {
             return None;
         }
-        self.drained = Some(place.saturating_add(1));
+        drain.named = place.saturating_add(1);
         Some(place)
     }
 
     /// Returns the longest time of the next wait.
     pub(crate) fn patience(&self) -> Option<Duration> {
-        if self.has_to_drain() {
-            return Some(Duration::from_millis(0));
-        }
-        let mut shortest = match self.moves.front() {
+        let first_move = match self.moves.front() {
             Some((until, _)) => Some(until.saturating_sub(self.now())),
             None => None,
         };
+        let mut shortest = shorter(first_move, self.drain_time_left());
+        shortest = shorter(shortest, self.messages.patience(self.now()));
         for channel in &self.channels {
             if channel.has_work(self.settings.proxy.unsent) {
                 return Some(Duration::from_millis(0));
@@ -345,21 +391,16 @@ impl Relay {
     }
 
     /// Reads and writes the socket of the server with this number after it became ready.
-    pub(crate) fn ready<R: Net + Clock + Eprint>(
-        &mut self,
-        rt: &R,
-        number: usize,
-        is_at_end: bool,
-    ) {
+    pub(crate) fn ready<R: Net + Clock>(&mut self, rt: &R, number: usize, is_at_end: bool) {
         self.look_at_clock(rt);
         if let Some(channel) = self.channels.get_mut(number) {
             channel.link.note_ready(is_at_end);
-            channel.exchange(rt, &mut self.server_buffer);
+            channel.exchange(rt, &mut self.messages, &mut self.server_buffer);
         }
     }
 
     /// Notes the current time, if the clock can be read.
-    fn look_at_clock(&mut self, clock: &impl Clock) {
+    pub(crate) fn look_at_clock(&mut self, clock: &impl Clock) {
         if let Ok(now) = clock.monotonic() {
             for channel in &mut self.channels {
                 channel.link.set_now(now);
@@ -369,12 +410,14 @@ impl Relay {
 
     /// Writes the commands that wait for the server, reads replies, and connects to the server
     /// where there is no connection.
-    pub(crate) fn work<R: Net + Clock + Eprint>(&mut self, rt: &R, registry: &Registry) {
+    pub(crate) fn work<R: Net + Clock + Eprint + Files>(&mut self, rt: &R, registry: &Registry) {
         self.look_at_clock(rt);
         for channel in &mut self.channels {
-            channel.work(rt, registry, &mut self.server_buffer);
+            channel.work(rt, &mut self.messages, registry, &mut self.server_buffer);
         }
         self.share_numbers();
+        self.end_drain();
+        self.messages.print(self.now(), rt);
     }
 
     /// Tells each setting the numbers of the others.
@@ -410,6 +453,22 @@ impl Relay {
     /// Counts a client that was rejected.
     pub(crate) fn reject(&mut self) {
         self.count(Counted::Rejected);
+    }
+}
+
+/// Returns when a client is visited next that is to be read, after a visit which left nothing else to do.
+/// Bytes for the server may have been sent since it was not read, so there may be room now.
+fn wait_for_room(channel: &mut Channel, connection: &Proxied, unsent: usize) -> Next {
+    if connection.has_room(&channel.proxy) {
+        return Next::Again;
+    }
+    if !channel.is_full(unsent) {
+        // It is visited when it gets a reply, or when its socket accepts bytes.
+        return Next::Wait;
+    }
+    match channel.stall(connection.place()) {
+        Ok(()) => Next::Wait,
+        Err(AllocError) => Next::Close,
     }
 }
 
@@ -461,7 +520,7 @@ fn show_lines(lines: &String, channels: &mut [Channel]) {
 }
 
 /// Returns the shorter of two times, if there are some.
-fn shorter(one: Option<Duration>, other: Option<Duration>) -> Option<Duration> {
+pub(crate) fn shorter(one: Option<Duration>, other: Option<Duration>) -> Option<Duration> {
     match (one, other) {
         (Some(one), Some(other)) => Some(one.min(other)),
         (Some(time), None) | (None, Some(time)) => Some(time),

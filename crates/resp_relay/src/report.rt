@@ -21,6 +21,8 @@ pub(crate) struct Report {
     next: Duration,
     /// The end of a line of which standard output accepted a part.
     rest: Vec<u8>,
+    /// Whether a write to a file or a socket has failed. Nothing is printed after that.
+    has_failed: bool,
 }
 
 impl Report {
@@ -40,22 +42,26 @@ impl Report {
             every,
             next: Duration::from_millis(0),
             rest: Vec::new(alloc),
+            has_failed: false,
         })
     }
 
-    /// Returns the time until the next line.
-    pub(crate) fn patience(&self, now: Duration) -> Duration {
-        self.next.saturating_sub(now)
+    /// Returns the time until the next line, or `None` if a write has failed.
+    pub(crate) fn patience(&self, now: Duration) -> Option<Duration> {
+        if self.has_failed {
+            return None;
+        }
+        Some(self.next.saturating_sub(now))
     }
 
-    /// Prints a line if it is time for one.
+    /// Prints a line if it is time for one and no write has failed.
     pub(crate) fn go_on<W: LiveSink>(
         &mut self,
         now: Duration,
         numbers: (Numbers, Times),
         out: &mut W,
     ) {
-        if now < self.next {
+        if self.has_failed || now < self.next {
             return;
         }
         self.next = now.saturating_add(self.every);
@@ -65,9 +71,12 @@ impl Report {
                 Err(AllocError) => return,
             }
         }
-        if let Ok(count) = self.terminal.print(&self.rest, out) {
-            let left = self.rest[count..].to_vec(self.alloc);
-            self.rest = left.unwrap_or(Vec::new(self.alloc));
+        match self.terminal.print_or_drop(&self.rest, out) {
+            Ok(count) => {
+                let left = self.rest[count..].to_vec(self.alloc);
+                self.rest = left.unwrap_or(Vec::new(self.alloc));
+            }
+            Err(_) => self.has_failed = true,
         }
     }
 }

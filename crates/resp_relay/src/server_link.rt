@@ -2,18 +2,22 @@
 
 ghost use Rattle.std.specs.Prelude.{◌<◌, length};
 
-use crate::entry::{Entry, Progress};
+use crate::entry::{Entry, Progress, words_of};
+use memchr::memrchr;
 use mio::{Interest, Registry, Token};
+use resp_join::ReplyError;
 use resp_loop::backend::{Attempt, Backend};
 use resp_loop::non_blocking::{Input, Output, is_open};
 use resp_loop::register::register;
 use resp_loop::service::token_of;
 use resp_loop::spare::Spare;
 use resp_loop::stream::Stream;
+use resp_mux::AnswerError;
 use resp_proxy::{Proxy, ServerError, Setting, Written};
 use resp_schedule::Attempts;
 use resp_value::device::Device;
 use std::alloc::{AllocError, Global};
+use std::fs::Files;
 use std::io::ErrorKind;
 use std::net::Net;
 use std::time::Duration;
@@ -22,6 +26,9 @@ use thiserror::Error;
 
 /// The most reads and writes of the server before clients are visited.
 const TURNS: usize = 16;
+
+/// The seconds after a lookup of the server's name before the next one.
+const LOOKED_UP: u64 = 10;
 
 /// Why no connection was opened, if the server rejected AUTH.
 pub(crate) const REJECTED: &str = "the server rejected AUTH";
@@ -50,6 +57,13 @@ pub(crate) enum Loss {
     /// The bytes of the server are not usable.
     #[error(transparent)]
     Server(ServerError),
+}
+
+impl Loss {
+    /// Returns whether the server sent a reply that no command waited for.
+    pub(crate) fn is_unasked(self) -> bool {
+        matches!(self, Loss::Server(error) if is_unasked(error))
+    }
 }
 
 /// The state of the connection to the server.
@@ -103,10 +117,16 @@ pub(crate) struct ServerLink {
     login: Vec<u8>,
     /// The reply of the server to HELLO, or no byte.
     hello: Vec<u8>,
+    /// The error that the server sent last although no command waited for a reply, or no byte.
+    unasked: Vec<u8>,
     spare: Spare,
     state: State,
     /// When the connection is tried again, and when it is given up.
     attempts: Attempts,
+    /// Whether the addresses of the server are looked up before the next attempt, if it has a name.
+    is_stale: bool,
+    /// The time of the last lookup.
+    looked_up: Duration,
 }
 
 impl ServerLink {
@@ -130,9 +150,12 @@ impl ServerLink {
             setting,
             login,
             hello: Vec::new(alloc),
+            unasked: Vec::new(alloc),
             spare,
             state: State::Down,
             attempts: Attempts::new(patience),
+            is_stale: true,
+            looked_up: Duration::from_millis(0),
         }
     }
 
@@ -255,9 +278,17 @@ impl ServerLink {
     /// # Errors
     ///
     /// The error of the system. The next attempt is made after a pause.
-    pub(crate) fn connect(&mut self, net: &impl Net, registry: &Registry) -> io::Result<()> {
+    pub(crate) fn connect<R: Net + Files>(
+        &mut self,
+        net: &R,
+        registry: &Registry,
+    ) -> io::Result<()> {
         if !self.attempts.may_begin() {
             return Ok(());
+        }
+        if let Err(error) = self.look_up(net) {
+            self.pause();
+            return Err(error);
         }
         let token = token_of(self.number);
         match open(
@@ -279,6 +310,23 @@ impl ServerLink {
                 Err(error)
             }
         }
+    }
+
+    /// Looks up the addresses of the server if it has a name, and no address is known, or no address
+    /// could be connected to and the last lookup was at least ten seconds ago.
+    fn look_up<R: Net + Files>(&mut self, rt: &R) -> io::Result<()> {
+        let until = self
+            .looked_up
+            .saturating_add(Duration::from_secs(LOOKED_UP));
+        let is_over = until.saturating_sub(self.now()).is_zero();
+        if !self.backend.is_at_host() || !self.backend.is_empty() && !(self.is_stale && is_over) {
+            return Ok(());
+        }
+        self.looked_up = self.now();
+        self.backend.look_up(rt, self.alloc)?;
+        self.attempt = self.backend.first();
+        self.is_stale = false;
+        Ok(())
     }
 
     /// Goes on to open the connection that was begun, and to log in over it. Returns whether it is
@@ -316,6 +364,7 @@ impl ServerLink {
                 Ok(false)
             }
             _ => {
+                self.is_stale = true;
                 self.pause();
                 Err(error)
             }
@@ -360,9 +409,10 @@ impl ServerLink {
                 Ok(true)
             }
             Progress::Rejected => {
-                self.pause();
                 let why = if self.number == 0 { REJECTED } else { REFUSED };
-                Err(io::Error::new(ErrorKind::PermissionDenied, why))
+                let error = entry.rejection(why);
+                self.pause();
+                Err(error)
             }
             Progress::Failed => {
                 self.pause();
@@ -433,7 +483,7 @@ impl ServerLink {
             return Ok(());
         };
         let before = proxy.waiting();
-        let exchanged = line.exchange(proxy, buffer);
+        let exchanged = line.exchange(proxy, buffer, &mut self.unasked);
         if proxy.waiting() < before {
             self.attempts.note_replies();
         }
@@ -441,6 +491,12 @@ impl ServerLink {
             self.pause();
         }
         exchanged
+    }
+
+    /// Returns the words of the error that the server sent before the connection was lost, although no
+    /// command waited for a reply, or no word.
+    pub(crate) fn unasked(&self) -> &str {
+        words_of(&self.unasked)
     }
 
     /// Gives the connection up if commands wait and no reply has come for too long. `waits` says
@@ -484,25 +540,36 @@ impl Line {
         }
     }
 
-    /// Reads replies and writes commands until each call would block, or 16 of each were made.
-    fn exchange(&mut self, proxy: &mut Proxy, buffer: &mut [u8]) -> Result<(), Loss>
+    /// Reads replies and writes commands until each call would block, or 16 of each were made. Sets
+    /// `unasked` to an error of the server that is the reply to no command.
+    fn exchange(
+        &mut self,
+        proxy: &mut Proxy,
+        buffer: &mut [u8],
+        unasked: &mut Vec<u8>,
+    ) -> Result<(), Loss>
         requires { 0 < length buffer.old }
     {
         for _ in 0..TURNS {
             if !self.may_read {
                 break;
             }
-            self.visit(proxy, buffer)?;
+            self.visit(proxy, buffer, unasked)?;
         }
         self.send(proxy)
     }
 
     /// Makes one read and at most one write.
-    fn visit(&mut self, proxy: &mut Proxy, buffer: &mut [u8]) -> Result<(), Loss>
+    fn visit(
+        &mut self,
+        proxy: &mut Proxy,
+        buffer: &mut [u8],
+        unasked: &mut Vec<u8>,
+    ) -> Result<(), Loss>
         requires { 0 < length buffer.old }
     {
         let stream = &self.stream;
-        self.may_read = exchange(proxy, stream, stream, self.is_at_end, buffer)?;
+        self.may_read = exchange(proxy, stream, stream, self.is_at_end, buffer, unasked)?;
         Ok(())
     }
 
@@ -531,6 +598,7 @@ fn exchange(
     writer: &Stream,
     is_at_end: bool,
     buffer: &mut [u8],
+    unasked: &mut Vec<u8>,
 ) -> Result<bool, Loss>
     requires { 0 < length buffer.old }
 {
@@ -543,11 +611,32 @@ fn exchange(
         return Err(Loss::Write);
     }
     match (visit.end, visit.read) {
-        (Err(error), _) => Err(Loss::Server(error)),
+        (Err(error), read) => {
+            if is_unasked(error) {
+                keep_last_line(unasked, &buffer[..buffer.len().min(read.unwrap_or(0))]);
+            }
+            Err(Loss::Server(error))
+        }
         (Ok(()), Some(0)) => Err(Loss::Closed),
         (Ok(()), None) if !is_dry => Err(Loss::Read),
         _ => Ok(!is_dry),
     }
+}
+
+/// Returns whether the server sent a reply that no command waits for.
+fn is_unasked(error: ServerError) -> bool {
+    error == ServerError::Reply(ReplyError::Answer(AnswerError::Unasked))
+}
+
+/// Keeps the last line of some bytes of the server, if there is memory for it. Otherwise nothing is kept.
+fn keep_last_line(kept: &mut Vec<u8>, bytes: &[u8]) {
+    let bytes = bytes.strip_suffix(b"\r\n").unwrap_or(bytes);
+    let begin = match memrchr(b'\n', bytes) {
+        Some(place) => place.saturating_add(1),
+        None => 0,
+    };
+    kept.clear();
+    let _ = kept.extend_from_slice(bytes.get(begin..).unwrap_or(b""));
 }
 
 /// Begins a connection to a server by this attempt or a later one, and registers its socket.

@@ -3,3 +3,4 @@ pub mod Plans
 pub mod Stands
 pub mod Rounds
 pub mod Attempts
+pub mod Allowances

@@ -9,12 +9,15 @@
 //! same round, so a late event of its old connection never reaches a new one.
 //!
 //! [`Attempts`] decides when a connection to a server is tried again, and when it is given up.
+//! [`Allowance`] decides how many events of one kind are told in a second.
 #![tactic(auto)]
 
+pub mod allowance;
 pub mod attempts;
 pub mod laws;
 mod queue;
 mod schedule;
 
+pub use allowance::Allowance;
 pub use attempts::{Attempts, Phase, Quiet};
 pub use schedule::{Backlog, OpenError, Schedule, State, Wait};

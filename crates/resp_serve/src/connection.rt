@@ -75,6 +75,8 @@ pub(crate) struct Connection<C> {
     /// The client as the store knows it, such as the number of its session.
     pub(crate) client: C,
     pub(crate) rest: Rest,
+    /// Whether the input may have ended. The socket says so once.
+    pub(crate) may_have_ended: bool,
 }
 
 /// Answers the commands that a client has sent, until a read or write would block, or 16 of them

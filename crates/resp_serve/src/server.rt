@@ -8,7 +8,7 @@ use resp_loop::backend::Address;
 use resp_loop::closing::close;
 use resp_loop::event_loop::Loop;
 use resp_loop::register::register;
-use resp_loop::service::{Cause, Next, Service, Tokens};
+use resp_loop::service::{Next, Service, Tokens};
 use resp_loop::stream::Stream;
 use resp_server::Hub;
 use resp_value::limits::Limits;
@@ -106,6 +106,7 @@ impl<C: Drop, T: Store<C>> Service<Connection<C>> for Replies<T> {
             stream,
             client,
             rest: Rest::new(self.room.alloc),
+            may_have_ended: false,
         })
     }
 
@@ -113,18 +114,17 @@ impl<C: Drop, T: Store<C>> Service<Connection<C>> for Replies<T> {
 
     fn reject(&mut self) {}
 
-    fn visit(
-        &mut self,
-        connection: &mut Connection<C>,
-        _registry: &Registry,
-        cause: Cause,
-    ) -> Next {
+    fn note_ready(&mut self, connection: &mut Connection<C>, is_at_end: bool) {
+        connection.may_have_ended = connection.may_have_ended || is_at_end;
+    }
+
+    fn visit(&mut self, connection: &mut Connection<C>, _registry: &Registry) -> Next {
         self.store.visit(
             &mut connection.client,
             &connection.stream,
             &mut self.room,
             &mut connection.rest,
-            cause.is_at_end(),
+            connection.may_have_ended,
         )
     }
 

@@ -7,6 +7,7 @@
 //! A [`Replay`] prints the traffic in a capture as a window prints traffic that it forwards.
 #![tactic(auto)]
 
+mod keyboard;
 mod open_connections;
 mod packet_clock;
 mod printer;

@@ -11,7 +11,7 @@ pub(crate) enum Remark {
     NotConnected,
     /// No connection to the server could be opened, for the reason in the text.
     Failed,
-    /// The client is one more than `--clients` allows.
+    /// The client is one more than `--max-clients` allows.
     Rejected,
     /// The capture does not have the beginning of the connection.
     InTheMiddle,
@@ -27,7 +27,7 @@ impl Remark {
             Remark::Connected => b" connected",
             Remark::NotConnected => b" not connected",
             Remark::Failed | Remark::Missing => b": ",
-            Remark::Rejected => b": rejected by --clients",
+            Remark::Rejected => b": rejected by --max-clients",
             Remark::InTheMiddle => b": the capture begins in the middle of the connection",
         }
     }

@@ -13,6 +13,7 @@ use resp_capture::{
     Capture, CaptureError, Connection, Endpoint, Frame, Packet, Segment, is_to_server,
 };
 use resp_lane::PIECE;
+use resp_print::live::LiveSink;
 use resp_tap::{Filter, Printing, ShownPart};
 use resp_value::device::{Sink, Source};
 use resp_value::limits::Limits;
@@ -107,12 +108,13 @@ impl Replay {
         self.fragments
     }
 
-    /// Reads a capture to its end and prints its traffic.
+    /// Reads a capture to its end and prints its traffic. The traffic of all packets that were read
+    /// is printed and flushed before the next read, which may wait for more packets.
     ///
     /// # Errors
     ///
     /// The first error. The traffic before it was printed.
-    pub fn run<S: Source, W: Sink>(
+    pub fn run<S: Source, W: LiveSink>(
         &mut self,
         source: &mut S,
         out: &mut W,
@@ -126,8 +128,8 @@ impl Replay {
         }
     }
 
-    /// Reads a capture to its end and prints its traffic.
-    fn read_all<S: Source, W: Sink>(
+    /// Reads a capture to its end and prints its traffic, as far as it was read before each read.
+    fn read_all<S: Source, W: LiveSink>(
         &mut self,
         capture: &mut Capture,
         source: &mut S,
@@ -135,6 +137,9 @@ impl Replay {
     ) -> Result<(), ReplayError> {
         let mut buffer = [0; PIECE];
         for _ in 0..MOST_READS {
+            if out.flush().is_err() {
+                return Err(ReplayError::Write);
+            }
             let Ok(count) = source.read(&mut buffer) else {
                 return Err(ReplayError::Read);
             };

@@ -48,6 +48,8 @@ pub(crate) struct Tapped {
     sockets: Sockets,
     /// Whether the connection to the server is open. Nothing is read from the client before.
     is_connected: bool,
+    /// Whether one of the inputs may have ended. A socket says so once.
+    may_have_ended: bool,
     to_server: Lane,
     to_client: Lane,
     watcher: Watcher,
@@ -69,12 +71,18 @@ impl Tapped {
         Tapped {
             sockets,
             is_connected: false,
+            may_have_ended: false,
             to_server: Lane::new(alloc),
             to_client: Lane::new(alloc),
             watcher,
             printing,
             recorded,
         }
+    }
+
+    /// Notes that a socket is ready. `is_at_end` says whether its input may have ended.
+    pub(crate) fn note_ready(&mut self, is_at_end: bool) {
+        self.may_have_ended = self.may_have_ended || is_at_end;
     }
 
     /// Returns whether the connection to the server is open. The system is asked until it does.
@@ -143,10 +151,9 @@ impl Tapped {
     }
 
     /// Forwards the bytes received, until each call would block or the allowed number of pieces was
-    /// forwarded. Each piece is read into the buffer. `is_at_end` says whether an input may have ended.
+    /// forwarded. Each piece is read into the buffer.
     pub(crate) fn hand_on<W: Sink, C: Clock>(
         &mut self,
-        is_at_end: bool,
         buffer: &mut [u8],
         printer: &mut Printer<'_, '_, '_, W, C>,
         recording: &mut Recording,
@@ -154,8 +161,8 @@ impl Tapped {
         requires { 0 < length buffer.old }
     {
         for _ in 0..TURNS {
-            let to_server = self.visit(Side::Client, is_at_end, buffer, printer, recording);
-            let to_client = self.visit(Side::Server, is_at_end, buffer, printer, recording);
+            let to_server = self.visit(Side::Client, buffer, printer, recording);
+            let to_client = self.visit(Side::Server, buffer, printer, recording);
             if let Some(next) = next_of(to_server, to_client, self.have_ended()) {
                 return next;
             }
@@ -167,7 +174,6 @@ impl Tapped {
     fn visit<W: Sink, C: Clock>(
         &mut self,
         side: Side,
-        is_at_end: bool,
         buffer: &mut [u8],
         printer: &mut Printer<'_, '_, '_, W, C>,
         recording: &mut Recording,
@@ -176,9 +182,10 @@ impl Tapped {
     {
         let is_first = !self.to_server.has_ended() && !self.to_client.has_ended();
         let (client, server) = (&self.sockets.client, &self.sockets.server);
+        let may_end = self.may_have_ended;
         let forwarded = match side {
-            Side::Client => self.to_server.visit(client, server, is_at_end, buffer),
-            Side::Server => self.to_client.visit(server, client, is_at_end, buffer),
+            Side::Client => self.to_server.visit(client, server, may_end, buffer),
+            Side::Server => self.to_client.visit(server, client, may_end, buffer),
         };
         let (clock, end) = (printer.clock(), end_of(side));
         let piece = &buffer[..buffer.len().min(forwarded.count)];

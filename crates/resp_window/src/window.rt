@@ -1,5 +1,6 @@
 //! The window: its loop, its screen, and what it does with a connection.
 
+use crate::keyboard::{Keyboard, Typed};
 use crate::printer::Printer;
 use crate::recording::{Recording, endpoint_of};
 use crate::remark::Remark;
@@ -14,7 +15,7 @@ use resp_lane::PIECE;
 use resp_loop::backend::{Address, Backend};
 use resp_loop::event_loop::Loop;
 use resp_loop::register::register;
-use resp_loop::service::{Cause, Next, Service, Tokens};
+use resp_loop::service::{Next, Service, Tokens};
 use resp_loop::spare::Spare;
 use resp_loop::stream::Stream;
 use resp_loop::terminal::Terminal;
@@ -47,6 +48,9 @@ const FINISHES: &str = "write failed\n\
 
 /// The notice on standard error after a failed write, if the window goes on.
 const KEEPS_GOING: &str = "write failed\nnothing more is printed; clients are still accepted";
+
+/// The notice on standard error if a person may ask for the table.
+const KEYS: &str = "Enter prints the table, and Ctrl-D prints it and ends";
 
 /// The notice on standard error after a failed write to the capture, if its reason can't be said.
 const NOT_RECORDED: &str = "recording failed\nnothing more is recorded; traffic is still forwarded";
@@ -121,6 +125,8 @@ struct View {
     timing: Timing,
     /// The counts of commands, if they are counted.
     stats: Option<Stats>,
+    /// The keys by which a person asks for the table.
+    keyboard: Keyboard,
     /// The capture to which the traffic is written.
     recording: Recording,
     /// The bytes of one read of any connection.
@@ -193,11 +199,12 @@ impl Window {
     /// Forwards the bytes of all connections and prints their traffic, until waiting for
     /// connections fails. If printing fails, that is said on standard error, and the window goes on
     /// or ends as [`AfterFailure`] says. It returns without an error if printing had failed and the
-    /// last connection was closed after that.
+    /// last connection was closed after that. If commands are counted and standard input is a terminal,
+    /// a line that is typed there prints the table, and Ctrl-D prints it and ends the window.
     ///
     /// # Errors
     ///
-    /// The error of that wait. An error of kind `OutOfMemory` if the first allocation fails. An
+    /// An error of kind `Interrupted` if Ctrl-D has ended the window. The error of that wait. An error of kind `OutOfMemory` if the first allocation fails. An
     /// error of kind `WriteZero` if a write fails and the window ends at once: by
     /// [`AfterFailure::End`], or by [`AfterFailure::Finish`] before it has accepted a client.
     pub fn run<R: Net + Clock + Eprint, W: LiveSink>(
@@ -213,6 +220,9 @@ impl Window {
             }
             view.fail(rt)?;
         }
+        if view.keyboard.is_used() {
+            let _ = rt.eprintln(KEYS);
+        }
         self.connections
             .run(&mut Watching { view, rt, out }, &mut events)
     }
@@ -227,7 +237,8 @@ fn view_of<R: Net + Clock + Files<File = File>>(
     settings: Settings,
     filter: Filter,
 ) -> io::Result<View> {
-    match parts_of(rt, alloc, listening, &backend, &settings) {
+    let mut backend = backend;
+    match parts_of(rt, alloc, listening, &mut backend, &settings) {
         Ok((terminal, timing, stats)) => Ok(View::new(
             rt, alloc, backend, settings, filter, terminal, timing, stats,
         )),
@@ -244,7 +255,7 @@ fn parts_of<R: Net + Clock + Files<File = File>>(
     rt: &R,
     alloc: Global,
     listening: io::Result<Address>,
-    backend: &Backend,
+    backend: &mut Backend,
     settings: &Settings,
 ) -> io::Result<(Terminal, Timing, Option<Stats>)> {
     backend.check(rt, listening)?;
@@ -272,6 +283,7 @@ impl View {
         stats: Option<Stats>,
     ) -> View {
         let json = settings.json;
+        let keyboard = Keyboard::new(stats.is_some());
         let mut screen = Painted::new(Screen::new(alloc, SCREEN).with_json(json));
         screen.set_style(settings.style);
         View {
@@ -287,6 +299,7 @@ impl View {
             is_silent: false,
             timing,
             stats,
+            keyboard,
             recording: Recording::none(),
             buffer: [0; PIECE],
         }
@@ -464,7 +477,6 @@ impl View {
         rt: &R,
         connection: &mut Tapped,
         registry: &Registry,
-        is_at_end: bool,
         out: &mut W,
     ) -> Next {
         let error = match connection.opening() {
@@ -474,8 +486,7 @@ impl View {
                     self.backend.prefer(connection.attempt());
                     connection.record_opening(&mut self.recording, rt);
                 }
-                // The event that reports the end of an input may already have passed.
-                return self.hand_on(connection, is_at_end || is_new, rt, out);
+                return self.hand_on(connection, rt, out);
             }
             Opening::Failed(error) => error,
         };
@@ -514,7 +525,6 @@ impl View {
     fn hand_on<W: Sink, C: Clock>(
         &mut self,
         connection: &mut Tapped,
-        is_at_end: bool,
         clock: &C,
         out: &mut W,
     ) -> Next {
@@ -524,12 +534,12 @@ impl View {
             let screen = as_long(!self.is_silent, &mut self.screen);
             let failed = &mut false;
             let mut printer = Printer::new(clock, timing, stats, &self.shown, screen, failed);
-            return connection.hand_on(is_at_end, &mut self.buffer, &mut printer, recording);
+            return connection.hand_on(&mut self.buffer, &mut printer, recording);
         }
         let out = as_long(!self.is_silent, out);
         let failed = &mut self.has_failed;
         let mut printer = Printer::new(clock, timing, stats, &self.shown, out, failed);
-        connection.hand_on(is_at_end, &mut self.buffer, &mut printer, recording)
+        connection.hand_on(&mut self.buffer, &mut printer, recording)
     }
 
     /// Says on standard error that a write to the capture has failed, if that was not said yet.
@@ -642,9 +652,12 @@ impl<R: Net + Clock + Eprint, W: LiveSink> Service<Tapped> for Watching<'_, R, W
         self.view.record_lost(number, self.rt);
     }
 
-    fn visit(&mut self, connection: &mut Tapped, registry: &Registry, cause: Cause) -> Next {
-        self.view
-            .visit(self.rt, connection, registry, cause.is_at_end(), self.out)
+    fn note_ready(&mut self, connection: &mut Tapped, is_at_end: bool) {
+        connection.note_ready(is_at_end);
+    }
+
+    fn visit(&mut self, connection: &mut Tapped, registry: &Registry) -> Next {
+        self.view.visit(self.rt, connection, registry, self.out)
     }
 
     fn close(&mut self, connection: Tapped) {
@@ -668,6 +681,9 @@ impl<R: Net + Clock + Eprint, W: LiveSink> Service<Tapped> for Watching<'_, R, W
     }
 
     fn patience(&self) -> Option<Duration> {
+        if self.view.keyboard.is_new() {
+            return Some(Duration::from_millis(0));
+        }
         if self.view.is_silent {
             return None;
         }
@@ -680,14 +696,26 @@ impl<R: Net + Clock + Eprint, W: LiveSink> Service<Tapped> for Watching<'_, R, W
         stats.patience(self.view.timing.last()?.steady)
     }
 
-    fn work(&mut self, _registry: &Registry) -> io::Result<()> {
+    fn work(&mut self, registry: &Registry) -> io::Result<()> {
         self.view.say_failure_of_recording(self.rt);
+        let typed = self.view.keyboard.take(registry);
+        if !self.view.is_silent && typed != Typed::Nothing {
+            self.view.print_table(self.rt, self.out);
+        }
         if !self.view.is_silent {
             self.view.go_on(self.rt, self.out);
         }
         if !self.view.is_silent && self.view.show(self.out).is_err() {
             return self.view.fail(self.rt);
         }
-        Ok(())
+        match typed {
+            Typed::End if self.view.is_silent => Err(ErrorKind::WriteZero.into()),
+            Typed::End => Err(ErrorKind::Interrupted.into()),
+            Typed::Nothing | Typed::Line => Ok(()),
+        }
+    }
+
+    fn input_ready(&mut self, _is_at_end: bool) {
+        self.view.keyboard.read();
     }
 }

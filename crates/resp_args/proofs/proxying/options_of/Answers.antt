@@ -4,10 +4,10 @@ use Rattle.resp_args.specs.declared.proxying.ProxyOptions.{ProxyOptions}
 use Rattle.resp_args.proofs.AskingLemmas.{if_none}
 use Rattle.resp_args.proofs.proxying.options_of.Goals as goal
 
-pub returns-in_err-patience-clause-none : goal.returns-in_err-patience-clause-none
-returns-in_err-patience-clause-none c =
+pub returns-in_err-times-clause-none : goal.returns-in_err-times-clause-none
+returns-in_err-times-clause-none c =
     let none : (options : ProxyOptions) → HasProxyOptions (rows_of (found_of c.args.matches.now)) options → ⊥ =
-    λ options has. c.in_err-patience.ensures.none _ has.times in
+    λ options has. c.in_err-times.ensures.none _ has.times in
     if_none _ _ none
 
 pub returns-in_err-local_ping-clause-none : goal.returns-in_err-local_ping-clause-none

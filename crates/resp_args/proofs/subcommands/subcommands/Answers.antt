@@ -3,11 +3,12 @@ use Rattle.resp_args.proofs.subcommands.subcommands.Goals as goal
 
 pub returns : goal.returns
 returns c = (
-  c.versions.ensures.0,
-  c.versions.ensures.1,
+  c.versions-versions.ensures.0,
+  c.versions-versions.ensures.1,
   rw (
-    c.versions.ensures.2,
+    c.versions-versions.ensures.2,
     c.limits-limits.ensures,
+    c.showing.ensures,
     c.reading.ensures,
     c.script.ensures,
     c.serving.ensures,

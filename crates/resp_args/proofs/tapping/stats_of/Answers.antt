@@ -4,8 +4,8 @@ use Rattle.resp_args.specs.declared.tapping.StatsOptions.{StatsOptions}
 use Rattle.resp_args.proofs.AskingLemmas.{if_none}
 use Rattle.resp_args.proofs.tapping.stats_of.Goals as goal
 
-pub returns-in_err-number_of-clause-none : goal.returns-in_err-number_of-clause-none
-returns-in_err-number_of-clause-none c =
+pub returns-in_err-pause_between-clause-none : goal.returns-in_err-pause_between-clause-none
+returns-in_err-pause_between-clause-none c =
     let none : (stats : StatsOptions) → HasStats (rows_of (found_of c.args.matches.now)) stats → ⊥ =
-    λ stats has. c.in_err-number_of.ensures.none _ has.seconds in
+    λ stats has. c.in_err-pause_between.ensures.none _ has.micros in
     if_none _ _ none

@@ -1,4 +1,4 @@
-use Rattle.std.proofs.Common.{◌++◌, ◌+◌, subst, take}
+use Rattle.std.proofs.Common.{◌∙◌, ◌++◌, ◌+◌, ap, subst, take}
 use Rattle.resp_line.specs.Inline.{HasText, RejectsContent}
 use Rattle.resp_line.proofs.InlineLines.{hold_rejected, line_ended, line_held, line_rejected, line_too_long, line_too_long_before}
 use Rattle.resp_line.proofs.inline.next_inline.Goals as goal
@@ -27,7 +27,7 @@ returns-in-Ok-text_of-clause-read c on =
     let piece = c.args.piece.now in
     let content = c.hold-2.new.line.items in
     let hold = c.in_default-hold.ensures in (
-      c.new.ensures.items,
+      ap (λ v. v.items) c.replace-content.ensures.after ∙ c.new.ensures.items,
       record {
         content = content;
         line = line_ended front piece content c.in-Some.end on c.in-Some.ensures hold.held hold.short;

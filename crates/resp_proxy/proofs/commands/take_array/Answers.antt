@@ -1,15 +1,17 @@
-use Rattle.std.proofs.Common.{◌≡◌, ◌++◌, List, ℕ, [], Some, Err, ap, arith, subst, sym, take}
-use Rattle.std.specs.Prelude.{IfSome}
+use Rattle.std.proofs.Common.{◌≡◌, ◌++◌, List, ℕ, [], Some, Err, ap, arith, refl, subst, sym, take}
+use Rattle.std.specs.Prelude.{IfOk, IfSome}
 use Rattle.resp_frames.specs.Commands.{IsFrameOfWords}
 use Rattle.resp_frames.specs.declared.words.Request.TheVariants.{Command}
 use Rattle.resp_frames.specs.Framing.{HasBegun, frame_limits, frame_rules}
 use Rattle.resp_frames.specs.Requests.{IsRequest}
 use Rattle.resp_frames.specs.Texts.{text_of}
-use Rattle.resp_proxy.specs.Taking.{Carries, TakesPart}
+use Rattle.resp_proxy.specs.Taking.{Carries, SetsAside, TakesArray, TakesPart}
 use Rattle.resp_proxy.specs.Unfinished.{terms_of}
 use Rattle.resp_proxy.proofs.Carryings.{array-part}
 use Rattle.resp_proxy.proofs.Refusals.{array-refused, frame-refused}
 use Rattle.resp_proxy.specs.Reasons.{RefusesArray}
+use Rattle.resp_proxy.proofs.Takings.{array-aside}
+use Rattle.resp_proxy.proofs.commands.take_array.Goals.{in-Ok-to_vec, in-Err-to_vec}
 use Rattle.resp_proxy.proofs.commands.take_array.Goals as goal
 use Rattle.resp_value.specs.Words.{texts_of}
 
@@ -49,3 +51,23 @@ returns-clause-refused c ready front h =
     is (c.in-Ok.ensures.whole ready front h) in
     array-refused (terms_of i) front piece command error whole.0
     (subst (λ rules. RefusesArray rules.limits (text_of command.frame) error) c.in-Ok.ensures.same_rules c.in-Err-carry_out.ensures.refused)
+
+pub returns-then-sets_aside-clause-taken : goal.returns-then-sets_aside-clause-taken
+returns-then-sets_aside-clause-taken c ready front h =
+    let i = c.args.intake.now in
+    let piece = c.args.piece.now in
+    let who = c.args.who in
+    let begun = c.next_request.new.begun in
+    let command = c.in-Some-Command.command in
+    let m = c.args.mux.now in
+    let is : c.in-Ok.found ≡ Some (Command command) = grind arith in
+    let whole = subst (λ o. IfSome o (λ request. IsRequest (frame_limits i.frames) front piece request × HasBegun (frame_rules i.frames) begun [])) is
+    (c.in-Ok.ensures.whole ready front h) in
+    elim c.match-to_vec.branch [
+      | in-Ok-to_vec w ↦ subst (λ r. IfOk r (λ part. TakesArray (terms_of i) who front piece begun part m m)) (sym w.result-is) (
+        whole.1,
+        subst (λ n. SetsAside (terms_of i) (front ++ take n piece) w.in-Ok-to_vec.text.items m m) (sym c.used-used.ensures)
+            (array-aside (terms_of i) front piece w.in-Ok-to_vec.text.items command m whole.0 (c.if-sets_aside.ensures.needed refl) (grind arith)),
+      )
+      | in-Err-to_vec w ↦ subst (λ r. IfOk r (λ part. TakesArray (terms_of i) who front piece begun part m m)) (sym w.result-is) tt
+    ]

@@ -1,4 +1,4 @@
-use Rattle.std.proofs.Common.{◌∙◌, ◌++◌, [], ap, inl, refl, subst, sym, take}
+use Rattle.std.proofs.Common.{◌∙◌, ◌++◌, [], None, ap, inl, inr, refl, subst, sym, take}
 use Rattle.resp_frames.specs.Framing.{HasBegun}
 use Rattle.resp_frames.specs.declared.unfinished.Unfinished.{Unfinished}
 use Rattle.resp_line.specs.Inline.{HasText, IsArrayOf, ReadsLine, RejectsLine}
@@ -50,3 +50,19 @@ returns-clause-rejected g c on =
     let is = subst (IsArrayOf limits line.content) (sym c.as_slice.ensures) (subst (HasText limits line.content) c.in-Some.is line.has) in
     array_kept limits limits array (Rejects limits (front ++ piece)) c.in-Err-run.error refl (line_command limits line.content array is)
     c.in-Err-run.ensures.no_command
+
+pub returns-in_default-clause-taken : goal.returns-in_default-clause-taken
+returns-in_default-clause-taken g c no_array on =
+    let limits = c.args.self.now.limits in
+    let front = c.args.client.now.unfinished.line.items in
+    let piece = c.args.piece.now in
+    let left = c.next_inline.new.line.items in
+    let read = subst (λ l. ReadsLine l front piece left c.in-Ok-Some.field-0) (ap (λ (v : ServerState). v.limits) c.self.view_is) (c.in-Ok-Some.ensures.read on) in
+    let (none, line) = subst (ReadsLine limits front piece left) c.in-Ok-Some.field-0-is read in (
+      inl (record { begun = no_array; no_line = none }),
+      record {
+        asked = None;
+        request = inr (record { content = line.content; line = line.line; are = subst (HasText limits line.content) c.in_default.is line.has });
+        done = refl;
+      },
+    )
