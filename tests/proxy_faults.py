@@ -468,6 +468,12 @@ class Refusing(Peer):
                         hear_end(stream)
 
 
+def reply_of(client):
+    """Returns the reply to the PING of a client, which may be an error."""
+    client.sendall(PING)
+    return line_of(client)
+
+
 def descriptors_after_a_loss():
     """After the connections of all settings were lost, the proxy has no more descriptors than before."""
     with (small_redis() as redis, running("proxy", "127.0.0.1:0", redis.address) as proxy,
@@ -480,7 +486,7 @@ def descriptors_after_a_loss():
         for _ in range(2):
             redis.close_all()
             for number, client in enumerate(clients):
-                until(lambda client=client: asks_in_vain(client) == PONG, "the client gets no reply after the loss")
+                until(lambda client=client: reply_of(client) == PONG, "the client gets no reply after the loss")
         count = proxy.descriptors()
         assert count <= before, f"{count - before} descriptors more after all connections were lost"
 
@@ -593,6 +599,51 @@ def drain_with_a_connection_that_does_not_end():
         redis.go_on()
 
 
+def drain_with_a_client_that_sends_on():
+    """A client that sends on while the proxy ends gets the replies to all commands that were read before, also if it
+    reads them late: its connection is not reset."""
+    peer = Peer()
+    value = b"v" * 1_000
+    with draining(peer.address) as (ran, port), peer.accept() as server, connect(port) as client:
+        client.sendall(get(b"key") * 50)
+        hear(server, get(b"key") * 50)
+        ran.stdin.close()
+        until(lambda: nobody_listens(port), "it listens on")
+        client.sendall(PING * 5_000)
+        server.sendall(bulk(value) * 50)
+        for _ in range(3):
+            time.sleep(0.1)
+            client.sendall(PING * 5_000)
+        hear(client, bulk(value) * 50)
+        assert hear_end(client) == b""
+        client.close()
+        assert ran.wait(10) == 0, ran.returncode
+    peer.close()
+
+
+def clients_that_stay():
+    """A client that is closed after its last reply, and does not close its side, is closed within seconds."""
+    with proxied() as (proxy, peer, server):
+        is_connected(proxy)
+        before = proxy.descriptors()
+        with connect(proxy.port) as client:
+            client.sendall(command(b"QUIT") + PING * 5_000)
+            assert hear_end(client) == OK
+            begun = time.monotonic()
+            until(lambda: proxy.descriptors() == before, "the connection of a client stays open")
+            took = time.monotonic() - begun
+            assert took < 1 + LATE, f"the connection is closed after {took:.1f} s"
+
+
+def nobody_listens(port):
+    """Whether nobody listens on a port any more."""
+    try:
+        connect(port).close()
+    except ConnectionRefusedError:
+        return True
+    return False
+
+
 PATIENCE = 2
 TIMED_OUT = NOT_CONNECTED + b"timed out\r\n"
 
@@ -620,14 +671,20 @@ def impatient(server, *words):
 
 def settings_while_the_server_is_stopped():
     """SELECT, HELLO and AUTH get an error after the patience, while the server accepts connections and sends no
-    reply."""
+    reply. After HELLO without a user the client goes on. After the others it is closed: what it has sent behind them
+    is for another database or another user, and the server gets none of it."""
     for asked in (select(b"1"), HELLO, command(b"AUTH", b"anna", b"secret")):
         with small_redis() as redis, impatient(redis.address) as proxy, connect(proxy.port) as client:
-            ask(client, PING, PONG)
+            ask(client, incr(b"count"), b":1\r\n")
             redis.stop()
-            is_told_in_time(client, asked, TIMED_OUT)
+            is_told_in_time(client, asked + incr(b"count"), TIMED_OUT)
             redis.go_on()
-            ask(client, PING, PONG)
+            if asked == HELLO:
+                ask(client, incr(b"count"), b":2\r\n:3\r\n")
+                continue
+            assert hear_end(client) == b"", f"after a failed {asked} the client goes on"
+            with connect(proxy.port) as other:
+                ask(other, get(b"count"), bulk(b"1"))
 
 
 def setting_after_a_loss():
@@ -639,14 +696,15 @@ def setting_after_a_loss():
             is_told_in_time(client, PING, LOST)
             time.sleep(0.2)
             is_told_in_time(client, select(b"2"), TIMED_OUT)
+            assert hear_end(client) == b""
             redis.go_on()
-            until(lambda: asks_in_vain(client) == PONG, "the client gets no reply after the server goes on")
+            until(lambda: reply_of_new(proxy.port) == PONG, "a client gets no reply after the server goes on")
 
 
-def asks_in_vain(client):
-    """Returns the reply to PING, which may be an error."""
-    client.sendall(PING)
-    return line_of(client)
+def reply_of_new(port):
+    """Returns the reply to the PING of a new client, which may be an error."""
+    with connect(port) as client:
+        return reply_of(client)
 
 
 def setting_behind_a_command():
@@ -775,11 +833,12 @@ def commands_that_come_as_lines():
 
 def server_without_an_address():
     """If the name of the server has no address, the proxy listens, and each command gets an error with the reason."""
-    with running("proxy", "127.0.0.1:0", "no-such-host.invalid:6379") as proxy, connect(proxy.port) as client:
+    with running("proxy", "127.0.0.1:0", "no-such-host.invalid:6379") as proxy:
         for asked in (PING, select(b"1"), PING):
-            client.sendall(asked)
-            line = line_of(client)
-            assert line.startswith(NOT_CONNECTED) and len(line) > len(NOT_CONNECTED) + 2, line
+            with connect(proxy.port) as client:
+                client.sendall(asked)
+                line = line_of(client)
+                assert line.startswith(NOT_CONNECTED) and len(line) > len(NOT_CONNECTED) + 2, line
         line = b"\ncannot connect to no-such-host.invalid:6379: "
         until(lambda: line in proxy.printed(), "standard error has no line")
         proxy.is_idle()
@@ -792,6 +851,7 @@ TESTS = [client_that_found_no_room, client_whose_replies_fill_its_room,
          transaction_while_all_connections_are_used, settings_that_are_refused,
          words_of_a_server_that_refuses, standard_output_that_is_full, reader_that_has_gone,
          drain_with_a_client_that_does_not_read, drain_with_a_connection_that_does_not_end,
+         drain_with_a_client_that_sends_on, clients_that_stay,
          settings_while_the_server_is_stopped, setting_after_a_loss, setting_behind_a_command,
          settings_in_another_order, descriptors_after_a_loss,
          own_connection_that_is_not_accepted, own_connection_without_a_login,

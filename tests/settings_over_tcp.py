@@ -227,36 +227,52 @@ def refusals():
 
 
 def server_that_opens_no_setting():
-    """Without a connection, or without a reply in time, the client gets the reason and goes on where it was."""
+    """Without a connection, or without a reply in time, the client gets the reason and is closed: the PING behind its
+    SELECT is for another database, and no server gets it."""
+    with proxied("--server-timeout", "700ms") as (proxy, peer, server):
+        with connect(proxy.port) as client:
+            client.sendall(select(b"3") + PING)
+            with peer.accept() as silent:
+                hear(silent, select(b"3"))
+                assert hear_end(client) == NOT_CONNECTED + b"timed out\r\n"
+                assert hear_end(silent) == b""
+        with connect(proxy.port) as client:
+            client.sendall(select(b"3") + PING)
+            with peer.accept() as closing:
+                hear(closing, select(b"3"))
+            assert hear_end(client) == NOT_CONNECTED + b"closed during AUTH\r\n"
+        with connect(proxy.port) as client:
+            client.sendall(select(b"3") + PING)
+            with accepted(peer, (select(b"3"), OK + b":1\r\n")) as talking:
+                assert hear_end(client) == NOT_CONNECTED + b"the server rejected AUTH\r\n"
+                assert hear_end(talking) == b""
+        peer.close()
+        with connect(proxy.port) as client:
+            client.sendall(select(b"3") + PING)
+            assert hear_end(client).startswith(NOT_CONNECTED + b"Connection refused")
+        with connect(proxy.port) as client:
+            ask_through(client, server, get(b"a"), bulk(b"1"))
+
+
+def hello_without_a_connection():
+    """A client whose HELLO gets no connection goes on where it was: the error says that its version stays."""
     with proxied("--server-timeout", "700ms") as (proxy, peer, server), connect(proxy.port) as client:
-        client.sendall(select(b"3") + PING)
+        client.sendall(HELLO + get(b"a"))
         with peer.accept() as silent:
-            hear(silent, select(b"3"))
+            hear(silent, HELLO)
             hear(client, NOT_CONNECTED + b"timed out\r\n")
             assert hear_end(silent) == b""
-            hear(server, PING)
-            server.sendall(PONG)
-            hear(client, PONG)
-        client.sendall(select(b"3") + PING)
-        with peer.accept() as closing:
-            hear(closing, select(b"3"))
-        hear(client, NOT_CONNECTED + b"closed during AUTH\r\n")
-        hear(server, PING)
-        server.sendall(PONG)
-        hear(client, PONG)
-        client.sendall(select(b"3") + PING)
-        with accepted(peer, (select(b"3"), OK + b":1\r\n")) as talking:
-            hear(client, NOT_CONNECTED + b"the server rejected AUTH\r\n")
-            assert hear_end(talking) == b""
-        hear(server, PING)
-        server.sendall(PONG)
-        hear(client, PONG)
-        peer.close()
-        client.sendall(select(b"3") + PING)
-        assert line_of(client).startswith(NOT_CONNECTED + b"Connection refused")
-        hear(server, PING)
-        server.sendall(PONG)
-        hear(client, PONG)
+        hear(server, get(b"a"))
+        server.sendall(bulk(b"1"))
+        hear(client, bulk(b"1"))
+
+
+def ask_through(client, server, asked, reply):
+    """Asserts that a command of a client goes to this server, and that the client gets its reply."""
+    client.sendall(asked)
+    hear(server, asked)
+    server.sendall(reply)
+    hear(client, reply)
 
 
 def client_that_goes_while_it_moves():
@@ -540,6 +556,6 @@ def journey(number, source):
     return asked, wanted
 
 
-TESTS = [settings_share_connections, settings_of_words, passwords_are_checked, refusals, server_that_opens_no_setting,
+TESTS = [settings_share_connections, settings_of_words, passwords_are_checked, refusals, server_that_opens_no_setting, hello_without_a_connection,
          client_that_goes_while_it_moves, names_and_ids, own_connections_of_settings, most_settings,
          lost_connection_of_a_setting, errors_of_settings, settings_at_random]

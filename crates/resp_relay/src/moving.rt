@@ -95,7 +95,7 @@ impl Relay {
                         },
                     )
                 }
-                Err(error) => self.stay(connection, from, departed, used_by(plan), &error),
+                Err(error) => self.stay(connection, from, departed, plan, &error),
             },
         }
     }
@@ -149,6 +149,14 @@ impl Relay {
 
     /// Lets a client wait for the connection that was begun.
     fn wait(&mut self, connection: &mut Proxied, moving: Move) -> Next {
+        match Box::new(self.alloc, moving) {
+            Ok(moving) => self.wait_boxed(connection, moving),
+            Err(failed) => close(failed.value),
+        }
+    }
+
+    /// Lets a client wait for the connection that was begun.
+    fn wait_boxed(&mut self, connection: &mut Proxied, moving: Box<Move>) -> Next {
         if self
             .give_up_later(connection.place(), moving.since)
             .is_err()
@@ -180,17 +188,19 @@ impl Relay {
         rt: &R,
         connection: &mut Proxied,
         registry: &Registry,
-        moving: Move,
+        moving: Box<Move>,
     ) -> Next {
         let mut moving = moving;
         let from = moving.from;
-        let next = match self.arrived(&mut moving) {
-            Ok(Arrived::No) => {
-                connection.wait(moving);
-                return Next::Wait;
-            }
-            Ok(Arrived::Yes) => self.arrive(rt, connection, registry, moving),
+        let arrived = self.arrived(&mut moving);
+        if let Ok(Arrived::No) = arrived {
+            connection.wait(moving);
+            return Next::Wait;
+        }
+        let moving = Box::into_inner(moving);
+        let next = match arrived {
             Ok(Arrived::Rejected) => self.pass_refusal(connection, moving),
+            Ok(_) => self.arrive(rt, connection, registry, moving),
             Err(error) => self.pass_failure(connection, moving, &error),
         };
         // Until now the setting that the client has left could not be taken by another.
@@ -211,7 +221,7 @@ impl Relay {
         Ok(arrived)
     }
 
-    /// Lets a client go on in the setting that it has left, with the reason why there is no connection.
+    /// Tells a client why there is no connection.
     fn pass_failure(&mut self, connection: &mut Proxied, moving: Move, error: &io::Error) -> Next {
         let Move {
             departed,
@@ -220,7 +230,7 @@ impl Relay {
             arrival,
             ..
         } = moving;
-        let next = self.stay(connection, from, departed, used_by(plan), error);
+        let next = self.stay(connection, from, departed, plan, error);
         drop(arrival);
         next
     }
@@ -270,7 +280,7 @@ impl Relay {
             Ok(Some((number, setting))) => {
                 match self.use_arrival(rt, registry, number, setting, arrival) {
                     Ok(()) => self.enter(connection, number, departed, plan),
-                    Err(error) => self.stay(connection, from, departed, used_by(plan), &error),
+                    Err(error) => self.stay(connection, from, departed, plan, &error),
                 }
             }
             Ok(None) => {
@@ -429,15 +439,21 @@ impl Relay {
         self.seat(connection, from, departed, reply)
     }
 
-    /// Does what `answer` does, with the reason why there is no connection.
+    /// Tells a client why there is no connection for its command. It is closed, unless it goes on in the
+    /// setting that it has left.
     fn stay(
         &mut self,
         connection: &mut Proxied,
         from: usize,
         departed: Departed,
-        used: usize,
+        plan: Plan,
         error: &io::Error,
     ) -> Next {
+        let (goes_on, used) = (plan.goes_on, used_by(plan));
+        if !goes_on {
+            drop(departed);
+            return self.give_up(connection, error);
+        }
         match format!(in self.alloc; "-ERR cannot connect to server: {error}\r\n") {
             Ok(reply) => {
                 self.answer(connection, from, departed, used, reply.as_str().as_bytes())
@@ -489,9 +505,14 @@ impl Relay {
             return close(departed);
         }
         let own = Own::new(self.alloc, arrival, since, departed.into_rest());
-        connection.give_own(own);
-        self.count(Counted::OwnOpened);
-        Next::Wait
+        match Box::new(self.alloc, own) {
+            Ok(own) => {
+                connection.give_own(own);
+                self.count(Counted::OwnOpened);
+                Next::Wait
+            }
+            Err(failed) => close(failed.value),
+        }
     }
 
     /// Returns the time since which a client that leaves a setting has waited for a server that does not

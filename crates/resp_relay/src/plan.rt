@@ -26,6 +26,8 @@ pub(crate) struct Plan {
     pub(crate) has_password: bool,
     /// The number of bytes of the command.
     pub(crate) used: usize,
+    /// Whether the client goes on where it is if it gets no connection.
+    pub(crate) goes_on: bool,
     kind: Kind,
     /// The name that the command gives the client.
     name: Option<Vec<u8>>,
@@ -67,6 +69,7 @@ impl Plan {
         used: usize,
         setting: &Setting,
     ) -> Result<Option<Plan>, AllocError> {
+        let goes_on = goes_on(asking.wish);
         let (kind, has_password, name) = match asking.wish {
             Wish::Other => return Ok(None),
             Wish::Hello(_, account, name) => (Kind::Hello, account.is_some(), name),
@@ -78,6 +81,7 @@ impl Plan {
             setting: setting.after(alloc, asking.wish)?,
             has_password,
             used,
+            goes_on,
             kind,
             name: None,
         };
@@ -131,8 +135,7 @@ pub(crate) struct Refusal {
     pub(crate) reply: Vec<u8>,
     /// The number of bytes of the command.
     pub(crate) used: usize,
-    /// Whether the client goes on: it has asked for another version of the protocol, and learns from the
-    /// reply that its version stays. Another command would be carried out elsewhere than the client thinks.
+    /// Whether the client goes on where it is.
     pub(crate) goes_on: bool,
 }
 
@@ -168,9 +171,16 @@ impl Refusal {
         Ok(Refusal {
             reply: no_more(alloc, asking.name)?,
             used,
-            goes_on: matches!(asking.wish, Wish::Hello(_, None, _)),
+            goes_on: goes_on(asking.wish),
         })
     }
+}
+
+/// Returns whether a client goes on where it is if it gets no connection: it has asked for another version
+/// of the protocol, and learns from the reply that its version stays. After another command its next ones
+/// would run in another database, as another user or outside a transaction.
+fn goes_on(wish: Wish<'_>) -> bool {
+    matches!(wish, Wish::Hello(_, None, _))
 }
 
 /// A line with which the bytes of a client begin.

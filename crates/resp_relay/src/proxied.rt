@@ -6,13 +6,15 @@ use crate::arrival::Arrival;
 use crate::own::Own;
 use crate::plan::Plan;
 use mio::Token;
-use resp_lane::{Progress, after_write};
+use resp_lane::{Progress, TURNS, after_write};
 use resp_loop::non_blocking::{Input, Output};
 use resp_loop::service::{Next, Tokens};
 use resp_loop::stream::Stream;
 use resp_mux::ClientId;
 use resp_proxy::{Client, Departed, Proxy, Read, Written};
 use resp_value::device::Device;
+use std::io::{ErrorKind, Read as _};
+use std::net::Shutdown;
 use std::time::Duration;
 use std::{io, mem};
 
@@ -36,9 +38,11 @@ pub(crate) enum Link {
     /// Over the connection that clients in the setting of this number share.
     Shared(usize, Client),
     /// Not yet: a connection in another setting is opened.
-    Moving(Move),
+    Moving(Box<Move>),
     /// Over a connection of the client's own.
-    Own(Own),
+    Own(Box<Own>),
+    /// Not any more: what the client sends is dropped, until it closes its side or this time has come.
+    Closing(Duration),
     /// Not any more: the connection is closed at the end of its visit.
     Closed,
 }
@@ -227,13 +231,13 @@ impl Proxied {
     }
 
     /// Lets the client wait for a connection in another setting.
-    pub(crate) fn wait(&mut self, moving: Move) {
+    pub(crate) fn wait(&mut self, moving: Box<Move>) {
         self.set_link(Link::Moving(moving));
     }
 
     /// Returns what the client waits for, if it waits for a connection in another setting. Put it
     /// back, or enter a setting.
-    pub(crate) fn take_move(&mut self) -> Option<Move> {
+    pub(crate) fn take_move(&mut self) -> Option<Box<Move>> {
         match self.take_link() {
             Link::Moving(moving) => Some(moving),
             link => {
@@ -244,7 +248,7 @@ impl Proxied {
     }
 
     /// Gives the client a connection of its own.
-    pub(crate) fn give_own(&mut self, own: Own) {
+    pub(crate) fn give_own(&mut self, own: Box<Own>) {
         self.set_link(Link::Own(own));
     }
 
@@ -271,8 +275,40 @@ impl Proxied {
                 let next = own.visit(&self.stream, self.is_at_end, is_late, buffer)?;
                 Ok(Some(next))
             }
-            Link::Closed => Ok(Some(Next::Close)),
+            Link::Closing(_) | Link::Closed => Ok(Some(Next::Close)),
         }
+    }
+
+    /// Sends nothing more to the client, and drops what it sends until it closes its side or this time has
+    /// come. A socket that is closed with unread bytes, or to which bytes are sent later, is reset: the client
+    /// would lose replies that it has not read.
+    pub(crate) fn close_until(&mut self, until: Duration) {
+        let _ = self.stream.shutdown(Shutdown::Write);
+        self.set_link(Link::Closing(until));
+    }
+
+    /// Returns the time at which the connection is closed if its client does not close its side before, once
+    /// nothing more is sent to the client.
+    pub(crate) fn closing_until(&self) -> Option<Duration> {
+        match &self.link {
+            Link::Closing(until) => Some(*until),
+            _ => None,
+        }
+    }
+
+    /// Drops bytes of the client.
+    pub(crate) fn drop_input(&mut self, buffer: &mut [u8]) -> Next
+        requires { 0 < length buffer.old }
+    {
+        let mut reader = &self.stream;
+        for _ in 0..TURNS {
+            match reader.read(buffer) {
+                Ok(1..) => {}
+                Err(error) if error.kind() == ErrorKind::WouldBlock => return Next::Wait,
+                _ => return Next::Close,
+            }
+        }
+        Next::Again
     }
 
     /// Returns the token of the socket of the client's own connection to the server.

@@ -32,6 +32,9 @@ const SERVER_PIECE: usize = 65_536;
 /// The time between two sums of how long replies took, in milliseconds.
 const SUMMED: u64 = 100;
 
+/// The longest time between the last byte for a client and the end of its connection, in milliseconds.
+const CLOSING: u64 = 1_000;
+
 /// The proxies of all settings, their connections to the server, and the clients that move between
 /// them.
 #[derive(Drop)]
@@ -49,6 +52,9 @@ pub(crate) struct Relay {
     /// For each client that waits for another connection, the time at which it is given up and its
     /// place, in the order of these times. Clients that wait no more may be among them.
     pub(crate) moves: VecDeque<(Duration, usize)>,
+    /// For each client to which nothing more is sent, the time at which its connection is closed and its
+    /// place, in the order of these times. Clients that are closed may be among them.
+    closing: VecDeque<(Duration, usize)>,
     /// The time of the next sum of how long replies took.
     summed: Duration,
     times: Times,
@@ -112,6 +118,7 @@ impl Relay {
             gone: Numbers::default(),
             moving: 0,
             moves: VecDeque::new(alloc),
+            closing: VecDeque::new(alloc),
             summed: Duration::from_millis(0),
             times: Times::default(),
             end: 0,
@@ -157,7 +164,7 @@ impl Relay {
                 self.count(Counted::OwnClosed);
                 drop(own);
             }
-            Link::Closed => {}
+            Link::Closing(_) | Link::Closed => {}
         }
     }
 
@@ -234,6 +241,42 @@ impl Relay {
         if self.is_drained() {
             return Next::Close;
         }
+        if let Some(until) = connection.closing_until() {
+            return self.drop_input(connection, until);
+        }
+        match self.visit_open(rt, connection, registry) {
+            Next::Close => self.begin_close(connection),
+            next => next,
+        }
+    }
+
+    /// Closes the client of a connection, whose replies were written, and the connection once its client has
+    /// closed its side or [`CLOSING`] has passed.
+    fn begin_close(&mut self, connection: &mut Proxied) -> Next {
+        self.end(connection.take_link());
+        let until = self.now().saturating_add(Duration::from_millis(CLOSING));
+        if self.closing.push_back((until, connection.place())).is_err() {
+            return Next::Close;
+        }
+        connection.close_until(until);
+        connection.drop_input(&mut self.client_buffer)
+    }
+
+    /// Drops what a client sends to whom nothing more is sent, until this time.
+    fn drop_input(&mut self, connection: &mut Proxied, until: Duration) -> Next {
+        if until <= self.now() {
+            return Next::Close;
+        }
+        connection.drop_input(&mut self.client_buffer)
+    }
+
+    /// Reads and writes the sockets of a client that is open.
+    fn visit_open<R: Net + RandomSource>(
+        &mut self,
+        rt: &R,
+        connection: &mut Proxied,
+        registry: &Registry,
+    ) -> Next {
         if self.is_draining() {
             connection.shut_own();
         }
@@ -339,14 +382,11 @@ impl Relay {
         None
     }
 
-    /// Returns the place of the next client that has waited too long for a connection.
+    /// Returns the place of the next client that has waited too long for a connection, or that has not
+    /// closed its side in time.
     fn next_late(&mut self) -> Option<usize> {
-        let (until, place) = *self.moves.front()?;
-        if until > self.now() {
-            return None;
-        }
-        let _ = self.moves.pop_front();
-        Some(place)
+        let now = self.now();
+        next_until(&mut self.moves, now).or_else(|| next_until(&mut self.closing, now))
     }
 
     /// Returns the time until a place is named because the relay has begun to end, if one is.
@@ -375,12 +415,10 @@ impl Relay {
 
     /// Returns the longest time of the next wait.
     pub(crate) fn patience(&self) -> Option<Duration> {
-        let first_move = match self.moves.front() {
-            Some((until, _)) => Some(until.saturating_sub(self.now())),
-            None => None,
-        };
-        let mut shortest = shorter(first_move, self.drain_time_left());
-        shortest = shorter(shortest, self.messages.patience(self.now()));
+        let now = self.now();
+        let mut shortest = shorter(time_left(&self.moves, now), time_left(&self.closing, now));
+        shortest = shorter(shortest, self.drain_time_left());
+        shortest = shorter(shortest, self.messages.patience(now));
         for channel in &self.channels {
             if channel.has_work(self.settings.proxy.unsent) {
                 return Some(Duration::from_millis(0));
@@ -516,6 +554,24 @@ fn show_lines(lines: &String, channels: &mut [Channel]) {
         if let Ok(copy) = lines.clone() {
             channel.proxy.set_count_lines(copy);
         }
+    }
+}
+
+/// Removes the first of these times, and returns the place with it, if it has come.
+fn next_until(times: &mut VecDeque<(Duration, usize)>, now: Duration) -> Option<usize> {
+    let (until, place) = *times.front()?;
+    if until > now {
+        return None;
+    }
+    let _ = times.pop_front();
+    Some(place)
+}
+
+/// Returns how long it is until the first of these times.
+fn time_left(times: &VecDeque<(Duration, usize)>, now: Duration) -> Option<Duration> {
+    match times.front() {
+        Some((until, _)) => Some(until.saturating_sub(now)),
+        None => None,
     }
 }
 
