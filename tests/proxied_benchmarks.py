@@ -109,9 +109,11 @@ class Servers:
 
 
 def count_of(clients, pipeline, size, is_all):
-    """How many commands a run sends: some pipelines of each client, if there are not too many bytes."""
+    """How many commands a run sends: some pipelines of each client, if there are not too many bytes. After a pipeline
+    that is cut off, redis-benchmark may end with an error although all replies came."""
     most = min(MOST_COMMANDS[is_all], MOST_OF_A_RUN[is_all] // size)
-    return max(pipeline, min(max(5_000, 5 * clients * pipeline), most))
+    count = min(max(5_000, 5 * clients * pipeline), most)
+    return max(pipeline, count - count % pipeline)
 
 
 def main():
