@@ -164,6 +164,14 @@ def program_files(path, completions_of_zsh="share/zsh/site-functions"):
     ]
 
 
+def service_files(to=ABOUT):
+    """Returns the unit of systemd for the proxy, whose program is in /usr/bin, and a sample of its settings."""
+    return [
+        Entry("lib/systemd/system/resp-proxy@.service", content(f"{HERE}/systemd/resp-proxy@.service")),
+        Entry(f"{to}/examples/resp-proxy.conf", content(f"{HERE}/systemd/resp-proxy.conf")),
+    ]
+
+
 def shared_files(archive, libraries="lib", **how):
     """Returns the file that programs need to run with the shared library."""
     return [Entry(f"{libraries}/{SONAME}", shared(archive, **how))]

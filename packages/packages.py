@@ -104,7 +104,8 @@ class Debian:
     def program(self, path):
         entries = files.program_files(path, "share/zsh/vendor-completions")
         depends = f"libc6 (>= {libc_needed(entries[0].data)}), libgcc-s1"
-        return self.package("resp", "amd64", "utils", f"{SUMMARY} (program)", depends, [*entries, *files.documents()])
+        entries += [*files.service_files(), *files.documents()]
+        return self.package("resp", "amd64", "utils", f"{SUMMARY} (program)", depends, entries)
 
 
 def wheel(version, time, archive):
