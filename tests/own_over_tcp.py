@@ -23,7 +23,8 @@ from tcp_programs import LIMIT, PING, PONG, PROGRAM, Peer, ask, command, connect
 MULTI = command(b"MULTI")
 NEED_OWN = [MULTI, command(b"BLPOP", b"list", b"0"), command(b"SUBSCRIBE", b"news"), command(b"WATCH", b"key"),
             command(b"MONITOR"), command(b"XREAD", b"BLOCK", b"0", b"STREAMS", b"s", b"$"),
-            command(b"client", b"TRACKING", b"on")]
+            command(b"client", b"TRACKING", b"on"), command(b"CONFIG", b"GET", b"save"), command(b"client", b"list"),
+            command(b"CLIENT", b"REPLY", b"OFF"), command(b"SLOWLOG", b"GET"), command(b"ACL", b"list")]
 # With --max-shared 1 these do too.
 SETTINGS = [command(b"HELLO", b"3"), command(b"SELECT", b"1"), command(b"AUTH", b"anna", b"secret"), command(b"RESET"),
             command(b"HELLO", b"4")]

@@ -585,7 +585,7 @@ def admitted_commands():
     """With --also the commands of these names are sent, and no other that the table does not have or that is refused."""
     with proxied("--also", "JSON.GET,,config") as (proxy, _, server), connect(proxy.port) as client:
         ask(client, b"JSON.SET a\r\n", b"-ERR unknown command 'JSON.SET'\r\n")
-        ask(client, b"CONFIG GET save\r\n", b"-ERR 'CONFIG GET' is not served by this proxy\r\n")
+        ask(client, b"CONFIG SET save ''\r\n", b"-ERR 'CONFIG SET' is not served by this proxy\r\n")
         sent = command(b"json.Get", b"a")
         client.sendall(sent)
         hear(server, sent)

@@ -25,7 +25,7 @@ _resp() {
         options="--stats --stats-every --time --connections --json --color --utf8 --shown --show-passwords --errors --slower --command --key --client --record --replay --port --max-clients --no-inline --exit-with-output --keep-going $limits -h --help"
         ;;
     proxy)
-        options="--server-timeout --report --drain --drain-timeout --local-ping --also --no-inline --check-every --check --all --max-clients --max-dedicated --max-shared --pipeline --client-buffer --client-buffer-limit --server-buffer $limits -h --help"
+        options="--server-timeout --report --drain --drain-timeout --local-ping --also --learn --no-inline --check-every --check --all --max-clients --max-dedicated --max-shared --pipeline --client-buffer --client-buffer-limit --server-buffer $limits -h --help"
         ;;
     ask) options="-3 --user --window --raw --count --color --utf8 --json $limits -h --help" ;;
     help) [ "$COMP_CWORD" -ne 2 ] || COMPREPLY=($(compgen -W "$commands" -- "$word")) ;;

@@ -69,6 +69,7 @@ complete -c resp -n '__fish_seen_subcommand_from proxy' -l no-inline -d 'Rejects
 complete -c resp -n '__fish_seen_subcommand_from proxy' -l drain -d 'Ends when standard input ends'
 complete -c resp -n '__fish_seen_subcommand_from proxy' -l drain-timeout -x -d 'Closes the clients that are left after this time, 1ms to 24h or 0'
 complete -c resp -n '__fish_seen_subcommand_from proxy' -l also -x -d 'Also sends these commands of modules'
+complete -c resp -n '__fish_seen_subcommand_from proxy' -l learn -d 'Also sends unknown commands that the server says read or write'
 complete -c resp -n '__fish_seen_subcommand_from proxy' -l check-every -x -d 'Checks by an ECHO after every N commands, 0 to 1000000000'
 complete -c resp -n '__fish_seen_subcommand_from proxy' -l check -d 'Prints what the proxy would do with the commands'
 complete -c resp -n '__fish_seen_subcommand_from proxy' -l all -d 'With --check, prints a line for each command'

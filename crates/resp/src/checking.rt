@@ -29,7 +29,7 @@ const MOST_READS: u64 = 4_000_000_000;
 
 /// Why there is no table.
 #[derive(Drop)]
-enum CheckError {
+pub enum CheckError {
     /// The connection, the output or an allocation failed, or a reply is not valid.
     Ask(AskError),
     /// The reply is an error, or not a list of commands.
@@ -113,13 +113,24 @@ fn check<R: Source, W: Sink, O: Sink>(
     writer: &mut W,
     output: &mut O,
 ) -> Result<u8, CheckError> {
-    let mut client = Client::new(alloc, &Limits::standard());
-    let reply = commands(alloc, &mut client, password, reader, writer);
-    drop(client);
-    let survey = survey_of(alloc, reply?, proxying)?;
+    let survey = survey(alloc, proxying, password, reader, writer)?;
     let printed = print(&survey, proxying, server, output);
     drop(survey);
     printed
+}
+
+/// Asks the server for its commands, and returns what the proxy does with them.
+pub fn survey<R: Source, W: Sink>(
+    alloc: Global,
+    proxying: &Proxying<'_>,
+    password: Option<&str>,
+    reader: &mut R,
+    writer: &mut W,
+) -> Result<Survey, CheckError> {
+    let mut client = Client::new(alloc, &Limits::standard());
+    let reply = commands(alloc, &mut client, password, reader, writer);
+    drop(client);
+    survey_of(alloc, reply?, proxying)
 }
 
 /// Sends AUTH if there is a password, and returns the reply to COMMAND.

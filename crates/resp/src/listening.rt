@@ -2,6 +2,7 @@
 
 use crate::checking::run_check;
 use crate::failures::Faults;
+use crate::learning::learn;
 use crate::hosts::{addresses_of, backend_of, listening_on, name_of, password_of, refuse_server};
 use crate::most_clients::{SERVE, TAP, descriptors_of_proxy, most_clients};
 use crate::replaying::run_replay;
@@ -363,6 +364,9 @@ fn share<W: LiveSink>(
 ) -> Result<(), ListenError> {
     if admit(server, proxying.also).is_err() {
         return Err(ToolError::Memory.into());
+    }
+    if proxying.learns {
+        learn(rt, proxying, server)?;
     }
     match announce(rt.alloc(), &server.address()?, writer) {
         // The proxy serves clients although nobody reads its output.

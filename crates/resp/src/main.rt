@@ -9,6 +9,7 @@ mod failures;
 mod hints;
 mod hosts;
 mod input;
+mod learning;
 mod listening;
 mod most_clients;
 mod opening;

@@ -1,4 +1,4 @@
-//! The connection of `ask` and of `proxy --check` to a server.
+//! The connection of `ask`, of `proxy --check` and of `proxy --learn` to a server.
 
 ghost use Rattle.std.specs.Io.{ReadsAtMost, WritesAtMost};
 
@@ -7,6 +7,7 @@ use std::io;
 use std::io::{ErrorKind, Read, Write};
 use std::net::TcpStream;
 use std::os::unix::net::UnixStream;
+use std::time::Duration;
 
 /// An open connection to a server.
 #[derive(Drop)]
@@ -32,6 +33,18 @@ impl ServerStream {
             }
         }
         Err(failed)
+    }
+
+    /// Lets a read fail that waits for longer than this.
+    ///
+    /// # Errors
+    ///
+    /// The error of the system.
+    pub fn set_read_timeout(&self, timeout: Duration) -> io::Result<()> {
+        match self {
+            ServerStream::Tcp(stream) => stream.set_read_timeout(Some(timeout)),
+            ServerStream::Unix(stream) => stream.set_read_timeout(Some(timeout)),
+        }
     }
 
     /// Reads some bytes.

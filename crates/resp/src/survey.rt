@@ -84,6 +84,9 @@ struct Listed {
     /// Whether `--also` may name the command: the table does not have it, and the server does not say that
     /// it may wait, subscribes or administers.
     is_admissible: bool,
+    /// Whether `--learn` admits the command: it is admissible, and the server says that it reads or writes
+    /// and that scripts may call it. The same holds of all its subcommands.
+    is_learnable: bool,
 }
 
 /// The commands of a server, sorted by what the proxy does with them and then by name.
@@ -150,20 +153,25 @@ impl Survey {
             None => &[],
         };
         if subcommands.is_empty() {
-            return self.push(alloc, parts, terms);
+            return self.push(alloc, parts, terms, has_effect_of_data(parts));
+        }
+        let mut are_of_data = true;
+        for subcommand in subcommands {
+            are_of_data = are_of_data && has_effect_of_data(members_of(subcommand)?);
         }
         for subcommand in subcommands {
-            self.push(alloc, members_of(subcommand)?, terms)?;
+            self.push(alloc, members_of(subcommand)?, terms, are_of_data)?;
         }
         Ok(())
     }
 
-    /// Adds a command or a subcommand.
+    /// Adds a command or a subcommand. `is_of_data` says whether it and its siblings read or write.
     fn push(
         &mut self,
         alloc: Global,
         parts: &[Value],
         terms: Terms<'_>,
+        is_of_data: bool,
     ) -> Result<(), SurveyError> {
         let full_name = text_of(parts.get(NAME).ok_or(SurveyError::NoList)?)?;
         let (name, subcommand) = split(full_name);
@@ -176,6 +184,7 @@ impl Survey {
             treatment,
             name,
             is_admissible,
+            is_learnable: is_admissible && is_of_data,
         };
         self.listed.push(listed).map_err(|_| SurveyError::Memory)
     }
@@ -251,7 +260,46 @@ impl Survey {
         write_text(
             writer,
             b"\nsends these too; name only those that have one reply and do not wait\n",
+        )?;
+        self.print_learnable(writer)
+    }
+
+    /// Prints the commands that `--learn` admits, if there are some.
+    fn print_learnable<W: Sink>(&self, writer: &mut W) -> Result<(), DeviceFault> {
+        let mut last = None;
+        for number in 0..self.listed.len() {
+            let Some(name) = self.learnable(number) else {
+                continue;
+            };
+            write_text(writer, if last.is_none() { b"\n--learn sends " } else { b"," })?;
+            write_text(writer, name)?;
+            last = Some(number);
+        }
+        if last.is_none() {
+            return Ok(());
+        }
+        write_text(
+            writer,
+            b"\nwithout their names, since the server says that they read or write\n",
         )
+    }
+
+    /// Returns the number of commands and subcommands.
+    pub fn len(&self) -> usize {
+        self.listed.len()
+    }
+
+    /// Returns the name of the command in this place, if `--learn` admits it. Only the first subcommand of
+    /// a command returns its name.
+    pub fn learnable(&self, place: usize) -> Option<&[u8]> {
+        let listed = self.listed.get(place)?;
+        let name = command_of(listed.name.as_slice());
+        let before = place.checked_sub(1).and_then(|place| self.listed.get(place));
+        let is_first = match before {
+            Some(before) => command_of(before.name.as_slice()) != name,
+            None => true,
+        };
+        (listed.is_learnable && is_first).then_some(name)
     }
 
     /// Prints a line for each command.
@@ -346,6 +394,16 @@ fn is_doubtful(flags: Option<&Value>) -> bool {
             Ok(b"blocking" | b"pubsub" | b"admin") | Err(_)
         )
     })
+}
+
+/// Returns whether the flags of a command say that it reads or writes, and that scripts may call it.
+fn has_effect_of_data(parts: &[Value]) -> bool {
+    let Some(Ok(flags)) = parts.get(FLAGS).map(members_of) else {
+        return false;
+    };
+    let is_of_data = |flag: &Value| matches!(text_of(flag), Ok(b"readonly" | b"write"));
+    let is_barred = |flag: &Value| matches!(text_of(flag), Ok(b"noscript") | Err(_));
+    flags.iter().any(is_of_data) && !flags.iter().any(is_barred)
 }
 
 /// Returns a name as it is printed: in upper case, with a space before the subcommand, and with `?` in place

@@ -254,6 +254,7 @@ HasProxying given proxying = (server_text : Text) ×
     HasProxyWords given proxying.address_text.now server_text proxying.options ×
     IsListenText proxying.address_text.now proxying.address × IsServerText server_text proxying.server ×
     (option_map (λ names. names.now) proxying.also ≡ first_of (codes "also") given) ×
+    (proxying.learns ≡ is_on (first_of (codes "learn") given)) ×
     (proxying.checks ≡ is_on (first_of (codes "check") given)) × (proxying.all ≡ is_on (first_of (codes "all") given))
 
 -- the options of `ask` that are neither the address nor the words

@@ -160,12 +160,13 @@ tap_options = watching_options ++ printing_options ++ limit_options
 -- the options of `proxy` about its commands and its end, and the addresses
 abbrev pub replying_options : List Rule
 replying_options =
-    time_option (codes "server-timeout") (codes "5s") ∷
+    time_option (codes "server-timeout") (codes "10s") ∷
     time_option (codes "report") (codes "0") ∷
     flag_option (codes "drain") ∷
     time_option (codes "drain-timeout") (codes "30s") ∷
     flag_option (codes "local-ping") ∷
     name_option (codes "also") ∷
+    flag_option (codes "learn") ∷
     flag_option (codes "no-inline") ∷
     number_option (codes "check-every") 0 1000000000 (codes "0") ∷
     flag_option (codes "check") ∷

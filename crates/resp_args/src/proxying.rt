@@ -29,6 +29,8 @@ pub struct Proxying<'a> {
     /// The names of the commands that are sent although the table does not have them, with a comma between
     /// two of them, if they were given.
     pub also: Option<&'a str>,
+    /// Whether the server is asked at the start for commands that the table does not have.
+    pub learns: bool,
     /// Whether the commands of the server are checked, and no client is served.
     pub checks: bool,
     /// Whether `--check` prints a line for each command.
@@ -105,6 +107,7 @@ pub(crate) fn proxying_of<'a>(matches: &ArgMatches<'a>) -> Result<Proxying<'a>, 
             address_text: words.address,
             server,
             also: text_of(matches, "also"),
+            learns: is_on(text_of(matches, "learn")),
             checks: is_on(text_of(matches, "check")),
             all: is_on(text_of(matches, "all")),
             options: words.options,

@@ -454,7 +454,7 @@ const REPLYING: &[Parameter] = &[
         name: "server-timeout",
         form: Text,
         value_names: &["TIME"],
-        defaults: &["5s"],
+        defaults: &["10s"],
         help: "Closes the connection to the server after this\ntime without a reply, 1ms to 1h",
         ..PLAIN
     },
@@ -490,6 +490,11 @@ const REPLYING: &[Parameter] = &[
         form: Text,
         value_names: &["NAMES"],
         help: "Also sends these commands of modules, such as\nJSON.GET,JSON.SET; each must have one reply",
+        ..PLAIN
+    },
+    Parameter {
+        name: "learn",
+        help: "Asks the server at the start for its commands,\nand also sends those that read or write",
         ..PLAIN
     },
     Parameter {

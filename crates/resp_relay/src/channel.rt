@@ -293,6 +293,7 @@ impl Channel {
     ) {
         self.finish_connecting(messages);
         self.exchange(net, messages, buffer);
+        self.ask(net, messages, registry);
         if let Err(loss) = self.link.judge(self.proxy.waiting() > 0) {
             self.lose(net, messages, loss);
         }
@@ -302,6 +303,16 @@ impl Channel {
             self.fail();
         }
         self.next = self.next_replied();
+    }
+
+    /// Asks a server that does not reply whether it is busy. A busy server is not given up.
+    fn ask(&mut self, net: &impl Net, messages: &mut Messages, registry: &Registry) {
+        let now = self.link.now();
+        let Some(why) = self.link.ask(net, registry, self.proxy.waiting() > 0) else {
+            return;
+        };
+        messages.add(now, Topic::Busy, Topic::Busy.words(), self.shown.as_str(), why);
+        self.link.bear();
     }
 
     /// Reads replies of the server, and writes commands to it.

@@ -21,7 +21,7 @@ const ACCEPTED: &[u8] = b"+OK\r\n";
 const PIECE: usize = 1_024;
 
 /// The command that shows whether the server replies.
-const PING: &[u8] = b"*1\r\n$4\r\nPING\r\n";
+pub(crate) const PING: &[u8] = b"*1\r\n$4\r\nPING\r\n";
 
 /// The most bytes of an error of the server that are shown.
 const WORDS: usize = 256;

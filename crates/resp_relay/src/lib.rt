@@ -14,6 +14,7 @@ mod own;
 mod plan;
 mod proxied;
 mod proxying;
+mod pulse;
 mod relay;
 mod report;
 mod server_link;

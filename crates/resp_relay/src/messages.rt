@@ -27,7 +27,12 @@ pub(crate) enum Topic {
     Lost,
     /// No connection to the server can be opened.
     NotConnected,
+    /// The server runs a script, and replies to no other command meanwhile.
+    Busy,
 }
+
+/// All topics.
+const TOPICS: [Topic; 4] = [Topic::Connected, Topic::Lost, Topic::NotConnected, Topic::Busy];
 
 impl Topic {
     /// Returns the first words of a message.
@@ -36,6 +41,7 @@ impl Topic {
             Topic::Connected => "server connected",
             Topic::Lost => "server lost",
             Topic::NotConnected => "cannot connect to server",
+            Topic::Busy => "server busy",
         }
     }
 }
@@ -55,6 +61,7 @@ pub(crate) struct Messages {
     connected: Allowance,
     lost: Allowance,
     not_connected: Allowance,
+    busy: Allowance,
 }
 
 impl Messages {
@@ -72,6 +79,7 @@ impl Messages {
             connected: Allowance::new(MOST),
             lost: Allowance::new(MOST),
             not_connected: Allowance::new(MOST),
+            busy: Allowance::new(MOST),
         })
     }
 
@@ -114,12 +122,13 @@ impl Messages {
             Topic::Connected => &mut self.connected,
             Topic::Lost => &mut self.lost,
             Topic::NotConnected => &mut self.not_connected,
+            Topic::Busy => &mut self.busy,
         }
     }
 
     /// Prints the messages that wait, as far as standard error accepts them without blocking.
     pub(crate) fn print(&mut self, now: Duration, log: &impl Eprint) {
-        for topic in [Topic::Connected, Topic::Lost, Topic::NotConnected] {
+        for topic in TOPICS {
             let left_out = self.allowance(topic).take_left_out(now);
             if left_out > 0 {
                 let words = topic.words();
@@ -159,7 +168,7 @@ impl Messages {
         if !self.waiting.is_empty() {
             shortest = Some(Duration::from_millis(RETRY));
         }
-        for allowance in [self.connected, self.lost, self.not_connected] {
+        for allowance in [self.connected, self.lost, self.not_connected, self.busy] {
             shortest = match (shortest, allowance.time_left(now)) {
                 (Some(one), Some(other)) => Some(one.min(other)),
                 (None, time) | (time, None) => time,

@@ -2,7 +2,10 @@
 
 ghost use Rattle.std.specs.Prelude.{◌<◌, length};
 
-use crate::entry::{Entry, Progress, words_of};
+use crate::arrival::Arrival;
+use crate::entry::{Entry, PING, Progress, words_of};
+use crate::pulse::Pulse;
+use crate::relay::shorter;
 use memchr::memrchr;
 use mio::{Interest, Registry, Token};
 use resp_join::ReplyError;
@@ -14,7 +17,7 @@ use resp_loop::spare::Spare;
 use resp_loop::stream::Stream;
 use resp_mux::AnswerError;
 use resp_proxy::{Proxy, ServerError, Setting, Written};
-use resp_schedule::Attempts;
+use resp_schedule::{Attempts, Phase};
 use resp_value::device::Device;
 use std::alloc::{AllocError, Global};
 use std::fs::Files;
@@ -123,6 +126,8 @@ pub(crate) struct ServerLink {
     state: State,
     /// When the connection is tried again, and when it is given up.
     attempts: Attempts,
+    /// The second connection, over which a silent server is asked whether it is busy.
+    pulse: Pulse,
     /// Whether the addresses of the server are looked up before the next attempt, if it has a name.
     is_stale: bool,
     /// The time of the last lookup.
@@ -154,6 +159,7 @@ impl ServerLink {
             spare,
             state: State::Down,
             attempts: Attempts::new(patience),
+            pulse: Pulse::new(),
             is_stale: true,
             looked_up: Duration::from_millis(0),
         }
@@ -261,8 +267,75 @@ impl ServerLink {
     pub(crate) fn patience(&self, waits: bool) -> Option<Duration> {
         match &self.state {
             State::Open(line) if line.may_read => Some(Duration::from_millis(0)),
-            _ => self.attempts.time_left(waits),
+            _ => shorter(self.attempts.time_left(waits), self.time_to_ask(waits)),
         }
+    }
+
+    /// Returns the time since which no reply has come, if a command has waited meanwhile. `waits` says
+    /// whether a command waits for a reply now.
+    fn silent_since(&self, waits: bool) -> Option<Duration> {
+        match self.attempts.phase {
+            Phase::Open(quiet) if waits && quiet.waited && !quiet.replied => Some(quiet.since),
+            _ => None,
+        }
+    }
+
+    /// Returns the time until the server is asked whether it is busy: half of the patience after the
+    /// beginning of a silence.
+    fn time_to_ask(&self, waits: bool) -> Option<Duration> {
+        let since = self.silent_since(waits)?;
+        if self.pulse.was_asked(since) {
+            return None;
+        }
+        let half = Duration::from_millis(self.attempts.patience.as_millis() as u64 / 2);
+        Some(since.saturating_add(half).saturating_sub(self.now()))
+    }
+
+    /// Asks a silent server over a second connection whether it is busy, and goes on to ask. Returns its
+    /// words if it is.
+    pub(crate) fn ask(
+        &mut self,
+        net: &impl Net,
+        registry: &Registry,
+        waits: bool,
+    ) -> Option<&str> {
+        match self.silent_since(waits) {
+            Some(since) => {
+                if self.time_to_ask(waits) == Some(Duration::from_millis(0)) {
+                    let arrival = self.begin_to_ask(net, registry).ok();
+                    self.pulse.ask(since, arrival);
+                }
+                self.pulse.go_on();
+            }
+            None => self.pulse.end(),
+        }
+        self.pulse.busy()
+    }
+
+    /// Begins a second connection to the server, for PING.
+    fn begin_to_ask(&self, net: &impl Net, registry: &Registry) -> io::Result<Box<Arrival>> {
+        let Ok(mut entry) = self.entry() else {
+            return Err(ErrorKind::OutOfMemory.into());
+        };
+        if entry.ask(PING).is_err() {
+            drop(entry);
+            return Err(ErrorKind::OutOfMemory.into());
+        }
+        let token = token_of(self.number);
+        let arrival = Arrival::begin(net, &self.backend, registry, token, entry)?;
+        match Box::new(self.alloc, arrival) {
+            Ok(arrival) => Ok(arrival),
+            Err(failed) => {
+                drop(failed.value);
+                Err(ErrorKind::OutOfMemory.into())
+            }
+        }
+    }
+
+    /// Waits on for a server that is busy, as if a reply had come.
+    pub(crate) fn bear(&mut self) {
+        self.pulse.end();
+        self.attempts.note_replies();
     }
 
     /// Notes that the socket is ready.
