@@ -348,14 +348,16 @@ def patience():
         client.sendall(PING * 6)
         hear(server, PING * 6)
         for _ in range(6):
-            time.sleep(0.25)
+            time.sleep(0.15)
             server.sendall(PONG)
             hear(client, PONG)
         assert proxy.printed().count(b"server connected\n") == 1, proxy.printed()
         begun = time.monotonic()
         client.sendall(PING + get(b"a"))
         hear(server, PING + get(b"a"))
-        hear(client, LOST + LOST)
+        with peer.accept() as asked:
+            hear(asked, PING)
+            hear(client, LOST + LOST)
         took = time.monotonic() - begun
         assert 0.4 < took < 10, f"given up after {took} s"
         assert b"\nserver lost: no reply in time\n" in proxy.printed(), proxy.printed()
@@ -962,6 +964,9 @@ unknown:
 
 --also JSON.GET
 sends these too; name only those that have one reply and do not wait
+
+--learn sends JSON.GET
+without their names, since the server says that they read or write
 """, printed
     status, printed, errors, _ = checked(commands, "--all", "--also", "json.get,other")
     assert (status, errors) == (1, b"")

@@ -376,7 +376,7 @@ fn share<W: LiveSink>(
     Ok(server.run(rt, rt.stdin(), writer)?)
 }
 
-/// Says on standard error which of these names, between commas, the table of commands has.
+/// Prints on standard error the names, between commas, that the table of commands has.
 fn warn_of_known(rt: &HostRuntime, names: Option<&str>) {
     for name in names.unwrap_or("").split(',') {
         if entry(name.as_bytes()).is_some() {

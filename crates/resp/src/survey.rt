@@ -153,25 +153,25 @@ impl Survey {
             None => &[],
         };
         if subcommands.is_empty() {
-            return self.push(alloc, parts, terms, has_effect_of_data(parts));
+            return self.push(alloc, parts, terms, is_about_data(parts));
         }
-        let mut are_of_data = true;
+        let mut are_about_data = true;
         for subcommand in subcommands {
-            are_of_data = are_of_data && has_effect_of_data(members_of(subcommand)?);
+            are_about_data = are_about_data && is_about_data(members_of(subcommand)?);
         }
         for subcommand in subcommands {
-            self.push(alloc, members_of(subcommand)?, terms, are_of_data)?;
+            self.push(alloc, members_of(subcommand)?, terms, are_about_data)?;
         }
         Ok(())
     }
 
-    /// Adds a command or a subcommand. `is_of_data` says whether it and its siblings read or write.
+    /// Adds a command or a subcommand. `is_about_data` says whether it and its siblings read or write.
     fn push(
         &mut self,
         alloc: Global,
         parts: &[Value],
         terms: Terms<'_>,
-        is_of_data: bool,
+        is_about_data: bool,
     ) -> Result<(), SurveyError> {
         let full_name = text_of(parts.get(NAME).ok_or(SurveyError::NoList)?)?;
         let (name, subcommand) = split(full_name);
@@ -184,7 +184,7 @@ impl Survey {
             treatment,
             name,
             is_admissible,
-            is_learnable: is_admissible && is_of_data,
+            is_learnable: is_admissible && is_about_data,
         };
         self.listed.push(listed).map_err(|_| SurveyError::Memory)
     }
@@ -396,14 +396,17 @@ fn is_doubtful(flags: Option<&Value>) -> bool {
     })
 }
 
-/// Returns whether the flags of a command say that it reads or writes, and that scripts may call it.
-fn has_effect_of_data(parts: &[Value]) -> bool {
+/// Returns whether the flags of a command say that it reads or writes, that it neither waits, subscribes nor
+/// administers, and that scripts may call it.
+fn is_about_data(parts: &[Value]) -> bool {
     let Some(Ok(flags)) = parts.get(FLAGS).map(members_of) else {
         return false;
     };
-    let is_of_data = |flag: &Value| matches!(text_of(flag), Ok(b"readonly" | b"write"));
-    let is_barred = |flag: &Value| matches!(text_of(flag), Ok(b"noscript") | Err(_));
-    flags.iter().any(is_of_data) && !flags.iter().any(is_barred)
+    let reads_or_writes = |flag: &Value| matches!(text_of(flag), Ok(b"readonly" | b"write"));
+    let is_for_scripts = |flag: &Value| !matches!(text_of(flag), Ok(b"noscript") | Err(_));
+    flags.iter().any(reads_or_writes)
+        && flags.iter().all(is_for_scripts)
+        && !is_doubtful(parts.get(FLAGS))
 }
 
 /// Returns a name as it is printed: in upper case, with a space before the subcommand, and with `?` in place

@@ -670,7 +670,7 @@ impl Relay {
     }
 }
 
-/// Moves the last of these times before those that are later. The others are in order.
+/// Moves the last time before each one that is later. The others are in order.
 fn sort_last(moves: &mut VecDeque<(Duration, usize)>) {
     for index in (1..moves.len()).rev() {
         match (moves.get(index - 1), moves.get(index)) {

@@ -50,10 +50,10 @@ pub(crate) struct Relay {
     /// The clients that wait for a connection in another setting.
     pub(crate) moving: u64,
     /// For each client that waits for another connection, the time at which it is given up and its
-    /// place, in the order of these times. Clients that wait no more may be among them.
+    /// place, in the order of the times. Clients that wait no more may be among them.
     pub(crate) moves: VecDeque<(Duration, usize)>,
     /// For each client to which nothing more is sent, the time at which its connection is closed and its
-    /// place, in the order of these times. Clients that are closed may be among them.
+    /// place, in the order of the times. Clients that are closed may be among them.
     closing: VecDeque<(Duration, usize)>,
     /// The time of the next sum of how long replies took.
     summed: Duration,
@@ -557,7 +557,7 @@ fn show_lines(lines: &String, channels: &mut [Channel]) {
     }
 }
 
-/// Removes the first of these times, and returns the place with it, if it has come.
+/// Removes the first time, and returns the place beside it, if the time has come.
 fn next_until(times: &mut VecDeque<(Duration, usize)>, now: Duration) -> Option<usize> {
     let (until, place) = *times.front()?;
     if until > now {
@@ -567,7 +567,7 @@ fn next_until(times: &mut VecDeque<(Duration, usize)>, now: Duration) -> Option<
     Some(place)
 }
 
-/// Returns how long it is until the first of these times.
+/// Returns how long it is until the first time.
 fn time_left(times: &VecDeque<(Duration, usize)>, now: Duration) -> Option<Duration> {
     match times.front() {
         Some((until, _)) => Some(until.saturating_sub(now)),
