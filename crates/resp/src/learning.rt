@@ -77,7 +77,13 @@ fn ask(rt: &HostRuntime, proxying: &Proxying<'_>) -> Result<Survey, LearnError> 
     stream.set_read_timeout(timeout)?;
     let (mut reader, mut writer) = (Device::new(&stream), Device::new(&stream));
     let password = password_of(rt);
-    Ok(survey(alloc, proxying, password.as_deref(), &mut reader, &mut writer)?)
+    Ok(survey(
+        alloc,
+        proxying,
+        password.as_deref(),
+        &mut reader,
+        &mut writer,
+    )?)
 }
 
 /// Lets the proxy send the learnable commands. Returns their names, each after a space.

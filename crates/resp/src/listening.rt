@@ -2,8 +2,8 @@
 
 use crate::checking::run_check;
 use crate::failures::Faults;
-use crate::learning::learn;
 use crate::hosts::{addresses_of, backend_of, listening_on, name_of, password_of, refuse_server};
+use crate::learning::learn;
 use crate::most_clients::{SERVE, TAP, descriptors_of_proxy, most_clients};
 use crate::replaying::run_replay;
 use crate::style::style_of;

@@ -271,7 +271,14 @@ impl Survey {
             let Some(name) = self.learnable(number) else {
                 continue;
             };
-            write_text(writer, if last.is_none() { b"\n--learn sends " } else { b"," })?;
+            write_text(
+                writer,
+                if last.is_none() {
+                    b"\n--learn sends "
+                } else {
+                    b","
+                },
+            )?;
             write_text(writer, name)?;
             last = Some(number);
         }
@@ -294,7 +301,9 @@ impl Survey {
     pub fn learnable(&self, place: usize) -> Option<&[u8]> {
         let listed = self.listed.get(place)?;
         let name = command_of(listed.name.as_slice());
-        let before = place.checked_sub(1).and_then(|place| self.listed.get(place));
+        let before = place
+            .checked_sub(1)
+            .and_then(|place| self.listed.get(place));
         let is_first = match before {
             Some(before) => command_of(before.name.as_slice()) != name,
             None => true,

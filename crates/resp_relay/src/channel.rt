@@ -311,7 +311,13 @@ impl Channel {
         let Some(why) = self.link.ask(net, registry, self.proxy.waiting() > 0) else {
             return;
         };
-        messages.add(now, Topic::Busy, Topic::Busy.words(), self.shown.as_str(), why);
+        messages.add(
+            now,
+            Topic::Busy,
+            Topic::Busy.words(),
+            self.shown.as_str(),
+            why,
+        );
         self.link.bear();
     }
 

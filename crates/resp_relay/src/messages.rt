@@ -32,7 +32,12 @@ pub(crate) enum Topic {
 }
 
 /// All topics.
-const TOPICS: [Topic; 4] = [Topic::Connected, Topic::Lost, Topic::NotConnected, Topic::Busy];
+const TOPICS: [Topic; 4] = [
+    Topic::Connected,
+    Topic::Lost,
+    Topic::NotConnected,
+    Topic::Busy,
+];
 
 impl Topic {
     /// Returns the first words of a message.

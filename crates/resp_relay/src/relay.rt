@@ -255,11 +255,12 @@ impl Relay {
     fn begin_close(&mut self, connection: &mut Proxied) -> Next {
         self.end(connection.take_link());
         let until = self.now().saturating_add(Duration::from_millis(CLOSING));
-        if self.closing.push_back((until, connection.place())).is_err() {
+        connection.close_until(until);
+        let next = connection.drop_input(&mut self.client_buffer);
+        if next == Next::Close || self.closing.push_back((until, connection.place())).is_err() {
             return Next::Close;
         }
-        connection.close_until(until);
-        connection.drop_input(&mut self.client_buffer)
+        next
     }
 
     /// Drops what a client sends to whom nothing more is sent, until this time.

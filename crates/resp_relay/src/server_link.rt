@@ -293,12 +293,7 @@ impl ServerLink {
 
     /// Asks a silent server over a second connection whether it is busy, and goes on to ask. Returns its
     /// words if it is.
-    pub(crate) fn ask(
-        &mut self,
-        net: &impl Net,
-        registry: &Registry,
-        waits: bool,
-    ) -> Option<&str> {
+    pub(crate) fn ask(&mut self, net: &impl Net, registry: &Registry, waits: bool) -> Option<&str> {
         match self.silent_since(waits) {
             Some(since) => {
                 if self.time_to_ask(waits) == Some(Duration::from_millis(0)) {
