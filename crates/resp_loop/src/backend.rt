@@ -98,7 +98,7 @@ impl Backend {
         }
     }
 
-    /// Returns whether the addresses are looked up by the name of a host.
+    /// Returns whether the server has the name of a host, whose addresses are looked up.
     pub fn is_at_host(&self) -> bool {
         self.host.is_some()
     }
@@ -108,8 +108,8 @@ impl Backend {
         self.addresses.is_empty()
     }
 
-    /// Looks up the addresses of the host, if the server is given by the name of one. The system may
-    /// wait for other machines meanwhile.
+    /// Looks up the addresses of the host, if the server has the name of a host. The system may wait for
+    /// other machines meanwhile.
     ///
     /// # Errors
     ///
@@ -182,7 +182,7 @@ impl Backend {
         self.check_all(rt, &self.addresses)
     }
 
-    /// Fails if connections to one of these addresses would come back to the program itself.
+    /// Fails if a connection to one of the addresses would come back to the program itself.
     fn check_all<R: Net + Files>(&self, rt: &R, addresses: &[Address]) -> io::Result<()> {
         let Some(listening) = &self.own else {
             return Ok(());

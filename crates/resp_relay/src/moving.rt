@@ -221,7 +221,7 @@ impl Relay {
         Ok(arrived)
     }
 
-    /// Tells a client why there is no connection.
+    /// Replies with the reason why there is no connection.
     fn pass_failure(&mut self, connection: &mut Proxied, moving: Move, error: &io::Error) -> Next {
         let Move {
             departed,
@@ -439,8 +439,8 @@ impl Relay {
         self.seat(connection, from, departed, reply)
     }
 
-    /// Tells a client why there is no connection for its command. It is closed, unless it goes on in the
-    /// setting that it has left.
+    /// Replies to a command for which there is no connection, with the reason. The client is closed, unless
+    /// it goes on in the setting that it has left.
     fn stay(
         &mut self,
         connection: &mut Proxied,
@@ -525,8 +525,8 @@ impl Relay {
         }
     }
 
-    /// Names the connection in a place again once its client, which has waited since this time, is told
-    /// that there is no connection.
+    /// Names the connection in a place again once its client, which has waited since this time, gets the
+    /// error that there is no connection.
     fn give_up_later(&mut self, place: usize, since: Duration) -> Result<(), AllocError> {
         let until = since.saturating_add(self.settings.patience);
         if self.moves.push_back((until, place)).is_err() {

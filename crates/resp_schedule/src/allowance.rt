@@ -1,4 +1,4 @@
-//! How many events of one kind are told in a second.
+//! The most events of one kind that are reported in a second.
 
 ghost use Rattle.std.specs.Prelude.{◌≡◌, ◌↔◌, false, option_map, IsTrue};
 ghost use Rattle.std.specs.Duration.{as_nanos};
@@ -20,7 +20,7 @@ pub struct Allowance {
     pub since: Duration,
     /// The events that were allowed in it.
     pub count: u32,
-    /// The events that were not allowed, and were not told yet.
+    /// The events that were not allowed, and were not reported yet.
     pub left_out: u64,
 }
 
@@ -58,7 +58,7 @@ impl Allowance {
         }
     }
 
-    /// Counts an event that is not told for another reason.
+    /// Counts an event that is not reported for another reason.
     pub fn leave_out(&mut self)
         ensures one_more { LeavesOut self.old self.new }
         ensures same_second { (self.new.since ≡ self.old.since) × (self.new.count ≡ self.old.count) }

@@ -9,7 +9,7 @@
 //! same round, so a late event of its old connection never reaches a new one.
 //!
 //! [`Attempts`] decides when a connection to a server is tried again, and when it is given up.
-//! [`Allowance`] decides how many events of one kind are told in a second.
+//! [`Allowance`] limits how many events of one kind are reported in a second.
 #![tactic(auto)]
 
 pub mod allowance;
