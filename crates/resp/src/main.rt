@@ -51,7 +51,7 @@ use style::style_of;
 /// The exit status of a usage error.
 const BAD_ARGUMENTS: u8 = 2;
 
-/// The exit status after a failed device or when out of memory.
+/// The exit status if a device failed or memory ran out.
 const DEVICE_FAILED: u8 = 3;
 
 /// Runs the program and exits with its status. When out of memory it reports that and exits with

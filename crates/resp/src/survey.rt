@@ -392,7 +392,8 @@ fn command_of(name: &[u8]) -> &[u8] {
     }
 }
 
-/// Returns whether the flags of a command say that it may wait, subscribes or administers.
+/// Returns whether a command has the flag `blocking`, `pubsub` or `admin`, or flags that cannot be
+/// read.
 fn is_doubtful(flags: Option<&Value>) -> bool {
     let Some(Ok(flags)) = flags.map(members_of) else {
         return true;

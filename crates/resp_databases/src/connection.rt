@@ -121,7 +121,8 @@ struct Answered {
     end: Result<(), ServeError>,
 }
 
-/// Takes a piece, and writes all replies to it. No bytes wait before.
+/// Runs the commands of a piece, and writes all their replies to `writer`. When it is called, no
+/// bytes of the client wait.
 fn answer<W: Sink, S: BuildHasher + Copy>(
     writer: &mut W,
     databases: &mut Databases<S>,

@@ -14,7 +14,7 @@ pub(crate) enum Refusal {
     WrongNumber(Verb),
     /// It has an unknown option.
     Syntax,
-    /// A number is not the decimal text of an integer of 64 bits.
+    /// A number is not the decimal text of a 64-bit integer.
     NoInteger,
     /// The number of a database is not an integer of 32 bits.
     FarIndex,

@@ -105,13 +105,14 @@ impl<C: Drop> Loop<C> {
         }
     }
 
-    /// Visits the connections that are ready, until waiting for them or the service's own work
-    /// fails. Nothing is accepted after that. If the service accepts no connection any more, the
-    /// listener is closed, and the loop ends when the last connection is closed.
+    /// Visits connections when they are ready, until waiting for them fails or the service's own
+    /// work fails. After such an error the loop accepts no more connections. If the service accepts
+    /// no more connections, the loop closes the listener, and ends when the last connection is
+    /// closed.
     ///
     /// # Errors
     ///
-    /// The error of that wait or work.
+    /// The error of the wait, or of the service's work.
     pub fn run<T: Service<C>>(&mut self, service: &mut T, events: &mut Events) -> io::Result<()> {
         for _ in 0..u64::MAX {
             if !service.accepts() {

@@ -21,13 +21,13 @@ pub(crate) enum Listener {
 }
 
 impl Listener {
-    /// Listens on an address. At a path it makes a file, and replaces a socket that nothing listens
-    /// on.
+    /// Listens on an address. If the address is a path, creates the file of the socket, and
+    /// replaces the file of a socket that no program listens on.
     ///
     /// # Errors
     ///
-    /// The error of the system, which is of kind `AddrInUse` if the address is used or the path has
-    /// another file.
+    /// The error of the system. Its kind is `AddrInUse` if the address is in use, or if the path
+    /// has another file.
     pub(crate) fn bind<R: Net + Files>(rt: &R, address: &Address) -> io::Result<Self> {
         match address {
             Address::Socket(address) => Ok(Listener::Tcp(TcpListener::bind(rt, *address)?)),

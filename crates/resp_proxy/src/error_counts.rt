@@ -131,8 +131,8 @@ impl ErrorCounts {
         }
     }
 
-    /// Returns a line for each word that errors began with, in the order of the words, and behind them a
-    /// line for all other errors.
+    /// Returns a line for each first word of an error, in the order of the words, and then a line
+    /// for all other errors.
     ///
     /// # Errors
     ///

@@ -224,8 +224,8 @@ impl Proxy {
         }
     }
 
-    /// Removes the replies to probes that have come, and those that are not missing any more since the
-    /// connection was lost. Call it after each visit of the server, and after [`Proxy::lose`],
+    /// Removes the replies to probes that have arrived, and forgets the probes whose replies were
+    /// lost with the connection. Call it after each visit of the server, and after [`Proxy::lose`],
     /// [`Proxy::lose_out_of_step`] and [`Proxy::fail`].
     pub fn settle_probes(&mut self)
         ensures given { IfSome (prober_of self.old) (λ who. WherePassed (mux_of self.old) (λ p.

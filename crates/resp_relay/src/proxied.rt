@@ -18,7 +18,7 @@ use std::net::Shutdown;
 use std::time::Duration;
 use std::{io, mem};
 
-/// The socket of a client, and the client. They were made together, and never part.
+/// The socket of a client, together with the client. They are created together and stay together.
 #[derive(Drop)]
 pub(crate) struct Proxied {
     stream: Stream,

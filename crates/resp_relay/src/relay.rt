@@ -43,7 +43,7 @@ pub(crate) struct Relay {
     pub(crate) settings: ProxySettings,
     /// The settings that clients are in. In the first one every client begins.
     pub(crate) channels: Vec<Channel>,
-    /// The commands that each of them admits although the table does not have them.
+    /// The names of the commands that all channels admit although the table does not have them.
     pub(crate) also: Vec<Vec<u8>>,
     /// The numbers of settings that are not in use any more.
     pub(crate) gone: Numbers,
@@ -204,7 +204,8 @@ impl Relay {
         matches!(self.drain, Some(drain) if drain.is_over)
     }
 
-    /// Notes that the clients that are still open are closed, if it is time for that.
+    /// Once the time of the drain is over, notes that the clients that are still open have to be
+    /// closed.
     fn end_drain(&mut self) {
         let now = self.now();
         if let Some(drain) = &mut self.drain {

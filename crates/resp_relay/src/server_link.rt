@@ -561,8 +561,8 @@ impl ServerLink {
         exchanged
     }
 
-    /// Returns the words of the error that the server sent before the connection was lost, although no
-    /// command waited for a reply, or no word.
+    /// Returns the text of the error that the server sent while no command waited for a reply,
+    /// before the connection was lost. The text is empty if the server sent no such error.
     pub(crate) fn unasked(&self) -> &str {
         words_of(&self.unasked)
     }

@@ -65,7 +65,8 @@ fn name_in_hello(words: &Words) -> Option<&[u8]>
     option_at(words, 2, b"setname")
 }
 
-/// Returns the name that a command asks for, which is empty if it takes the name away.
+/// Returns the name that a command requests for its connection, or `None` if it requests no name.
+/// The name is empty if the command removes the name.
 fn name_asked(words: &Words) -> Option<&[u8]>
     ensures { option_map (λ name. name.now) result ≡ name_asked words.now }
 {

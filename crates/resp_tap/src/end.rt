@@ -64,7 +64,8 @@ impl Tap {
         cut_at(self.line.place(), self.values.taken())
     }
 
-    /// Returns what one side has sent a part of, if the client has sent these bytes of a line.
+    /// Returns the command, reply or value of which one side has sent only a part. `held` has the
+    /// bytes of an incomplete line that the client has sent.
     pub(crate) fn cut(&self, side: Side, held: &[u8]) -> Option<Cut>
         ensures { CutsOff side held.now self.now result }
     {

@@ -237,9 +237,9 @@ impl Filter {
         self.keeps_client(client) && self.keeps_ends()
     }
 
-    /// Returns whether the line is printed that says that one side has closed a client's connection,
-    /// with the incomplete command or reply of that side. If only some commands are printed, a line
-    /// without an incomplete command or reply is printed with `connections` only.
+    /// Returns whether to print the line about the side of a client's connection that has closed.
+    /// `cut` is the incomplete command or reply of that side. If only some commands are printed, a
+    /// line without an incomplete command or reply is printed with `connections` only.
     pub fn keeps_end(&self, client: u64, cut: Option<Cut>) -> bool
         ensures { result ≡ keeps_end self.now client cut }
     {

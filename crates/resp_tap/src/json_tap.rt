@@ -96,8 +96,9 @@ fn keep(calls: &mut VecDeque<Called>, before: u64, is_chosen: bool, words: &Word
     let _ = calls.push_back(Called { name, is_chosen });
 }
 
-/// Writes the line of a result, if the filter lets it through. `name` is that of the command that is
-/// answered, and `is_chosen` says whether the words of the command are printed.
+/// Writes a result as a line of JSON, if the filter lets it through. `name` is the name of the
+/// command that the result is a reply to, and `is_chosen` says whether the words of this command
+/// are printed.
 fn write_kept<W: Sink>(
     filter: &Filter,
     facts: Facts,

@@ -38,7 +38,8 @@ fn is_message_word(word: &[u8]) -> bool
         || word == b"smessage".as_slice()
 }
 
-/// Returns the notice of members that are no confirmation and begin with this word.
+/// Returns the notice of members that begin with this word and are no confirmation: a message, or
+/// any other value.
 fn message_by(word: &[u8]) -> Notice
     ensures { result ≡ message_by word.now }
 {

@@ -234,7 +234,8 @@ fn write_unpaired<W: Sink>(
     }
 }
 
-/// Returns the words about a command that came as a line, or no words.
+/// Returns the text ` inline` for a command that the client sent as a line, and an empty text for
+/// any other command.
 fn line_words(is_line: bool) -> &'static [u8]
     ensures { result.now ≡ line_words is_line }
 {

@@ -41,7 +41,8 @@ impl Taken {
     }
 }
 
-/// Returns the number of bytes of an incomplete command or value after a result for this many bytes.
+/// Returns how many bytes of an incomplete command or value there are after a result: `bytes` if
+/// nothing was complete, and otherwise 0.
 fn left_of(bytes: u64, seen: &Seen) -> u64
     ensures { result ≡ left_of seen.now bytes }
 {

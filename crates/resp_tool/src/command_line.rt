@@ -27,8 +27,8 @@ use std::convert::AsStr;
 /// The exit status of a usage error.
 const BAD_ARGUMENTS: u8 = 2;
 
-/// Runs the task of the options over the stream of `reader`. The caller flushes the writer at the
-/// end.
+/// Runs the task that the options select. It reads the input from `reader`, and writes the output
+/// to `writer`. The caller flushes the writer at the end.
 ///
 /// # Errors
 ///

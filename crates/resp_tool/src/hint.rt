@@ -277,8 +277,9 @@ fn begins_with_letter(from: &[u8]) -> bool
     from.first().is_some_and(u8::is_ascii_alphabetic)
 }
 
-/// Returns the length of the content with which the bytes end: the longest one, if several lengths
-/// are possible.
+/// Returns the length of the string content at the end of the bytes, or `None` if they do not end
+/// with the type byte of a string, a length, CR LF and that many bytes. If several lengths are
+/// possible, returns the greatest.
 fn length_before(before: &[u8]) -> Option<usize>
     ensures found { IfSome result (λ length. EndsWithContent length before.now) }
     ensures longest { IfSome result (λ length. (other : ℕ) → length < other →

@@ -90,11 +90,11 @@ impl<R> Watched<R> {
         self.read = self.read.saturating_add(bytes.len() as u64);
     }
 
-    /// Returns the number of bytes of the stream before byte `at` of the value with the number
-    /// `value`, counted from 1. Returns `None` if an allocation failed before, or the stream has
-    /// fewer values.
+    /// Returns the index in the stream of byte `at` of a value. `value` is the number of the value,
+    /// counted from 1. Returns `None` if an allocation failed before, or if the stream has fewer
+    /// values.
     ///
-    /// Call this once: the bytes after that value are not scanned any more.
+    /// Call it only once, since it stops scanning at that value.
     pub(crate) fn place_of(&mut self, value: u64, at: u64) -> Option<u64>
         ensures place { (bytes : List ℕ) → HasWatched self.old bytes →
             IfSome result (FindsPlace self.old self.new bytes value at) }

@@ -43,7 +43,7 @@ impl Remark {
         }
     }
 
-    /// Returns the name of the member of the line of JSON that has the text.
+    /// Returns the name of the JSON member that has the text of the line.
     pub(crate) fn member(self) -> &'static [u8] {
         match self {
             Remark::ConnectedFrom => b",\"from\":",

@@ -140,8 +140,8 @@ impl Replayed {
         }
     }
 
-    /// Prints that an end has sent its last byte, if it has and the other end has not before.
-    /// Returns whether both have.
+    /// If this end has sent its last byte, and the other end had not done so before, prints a line
+    /// about that. Returns whether both ends have sent their last byte.
     pub(crate) fn print_end<W: Sink>(
         &mut self,
         end: End,

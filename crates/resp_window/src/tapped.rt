@@ -143,7 +143,7 @@ impl Tapped {
         recording.add(clock, &mut self.recorded, End::Server, Sent::Beginning, b"");
     }
 
-    /// Records that the connection is closed, if that was not told by its sides.
+    /// Records that the connection is closed, unless both sides have ended before.
     pub(crate) fn record_close<C: Clock>(&mut self, recording: &mut Recording, clock: &C) {
         if !self.have_ended() {
             recording.add(clock, &mut self.recorded, End::Server, Sent::Reset, b"");
@@ -170,7 +170,8 @@ impl Tapped {
         Next::Again
     }
 
-    /// Visits the lane of the bytes that one side sends, and prints and records what came.
+    /// Visits the lane of the bytes that one side sends, and prints and records the bytes that
+    /// arrived.
     fn visit<W: Sink, C: Clock>(
         &mut self,
         side: Side,
