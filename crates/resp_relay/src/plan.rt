@@ -198,17 +198,18 @@ fn line_of(alloc: Global, text: &[u8], limits: &Limits) -> Result<Option<Line>, 
         return Ok(None);
     }
     match next_inline(alloc, limits, &mut Vec::new(alloc), text) {
-        Ok(
-            Some(
-                InlineCommand {
-                    text: Some(array),
-                    used,
-                    ..
-                },
-            ),
-        ) => Ok(Some(Line { array, used })),
+        Ok(Some(command)) => Ok(with_words(command)),
         Err(InlineError::OutOfMemory) => Err(AllocError),
-        _ => Ok(None),
+        Ok(None) | Err(_) => Ok(None),
+    }
+}
+
+/// Returns the line of an inline command, if it has words.
+fn with_words(command: InlineCommand) -> Option<Line> {
+    let InlineCommand { used, text, .. } = command;
+    match text {
+        Some(array) => Some(Line { array, used }),
+        None => None,
     }
 }
 

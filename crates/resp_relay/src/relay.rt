@@ -457,7 +457,8 @@ impl Relay {
         }
         self.share_numbers();
         self.end_drain();
-        self.messages.print(self.now(), rt);
+        let now = self.now();
+        self.messages.print(now, rt);
     }
 
     /// Tells each setting the numbers of the others.
