@@ -58,8 +58,8 @@ impl Heads {
     }
 }
 
-/// Returns the index at which the head of a command is kept. It is a hash of three bytes. In most
-/// commands these are the length of the name and its first two letters.
+/// Returns the place of the head of a command: a hash of three bytes, which in most commands are the
+/// length of the name and its first two letters.
 #[inline(always)]
 fn place_of(piece: &[u8]) -> usize
     ensures within { result < 16 }

@@ -68,8 +68,7 @@ fn words_by(name: &[u8], arguments: whole::Words<'_>) -> CommandWords
     }
 }
 
-/// Returns the command at the beginning of the piece, or `None` if the piece does not contain the
-/// whole command.
+/// Returns the command at the beginning of the piece, if it lies whole in it.
 #[inline(always)]
 pub fn command_of_piece<'a>(piece: &'a [u8], limits: &Limits) -> Option<CommandFrame<'a>>
     ensures command { IfSome result (λ found. IsFrameOfWords limits.now [] piece.now found) }
