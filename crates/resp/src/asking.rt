@@ -60,7 +60,7 @@ fn ask_server<O: LiveSink>(
         Ok(addresses) => addresses,
         Err(error) => return refuse_server(alloc, &asking.server, &error, faults),
     };
-    let stream = match ServerStream::connect(rt, addresses.as_slice()) {
+    let stream = match ServerStream::connect(rt, addresses.as_slice(), None) {
         Ok(stream) => stream,
         Err(error) => {
             let name = name_of(alloc, &asking.server)?;

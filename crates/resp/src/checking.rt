@@ -17,6 +17,7 @@ use resp_value::device::{Device, DeviceFault, Sink, Source, write_all};
 use resp_value::limits::Limits;
 use resp_value::value::Value;
 use std::alloc::{AllocError, Global};
+use std::time::Duration;
 
 /// The exit status if the server has a command that the proxy does not know, or rejects AUTH or COMMAND.
 const UNKNOWN: u8 = 1;
@@ -59,7 +60,8 @@ pub fn run_check<O: LiveSink>(
     faults: &mut Faults<'_>,
 ) -> Result<u8, AllocError> {
     let alloc = rt.alloc();
-    let stream = match ServerStream::connect(rt, addresses) {
+    let timeout = Duration::from_micros(proxying.options.times.server_timeout);
+    let stream = match ServerStream::connect(rt, addresses, Some(timeout)) {
         Ok(stream) => stream,
         Err(error) => return faults.refuse_connection(alloc, server, &error),
     };

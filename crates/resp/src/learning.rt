@@ -5,6 +5,7 @@ use crate::hosts::{addresses_of, name_of, password_of};
 use crate::server_stream::ServerStream;
 use crate::survey::Survey;
 use resp_args::proxying::Proxying;
+use resp_ask::AskError;
 use resp_relay::ProxyServer;
 use resp_value::device::Device;
 use resp_value::value::Value;
@@ -72,9 +73,8 @@ pub fn learn(
 fn ask(rt: &HostRuntime, proxying: &Proxying<'_>) -> Result<Survey, LearnError> {
     let alloc = rt.alloc();
     let addresses = addresses_of(rt, alloc, &proxying.server)?;
-    let stream = ServerStream::connect(rt, addresses.as_slice())?;
     let timeout = Duration::from_micros(proxying.options.times.server_timeout);
-    stream.set_read_timeout(timeout)?;
+    let stream = ServerStream::connect(rt, addresses.as_slice(), Some(timeout))?;
     let (mut reader, mut writer) = (Device::new(&stream), Device::new(&stream));
     let password = password_of(rt);
     Ok(survey(
@@ -110,6 +110,7 @@ fn admit_all(
 fn reason_of(alloc: Global, error: &LearnError) -> Result<String, AllocError> {
     match error {
         LearnError::System(error) => format!(in alloc; "{error}"),
+        LearnError::Check(CheckError::Ask(AskError::Read)) => String::from_str(alloc, "no reply"),
         LearnError::Check(CheckError::Ask(error)) => format!(in alloc; "{error}"),
         LearnError::Check(CheckError::Reply(Value::Error(line))) => {
             String::from_str(alloc, str::from_utf8(line.text()).unwrap_or("an error"))

@@ -19,32 +19,25 @@ pub enum ServerStream {
 }
 
 impl ServerStream {
-    /// Connects to the first of these addresses that accepts a connection.
+    /// Connects to the first of these addresses that accepts a connection. With a timeout, each of them has
+    /// this long to accept it, and each read that waits for longer fails.
     ///
     /// # Errors
     ///
     /// The error of the last address, or an error of kind `AddrNotAvailable` if there is no address.
-    pub fn connect(rt: &HostRuntime, addresses: &[Address]) -> io::Result<Self> {
+    pub fn connect(
+        rt: &HostRuntime,
+        addresses: &[Address],
+        timeout: Option<Duration>,
+    ) -> io::Result<Self> {
         let mut failed = ErrorKind::AddrNotAvailable.into();
         for address in addresses {
-            match open(rt, address) {
+            match open(rt, address, timeout) {
                 Ok(stream) => return Ok(stream),
                 Err(error) => failed = error,
             }
         }
         Err(failed)
-    }
-
-    /// Lets a read fail that waits for longer than this.
-    ///
-    /// # Errors
-    ///
-    /// The error of the system.
-    pub fn set_read_timeout(&self, timeout: Duration) -> io::Result<()> {
-        match self {
-            ServerStream::Tcp(stream) => stream.set_read_timeout(Some(timeout)),
-            ServerStream::Unix(stream) => stream.set_read_timeout(Some(timeout)),
-        }
     }
 
     /// Reads some bytes.
@@ -69,14 +62,26 @@ impl ServerStream {
 }
 
 /// Connects to an address, and sends the bytes of each write at once.
-fn open(rt: &HostRuntime, address: &Address) -> io::Result<ServerStream> {
+fn open(
+    rt: &HostRuntime,
+    address: &Address,
+    timeout: Option<Duration>,
+) -> io::Result<ServerStream> {
     match address {
         Address::Socket(address) => {
-            let stream = TcpStream::connect(rt, *address)?;
+            let stream = match timeout {
+                Some(timeout) => TcpStream::connect_timeout(rt, address, timeout)?,
+                None => TcpStream::connect(rt, *address)?,
+            };
             let _ = stream.set_nodelay(true);
+            stream.set_read_timeout(timeout)?;
             Ok(ServerStream::Tcp(stream))
         }
-        Address::Path(path) => Ok(ServerStream::Unix(UnixStream::connect(rt, path.as_str())?)),
+        Address::Path(path) => {
+            let stream = UnixStream::connect(rt, path.as_str())?;
+            stream.set_read_timeout(timeout)?;
+            Ok(ServerStream::Unix(stream))
+        }
     }
 }
 

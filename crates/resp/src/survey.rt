@@ -118,6 +118,8 @@ struct Terms<'a> {
     local_ping: bool,
     /// Whether clients in another setting than the first share a connection.
     has_settings: bool,
+    /// Whether the commands that the server says read or write are sent.
+    learns: bool,
 }
 
 impl Survey {
@@ -135,6 +137,7 @@ impl Survey {
             also: proxying.also.unwrap_or(""),
             local_ping: proxying.options.local_ping,
             has_settings: proxying.options.lines > 1,
+            learns: proxying.learns,
         };
         let mut survey = Survey {
             listed: Vec::new(alloc),
@@ -179,12 +182,18 @@ impl Survey {
         let is_admissible = treatment == Treatment::Unknown
             && entry(name).is_none()
             && !is_doubtful(parts.get(FLAGS));
+        let is_learnable = is_admissible && is_about_data;
+        let is_learned = is_learnable && terms.learns;
         let name = printed(alloc, full_name)?;
         let listed = Listed {
-            treatment,
+            treatment: if is_learned {
+                Treatment::Shared
+            } else {
+                treatment
+            },
             name,
-            is_admissible,
-            is_learnable: is_admissible && is_about_data,
+            is_admissible: is_admissible && !is_learned,
+            is_learnable,
         };
         self.listed.push(listed).map_err(|_| SurveyError::Memory)
     }
@@ -268,8 +277,9 @@ impl Survey {
     fn print_learnable<W: Sink>(&self, writer: &mut W) -> Result<(), DeviceFault> {
         let mut last = None;
         for number in 0..self.listed.len() {
-            let Some(name) = self.learnable(number) else {
-                continue;
+            let name = match (self.listed.get(number), self.learnable(number)) {
+                (Some(listed), Some(name)) if listed.treatment == Treatment::Unknown => name,
+                _ => continue,
             };
             write_text(
                 writer,
