@@ -16,7 +16,7 @@ complete -c resp -n '__fish_seen_subcommand_from help' -a 'show check canon loop
 set -l reads '__fish_seen_subcommand_from show check canon'
 complete -c resp -n $reads -F
 complete -c resp -n $reads -l proto -x -a '2 3' -d 'Protocol version'
-complete -c resp -n $reads -s 2 -d 'Protocol version 2, also with -3'
+complete -c resp -n $reads -s 2 -d 'Protocol version 2, even with -3'
 complete -c resp -n $reads -s 3 -d 'Protocol version 3 with doubles'
 complete -c resp -n $reads -l doubles -d 'Accepts RESP3 doubles'
 complete -c resp -n $reads -l piece -x -d 'Maximum bytes of a read, 1 to 64K'

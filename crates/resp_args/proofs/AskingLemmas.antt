@@ -151,7 +151,7 @@ pub no_proxy_addresses : (given : List Row) (text text' : Text) → first_of (co
     ((here : ListenAddress) (there : ServerAddress) → IsListenText text here → IsServerText text' there → ⊥) →
     (proxying : Proxying) → HasProxying given proxying → ⊥
 no_proxy_addresses given text text' is is' none proxying has =
-    let (server, words, listen, to, also, checks, all) = has in
+    let (server, words, listen, to, also, learns, checks, all) = has in
     let same = same_text text proxying.address_text.now (first_of (codes "listen") given) is words.listen_text in
     let same' = same_text text' server (first_of (codes "server") given) is' words.server_text in
     none proxying.address proxying.server (subst (λ z. IsListenText z proxying.address) (sym same) listen)

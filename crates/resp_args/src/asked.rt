@@ -229,7 +229,7 @@ fn write_bad_time<F: Sink>(
     write_text(faults, b"\n\nFor more information, try '--help'.\n")
 }
 
-/// Returns why these options ask for nothing: a number of bytes or a time is wrong, or something else.
+/// Returns why these options are wrong: a number of bytes, a time, or something else.
 pub(crate) fn wrong_options<'a>(given: &ArgMatches<'a>) -> NothingAsked<'a> {
     if let Some(wrong) = wrong_size(given, "length", 64, 1_073_741_824) {
         return wrong;

@@ -79,7 +79,8 @@ pub(crate) fn number_of(matches: &ArgMatches<'_>, name: &str) -> Option<u64>
     matches.get_one::<u64>(name)
 }
 
-/// Returns the number of bytes of an option; `None` if it is outside this range.
+/// Returns the number of bytes that an option gives, or `None` if the option has no number of bytes
+/// from `least` to `most`.
 pub(crate) fn bytes_of(matches: &ArgMatches<'_>, name: &str, least: u64, most: u64) -> Option<u64>
     ensures some { IfSome result
         (HasSize (rows_of (found_of matches.now)) name.now least most) }

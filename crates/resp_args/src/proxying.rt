@@ -74,8 +74,8 @@ pub struct ProxyOptions {
 /// The times in the options of `resp proxy`, in microseconds.
 #[derive(Clone, Copy)]
 pub struct ProxyTimes {
-    /// The time without a reply, while commands wait, after which the connection to the server is given
-    /// up, from 1 ms to 1 h.
+    /// If commands wait and no reply arrives for this time, the proxy gives up the connection to
+    /// the server. From 1 ms to 1 h.
     pub server_timeout: u64,
     /// The time from one report on standard output to the next, from 1 s to 24 h; with 0 there is no
     /// report.

@@ -192,21 +192,22 @@ Exit status:
 /// The end of the help of `proxy`.
 const PROXY_HELP: &str = r"Examples:
   resp proxy 127.0.0.1:6380 127.0.0.1:6379
-  resp proxy --max-clients 10000 --server-timeout 1s 6380 redis.internal:6379
+  resp proxy --max-clients 10000 6380 redis.internal:6379
   resp proxy --check 6380 redis.internal:6379
 
 Clients connect to LISTEN instead of SERVER. They share one connection to the
 server for each version, database and user that HELLO, SELECT and AUTH ask for.
 A client that sends a command such as MULTI or SUBSCRIBE gets a connection of
 its own from this command on. If the environment has RESP_PASSWORD, AUTH is sent
-first. The program runs until it is stopped, or with --drain until standard
-input ends.
+first. SIGTERM ends the program at once. If the program is started with SIGTERM
+blocked, as by `env --block-signal=TERM`, each client gets the replies to its
+commands first. With --drain the end of standard input does the same.
 
 With --check no client is served. The server is asked for its commands, and the
 table says what the proxy would do with each of them.
 
 Exit status:
-  0  With --drain: standard input ended, and all clients are closed; with
+  0  All clients are closed, after a blocked SIGTERM or with --drain; with
      --check: the proxy knows all commands of the server
   1  With --check: the proxy does not know a command of the server, or the
      server rejected AUTH or COMMAND

@@ -138,7 +138,7 @@ const VERSIONS: &[Parameter] = &[
     Parameter {
         name: "two",
         form: ShortFlag('2'),
-        help: "Protocol version 2, also with -3",
+        help: "Protocol version 2, even with -3",
         ..PLAIN
     },
     Parameter {
