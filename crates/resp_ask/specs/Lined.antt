@@ -1,5 +1,6 @@
 -- Texts of lines, such as the reply to INFO, which are printed as they are.
-use Rattle.std.specs.Prelude.{ℕ, Bool, true, false, List, [], ◌∷◌, Option, None, Some, cond, nat_le, ◌==◌, ◌&&◌}
+use Rattle.std.specs.Prelude.{◌≡◌, ℕ, Bool, true, false, List, [], ◌∷◌, ◌++◌, Option, None, Some, cond, nat_le, ◌==◌, ◌&&◌, ◌⊎◌, ◌↔◌}
+use Rattle.std.specs.List.{AllByRecursion, concat}
 use Rattle.resp_value.specs.Data.{Datum, scalar, Bulk, Verbatim}
 use Rattle.resp_print.specs.Shown.{lines_on}
 
@@ -25,6 +26,28 @@ lines_after ends (x ∷ xs) = cond (is_in_line x xs) (lines_after (is_end x) xs)
 -- whether these bytes are lines, of which each ends
 abbrev pub are_lines : List ℕ → Bool
 are_lines = lines_after false
+
+-- a printable character of ASCII or a tab
+abbrev pub is_plain : ℕ → Bool
+is_plain byte = cond (nat_le 32 byte && nat_le byte 126) true (byte == 9)
+
+-- printable characters and tabs, and LF or CR LF after them
+pub record IsLine (bytes : List ℕ) : Type 0 where
+  pub content : List ℕ
+  pub plain : AllByRecursion (λ byte. is_plain byte ≡ true) content
+  pub ended : (bytes ≡ content ++ (10 ∷ [])) ⊎ (bytes ≡ content ++ (13 ∷ 10 ∷ []))
+
+-- lines, one after another, at least one
+pub record AreLines (bytes : List ℕ) : Type 0 where
+  pub first : List ℕ
+  pub others : List (List ℕ)
+  pub one : IsLine first
+  pub each : AllByRecursion IsLine others
+  pub whole : bytes ≡ first ++ concat others
+
+-- a text is lines by its bytes just if it is one line after another
+abbrev pub TellsLines : Type 0
+TellsLines = (bytes : List ℕ) → (are_lines bytes ≡ true) ↔ AreLines bytes
 
 abbrev pub lines_of : List ℕ → Option (List ℕ)
 lines_of bytes = cond (are_lines bytes) (Some bytes) None

@@ -11,6 +11,7 @@ pub mod error;
 pub mod exchange;
 pub mod failure;
 pub mod hear;
+pub mod laws;
 mod lined;
 pub mod lines;
 pub mod raw;
