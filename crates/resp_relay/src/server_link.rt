@@ -12,7 +12,7 @@ use resp_join::ReplyError;
 use resp_loop::backend::{Attempt, Backend};
 use resp_loop::non_blocking::{Input, Output, is_open};
 use resp_loop::register::register;
-use resp_loop::service::token_of;
+use resp_loop::service::{FURTHER, token_of};
 use resp_loop::spare::Spare;
 use resp_loop::stream::Stream;
 use resp_mux::AnswerError;
@@ -32,6 +32,10 @@ const TURNS: usize = 16;
 
 /// The seconds after a lookup of the server's name before the next one.
 const LOOKED_UP: u64 = 10;
+
+/// The number of the first second connection. No service is told that a socket with such a number is ready:
+/// it only ends the wait, after which each second connection goes on.
+const ASKING: usize = FURTHER + 1;
 
 /// Why no connection was opened, if the server rejected AUTH.
 pub(crate) const REJECTED: &str = "the server rejected AUTH";
@@ -316,7 +320,7 @@ impl ServerLink {
             drop(entry);
             return Err(ErrorKind::OutOfMemory.into());
         }
-        let token = token_of(self.number);
+        let token = token_of(self.number.saturating_add(ASKING));
         let arrival = Arrival::begin(net, &self.backend, registry, token, entry)?;
         match Box::new(self.alloc, arrival) {
             Ok(arrival) => Ok(arrival),
