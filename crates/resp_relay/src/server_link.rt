@@ -291,7 +291,7 @@ impl ServerLink {
         if self.pulse.was_asked(since) {
             return None;
         }
-        let half = Duration::from_millis(self.attempts.patience.as_millis() as u64 / 2);
+        let half = half_of(self.attempts.patience);
         Some(since.saturating_add(half).saturating_sub(self.now()))
     }
 
@@ -709,6 +709,12 @@ fn keep_last_line(kept: &mut Vec<u8>, bytes: &[u8]) {
     };
     kept.clear();
     let _ = kept.extend_from_slice(bytes.get(begin..).unwrap_or(b""));
+}
+
+/// Returns half of a time, in whole milliseconds.
+fn half_of(time: Duration) -> Duration {
+    let of_seconds = time.as_secs().saturating_mul(500);
+    Duration::from_millis(of_seconds.saturating_add(u64::from(time.subsec_millis() / 2)))
 }
 
 /// Begins a connection to a server by this attempt or a later one, and registers its socket.
