@@ -9,7 +9,7 @@ and compares each reply with its command. Some clients close in the middle of a 
 to the server of their own, in the middle of a pipeline: by a transaction, a subscription or a blocking command. Some move to
 another version, database or user, in the middle of a pipeline too, and try wrong passwords and databases. A reply is wrong if it names another client, if it does not fit its command, or if it is missing. After the
 server was lost a command may get one of the two errors of the proxy, and a client with a connection of its own may be
-closed. The expected replies come from the commands alone:
+closed. A client gets the end of its connection after such an error to SELECT, AUTH, RESET or HELLO with a user. The expected replies come from the commands alone:
 
 - ECHO is answered by its own text, and each text is sent once;
 - GET and each member of MGET are answered by null, or by a value that this client has sent for the key;
@@ -96,6 +96,8 @@ class Client:
         self.connection += 1
         # Whether a command was sent that needs a connection to the server of the client's own.
         self.is_own = False
+        # Whether it got no connection for another database or another user.
+        self.is_refused = False
         # The setting, as the replies so far say.
         self.version, self.user = 2, b"default"
         # The values that were sent for each key; and the one that a key has, as long as it is known.
@@ -280,6 +282,10 @@ class Client:
                     self.judge(text, fits, reply)
                     if start % 2 or start != starts[0]:
                         self.known = {}
+                    if self.is_refused:
+                        after = await asyncio.wait_for(reader.read(100), 30)
+                        assert not after, f"{self.name} gets {after} after a failed {text[:100]}"
+                        return
             finally:
                 if not sending.done():
                     await asyncio.wait([sending], timeout=5)
@@ -311,6 +317,8 @@ class Client:
         if isinstance(reply, tuple) and reply[0] == "error" and is_between(reply[1]):
             self.known = {}
             self.counts["errors"] += 1
+            moves = re.match(rb"\*\d\r\n\$\d\r\n(SELECT|AUTH|RESET|HELLO\r\n\$1\r\n\d\r\n\$4\r\nAUTH)\r\n", text)
+            self.is_refused = bool(moves) and reply[1].startswith(NOT_CONNECTED)
             return
         assert fits(reply), f"{self.name} gets {str(reply)[:200]} to {text[:100]}"
 

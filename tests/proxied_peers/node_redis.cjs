@@ -19,7 +19,7 @@ async function work(number) {
     await client.del(`hash:${number}`);
     assert.strictEqual(await client.hSet(`hash:${number}`, { a: "1", b: "2" }), 2);
     assert.deepStrictEqual({ ...(await client.hGetAll(`hash:${number}`)) }, { a: "1", b: "2" });
-    await assert.rejects(client.sendCommand(["CONFIG", "GET", "save"]), /'CONFIG'/);
+    await assert.rejects(client.sendCommand(["CONFIG", "SET", "save", ""]), /'CONFIG SET'/);
     assert.strictEqual(await client.echo(`${number}`), `${number}`);
     // Clients in another database, and of a user, share a connection too.
     const other = createClient({ socket: { host: "127.0.0.1", port }, database: 4 + (number % 2), username: "bea", password: "secret" });

@@ -55,11 +55,11 @@ assert client.set("great", great) is True and client.get("great") == great
 
 # The error of a command that the proxy does not serve names it, and the connection goes on.
 try:
-    client.execute_command("CONFIG", "GET", "save")
+    client.execute_command("CONFIG", "SET", "save", "")
 except redis.ResponseError as error:
-    assert "'CONFIG'" in str(error), error
+    assert "'CONFIG SET'" in str(error), error
 else:
-    raise AssertionError("CONFIG was answered")
+    raise AssertionError("CONFIG SET was answered")
 assert client.ping() is True
 
 # Transactions, watched keys, subscriptions and blocking commands: over connections of clients' own.
