@@ -15,7 +15,7 @@ const COMMANDS: &[u8] = b"*2\r\n$3\r\nGet\r\n$3\r\nkey\r\n\
 *4\r\n$5\r\nxread\r\n$7\r\nstreams\r\n$5\r\nblock\r\n$1\r\n0\r\n\
 *6\r\n$5\r\nXREAD\r\n$5\r\nblock\r\n$1\r\n0\r\n$7\r\nstreams\r\n$1\r\ns\r\n$1\r\n0\r\n\
 *3\r\n$6\r\nclient\r\n$8\r\nTRACKING\r\n$2\r\non\r\n\
-*2\r\n$6\r\nclient\r\n$5\r\nreply\r\n\
+*2\r\n$6\r\nclient\r\n$5\r\npause\r\n\
 *2\r\n$3\r\nfoo\r\n$3\r\nkey\r\n\
 *5\r\n$4\r\nmset\r\n$1\r\na\r\n$1\r\n1\r\n$1\r\nb\r\n$1\r\n2\r\n\
 *6\r\n$4\r\nEVAL\r\n$1\r\n-\r\n$1\r\n2\r\n$1\r\nk\r\n$1\r\nl\r\n$1\r\nm\r\n\
