@@ -58,7 +58,7 @@ pub(crate) fn of_client(alloc: Global) -> Outcome {
         [
             PING,
             b"*2\r\n$6\r\nCLIENT\r\n$2\r\nID\r\n",
-            b"*1\r\n$5\r\nMULTI\r\n",
+            b"*1\r\n$5\r\nDEBUG\r\n",
             b"*1\r\n$4\r\nPI",
         ],
     )
@@ -71,7 +71,7 @@ pub(crate) fn of_lines(alloc: Global) -> Outcome {
         [
             b"ECHO \"a b\"\r\n",
             b"CLIENT ID\r\n",
-            b"\r\nMULTI\r\n*0\r\n",
+            b"\r\nDEBUG\r\n*0\r\n",
             b"PI",
         ],
     )
